@@ -8,7 +8,7 @@ use Rattle.plural_reference.specs.declared.error.ParseError.{ParseError}
 use Rattle.plural_reference.specs.declared.token.Token.{Token}
 use Rattle.plural_reference.specs.Parser.{ReadsUpTo}
 use Rattle.plural_reference.specs.Samples.{Section, samples_of, ReadsSamples, ReadsRule, FaultyRule}
-use Rattle.plural_reference.specs.ReferenceLaws.{HaveOneRule}
+use Rattle.plural_reference.specs.ReadingLaws.{HaveOneRule}
 use Rattle.plural_reference.specs.Reader.{run, begin, Outcome}
 use Rattle.plural_reference.specs.SampleReader.{after_sections, run_samples, SampleOutcome}
 use Rattle.plural_reference.proofs.ReaderComplete.{reads_run, faulty_run}

@@ -8,7 +8,8 @@ pub mod Reading
 pub mod Truth
 pub mod Resolver
 pub mod ExactTruth
-pub mod ReferenceLaws
+pub mod ReadingLaws
+pub mod PrintingLaws
 -- not definitions of the subject
 pub mod Scan
 pub mod Reader

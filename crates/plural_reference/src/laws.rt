@@ -1,18 +1,5 @@
-//! Laws of reading and printing.
+//! Laws over the definitions and the calls of this crate: each is the contract of a function.
 
-ghost use Rattle.plural_reference.specs.ReferenceLaws.{HaveOneListOfTokens, HaveOneReading, HaveOneRule};
+mod reading;
 
-/// Every text has exactly one list of tokens.
-pub fn one_list_of_tokens()
-    ensures { HaveOneListOfTokens }
-{}
-
-/// Of every list of tokens exactly one condition is read, or it has exactly one fault.
-pub fn one_reading()
-    ensures { HaveOneReading }
-{}
-
-/// Of every list of tokens exactly one rule is read, or it has exactly one fault.
-pub fn one_rule()
-    ensures { HaveOneRule }
-{}
+pub use reading::{one_list_of_tokens, one_reading, one_rule};

@@ -1,4 +1,4 @@
--- Laws of reading and printing, over the definitions alone.
+-- What is printed is read as what it was printed from.
 use Rattle.std.specs.Prelude.{◌≡◌, ◌≤◌, ◌⊎◌, ◌++◌, ℕ, List, Option, Some, None, All, IfSome}
 use Rattle.std.specs.Char.{IsAsciiDigit}
 use Rattle.std.specs.Str.Parse.{digits_value}
@@ -12,16 +12,6 @@ use Rattle.plural_reference.specs.Parser.{Reads, Faulty}
 use Rattle.plural_reference.specs.Lexer.{AreTokensOf, max_number}
 use Rattle.plural_reference.specs.Samples.{ReadsRule, FaultyRule}
 use Rattle.plural_reference.specs.Serializer.{condition_text, rule_text}
-
--- every text has tokens, and no others
-abbrev pub HaveOneListOfTokens : Type 0
-HaveOneListOfTokens = (text : List ℕ) → (tokens : List Token) × AreTokensOf text tokens × ((other : List Token) → AreTokensOf text other → other ≡ tokens)
-
--- of each list of tokens one condition is read, or it has one fault
-abbrev pub HaveOneReading : Type 0
-HaveOneReading = (tokens : List Token) →
-    ((c : Condition) × Reads tokens c × ((d : Condition) → Reads tokens d → d ≡ c) × ((kind : ParseError) → ¬ (Faulty tokens kind)))
-    ⊎ ((kind : ParseError) × Faulty tokens kind × ((other : ParseError) → Faulty tokens other → other ≡ kind) × ((c : Condition) → ¬ (Reads tokens c)))
 
 -- a condition that was read from a text is read again from its printed text
 abbrev pub ConditionsPrintBack : Type 0
@@ -45,9 +35,3 @@ RuleHasSmallRuns r = IfSome r.samples (λ s. ListHasSmallRuns s.integer × ListH
 -- a rule that was read from a text is read again from its printed text
 abbrev pub RulesPrintBack : Type 0
 RulesPrintBack = (text : List ℕ) (tokens : List Token) (r : Rule) → AreTokensOf text tokens → ReadsRule tokens r → RuleHasSmallRuns r → (again : List Token) → AreTokensOf (rule_text r) again → ReadsRule again r
-
--- of each list of tokens one rule is read, or it has one fault
-abbrev pub HaveOneRule : Type 0
-HaveOneRule = (tokens : List Token) →
-    ((r : Rule) × ReadsRule tokens r × ((s : Rule) → ReadsRule tokens s → s ≡ r) × ((kind : ParseError) → ¬ (FaultyRule tokens kind)))
-    ⊎ ((kind : ParseError) × FaultyRule tokens kind × ((other : ParseError) → FaultyRule tokens other → other ≡ kind) × ((r : Rule) → ¬ (ReadsRule tokens r)))
