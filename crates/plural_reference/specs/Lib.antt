@@ -15,3 +15,4 @@ pub mod Scan
 pub mod Reader
 pub mod ReaderSteps
 pub mod SampleReader
+pub mod SampleSteps

@@ -2,4 +2,4 @@
 
 mod reading;
 
-pub use reading::{one_list_of_tokens, one_reading, one_rule};
+pub use reading::{one_cut, one_list_of_tokens, one_reading, one_rule};
