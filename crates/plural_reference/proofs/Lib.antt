@@ -13,6 +13,7 @@ pub mod ScanComplete
 pub mod ScanSound
 pub mod ScanSize
 pub mod Alone
+pub mod CutOnce
 pub mod ParserSteps
 pub mod Answered
 pub mod Rows
@@ -20,5 +21,6 @@ pub mod Writes
 pub mod SampleRows
 pub mod SampleSound
 pub mod SampleComplete
+pub mod SampleParserSteps
 pub mod RuleReadings
 pub mod RuleRows

@@ -20,3 +20,4 @@ pub mod DigitsFrom
 pub mod Reader
 pub mod ReaderSteps
 pub mod SampleReader
+pub mod SampleSteps

@@ -4,4 +4,4 @@ pub mod exactness;
 pub mod operands;
 mod reading;
 
-pub use reading::{one_list_of_tokens, one_reading, one_rule};
+pub use reading::{one_cut, one_list_of_tokens, one_reading, one_rule};

@@ -1,5 +1,7 @@
 //! Reading rules.
 
+mod samples;
+
 ghost use Rattle.std.specs.Prelude.{◌≡◌, ◌≢◌, ◌∷◌, [], List, Some, None, Ok, Err, IfOk, length, ◌≤◌, MatchBool, MatchOption, MatchResult};
 ghost use Rattle.plural_reference.specs.declared.token.Token.{Token};
 ghost use Rattle.plural_reference.specs.declared.error.ParseError.TheVariants.{ExpectedValue, ExpectedOperand, ExpectedOperator};
@@ -19,8 +21,8 @@ use crate::ast::{
     Rule, Value,
 };
 use crate::error::{ParseError, ReadError};
-use crate::sequence::Sequence;
 use crate::lexer::Lexer;
+use crate::sequence::Sequence;
 use crate::token::Token;
 use std::alloc::Global;
 use std::marker::Model;
@@ -38,7 +40,10 @@ pub fn parse_condition(alloc: Global, text: &[u8]) -> Result<Condition, ReadErro
 pub fn parse(alloc: Global, text: &[u8]) -> Result<Rule, ReadError>
     ensures { AnswersExactly ReadsRule FaultyRule text.now result }
 {
-    Err(ReadError::Memory)
+    let mut parser = Parser::new(text);
+    let condition = parser.condition(alloc)?;
+    let samples = parser.samples(alloc)?;
+    Ok(Rule { condition, samples })
 }
 
 // The tokens that are left, the first of them at hand.
