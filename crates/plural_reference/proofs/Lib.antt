@@ -15,3 +15,9 @@ pub mod SampleSound
 pub mod SampleComplete
 pub mod RuleReadings
 pub mod RuleRows
+pub mod TokensFit
+pub mod PrintedTokens
+pub mod SpellableConditions
+pub mod PrintedConditions
+pub mod PrintedSamples
+pub mod PrintedBack
