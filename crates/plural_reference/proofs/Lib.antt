@@ -20,4 +20,5 @@ pub mod PrintedTokens
 pub mod SpellableConditions
 pub mod PrintedConditions
 pub mod PrintedSamples
+pub mod PrintedRules
 pub mod PrintedBack

@@ -21,7 +21,7 @@ use Rattle.plural_reference.specs.declared.token.Token.TheVariants.{Operand, Num
 use Rattle.plural_reference.specs.Lexer.{max_number}
 use Rattle.plural_reference.specs.Parser.{first, last, value_of, IsItem}
 use Rattle.plural_reference.specs.PrintingLaws.{IsRunIn, HasSmallRuns, ListHasSmallRuns}
-use Rattle.plural_reference.specs.Samples.{IsDigits, IsExponentMark, IsFraction, IsExponent, SampleParts, token_text, IsSample, IsUpper, IsSampleRange, IsEllipsis, IsSampleList}
+use Rattle.plural_reference.specs.Samples.{IsDigits, IsExponentMark, IsFraction, IsExponent, SampleParts, IsSampleOf, token_text, IsSample, IsUpper, IsSampleRange, IsEllipsis, IsSampleList}
 use Rattle.plural_reference.specs.Scan.{tokens_of, tokens_from}
 use Rattle.plural_reference.specs.Serializer.{joined, prefixed, sample_text, sample_range_text, ellipsis_text, sample_list_text}
 use Rattle.plural_reference.proofs.Alone.{point_alone}
@@ -38,8 +38,17 @@ above_digits : (b : ℕ) → 57 < b → IsAsciiDigit b → ⊥
 above_digits b h d = omega (arith, d.1)
 
 -- what may follow a sample: the end, or neither a digit nor a point
+abbrev pub BreaksSample : ℕ → Type 0
+BreaksSample b = (IsAsciiDigit b → ⊥) × (b ≢ 46)
+
 abbrev pub EndsSample : List ℕ → Type 0
-EndsSample rest = IfSome (first rest) (λ b. (IsAsciiDigit b → ⊥) × (b ≢ 46))
+EndsSample rest = IfSome (first rest) BreaksSample
+
+pub space_breaks : BreaksSample 32
+space_breaks = (below_digits 32 (omega arith), eqb-false 32 46 refl)
+
+comma_breaks : BreaksSample 44
+comma_breaks = (below_digits 44 (omega arith), eqb-false 44 46 refl)
 
 pub sample_ends_run : (rest : List ℕ) → EndsSample rest → EndsRun rest
 sample_ends_run [] h = tt
@@ -96,13 +105,13 @@ no_point_first [] [] h k e = cc
 no_point_first [] (b ∷ bs) h k e = let same : b ≡ 46 = cc in k.1 same
 no_point_first (d ∷ ds) rest h k e = let same : d ≡ 46 = cc in omega (arith, h.0.0)
 
-fraction_retold : (f : List Token) → AllFit f → IsFraction f → ((ds : List ℕ) → flat_map token_text f ≡ 46 ∷ ds → digits_value 10 ds ≤ max_number) → Spells EndsSample (Retold IsFraction) (flat_map token_text f) (flat_map token_text f)
+fraction_retold : (f : List Token) → AllFit f → IsFraction f → ((ds : List ℕ) → AreDigits ds → flat_map token_text f ≡ 46 ∷ ds → digits_value 10 ds ≤ max_number) → Spells EndsSample (Retold IsFraction) (flat_map token_text f) (flat_map token_text f)
 unfolding tokens_from
 fraction_retold [] a h small = record { tokens = []; part = (tt, refl); scans = record { gives = λ rest f. refl } }
 fraction_retold (Dot ∷ ts) a h small =
     let ds = flat_map token_text ts in
     let are : AreDigits ds = text_digits ts a.1 h in
-    let s : Spells EndsRun (Retold (AllByRecursion IsDigits)) ds ds = digits_retold ds are (small ds refl) in
+    let s : Spells EndsRun (Retold (AllByRecursion IsDigits)) ds ds = digits_retold ds are (small ds are refl) in
     record {
       tokens = Dot ∷ s.tokens;
       part = (s.part.0, ap (λ l. 46 ∷ l) s.part.1);
@@ -223,3 +232,104 @@ module _ (i f e : List Token) (a : AllFit ((i ++ f) ++ e)) (digit : AllByRecursi
     begins = rw (last-push (flat_map token_text i) 46) (below_digits 46 (omega arith));
     ends = sample_ends_run (flat_map token_text e) exponent_ends;
   })
+
+  whole_retold : HasSmallRuns whole → Spells EndsSample (Retold (λ tokens. (s : SampleParts) × IsSampleOf tokens s)) whole whole
+  whole_retold small =
+      let fits = fit_left (i ++ f) e a in
+      let left : Spells EndsRun (Retold (AllByRecursion IsDigits)) (flat_map token_text i) (flat_map token_text i) = digits_retold (flat_map token_text i) (text_digits i (fit_left i f fits) digit) (integer_small small) in
+      let middle : Spells EndsSample (Retold IsFraction) (flat_map token_text f) (flat_map token_text f) = fraction_retold f (fit_right i f fits) fraction (fraction_small small) in
+      let right : Spells EndsSample (Retold IsExponent) (flat_map token_text e) (flat_map token_text e) = exponent_retold e (fit_right (i ++ f) e a) exponent in
+      let tokens : List Token = (left.tokens ++ middle.tokens) ++ right.tokens in
+      let text_is : flat_map token_text tokens ≡ whole = flat_map-append (left.tokens ++ middle.tokens) right.tokens ∙ ap (λ l. l ++ flat_map token_text right.tokens) (flat_map-append left.tokens middle.tokens) ∙ (λ j. (left.part.1 j ++ middle.part.1 j) ++ right.part.1 j) in
+      record {
+        tokens = tokens;
+        part = (
+          (
+            record { integer = left.tokens; fraction = middle.tokens; exponent = right.tokens },
+            (refl, left.part.0, middle.part.0, right.part.0, λ none. sample_nonempty i f e a digit fraction exponent some (text-parts ∙ sym text_is ∙ ap (flat_map token_text) none)),
+          ),
+          text_is,
+        );
+        scans = scans_then EndsSample EndsSample (flat_map token_text i ++ flat_map token_text f) (flat_map token_text e) (left.tokens ++ middle.tokens) right.tokens
+            (scans_then EndsRun EndsSample (flat_map token_text i) (flat_map token_text f) left.tokens middle.tokens left.scans middle.scans (fraction_follows f fraction))
+            right.scans
+            (exponent_follows e exponent);
+      }
+
+-- a sample is read again from its text
+pub sample_spells : (tokens : List Token) (text : DecimalValue) → AllFit tokens → IsSample tokens text → HasSmallRuns text → Spells EndsSample IsSample (sample_text text) text
+sample_spells tokens text a h small =
+    let s = h.0 in
+    let fits : AllFit ((s.integer ++ s.fraction) ++ s.exponent) = subst AllFit h.1.0 a in
+    let some : (s.integer ++ s.fraction) ++ s.exponent ≢ [] = λ none. h.1.4 (h.1.0 ∙ none) in
+    let text_is : text ≡ whole s.integer s.fraction s.exponent fits h.1.1 h.1.2 h.1.3 some = h.2 ∙ ap (flat_map token_text) h.1.0 ∙ text-parts s.integer s.fraction s.exponent fits h.1.1 h.1.2 h.1.3 some in
+    let again : Spells EndsSample (Retold (λ ts. (p : SampleParts) × IsSampleOf ts p)) (whole s.integer s.fraction s.exponent fits h.1.1 h.1.2 h.1.3 some) (whole s.integer s.fraction s.exponent fits h.1.1 h.1.2 h.1.3 some) = whole_retold s.integer s.fraction s.exponent fits h.1.1 h.1.2 h.1.3 some (subst HasSmallRuns text_is small) in
+    record {
+      tokens = again.tokens;
+      part = (again.part.0.0, again.part.0.1, text_is ∙ sym again.part.1);
+      scans = subst (λ (t : List ℕ). Scans EndsSample t again.tokens) (sym text_is) again.scans;
+    }
+
+-- ---- ranges and lists
+
+upper_spells : (tokens : List Token) (upper : Option DecimalValue) → AllFit tokens → IsUpper tokens upper → IfSome upper HasSmallRuns → Spells EndsSample IsUpper (prefixed (codes "~") sample_text upper) upper
+unfolding tokens_from
+upper_spells tokens None a h small = record { tokens = []; part = refl; scans = record { gives = λ rest s. refl } }
+upper_spells tokens (Some text) a h small =
+    let sample : Spells EndsSample IsSample (sample_text text) text = sample_spells h.0 text (subst AllFit h.1 a).1 h.2 small in
+    record {
+      tokens = Tilde ∷ sample.tokens;
+      part = (sample.tokens, refl, sample.part);
+      scans = record { gives = λ rest s. ap (λ ts. Tilde ∷ ts) (sample.scans.gives rest s) };
+    }
+
+upper_follows : (upper : Option DecimalValue) (rest : List ℕ) → EndsSample rest → EndsSample (prefixed (codes "~") sample_text upper ++ rest)
+upper_follows None rest h = h
+upper_follows (Some text) rest h = (above_digits 126 (omega arith), eqb-false 126 46 refl)
+
+-- a part that tokens spell, whose numbers fit
+abbrev pub IsSpelled : {A : Type 0} → (List Token → A → Type 0) → A → Type 0
+IsSpelled Part x = (tokens : List Token) × AllFit tokens × Part tokens x
+
+abbrev RangeHasSmallRuns : SampleRange → Type 0
+RangeHasSmallRuns r = HasSmallRuns r.lower_val × IfSome r.upper_val HasSmallRuns
+
+range_spells : (r : SampleRange) → IsSpelled IsSampleRange r → RangeHasSmallRuns r → Spells EndsSample IsSampleRange (sample_range_text r) r
+range_spells r h small =
+    let k = h.2 in
+    let fits : AllFit (k.0 ++ k.1) = subst AllFit k.2 h.1 in
+    let lower : Spells EndsSample IsSample (sample_text r.lower_val) r.lower_val = sample_spells k.0 r.lower_val (fit_left k.0 k.1 fits) k.3 small.0 in
+    let upper : Spells EndsSample IsUpper (prefixed (codes "~") sample_text r.upper_val) r.upper_val = upper_spells k.1 r.upper_val (fit_right k.0 k.1 fits) k.4 small.1 in
+    record {
+      tokens = lower.tokens ++ upper.tokens;
+      part = (lower.tokens, upper.tokens, refl, lower.part, upper.part);
+      scans = scans_then EndsSample EndsSample (sample_text r.lower_val) (prefixed (codes "~") sample_text r.upper_val) lower.tokens upper.tokens lower.scans upper.scans (upper_follows r.upper_val);
+    }
+
+both_give : {A : Type 0} (P Q R : A → Type 0) → ((x : A) → P x → Q x → R x) → (xs : List A) → AllByRecursion P xs → AllByRecursion Q xs → AllByRecursion R xs
+both_give P Q R f [] h k = tt
+both_give P Q R f (x ∷ xs) h k = (f x h.0 k.0, both_give P Q R f xs h.1 k.1)
+
+ellipsis_spells : (more : Bool) → Spells EndsSample IsEllipsis (ellipsis_text more) more
+unfolding tokens_from
+ellipsis_spells false = record { tokens = []; part = refl; scans = record { gives = λ rest s. refl } }
+ellipsis_spells true = record { tokens = Comma ∷ Ellipsis ∷ []; part = refl; scans = record { gives = λ rest s. refl } }
+
+ellipsis_follows : (more : Bool) (rest : List ℕ) → EndsSample rest → EndsSample (ellipsis_text more ++ rest)
+ellipsis_follows false rest h = h
+ellipsis_follows true rest h = comma_breaks
+
+-- a list is read again from its text
+pub list_spells : (l : SampleList) → IsSpelled IsSampleList l → ListHasSmallRuns l → Spells EndsSample IsSampleList (sample_list_text l) l
+unfolding tokens_from
+list_spells l h small =
+    let k = h.2 in
+    let ranges = separated_parts Comma IsSampleRange (IsSpelled IsSampleRange) (λ tokens r f p. (tokens, f, p)) k.0 l.sample_ranges (fit_left k.0 k.1 (subst AllFit k.2 h.1)) k.3 in
+    let each = both_give (IsSpelled IsSampleRange) RangeHasSmallRuns (λ r. Spells EndsSample IsSampleRange (sample_range_text r) r) range_spells l.sample_ranges ranges.1 (recursion_from_All RangeHasSmallRuns l.sample_ranges small) in
+    let left = joined_spells EndsSample IsSampleRange sample_range_text (codes ", ") Comma (λ rest. refl) (λ rest. comma_breaks) l.sample_ranges ranges.0 each in
+    let right : Spells EndsSample IsEllipsis (ellipsis_text l.ellipsis) l.ellipsis = ellipsis_spells l.ellipsis in
+    record {
+      tokens = left.tokens ++ right.tokens;
+      part = (left.tokens, right.tokens, refl, left.part, right.part);
+      scans = scans_then EndsSample EndsSample (joined (codes ", ") sample_range_text l.sample_ranges) (ellipsis_text l.ellipsis) left.tokens right.tokens left.scans right.scans (ellipsis_follows l.ellipsis);
+    }

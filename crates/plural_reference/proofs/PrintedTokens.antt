@@ -75,7 +75,7 @@ not_zero_first : (ds : List ℕ) → 48 < get_or ds 0 0 → IfSome (first ds) (�
 not_zero_first [] h = tt
 not_zero_first (d ∷ ds) h = λ e. omega arith
 
-nonempty_of : (ds : List ℕ) → 0 < length ds → ds ≢ []
+pub nonempty_of : (ds : List ℕ) → 0 < length ds → ds ≢ []
 nonempty_of [] h e = omega arith
 nonempty_of (d ∷ ds) h e = cc
 
