@@ -24,3 +24,10 @@ pub mod SampleComplete
 pub mod SampleParserSteps
 pub mod RuleReadings
 pub mod RuleRows
+pub mod TokensFit
+pub mod PrintedTokens
+pub mod SpellableConditions
+pub mod PrintedConditions
+pub mod PrintedSamples
+pub mod PrintedRules
+pub mod PrintedBack

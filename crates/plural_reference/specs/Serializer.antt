@@ -9,6 +9,7 @@ use Rattle.plural_reference.specs.declared.ast.Operand.{Operand}
 use Rattle.plural_reference.specs.declared.ast.Operand.TheVariants.{N, I, F, T, V, W, C, E}
 use Rattle.plural_reference.specs.declared.ast.Operator.{Operator}
 use Rattle.plural_reference.specs.declared.ast.Operator.TheVariants.{Eq, NotEq}
+use Rattle.plural_reference.specs.declared.ast.RangeList.{RangeList}
 use Rattle.plural_reference.specs.declared.ast.RangeListItem.{RangeListItem}
 use Rattle.plural_reference.specs.declared.ast.RangeListItem.TheVariants as items
 use Rattle.plural_reference.specs.declared.ast.Relation.{Relation}
@@ -54,8 +55,11 @@ abbrev pub item_text : RangeListItem → List ℕ
 item_text (items.Value v) = value_text v
 item_text (items.Range a b) = value_text a ++ codes ".." ++ value_text b
 
+abbrev pub range_list_text : RangeList → List ℕ
+range_list_text l = joined (codes ", ") item_text l.0
+
 abbrev pub relation_text : Relation → List ℕ
-relation_text r = expression_text r.expression ++ codes " " ++ operator_text r.operator ++ codes " " ++ joined (codes ", ") item_text r.range_list.0
+relation_text r = expression_text r.expression ++ codes " " ++ operator_text r.operator ++ codes " " ++ range_list_text r.range_list
 
 abbrev pub and_condition_text : AndCondition → List ℕ
 and_condition_text c = joined (codes " and ") relation_text c.0
