@@ -4,8 +4,9 @@
 mod compact;
 mod decimal;
 mod error;
-mod reading;
+mod point;
 mod sign;
+mod span;
 mod unsigned;
 
 pub use compact::CompactDecimal;

@@ -1,9 +1,12 @@
 //! Decimals without a sign.
 
-ghost use Rattle.std.specs.Prelude.{◌≡◌, ◌-◌, ◌++◌, ◌↔◌, pos, neg_ℤ, length, slice_index, IfErr, OnOk, OnErr, IsTrue};
+ghost use Rattle.std.specs.Prelude.{◌≡◌, ◌+◌, ◌-◌, ◌≤◌, ◌++◌, ◌↔◌, pos, neg_ℤ, length, slice_index, IfOk, IfErr, OnOk, OnErr, IsTrue};
+ghost use Rattle.fixed_decimal.specs.Points.{AllDigitBytes, HasPointAt, number_of, number_at};
 ghost use Rattle.fixed_decimal.specs.Places.{IsWritten, IsWithinLimit, IsOverLimit, shift, shift_left, shift_right, digit_at, HasDigitFrom};
 
 use crate::DecimalError;
+use crate::span::{digits_between, end_before_zeros, zeros_before};
+use std::alloc::{AllocError, Global};
 use std::marker::Model;
 
 const MOST_PLACES: u16 = 32767;
@@ -31,6 +34,46 @@ impl Model for UnsignedDecimal {
 }
 
 impl UnsignedDecimal {
+    // The number with these digits before and behind the point.
+    pub(crate) fn from_digits(
+        alloc: Global,
+        whole: &[u8],
+        fraction: &[u8],
+    ) -> Result<UnsignedDecimal, AllocError>
+        requires whole { AllDigitBytes whole.now }
+        requires fraction { AllDigitBytes fraction.now }
+        requires whole_within { length whole.now ≤ MOST_PLACES }
+        requires fraction_within { length fraction.now ≤ MOST_PLACES }
+        ensures { IfOk result (λ x. x ≡ number_of whole.now fraction.now) }
+    {
+        let whole_places = whole.len().max(1);
+        let count = whole_places + fraction.len();
+        let from = zeros_before(whole, fraction, count);
+        let end = end_before_zeros(whole, fraction, from, count);
+        Ok(UnsignedDecimal {
+            whole_places: whole_places as u16,
+            fraction_places: fraction.len() as u16,
+            leading_zeros: from as u16,
+            span: digits_between(alloc, whole, fraction, from, end)?,
+        })
+    }
+
+    // The number of a text whose point stands there.
+    pub(crate) fn from_point(
+        alloc: Global,
+        text: &[u8],
+        point: usize,
+    ) -> Result<UnsignedDecimal, AllocError>
+        requires place { HasPointAt text.now point }
+        requires whole { point ≤ MOST_PLACES }
+        requires fraction { length text.now - (point + 1) ≤ MOST_PLACES }
+        ensures { IfOk result (λ x. x ≡ number_at text.now point) }
+    {
+        let (whole, rest) = text.split_at(point);
+        let fraction = &rest[rest.len().min(1)..];
+        UnsignedDecimal::from_digits(alloc, whole, fraction)
+    }
+
     /// The digit at `10^magnitude`, and 0 outside the written places.
     pub fn digit_at(&self, magnitude: i16) -> u8
         ensures digit { result ≡ digit_at self.now magnitude }
