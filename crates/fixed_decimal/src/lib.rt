@@ -4,6 +4,7 @@
 mod compact;
 mod decimal;
 mod error;
+mod exponent;
 mod point;
 mod sign;
 mod span;

@@ -1,10 +1,12 @@
 //! Decimals without a sign.
 
 ghost use Rattle.std.specs.Prelude.{◌≡◌, ◌+◌, ◌-◌, ◌≤◌, ◌++◌, ◌↔◌, pos, neg_ℤ, length, slice_index, IfOk, IfErr, OnOk, OnErr, IsTrue};
-ghost use Rattle.fixed_decimal.specs.Points.{AllDigitBytes, HasPointAt, number_of, number_at};
-ghost use Rattle.fixed_decimal.specs.Places.{IsWritten, IsWithinLimit, IsOverLimit, shift, shift_left, shift_right, digit_at, HasDigitFrom};
+ghost use Rattle.fixed_decimal.specs.Written.{WritesUnsigned};
+ghost use Rattle.fixed_decimal.specs.Points.{AllDigitBytes, HasPointWithin, number_of, number_at};
+ghost use Rattle.fixed_decimal.specs.Places.{Places, IsWritten, IsWithinLimit, IsOverLimit, shift, shift_left, shift_right, digit_at, HasDigitFrom};
 
 use crate::DecimalError;
+use crate::point::point_within;
 use crate::span::{digits_between, end_before_zeros, zeros_before};
 use std::alloc::{AllocError, Global};
 use std::marker::Model;
@@ -23,10 +25,9 @@ pub struct UnsignedDecimal {
 
 impl Model for UnsignedDecimal {
     ghost use Rattle.fixed_decimal.specs.Places.{Places};
+    ghost use Rattle.fixed_decimal.specs.Span.{places_of, IsSpan};
 
     ghost Value = { Places };
-
-    ghost use Rattle.fixed_decimal.specs.Span.{places_of, IsSpan};
 
     ghost view = { places_of };
 
@@ -34,6 +35,19 @@ impl Model for UnsignedDecimal {
 }
 
 impl UnsignedDecimal {
+    /// The number that a text without a sign writes: digits, digits `.` digits, or `.` digits. All of
+    /// the text is judged before memory is taken: `Syntax` where it isn't of this form, `Limit`
+    /// where it has more than 32767 places on a side, and `Memory` where there is none for the digits.
+    pub fn from_str(alloc: Global, text: &str) -> Result<UnsignedDecimal, DecimalError>
+        ensures number { IfOk result (λ x. WritesUnsigned text.now x × IsWithinLimit x) }
+        ensures syntax { (result ≡ Err DecimalError.Syntax) ↔ ((x : Places) → ¬ (WritesUnsigned text.now x)) }
+        ensures limit { (result ≡ Err DecimalError.Limit) ↔ ((x : Places) × WritesUnsigned text.now x × IsOverLimit x) }
+    {
+        let digits = text.as_bytes();
+        let point = point_within(digits)?;
+        Ok(UnsignedDecimal::from_point(alloc, digits, point)?)
+    }
+
     // The number with these digits before and behind the point.
     pub(crate) fn from_digits(
         alloc: Global,
@@ -64,9 +78,7 @@ impl UnsignedDecimal {
         text: &[u8],
         point: usize,
     ) -> Result<UnsignedDecimal, AllocError>
-        requires place { HasPointAt text.now point }
-        requires whole { point ≤ MOST_PLACES }
-        requires fraction { length text.now - (point + 1) ≤ MOST_PLACES }
+        requires { HasPointWithin text.now point }
         ensures { IfOk result (λ x. x ≡ number_at text.now point) }
     {
         let (whole, rest) = text.split_at(point);
