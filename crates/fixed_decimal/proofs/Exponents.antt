@@ -107,14 +107,14 @@ one_compact t x y h k =
 
 -- ---- what is written before the exponent, and what with it
 
-module _ (t front : List ℕ) (e : ℕ) (form : (rest : List ℕ) × HasExponent rest e × (t ≡ front ++ rest)) (only : (front' rest : List ℕ) (x : Decimal) (d : ℕ) → WritesDecimal front' x → HasExponent rest d → t ≡ front' ++ rest → (front ≡ front') × (e ≡ d)) where
+module _ (bytes t front : List ℕ) (e : ℕ) (same : bytes ≡ t) (found : (rest : List ℕ) × HasExponent rest e × (bytes ≡ front ++ rest)) (only : (front' rest : List ℕ) (x : Decimal) (d : ℕ) → WritesDecimal front' x → HasExponent rest d → bytes ≡ front' ++ rest → (front ≡ front') × (e ≡ d)) where
   compact_from : (x : Decimal) → WritesDecimal front x → WritesCompact t (record { significand = x; exponent = e })
-  compact_from x h = (front, form.0, h, form.1, form.2)
+  compact_from x h = (front, found.0, h, found.1, sym same ∙ found.2)
 
   decimal_from : (y : CompactNumber) → WritesCompact t y → WritesDecimal front y.significand × (e ≡ y.exponent)
   decimal_from y h =
-      let same : (front ≡ h.0) × (e ≡ y.exponent) = only h.0 h.1 y.significand y.exponent h.2 h.3 h.4 in
-      (subst (λ (s : List ℕ). WritesDecimal s y.significand) (sym same.0) h.2, same.1)
+      let here : (front ≡ h.0) × (e ≡ y.exponent) = only h.0 h.1 y.significand y.exponent h.2 h.3 (same ∙ h.4) in
+      (subst (λ (s : List ℕ). WritesDecimal s y.significand) (sym here.0) h.2, here.1)
 
   pub none_compact : ((x : Decimal) → ¬ (WritesDecimal front x)) → (y : CompactNumber) → ¬ (WritesCompact t y)
   none_compact none y h = none y.significand (decimal_from y h).0
@@ -124,3 +124,17 @@ module _ (t front : List ℕ) (e : ℕ) (form : (rest : List ℕ) × HasExponent
 
   pub over_compact : ((x : Decimal) × WritesDecimal front x × IsOverLimit x.absolute) → (y : CompactNumber) × WritesCompact t y × IsCompactOverLimit y
   over_compact p = (record { significand = p.0; exponent = e }, compact_from p.0 p.1, inl p.2)
+
+  pub known_decimal : ((y : CompactNumber) × WritesCompact t y × IsCompactOverLimit y) → ¬ ((x : Decimal) → ¬ (WritesDecimal front x))
+  known_decimal p none = none_compact none p.0 p.1
+
+  pub long_exponent : (x : Decimal) → WritesDecimal front x → 255 < e → (y : CompactNumber) × WritesCompact t y × IsCompactOverLimit y
+  long_exponent x h long = (record { significand = x; exponent = e }, compact_from x h, inr long)
+
+  pub within_compact : ¬ ((x : Decimal) × WritesDecimal front x × IsOverLimit x.absolute) → e ≤ 255 → ¬ ((y : CompactNumber) × WritesCompact t y × IsCompactOverLimit y)
+  within_compact none short p =
+      let h : WritesDecimal front p.0.significand × (e ≡ p.0.exponent) = decimal_from p.0 p.1 in
+      elim (p.2) [
+        | inl over ↦ none (p.0.significand, h.0, over)
+        | inr long ↦ (let m : 255 < p.0.exponent = long in let here : e ≡ p.0.exponent = h.1 in omega arith)
+      ]

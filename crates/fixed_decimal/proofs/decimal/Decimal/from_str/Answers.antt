@@ -3,9 +3,9 @@ use Rattle.std.proofs.lemmas.Result.{err_from_is_err_and}
 use Rattle.fixed_decimal.specs.Written.{WritesUnsigned, WritesDecimal}
 use Rattle.fixed_decimal.specs.Places.{IsWithinLimit}
 use Rattle.fixed_decimal.specs.declared.decimal.Decimal.{Decimal}
-use Rattle.fixed_decimal.specs.declared.error.DecimalError.TheVariants.{Syntax, Memory}
+use Rattle.fixed_decimal.specs.declared.error.DecimalError.TheVariants.{Syntax}
 use Rattle.fixed_decimal.proofs.Points.{reads_at}
-use Rattle.fixed_decimal.proofs.Refusals.{carried, no_cause, other_error}
+use Rattle.fixed_decimal.proofs.Refusals.{carried, no_cause, memory_alone}
 use Rattle.fixed_decimal.proofs.decimal.Decimal.from_str.Goals as goal
 use Rattle.fixed_decimal.proofs.decimal.Decimal.from_str.Goals.{After-parts_within}
 
@@ -21,7 +21,8 @@ returns-in_err-sign-clause-syntax c =
 pub returns-in_err-from_point-clause-syntax : goal.returns-in_err-from_point-clause-syntax
 returns-in_err-from_point-clause-syntax c =
     let p = err_from_is_err_and c.from_residual-in_err-from_point.result c.from_residual-in_err-from_point.ensures.1 in
-    other_error c.parts_within.result c.from_residual-in_err-from_point.result (c.in_ok-sign.sign, c.in_ok-sign.digits, c.in_ok-sign.point) Memory Syntax c.in_ok-sign.was (p.1 ∙ ap Err p.2) (λ e. absurd cc) (out_of_form (goal.at.returns-in_err-from_point-clause-syntax c).After-parts_within)
+    memory_alone c.from_residual-in_err-from_point.result Syntax (p.1 ∙ ap Err p.2) (λ e. absurd cc)
+    (no_cause c.parts_within.result (c.in_ok-sign.sign, c.in_ok-sign.digits, c.in_ok-sign.point) Syntax c.in_ok-sign.was (out_of_form (goal.at.returns-in_err-from_point-clause-syntax c).After-parts_within))
 
 pub returns-clause-number : goal.returns-clause-number
 returns-clause-number c =
