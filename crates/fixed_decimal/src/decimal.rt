@@ -1,9 +1,11 @@
 //! Decimals with a sign.
 
-ghost use Rattle.std.specs.Prelude.{◌≡◌, ◌≢◌, ◌↔◌, ◌++◌, IfOk, IfErr, OnOk, OnErr};
+ghost use Rattle.std.specs.Prelude.{◌≡◌, ◌≢◌, ◌↔◌, ◌++◌, [], pos, nat_abs, int_lt, if◌then◌else◌, IfOk, IfErr, OnOk, OnErr};
 ghost use Rattle.fixed_decimal.specs.Places.{IsWithinLimit, IsOverLimit, shift};
+ghost use Rattle.fixed_decimal.specs.Digits.{IsNumeral};
 ghost use Rattle.fixed_decimal.specs.Written.{WritesDecimal, sign_text};
 ghost use Rattle.fixed_decimal.specs.Points.{HasPointWithin};
+ghost use Rattle.fixed_decimal.specs.declared.sign.Sign.TheVariants as sign;
 ghost use Rattle.fixed_decimal.specs.declared.decimal.Decimal.{Decimal as SignedNumber};
 
 use crate::point::point_within;
@@ -32,6 +34,24 @@ impl Decimal {
         Ok(Decimal {
             sign,
             absolute: UnsignedDecimal::from_point(alloc, digits, point)?,
+        })
+    }
+
+    /// The number without leading zeros, and 0 as one digit, without a fraction; its sign is
+    /// `Negative` below 0, else `None`. `Memory` where there is none for the digits.
+    pub fn from_i128(alloc: Global, number: i128) -> Result<Decimal, DecimalError>
+        ensures digits { IfOk result (λ x. IsNumeral x.absolute.whole (nat_abs number) × (x.absolute.fraction ≡ [])) }
+        ensures sign { IfOk result (λ x. x.sign ≡ (if int_lt number (pos 0) then sign.Negative else sign.None)) }
+        ensures only_memory { IfErr result (λ e. e ≡ DecimalError.Memory) }
+    {
+        let sign = if number < 0 {
+            Sign::Negative
+        } else {
+            Sign::None
+        };
+        Ok(Decimal {
+            sign,
+            absolute: UnsignedDecimal::from_u128(alloc, number.unsigned_abs())?,
         })
     }
 

@@ -1,6 +1,7 @@
 //! Decimals without a sign.
 
-ghost use Rattle.std.specs.Prelude.{◌≡◌, ◌+◌, ◌-◌, ◌≤◌, ◌++◌, ◌↔◌, pos, neg_ℤ, length, slice_index, IfOk, IfErr, OnOk, OnErr, IsTrue};
+ghost use Rattle.std.specs.Prelude.{◌≡◌, ◌+◌, ◌-◌, ◌≤◌, ◌++◌, ◌↔◌, pos, neg_ℤ, [], length, slice_index, IfOk, IfErr, OnOk, OnErr, IsTrue};
+ghost use Rattle.fixed_decimal.specs.Digits.{IsNumeral};
 ghost use Rattle.fixed_decimal.specs.Written.{WritesUnsigned};
 ghost use Rattle.fixed_decimal.specs.Points.{AllDigitBytes, HasPointWithin, number_of, number_at};
 ghost use Rattle.fixed_decimal.specs.Places.{Places, IsWritten, IsWithinLimit, IsOverLimit, shift, shift_left, shift_right, digit_at, HasDigitFrom};
@@ -8,6 +9,7 @@ ghost use Rattle.fixed_decimal.specs.Places.{Places, IsWritten, IsWithinLimit, I
 use crate::DecimalError;
 use crate::point::point_within;
 use crate::span::{digits_between, end_before_zeros, zeros_before};
+use itoa::Buffer;
 use std::alloc::{AllocError, Global};
 use std::marker::Model;
 
@@ -46,6 +48,17 @@ impl UnsignedDecimal {
         let digits = text.as_bytes();
         let point = point_within(digits)?;
         Ok(UnsignedDecimal::from_point(alloc, digits, point)?)
+    }
+
+    /// The number without leading zeros, and 0 as one digit; it has no fraction. `Memory` where there
+    /// is none for the digits.
+    pub fn from_u128(alloc: Global, number: u128) -> Result<UnsignedDecimal, DecimalError>
+        ensures digits { IfOk result (λ x. IsNumeral x.whole number × (x.fraction ≡ [])) }
+        ensures only_memory { IfErr result (λ e. e ≡ DecimalError.Memory) }
+    {
+        let mut buffer = Buffer::new();
+        let digits = buffer.format(number).as_bytes();
+        Ok(UnsignedDecimal::from_digits(alloc, digits, &[])?)
     }
 
     // The number with these digits before and behind the point.
