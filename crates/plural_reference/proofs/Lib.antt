@@ -4,6 +4,7 @@ pub mod Agreement
 pub mod GroupsAgree
 pub mod Conversion
 pub mod OperandLawsProved
+pub mod OperandTexts
 pub mod ExactnessLawsProved
 pub mod Folds
 pub mod ReaderComplete

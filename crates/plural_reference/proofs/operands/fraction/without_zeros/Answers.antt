@@ -1,6 +1,6 @@
 use Rattle.std.proofs.Common.{arith}
 use Rattle.plural_reference.proofs.Conversion.{one_zero_less, quotient, no_fewer}
-use Rattle.plural_reference.proofs.operands.decimals.without_zeros.Goals as goal
+use Rattle.plural_reference.proofs.operands.fraction.without_zeros.Goals as goal
 
 pub loop-left-preserved : goal.loop-left-preserved
 loop-left-preserved c = (
