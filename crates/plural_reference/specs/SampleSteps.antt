@@ -1,16 +1,18 @@
--- What the parts of the parser that read samples do, as steps of their reader: not a definition of the subject.
-use Rattle.std.specs.Prelude.{◌≡◌, ◌≢◌, ◌⊎◌, ℕ, true, false, List, [], ◌∷◌, ◌++◌, Option, Some, None, Ok, IfSome, unwrap_or}
+-- Not a definition of the subject: what the parts of the parser do that read samples, as steps of the reader of samples.
+-- Their private contracts cite it, and no public clause does.
+use Rattle.std.specs.Prelude.{◌≡◌, ◌≢◌, ◌⊎◌, ℕ, true, false, List, [], ◌∷◌, ◌++◌, Option, Some, None, Ok, Err, IfSome, unwrap_or}
 use Rattle.plural_reference.specs.declared.ast.DecimalValue.{DecimalValue}
 use Rattle.plural_reference.specs.declared.ast.SampleList.{SampleList}
 use Rattle.plural_reference.specs.declared.ast.SampleRange.{SampleRange}
 use Rattle.plural_reference.specs.declared.ast.Samples as samples
-use Rattle.plural_reference.specs.declared.error.ParseError.TheVariants.{ExpectedValue}
+use Rattle.plural_reference.specs.declared.error.ParseError.{ParseError}
+use Rattle.plural_reference.specs.declared.error.ParseError.TheVariants.{ExpectedValue, ExpectedSampleType}
 use Rattle.plural_reference.specs.declared.parser.samples.SampleType.{SampleType}
 use Rattle.plural_reference.specs.declared.parser.samples.SampleType.TheVariants as types
 use Rattle.plural_reference.specs.declared.token.Token.{Token}
 use Rattle.plural_reference.specs.declared.token.Token.TheVariants.{Dot, Integer, Decimal, Tilde}
 use Rattle.plural_reference.specs.Parser.{first}
-use Rattle.plural_reference.specs.Samples.{Section, IsExponentMark, Takes, token_text, has_exponent, has_point, digits_fault, samples_of, with_list}
+use Rattle.plural_reference.specs.Samples.{Section, IsExponentMark, Takes, token_text, has_exponent, has_point, digits_fault, type_fault, samples_of, with_list}
 use Rattle.plural_reference.specs.SampleReader.{Partial, SampleState, after_sections, awaits_sample, in_sample, range_of, begin_list, run_samples}
 
 -- the token of a type of samples
@@ -110,3 +112,20 @@ pub record ReadsAllSamples (old : List Token) (samples : Option samples.Samples)
   pub sections : List Section
   pub run_is : run_samples (after_sections []) old ≡ Ok (sections, new)
   pub samples_are : samples ≡ samples_of sections
+
+-- the reader stops with this fault wherever a sample with this text so far goes on, a sample is awaited, a range, or a list
+abbrev pub FailsInSample : DecimalValue → List Token → ParseError → Type 0
+FailsInSample before old e = (p : Partial) → run_samples (sample_at p before) old ≡ Err e
+
+abbrev pub FailsAtSample : List Token → ParseError → Type 0
+FailsAtSample old e = (p : Partial) → run_samples (awaits_sample p) old ≡ Err e
+
+abbrev pub FailsAtRange : List Token → ParseError → Type 0
+FailsAtRange old e = (p : Partial) → p.lower ≡ None → run_samples (awaits_sample p) old ≡ Err e
+
+abbrev pub FailsAtList : List Token → ParseError → Type 0
+FailsAtList old e = (sections : List Section) (type : Token) → run_samples (awaits_sample (begin_list sections type)) old ≡ Err e
+
+-- no type of samples comes next
+abbrev pub NoType : List Token → ParseError → Type 0
+NoType old e = (e ≡ ExpectedSampleType) × (type_fault (first old) ≡ Some ExpectedSampleType)

@@ -1,14 +1,14 @@
 //! Reading the samples of rules (UTS 35 Part 3, Samples).
 
-ghost use Rattle.std.specs.Prelude.{◌≡◌, ◌≤◌, ◌∷◌, ◌++◌, Some, None, Err, IfOk, OnOk, false, length, string_bytes, MatchOption, MatchResult, IfSome, List, [], ℕ};
+ghost use Rattle.std.specs.Prelude.{◌≡◌, ◌≤◌, ◌∷◌, [], Some, Err, IfOk, IfSome, OnOk, false, length, string_bytes, MatchOption, MatchResult};
 ghost use Rattle.std.specs.Fmt.{decimal};
-ghost use Rattle.plural_reference.specs.declared.error.ParseError.TheVariants.{ExpectedValue, ExpectedSampleType};
-ghost use Rattle.plural_reference.specs.declared.token.Token.{Token};
-ghost use Rattle.plural_reference.specs.Parser.{first};
+ghost use Rattle.plural_reference.specs.declared.error.ParseError.TheVariants.{ExpectedValue};
 ghost use Rattle.plural_reference.specs.Reading.{IsAnswer};
-ghost use Rattle.plural_reference.specs.Samples.{Section, IsDigits, IsExponentMark, digits_fault, type_fault, has_exponent};
-ghost use Rattle.plural_reference.specs.SampleReader.{Partial, SampleState, after_sections, awaits_sample, begin_list, run_samples};
-ghost use Rattle.plural_reference.specs.SampleSteps.{IsNext, type_token, joined_list, sample_at, TakesText, NoDigits, NoMark, ReadsDigits, ReadsNumber, ReadsExponent, ReadsSample, ReadsRange, ReadsSampleList, ReadsAllSamples};
+ghost use Rattle.plural_reference.specs.Samples.{IsDigits, IsExponentMark, digits_fault, has_exponent};
+ghost use Rattle.plural_reference.specs.SampleReader.{after_sections, run_samples};
+ghost use Rattle.plural_reference.specs.SampleSteps.{IsNext, TakesText, NoDigits, NoMark, NoType, type_token, joined_list};
+ghost use Rattle.plural_reference.specs.SampleSteps.{ReadsDigits, ReadsNumber, ReadsExponent, ReadsSample, ReadsRange, ReadsSampleList, ReadsAllSamples};
+ghost use Rattle.plural_reference.specs.SampleSteps.{FailsInSample, FailsAtSample, FailsAtRange, FailsAtList};
 
 use super::Parser;
 use crate::ast::{DecimalValue, Operand, SampleList, SampleRange, Samples};
@@ -27,7 +27,10 @@ enum SampleType {
 impl<'p> Parser<'p> {
     // samples = (At (Integer | Decimal) list)*
     pub fn samples(&mut self, alloc: Global) -> Result<Option<Samples>, ReadError>
-        ensures { IsAnswer (λ s. ReadsAllSamples self.old s self.new) (λ e. run_samples (after_sections []) self.old ≡ Err e) result }
+        ensures { IsAnswer
+            (λ samples. ReadsAllSamples self.old samples self.new)
+            (λ e. run_samples (after_sections []) self.old ≡ Err e)
+            result }
     {
         let mut samples = None;
         'lists: while self.take_if(Token::At) {
@@ -40,9 +43,7 @@ impl<'p> Parser<'p> {
 
     fn sample_type(&mut self) -> Result<SampleType, ParseError>
         ensures shorter { length self.new ≤ length self.old }
-        ensures kind { MatchResult result
-            (λ kind. self.old ≡ type_token kind ∷ self.new)
-            (λ e. (e ≡ ExpectedSampleType) × (type_fault (first self.old) ≡ Some ExpectedSampleType)) }
+        ensures kind { MatchResult result (λ kind. self.old ≡ type_token kind ∷ self.new) (NoType self.old) }
     {
         match self.next() {
             Some(Token::Integer) => Ok(SampleType::Integer),
@@ -54,10 +55,7 @@ impl<'p> Parser<'p> {
     // list = range (Comma range)* (Comma Ellipsis)?
     fn sample_list(&mut self, alloc: Global) -> Result<SampleList, ReadError>
         ensures shorter { length self.new ≤ length self.old }
-        ensures list { IsAnswer
-            (λ list. ReadsSampleList self.old list self.new)
-            (λ e. (sections : List Section) (type : Token) → run_samples (awaits_sample (begin_list sections type)) self.old ≡ Err e)
-            result }
+        ensures list { IsAnswer (λ list. ReadsSampleList self.old list self.new) (FailsAtList self.old) result }
     {
         let mut ranges = Vec::new(alloc);
         ranges.push(self.sample_range(alloc)?)?;
@@ -79,10 +77,7 @@ impl<'p> Parser<'p> {
     // range = sample (Tilde sample)?
     fn sample_range(&mut self, alloc: Global) -> Result<SampleRange, ReadError>
         ensures shorter { length self.new ≤ length self.old }
-        ensures range { IsAnswer
-            (λ range. ReadsRange self.old range self.new)
-            (λ e. (p : Partial) → p.lower ≡ None → run_samples (awaits_sample p) self.old ≡ Err e)
-            result }
+        ensures range { IsAnswer (λ range. ReadsRange self.old range self.new) (FailsAtRange self.old) result }
     {
         let lower_val = self.sample(alloc)?;
         if !self.take_if(Token::Tilde) {
@@ -101,10 +96,7 @@ impl<'p> Parser<'p> {
     // sample = digits (Dot digits)? ((E | C) (Number | Zero))?, and not empty
     fn sample(&mut self, alloc: Global) -> Result<DecimalValue, ReadError>
         ensures shorter { length self.new ≤ length self.old }
-        ensures sample { IsAnswer
-            (λ text. ReadsSample self.old text self.new)
-            (λ e. (p : Partial) → run_samples (awaits_sample p) self.old ≡ Err e)
-            result }
+        ensures sample { IsAnswer (λ text. ReadsSample self.old text self.new) (FailsAtSample self.old) result }
     {
         let mut text = self.number(alloc)?;
         self.exponent(&mut text)?;
@@ -133,7 +125,8 @@ impl<'p> Parser<'p> {
     fn digits(&mut self, text: &mut String) -> Result<(), AllocError>
         requires { has_exponent (string_bytes text.old) ≡ false }
         ensures shorter { length self.new ≤ length self.old }
-        ensures digits { OnOk result (ReadsDigits (string_bytes text.old) self.old (string_bytes text.new) self.new × NoDigits self.new) }
+        ensures digits { OnOk result
+            (ReadsDigits (string_bytes text.old) self.old (string_bytes text.new) self.new × NoDigits self.new) }
     {
         'digits: while let Some(number) = self.take_digits() {
             write!(text, "{number}")?;
@@ -147,7 +140,7 @@ impl<'p> Parser<'p> {
         ensures shorter { length self.new ≤ length self.old }
         ensures exponent { IsAnswer
             (λ _. ReadsExponent (string_bytes text.old) self.old (string_bytes text.new) self.new)
-            (λ e. (p : Partial) → run_samples (sample_at p (string_bytes text.old)) self.old ≡ Err e)
+            (FailsInSample (string_bytes text.old) self.old)
             result }
     {
         let Some(mark) = self.take_mark() else {
@@ -163,7 +156,9 @@ impl<'p> Parser<'p> {
 
     // Takes the next token if it is digits: their number.
     fn take_digits(&mut self) -> Option<u32>
-        ensures { MatchOption result (NoDigits self.old × (self.new ≡ self.old)) (λ n. TakesText IsDigits self.old (decimal n) self.new) }
+        ensures { MatchOption result
+            (NoDigits self.old × (self.new ≡ self.old))
+            (λ n. TakesText IsDigits self.old (decimal n) self.new) }
     {
         let number = digits_of(&self.ahead)?;
         self.next();
@@ -172,7 +167,9 @@ impl<'p> Parser<'p> {
 
     // Takes the next token if it begins an exponent: its text.
     fn take_mark(&mut self) -> Option<&'static str>
-        ensures { MatchOption result (NoMark self.old × (self.new ≡ self.old)) (λ mark. TakesText IsExponentMark self.old mark.now self.new) }
+        ensures { MatchOption result
+            (NoMark self.old × (self.new ≡ self.old))
+            (λ mark. TakesText IsExponentMark self.old mark.now self.new) }
     {
         let mark = mark_of(&self.ahead)?;
         self.next();
@@ -182,7 +179,9 @@ impl<'p> Parser<'p> {
 
 // The number of a token of digits.
 fn digits_of(next: &Option<Token>) -> Option<u32>
-    ensures { MatchOption result (digits_fault next.now ≡ Some ExpectedValue) (λ n. IsNext IsDigits next.now (decimal n)) }
+    ensures { MatchOption result
+        (digits_fault next.now ≡ Some ExpectedValue)
+        (λ n. IsNext IsDigits next.now (decimal n)) }
 {
     match next {
         Some(Token::Number(number)) => Some(*number),
@@ -193,7 +192,9 @@ fn digits_of(next: &Option<Token>) -> Option<u32>
 
 // The text of a token that begins an exponent.
 fn mark_of(next: &Option<Token>) -> Option<&'static str>
-    ensures { MatchOption result (IfSome next.now (λ t. ¬ (IsExponentMark t))) (λ mark. IsNext IsExponentMark next.now mark.now) }
+    ensures { MatchOption result
+        (IfSome next.now (λ t. ¬ (IsExponentMark t)))
+        (λ mark. IsNext IsExponentMark next.now mark.now) }
 {
     match next {
         Some(Token::E) => Some("e"),
