@@ -1,5 +1,7 @@
 //! Laws over the definitions and the calls of this crate: each is the contract of a function.
 
+pub mod exactness;
+pub mod operands;
 mod reading;
 
 pub use reading::{one_list_of_tokens, one_reading, one_rule};
