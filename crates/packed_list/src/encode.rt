@@ -1,6 +1,6 @@
 //! Packs byte items into the bytes of a list.
 
-ghost use Rattle.std.specs.Prelude.{◌≡◌, ◌↔◌, ◌++◌, ◌<◌, ◌≤◌, Err, None, IfOk, IfSome, IfNone, IsTrue, IsFalse, OnOk, flat_map, length, nat_lt};
+ghost use Rattle.std.specs.Prelude.{◌≡◌, ◌↔◌, ◌+◌, ◌++◌, ◌^◌, ◌<◌, ◌≤◌, Err, None, IfOk, IfSome, IfNone, IsTrue, IsFalse, OnOk, flat_map, length, nat_lt};
 ghost use Rattle.std.specs.List.{concat, list_any};
 ghost use Rattle.packed_list.specs.ListBytes.{CanPack, ListBytes, has_high_start, lent, list_bytes, starts_from, two_bytes};
 
@@ -31,12 +31,14 @@ impl<'a> PackedList<'a> {
 
 // How long the data of the items is, if none of them starts behind 65535.
 fn data_length(items: &[&[u8]]) -> Option<usize>
-    ensures low { IfSome result (λ total. IsFalse (has_high_start (lent items.now))) }
+    ensures low { IfSome result (λ _. IsFalse (has_high_start (lent items.now))) }
+    ensures total { IfSome result (λ total. total ≡ length (concat (lent items.now))) }
+    ensures room { IfSome result (λ total. total < 2 ^ 63 + 65536) }
     ensures high { IfNone result (IsTrue (has_high_start (lent items.now))) }
 {
     let mut start = 0;
     for item in items {
-        if start > 65535 {
+        if is_high(start) {
             return None;
         }
         start += item.len();
@@ -44,15 +46,24 @@ fn data_length(items: &[&[u8]]) -> Option<usize>
     Some(start)
 }
 
+// Whether a start is above what two bytes hold.
+#[inline]
+fn is_high(start: usize) -> bool
+    ensures { IsTrue result ↔ (65535 < start) }
+{
+    start > 65535
+}
+
 // The bytes of items that can be packed, whose data has the given length.
 fn written(alloc: Global, items: &[&[u8]], length: usize) -> Result<Vec<u8>, AllocError>
-    requires { CanPack (lent items.now) }
+    requires can_pack { CanPack (lent items.now) }
+    requires room { length < 2 ^ 63 + 65536 }
     ensures { IfOk result (λ bytes. bytes.items ≡ list_bytes (lent items.now)) }
 {
     let Some((first, others)) = items.split_first() else {
         return Ok(Vec::new(alloc));
     };
-    let mut bytes = Vec::with_capacity(alloc, length.saturating_add(2 * items.len()))?;
+    let mut bytes = Vec::with_capacity(alloc, 2 * items.len() + length)?;
     push_number(&mut bytes, items.len())?;
     push_starts(&mut bytes, first.len(), others)?;
     push_items(&mut bytes, items)?;

@@ -59,7 +59,7 @@ impl<'a> PackedList<'a> {
         if !are_starts(bytes, count) {
             return Err(ListError::Start);
         }
-        Ok(PackedList { bytes })
+        Ok(PackedList::from_checked(bytes))
     }
 
     /// The list in bytes that are known to be one, without a look at them.
@@ -96,11 +96,10 @@ impl<'a> PackedList<'a> {
     pub fn start(&self, index: usize) -> Option<usize>
         ensures { result ≡ slice_get (starts self.now) index }
     {
-        if index < self.len() {
-            Some(self.place(index))
-        } else {
-            None
+        if index >= self.len() {
+            return None;
         }
+        Some(self.place(index))
     }
 
     /// The item at a place.

@@ -2,5 +2,5 @@ use Rattle.std.proofs.Common.{arith, ◌∙◌, sym}
 use Rattle.packed_list.proofs.HighStarts.{high-left}
 use Rattle.packed_list.proofs.encode.data_length.Goals as goal
 
-pub returns-then-start-gt65535-clause-high : goal.returns-then-start-gt65535-clause-high
-returns-then-start-gt65535-clause-high c = sym c.loop-item.invariant.left ∙ high-left c.args.items.now c.loop-item.item-index c.loop-item.start (omega arith) (omega arith)
+pub returns-then-is_high-clause-high : goal.returns-then-is_high-clause-high
+returns-then-is_high-clause-high c = sym c.loop-item.invariant.left ∙ high-left c.args.items.now c.loop-item.item-index c.loop-item.start (omega arith) (omega arith)
