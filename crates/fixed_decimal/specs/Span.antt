@@ -1,0 +1,24 @@
+-- How an unsigned decimal is kept: the digits from the highest nonzero one to the lowest nonzero one, and how many
+-- zeros stand before them among the written places.
+use Rattle.std.specs.Prelude.{◌≢◌, ℕ, ◌+◌, ◌-◌, ◌<◌, ◌≤◌, List, ◌++◌, length, take, drop, replicate, slice_index}
+use Rattle.fixed_decimal.specs.Digits.{AreDigits}
+use Rattle.fixed_decimal.specs.Places.{Places}
+use Rattle.fixed_decimal.specs.declared.unsigned.UnsignedDecimal.TheInside.{Inside}
+
+-- all written digits
+abbrev pub digits_of : Inside → List ℕ
+digits_of a =
+    replicate a.leading_zeros 0 ++ a.span.items
+    ++ replicate (a.whole_places + a.fraction_places - (a.leading_zeros + length a.span.items)) 0
+
+abbrev pub places_of : Inside → Places
+places_of a = record { whole = take a.whole_places (digits_of a); fraction = drop a.whole_places (digits_of a) }
+
+pub record IsSpan (a : Inside) : Type 0 where
+  pub whole_nonempty : 0 < a.whole_places
+  pub whole_within : a.whole_places ≤ 32767
+  pub fraction_within : a.fraction_places ≤ 32767
+  pub inside : a.leading_zeros + length a.span.items ≤ a.whole_places + a.fraction_places
+  pub digits : AreDigits a.span.items
+  pub first_nonzero : 0 < length a.span.items → slice_index a.span.items 0 ≢ 0
+  pub last_nonzero : 0 < length a.span.items → slice_index a.span.items (length a.span.items - 1) ≢ 0

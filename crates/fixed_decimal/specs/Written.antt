@@ -1,0 +1,48 @@
+-- Texts and the numbers that they write.
+--     WritesUnsigned text x      digits, digits `.` digits, or `.` digits; without integer digits the integer digit is 0
+--     WritesDecimal text x      an unsigned decimal, behind a sign or not
+--     WritesCompact text x      a decimal, then nothing, or `c` and one to three digits
+use Rattle.std.specs.Prelude.{◌≡◌, ℕ, ◌<◌, ◌≤◌, ◌⊎◌, List, [], ◌∷◌, ◌++◌, length, codes}
+use Rattle.fixed_decimal.specs.Digits.{AreDigits, value_of, text_of}
+use Rattle.fixed_decimal.specs.Places.{Places, IsWritten, IsOverLimit}
+use Rattle.fixed_decimal.specs.Compact.{CompactNumber}
+use Rattle.fixed_decimal.specs.declared.sign.Sign.{Sign}
+use Rattle.fixed_decimal.specs.declared.sign.Sign.TheVariants as sign
+use Rattle.fixed_decimal.specs.declared.decimal.Decimal.{Decimal}
+
+-- the three ways in which the digits may stand
+abbrev pub StandsAs : List ℕ → Places → Type 0
+StandsAs text x =
+    ((x.fraction ≡ []) × (text ≡ text_of x.whole))
+    ⊎ ((0 < length x.fraction) × (text ≡ text_of x.whole ++ codes "." ++ text_of x.fraction))
+    ⊎ ((0 < length x.fraction) × (x.whole ≡ 0 ∷ []) × (text ≡ codes "." ++ text_of x.fraction))
+
+pub record WritesUnsigned (text : List ℕ) (x : Places) : Type 0 where
+  pub digits : IsWritten x
+  pub form : StandsAs text x
+
+abbrev pub sign_text : Sign → List ℕ
+sign_text sign.None = []
+sign_text sign.Negative = codes "-"
+sign_text sign.Positive = codes "+"
+
+abbrev pub WritesDecimal : List ℕ → Decimal → Type 0
+WritesDecimal text x = (digits : List ℕ) × WritesUnsigned digits x.absolute × (text ≡ sign_text x.sign ++ digits)
+
+-- `c` and one to three digits
+pub record WritesExponent (text : List ℕ) (exponent : ℕ) (ds : List ℕ) : Type 0 where
+  pub digits : AreDigits ds
+  pub least : 1 ≤ length ds
+  pub most : length ds ≤ 3
+  pub value : exponent ≡ value_of ds
+  pub form : text ≡ codes "c" ++ text_of ds
+
+abbrev pub HasExponent : List ℕ → ℕ → Type 0
+HasExponent text exponent = ((text ≡ []) × (exponent ≡ 0)) ⊎ ((ds : List ℕ) × WritesExponent text exponent ds)
+
+abbrev pub WritesCompact : List ℕ → CompactNumber → Type 0
+WritesCompact text x =
+    (front rest : List ℕ) × WritesDecimal front x.significand × HasExponent rest x.exponent × (text ≡ front ++ rest)
+
+abbrev pub IsCompactOverLimit : CompactNumber → Type 0
+IsCompactOverLimit x = IsOverLimit x.significand.absolute ⊎ (255 < x.exponent)

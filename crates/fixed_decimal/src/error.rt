@@ -1,0 +1,49 @@
+//! Why a decimal can't be had.
+
+ghost use Rattle.std.specs.Prelude.{◌≡◌, Some, codes};
+ghost use Rattle.fixed_decimal.specs.declared.error.DecimalError.TheVariants.{Syntax, Limit, Memory};
+
+use std::alloc::{AllocError, AllocFailed};
+use std::error::Error;
+use std::fmt;
+
+/// Why a text is no decimal, or a decimal can't be had.
+#[derive(Clone, Copy, Debug, PartialEq, Eq)]
+pub enum DecimalError {
+    /// The text isn't a decimal's.
+    Syntax,
+    /// More than 32767 integer places, more than 32767 fraction places, or an exponent above 255.
+    Limit,
+    /// Memory ran out.
+    Memory,
+}
+
+impl fmt::Display for DecimalError {
+    ghost output = { λ e. Some (elim e [ Syntax ↦ codes "bad number" | Limit ↦ codes "number out of limits" | Memory ↦ codes "out of memory" ]) };
+
+    fn fmt<W: fmt::Write>(&self, f: &mut fmt::Formatter<W>) -> fmt::Result {
+        f.write_str(match self {
+            DecimalError::Syntax => "bad number",
+            DecimalError::Limit => "number out of limits",
+            DecimalError::Memory => "out of memory",
+        })
+    }
+}
+
+impl Error for DecimalError {}
+
+impl From<AllocError> for DecimalError {
+    ghost from_gives = { λ _ e. e ≡ Memory };
+
+    fn from(_error: AllocError) -> DecimalError {
+        DecimalError::Memory
+    }
+}
+
+impl<T: Drop> From<AllocFailed<T>> for DecimalError {
+    ghost from_gives = { λ _ e. e ≡ Memory };
+
+    fn from(_error: AllocFailed<T>) -> DecimalError {
+        DecimalError::Memory
+    }
+}

@@ -1,0 +1,15 @@
+//! Written decimal numbers: their texts, their digits by place, and the shift by a power of ten.
+#![tactic(auto)]
+
+mod compact;
+mod decimal;
+mod error;
+mod reading;
+mod sign;
+mod unsigned;
+
+pub use compact::CompactDecimal;
+pub use decimal::Decimal;
+pub use error::DecimalError;
+pub use sign::Sign;
+pub use unsigned::UnsignedDecimal;

@@ -1,0 +1,17 @@
+pub mod Folds
+pub mod ReaderComplete
+pub mod ReaderSound
+pub mod Readings
+pub mod ScanComplete
+pub mod ScanSound
+pub mod ScanSize
+pub mod Alone
+pub mod ParserSteps
+pub mod Answered
+pub mod Rows
+pub mod Writes
+pub mod SampleRows
+pub mod SampleSound
+pub mod SampleComplete
+pub mod RuleReadings
+pub mod RuleRows

@@ -1,0 +1,207 @@
+-- A cut of a text has the tokens of the scan.
+use Rattle.std.proofs.Common.{◌≡◌, ◌≢◌, ◌≤◌, ◌+◌, ◌*◌, ℕ, List, [], ◌∷◌, ◌++◌, Option, Some, refl, sym, ap, ◌∙◌, append_assoc, true, false, nat_eq, arith, ⊎_elim}
+use Rattle.std.proofs.lemmas.Bool.{eq-eqb, le-leb, lt-leb}
+use Rattle.std.proofs.lemmas.Bool.Decides.{eqb_tells, leb_tells, nat_tests}
+use Rattle.std.proofs.lemmas.List.Elements.{All-contains, All-from_recursion, recursion_from_All}
+use Rattle.std.specs.Prelude.{All, IfSome, codes}
+use Rattle.std.specs.List.{AllByRecursion, filter_map, cons_option}
+use Rattle.std.specs.Char.{is_ascii_digit, digit_value, IsAsciiDigit}
+use Rattle.std.specs.Str.Parse.{digits_value, digits_value_after}
+use Rattle.plural_reference.specs.declared.ast.Operand.TheVariants.{I}
+use Rattle.plural_reference.specs.declared.ast.Operator.TheVariants.{NotEq}
+use Rattle.plural_reference.specs.declared.token.Token.{Token}
+use Rattle.plural_reference.specs.declared.token.Token.TheVariants.{Operand, Operator, Dot, Or, And, Junk, Decimal, Integer, Ellipsis}
+use Rattle.plural_reference.specs.Parser.{first}
+use Rattle.plural_reference.specs.Lexer.{Word, marks, keywords, MayFollow, IsDigitRun, IsBegun, BeginsNone, IsPiece, space, mark, keyword, number, unknown, too_large, broken, cut_off, Piece, IsCut}
+use Rattle.plural_reference.specs.Scan.{Start, between, in_keyword, in_number, starts, look_up, begin, number_token, tokens_from, tokens_of}
+
+no_more : (b : ℕ) (bs : List ℕ) (next : ℕ) (more : List ℕ) (k : ℕ) → k ∷ [] ≡ (b ∷ bs) ++ next ∷ more → ⊥
+no_more b [] next more k h = cc
+no_more b (c ∷ cs) next more k h = cc
+
+-- a mark gives its token
+abbrev MarkScans : Word → Type 0
+MarkScans w = (rest : List ℕ) → MayFollow w.0 rest → tokens_of (w.0 ++ rest) ≡ w.1 ∷ tokens_of rest
+
+abbrev KeywordScans : Word → Type 0
+KeywordScans w = (rest : List ℕ) → tokens_of (w.0 ++ rest) ≡ w.1 ∷ tokens_of rest
+
+pub no_eq : (a b : ℕ) → a ≢ b → nat_eq a b ≡ false
+no_eq a b h = ⊎_elim (λ p. absurd (h p.1)) (λ p. p.0) (eqb_tells a b)
+
+i_scans : MarkScans (codes "i", Operand I)
+unfolding tokens_from
+i_scans [] h = refl
+i_scans (b ∷ bs) h = rw (no_eq b 110 (λ e. h.0 refl (ap Some e))) refl
+
+point_scans : MarkScans (codes ".", Dot)
+unfolding tokens_from
+point_scans [] h = refl
+point_scans (b ∷ bs) h = rw (no_eq b 46 (λ e. h.1 refl (ap Some e))) refl
+
+marks_scan : AllByRecursion MarkScans marks
+unfolding tokens_from
+marks_scan = (
+  λ rest h. refl,
+  (
+    λ rest h. refl,
+    (
+      λ rest h. refl,
+      (
+        λ rest h. refl,
+        (
+          λ rest h. refl,
+          (
+            λ rest h. refl,
+            (
+              i_scans,
+              (
+                λ rest h. refl,
+                (
+                  λ rest h. refl,
+                  (
+                    λ rest h. refl,
+                    (
+                      point_scans,
+                      (
+                        λ rest h. refl,
+                        (λ rest h. refl, (λ rest h. refl, (λ rest h. refl, (λ rest h. refl, tt)))),
+                      ),
+                    ),
+                  ),
+                ),
+              ),
+            ),
+          ),
+        ),
+      ),
+    ),
+  ),
+)
+
+keywords_scan : AllByRecursion KeywordScans keywords
+unfolding tokens_from
+keywords_scan = (λ rest. refl, (λ rest. refl, (λ rest. refl, (λ rest. refl, (λ rest. refl, (λ rest. refl, tt))))))
+
+-- ---- broken keywords
+
+-- the part of a keyword that stands there leads to the bytes that are awaited
+keyword_tail : (k : ℕ) (ks : List ℕ) (t : Token) (begun : List ℕ) (next : ℕ) (more rest : List ℕ) → k ∷ ks ≡ begun ++ next ∷ more → tokens_from (in_keyword k ks t) (begun ++ rest) ≡ tokens_from (in_keyword next more t) rest
+unfolding tokens_from
+keyword_tail k ks t [] next more rest h = let same_k : k ≡ next = cc in let same_ks : ks ≡ more = cc in rw (same_k, same_ks) refl
+keyword_tail k [] t (b ∷ bs) next more rest h = absurd (no_more b bs next more k h)
+keyword_tail k (l ∷ ls) t (b ∷ bs) next more rest h =
+    let same_k : k ≡ b = cc in
+    let tail : l ∷ ls ≡ bs ++ next ∷ more = cc in
+    rw (← same_k, eq-eqb k k refl) (keyword_tail l ls t bs next more rest tail)
+
+abbrev BegunScans : Word → Type 0
+BegunScans w = (begun : List ℕ) (next : ℕ) (more rest : List ℕ) → w.0 ≡ begun ++ next ∷ more → begun ≢ [] → begun ≢ codes "i" → tokens_of (begun ++ rest) ≡ tokens_from (in_keyword next more w.1) rest
+
+begun_from : (first_byte k : ℕ) (ks : List ℕ) (t : Token) → ((rest : List ℕ) → tokens_of (first_byte ∷ rest) ≡ tokens_from (in_keyword k ks t) rest) → BegunScans (first_byte ∷ k ∷ ks, t)
+begun_from f k ks t h [] next more rest e ne ni = absurd (ne refl)
+begun_from f k ks t h (b ∷ bs) next more rest e ne ni =
+    let same_f : f ≡ b = cc in
+    let tail : k ∷ ks ≡ bs ++ next ∷ more = cc in
+    rw (← same_f) (h (bs ++ rest) ∙ keyword_tail k ks t bs next more rest tail)
+
+integer_begun : BegunScans (codes "integer", Integer)
+unfolding tokens_from
+integer_begun [] next more rest e ne ni = absurd (ne refl)
+integer_begun (b ∷ []) next more rest e ne ni = let same : b ≡ 105 = cc in absurd (ni (ap (λ x. x ∷ []) same))
+integer_begun (b ∷ c ∷ bs) next more rest e ne ni =
+    let same_b : b ≡ 105 = cc in
+    let same_c : c ≡ 110 = cc in
+    let tail : 116 ∷ 101 ∷ 103 ∷ 101 ∷ 114 ∷ [] ≡ bs ++ next ∷ more = cc in
+    rw (same_b, same_c) (keyword_tail 116 (101 ∷ 103 ∷ 101 ∷ 114 ∷ []) Integer bs next more rest tail)
+
+begun_scan : AllByRecursion BegunScans keywords
+unfolding tokens_from
+begun_scan = (
+  begun_from 97 110 (100 ∷ []) And (λ rest. refl),
+  (
+    begun_from 111 114 [] Or (λ rest. refl),
+    (
+      begun_from 33 61 [] (Operator NotEq) (λ rest. refl),
+      (
+        begun_from 100 101 (99 ∷ 105 ∷ 109 ∷ 97 ∷ 108 ∷ []) Decimal (λ rest. refl),
+        (
+          begun_from 0xe2 0x80 (0xa6 ∷ []) Ellipsis (λ rest. refl),
+          (integer_begun, tt),
+        ),
+      ),
+    ),
+  ),
+)
+
+begun_leads : (begun : List ℕ) (next : ℕ) (rest : List ℕ) (h : IsBegun begun next) → tokens_of (begun ++ rest) ≡ tokens_from (in_keyword next h.more h.word.1) rest
+begun_leads begun next rest h = All-contains BegunScans keywords h.word (All-from_recursion BegunScans keywords begun_scan) h.is_keyword begun next h.more rest h.spelling h.nonempty h.not_i
+
+broken_scans : (begun : List ℕ) (next b : ℕ) (rest : List ℕ) → IsBegun begun next → b ≢ next → tokens_of ((begun ++ b ∷ []) ++ rest) ≡ Junk ∷ tokens_of rest
+unfolding tokens_from
+broken_scans begun next b rest h differs = ap tokens_of (append_assoc begun (b ∷ []) rest) ∙ begun_leads begun next (b ∷ rest) h ∙ rw (no_eq b next differs) refl
+
+cut_off_scans : (begun : List ℕ) (next : ℕ) → IsBegun begun next → tokens_of (begun ++ []) ≡ Junk ∷ []
+unfolding tokens_from
+cut_off_scans begun next h = begun_leads begun next [] h
+
+-- ---- numbers
+
+digit_yes : (b : ℕ) → IsAsciiDigit b → is_ascii_digit b ≡ true
+digit_yes b h = grind (arith, nat_tests)
+
+digit_no : (b : ℕ) → (IsAsciiDigit b → ⊥) → is_ascii_digit b ≡ false
+digit_no b h = ⊎_elim (λ low. ⊎_elim (λ high. absurd (h (low.1, high.1))) (λ high. rw (low.0, high.0) refl) (leb_tells b 57)) (λ low. rw low.0 refl) (leb_tells 48 b)
+
+number_scans : (n : ℕ) (digits rest : List ℕ) → AllByRecursion IsAsciiDigit digits → IfSome (first rest) (λ d. ¬ (IsAsciiDigit d)) → tokens_from (in_number n) (digits ++ rest) ≡ number_token (digits_value_after 10 n digits) ∷ tokens_of rest
+unfolding tokens_from
+number_scans n [] [] all whole = refl
+number_scans n [] (b ∷ bs) all whole = rw (digit_no b whole) refl
+number_scans n (d ∷ ds) rest all whole = rw (digit_yes d all.0) (number_scans (n * 10 + digit_value d) ds rest all.1 whole)
+
+begin_digit : (d : ℕ) → IsAsciiDigit d → d ≢ 48 → begin d ≡ ([], in_number (0 * 10 + digit_value d))
+begin_digit d h k = let low : 49 ≤ d = omega arith in rw (no_eq d 32 (omega arith), le-leb 49 d low, le-leb d 57 h.1) refl
+
+run_scans : (digits rest : List ℕ) → IsDigitRun digits rest → tokens_of (digits ++ rest) ≡ number_token (digits_value 10 digits) ∷ tokens_of rest
+unfolding tokens_from
+run_scans [] rest h = absurd (h.nonempty refl)
+run_scans (d ∷ ds) rest h =
+    let all = recursion_from_All IsAsciiDigit (d ∷ ds) h.all_digits in
+    rw (begin_digit d all.0 h.begins) (number_scans (0 * 10 + digit_value d) ds rest all.1 h.whole)
+
+-- ---- other bytes
+
+none_found : (b : ℕ) (ss : List (ℕ × Start)) → AllByRecursion (λ (s : ℕ × Start). b ≢ s.0) ss → look_up b ss ≡ (Junk ∷ [], between)
+none_found b [] h = refl
+none_found b (s ∷ ss) h = rw (no_eq b s.0 h.0) (none_found b ss h.1)
+
+no_start : (b : ℕ) → All (λ (word : Word). first word.0 ≢ Some b) (marks ++ keywords) → AllByRecursion (λ (s : ℕ × Start). b ≢ s.0) starts
+no_start b h = let r = recursion_from_All (λ (word : Word). first word.0 ≢ Some b) (marks ++ keywords) h in
+    (λ e. r.0 (ap Some (sym e)), (λ e. r.1.0 (ap Some (sym e)), (λ e. r.1.1.0 (ap Some (sym e)), (λ e. r.1.1.1.0 (ap Some (sym e)), (λ e. r.1.1.1.1.0 (ap Some (sym e)), (λ e. r.1.1.1.1.1.0 (ap Some (sym e)), (λ e. r.1.1.1.1.1.1.0 (ap Some (sym e)), (λ e. r.1.1.1.1.1.1.1.0 (ap Some (sym e)), (λ e. r.1.1.1.1.1.1.1.1.0 (ap Some (sym e)), (λ e. r.1.1.1.1.1.1.1.1.1.0 (ap Some (sym e)), (λ e. r.1.1.1.1.1.1.1.1.1.1.0 (ap Some (sym e)), (λ e. r.1.1.1.1.1.1.1.1.1.1.1.1.0 (ap Some (sym e)), (λ e. r.1.1.1.1.1.1.1.1.1.1.1.1.1.0 (ap Some (sym e)), (λ e. r.1.1.1.1.1.1.1.1.1.1.1.1.1.1.0 (ap Some (sym e)), (λ e. r.1.1.1.1.1.1.1.1.1.1.1.1.1.1.1.0 (ap Some (sym e)), (λ e. r.1.1.1.1.1.1.1.1.1.1.1.1.1.1.1.1.0 (ap Some (sym e)), (λ e. r.1.1.1.1.1.1.1.1.1.1.1.1.1.1.1.1.1.0 (ap Some (sym e)), (λ e. r.1.1.1.1.1.1.1.1.1.1.1.1.1.1.1.1.1.1.0 (ap Some (sym e)), (λ e. r.1.1.1.1.1.1.1.1.1.1.1.1.1.1.1.1.1.1.1.0 (ap Some (sym e)), (λ e. r.1.1.1.1.1.1.1.1.1.1.1.1.1.1.1.1.1.1.1.1.0 (ap Some (sym e)), tt))))))))))))))))))))
+
+begin_unknown : (b : ℕ) → BeginsNone b → begin b ≡ (Junk ∷ [], between)
+begin_unknown b h =
+    let none = none_found b starts (no_start b h.2) in
+    ⊎_elim (λ low. ⊎_elim (λ high. absurd (h.1 (omega arith, high.1))) (λ high. rw (no_eq b 32 h.0, low.0, high.0) none) (leb_tells b 57)) (λ low. rw (no_eq b 32 h.0, low.0) none) (leb_tells 49 b)
+
+unknown_scans : (b : ℕ) (rest : List ℕ) → BeginsNone b → tokens_of (b ∷ rest) ≡ Junk ∷ tokens_of rest
+unfolding tokens_from
+unknown_scans b rest h = rw (begin_unknown b h) refl
+
+-- ---- pieces and cuts
+
+piece_scans : (piece rest : List ℕ) (token : Option Token) → IsPiece piece rest token → tokens_of (piece ++ rest) ≡ cons_option token (tokens_of rest)
+unfolding tokens_from
+piece_scans piece rest token (space e t) = rw (e, t) refl
+piece_scans piece rest token (mark t c f k) = All-contains MarkScans marks (piece, t) (All-from_recursion MarkScans marks marks_scan) c rest f ∙ rw k refl
+piece_scans piece rest token (keyword t c k) = All-contains KeywordScans keywords (piece, t) (All-from_recursion KeywordScans keywords keywords_scan) c rest ∙ rw k refl
+piece_scans piece rest token (number r small k) = run_scans piece rest r ∙ rw (k, le-leb _ _ small) refl
+piece_scans piece rest token (unknown b e n k) = rw (e, k) (unknown_scans b rest n)
+piece_scans piece rest token (too_large r large k) = run_scans piece rest r ∙ rw (k, lt-leb _ _ large) refl
+piece_scans piece rest token (broken begun next b e g d k) = rw (e, k) (broken_scans begun next b rest g d)
+piece_scans piece rest token (cut_off next g e k) = rw (e, k) (cut_off_scans piece next g)
+
+pub cut_scans : (text : List ℕ) (pieces : List Piece) → IsCut text pieces → tokens_of text ≡ filter_map (λ p. p.1) pieces
+unfolding tokens_from
+cut_scans text [] h = rw h refl
+cut_scans text (p ∷ ps) h = ap tokens_of h.1 ∙ piece_scans p.0 h.0 p.1 h.2 ∙ ap (cons_option p.1) (cut_scans h.0 ps h.3)

@@ -1,0 +1,68 @@
+-- A text has at most as many tokens as bytes.
+use Rattle.std.proofs.Common.{◌≤◌, ◌+◌, ◌*◌, ℕ, Bool, true, false, cond, List, [], ◌∷◌, length, nat_eq, arith, length-append}
+use Rattle.std.specs.Prelude.{nat_le}
+use Rattle.std.specs.Char.{is_ascii_digit, digit_value}
+use Rattle.plural_reference.specs.declared.ast.Operand.TheVariants.{I}
+use Rattle.plural_reference.specs.declared.token.Token.{Token}
+use Rattle.plural_reference.specs.declared.token.Token.TheVariants.{Operand, Dot, DotDot, Junk}
+use Rattle.plural_reference.specs.Scan.{Start, gives, opens, Scan, between, in_keyword, in_number, after_i, after_point, starts, look_up, start_move, begin, number_token, keyword_move, then_begin, step, Move, tokens_from, tokens_of}
+
+-- an open piece gives at most one token
+abbrev pending : Scan → ℕ
+pending between = 0
+pending _ = 1
+
+abbrev size : Move → ℕ
+size m = length m.0 + pending m.1
+
+one_at_most : (s : Scan) → pending s ≤ 1
+one_at_most between = omega arith
+one_at_most (in_keyword k ks t) = omega arith
+one_at_most (in_number n) = omega arith
+one_at_most after_i = omega arith
+one_at_most after_point = omega arith
+
+size-cond : (test : Bool) (m n : Move) (k : ℕ) → size m ≤ k → size n ≤ k → size (cond test m n) ≤ k
+size-cond true m n k h i = h
+size-cond false m n k h i = i
+
+size_start : (s : Start) → size (start_move s) ≤ 1
+size_start (gives t) = omega arith
+size_start (opens s) = omega (arith, one_at_most s)
+
+size_look_up : (b : ℕ) (ss : List (ℕ × Start)) → size (look_up b ss) ≤ 1
+size_look_up b [] = omega arith
+size_look_up b (s ∷ ss) = size-cond (nat_eq b s.0) (start_move s.1) (look_up b ss) 1 (size_start s.1) (size_look_up b ss)
+
+size_begin : (b : ℕ) → size (begin b) ≤ 1
+size_begin b =
+    size-cond (nat_eq b 32) ([], between) _ 1 (omega arith)
+    (size-cond (nat_le 49 b) _ (look_up b starts) 1
+    (size-cond (nat_le b 57) ([], in_number (0 * 10 + digit_value b)) (look_up b starts) 1 (omega arith) (size_look_up b starts))
+    (size_look_up b starts))
+
+size_keyword : (ks : List ℕ) (t : Token) → size (keyword_move ks t) ≤ 1
+size_keyword [] t = omega arith
+size_keyword (k ∷ ks) t = omega arith
+
+size_then : (t : Token) (b : ℕ) → size (then_begin t (begin b)) ≤ 2
+size_then t b = omega (arith, size_begin b)
+
+size_step : (s : Scan) (b : ℕ) → size (step s b) ≤ 1 + pending s
+size_step between b = size_begin b
+size_step (in_keyword k ks t) b = size-cond (nat_eq b k) (keyword_move ks t) (Junk ∷ [], between) 2 (omega (arith, size_keyword ks t)) (omega arith)
+size_step (in_number n) b = size-cond (is_ascii_digit b) ([], in_number (n * 10 + digit_value b)) (then_begin (number_token n) (begin b)) 2 (omega arith) (size_then (number_token n) b)
+size_step after_i b = size-cond (nat_eq b 110) _ (then_begin (Operand I) (begin b)) 2 (omega arith) (size_then (Operand I) b)
+size_step after_point b = size-cond (nat_eq b 46) (DotDot ∷ [], between) (then_begin Dot (begin b)) 2 (omega arith) (size_then Dot b)
+
+length-tokens_from : (s : Scan) (bs : List ℕ) → length (tokens_from s bs) ≤ length bs + pending s
+unfolding tokens_from
+length-tokens_from between [] = omega arith
+length-tokens_from (in_keyword k ks t) [] = omega arith
+length-tokens_from (in_number n) [] = omega arith
+length-tokens_from after_i [] = omega arith
+length-tokens_from after_point [] = omega arith
+length-tokens_from s (b ∷ bs) = omega (arith, length-append (step s b).0 (tokens_from (step s b).1 bs), size_step s b, length-tokens_from (step s b).1 bs)
+
+pub length-tokens_of : (text : List ℕ) → length (tokens_of text) ≤ length text
+length-tokens_of text = omega (arith, length-tokens_from between text)

@@ -1,0 +1,16 @@
+-- The operands of a number (UTS 35 Part 3, Plural Operand Meanings): i its integer part; v and w how many fraction digits
+-- it shows, with and without trailing zeros; f and t those digits as a number, with and without trailing zeros; and c the
+-- compact exponent, which e names too.
+use Rattle.std.specs.Prelude.{ℕ}
+
+pub record Operands : Type 0 where
+  pub i : ℕ
+  pub v : ℕ
+  pub w : ℕ
+  pub f : ℕ
+  pub t : ℕ
+  pub c : ℕ
+
+-- those of a whole number without a fraction or an exponent
+abbrev pub of_whole : ℕ → Operands
+of_whole n = record { i = n; v = 0; w = 0; f = 0; t = 0; c = 0 }

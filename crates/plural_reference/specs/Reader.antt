@@ -1,0 +1,123 @@
+-- A reader of tokens, state by state: a second way to say what is read of a list of tokens.
+use Rattle.std.specs.Prelude.{List, [], ◌∷◌, ◌++◌, Option, Some, None, Result, Ok, Err}
+use Rattle.plural_reference.specs.declared.ast.AndCondition.{AndCondition}
+use Rattle.plural_reference.specs.declared.ast.Condition.{Condition}
+use Rattle.plural_reference.specs.declared.ast.Expression.{Expression}
+use Rattle.plural_reference.specs.declared.ast.Operand as operand
+use Rattle.plural_reference.specs.declared.ast.Operator as operator
+use Rattle.plural_reference.specs.declared.ast.RangeListItem.{RangeListItem}
+use Rattle.plural_reference.specs.declared.ast.RangeListItem.TheVariants as items
+use Rattle.plural_reference.specs.declared.ast.Relation.{Relation}
+use Rattle.plural_reference.specs.declared.ast.Value.{Value}
+use Rattle.plural_reference.specs.declared.error.ParseError.{ParseError}
+use Rattle.plural_reference.specs.declared.error.ParseError.TheVariants.{ExpectedAndCondition, ExpectedRelation, ExpectedOperator, ExpectedOperand, ExpectedValue}
+use Rattle.plural_reference.specs.declared.token.Token.{Token}
+use Rattle.plural_reference.specs.declared.token.Token.TheVariants.{Operator, DotDot, Comma, Or, And, Modulo, At}
+use Rattle.plural_reference.specs.Parser.{value_of, operand_of}
+
+-- what is complete before the relation that is being read
+pub record Before : Type 0 where
+  pub groups : List AndCondition
+  pub relations : List Relation
+
+-- what is complete of the relation that is being read
+pub record Opened : Type 0 where
+  pub before : Before
+  pub expression : Expression
+  pub operator : operator.Operator
+
+pub data State : Type 0 where
+  before_operand : Before → State
+  after_operand : Before → operand.Operand → State
+  after_modulo : Before → operand.Operand → State
+  after_modulus : Before → Expression → State
+  before_item : Opened → List RangeListItem → State
+  after_item : Opened → List RangeListItem → RangeListItem → State
+  before_end : Opened → List RangeListItem → Value → State
+
+abbrev pub relation_of : Opened → List RangeListItem → Relation
+relation_of o xs = record { expression = o.expression; operator = o.operator; range_list = record { 0 = xs } }
+
+-- the relation joins the group, or also ends it
+abbrev pub with_relation : Before → Relation → Before
+with_relation b r = record { groups = b.groups; relations = b.relations ++ r ∷ [] }
+
+abbrev pub with_group : Before → Before
+with_group b = record { groups = b.groups ++ (record { 0 = b.relations }) ∷ []; relations = [] }
+
+abbrev pub condition_of : Before → Condition
+condition_of b = record { 0 = b.groups ++ (record { 0 = b.relations }) ∷ [] }
+
+pub data Move : Type 0 where
+  go : State → Move
+  finish : Condition → Move
+  refuse : ParseError → Move
+
+-- no operand: the end, or At
+abbrev pub no_operand : List AndCondition → List Relation → Move
+no_operand [] [] = finish (record { 0 = [] })
+no_operand (g ∷ gs) [] = refuse ExpectedAndCondition
+no_operand gs (r ∷ rs) = refuse ExpectedRelation
+
+abbrev pub operand_move : Option operand.Operand → Token → Before → Move
+operand_move (Some o) t b = go (after_operand b o)
+operand_move None At b = no_operand b.groups b.relations
+operand_move None _ b = refuse ExpectedOperand
+
+abbrev pub value_move : Option Value → (Value → State) → Move
+value_move None next = refuse ExpectedValue
+value_move (Some v) next = go (next v)
+
+abbrev pub operator_move : Token → Before → Expression → Move
+operator_move (Operator op) b e = go (before_item (record { before = b; expression = e; operator = op }) [])
+operator_move _ b e = refuse ExpectedOperator
+
+abbrev pub dots_move : Opened → List RangeListItem → RangeListItem → Move
+dots_move o xs (items.Value v) = go (before_end o xs v)
+dots_move o xs (items.Range a b) = finish (condition_of (with_relation o.before (relation_of o (xs ++ (items.Range a b) ∷ []))))
+
+abbrev pub item_move : Opened → List RangeListItem → RangeListItem → Token → Move
+item_move o xs x And = go (before_operand (with_relation o.before (relation_of o (xs ++ x ∷ []))))
+item_move o xs x Or = go (before_operand (with_group (with_relation o.before (relation_of o (xs ++ x ∷ [])))))
+item_move o xs x Comma = go (before_item o (xs ++ x ∷ []))
+item_move o xs x DotDot = dots_move o xs x
+item_move o xs x _ = finish (condition_of (with_relation o.before (relation_of o (xs ++ x ∷ []))))
+
+abbrev pub operand_next : Token → Before → operand.Operand → Move
+operand_next Modulo b o = go (after_modulo b o)
+operand_next t b o = operator_move t b (record { operand = o; modulus = None })
+
+abbrev pub step : State → Token → Move
+step (before_operand b) t = operand_move (operand_of t) t b
+step (after_operand b o) t = operand_next t b o
+step (after_modulo b o) t = value_move (value_of t) (λ v. after_modulus b (record { operand = o; modulus = Some v }))
+step (after_modulus b e) t = operator_move t b e
+step (before_item o xs) t = value_move (value_of t) (λ v. after_item o xs (items.Value v))
+step (after_item o xs x) t = item_move o xs x t
+step (before_end o xs v) t = value_move (value_of t) (λ w. after_item o xs (items.Range v w))
+
+-- where the tokens end
+abbrev pub at_end : State → Move
+at_end (before_operand b) = no_operand b.groups b.relations
+at_end (after_operand b o) = refuse ExpectedOperator
+at_end (after_modulo b o) = refuse ExpectedValue
+at_end (after_modulus b e) = refuse ExpectedOperator
+at_end (before_item o xs) = refuse ExpectedValue
+at_end (after_item o xs x) = finish (condition_of (with_relation o.before (relation_of o (xs ++ x ∷ []))))
+at_end (before_end o xs v) = refuse ExpectedValue
+
+-- the condition, and the tokens that are left
+abbrev pub Outcome : Type 0
+Outcome = Result (Condition × List Token) ParseError
+
+abbrev pub proceed : Move → List Token → (State → Outcome) → Outcome
+proceed (go s) rest next = next s
+proceed (finish c) rest next = Ok (c, rest)
+proceed (refuse e) rest next = Err e
+
+unfoldable pub run : State → List Token → Outcome
+run s [] = proceed (at_end s) [] (λ _. Err ExpectedValue)
+run s (t ∷ ts) = proceed (step s t) (t ∷ ts) (λ next. run next ts)
+
+abbrev pub begin : State
+begin = before_operand (record { groups = []; relations = [] })

@@ -1,0 +1,211 @@
+-- The grammar of samples over tokens, what is read of the tokens after a condition, and which fault they have.
+use Rattle.std.specs.Prelude.{◌≡◌, ◌≢◌, ◌⊎◌, ℕ, List, [], ◌∷◌, ◌++◌, Bool, true, false, Option, Some, None, IfSome, IsSome, IsSomeAnd, fold, unwrap_or, ◌==◌, ◌||◌, if◌then◌else◌}
+use Rattle.std.specs.Option.{option_and_then}
+use Rattle.std.specs.List.{AllByRecursion, list_any}
+use Rattle.std.specs.Fmt.{decimal}
+use Rattle.std.specs.List.{flat_map}
+use Rattle.plural_reference.specs.declared.ast.Operand.TheVariants.{C}
+use Rattle.plural_reference.specs.declared.ast.Samples as samples
+use Rattle.plural_reference.specs.declared.ast.SampleList.{SampleList}
+use Rattle.plural_reference.specs.declared.ast.SampleRange.{SampleRange}
+use Rattle.plural_reference.specs.declared.ast.DecimalValue.{DecimalValue}
+use Rattle.plural_reference.specs.declared.ast.Rule.{Rule}
+use Rattle.plural_reference.specs.declared.ast.Condition.{Condition}
+use Rattle.plural_reference.specs.declared.error.ParseError.{ParseError}
+use Rattle.plural_reference.specs.declared.error.ParseError.TheVariants.{ExpectedValue, ExpectedSampleType}
+use Rattle.plural_reference.specs.declared.token.Token.{Token}
+use Rattle.plural_reference.specs.declared.token.Token.TheVariants.{Operand, Number, Zero, Dot, Comma, At, Decimal, Integer, Ellipsis, Tilde, E}
+use Rattle.plural_reference.specs.Parser.{first, last, Separated, ReadsUpTo, Faulty}
+
+-- ---- kinds of token
+
+abbrev pub IsDigits : Token → Type 0
+IsDigits Zero = Unit {0}
+IsDigits (Number n) = Unit {0}
+IsDigits _ = ⊥
+
+-- what begins the exponent of a sample
+abbrev pub IsExponentMark : Token → Type 0
+IsExponentMark E = Unit {0}
+IsExponentMark (Operand C) = Unit {0}
+IsExponentMark _ = ⊥
+
+abbrev pub IsSampleType : Token → Type 0
+IsSampleType Integer = Unit {0}
+IsSampleType Decimal = Unit {0}
+IsSampleType _ = ⊥
+
+-- ---- the grammar
+
+-- sample = digits (Dot digits)? ((E | C) (Number | Zero))?      not empty as a whole
+abbrev pub IsFraction : List Token → Type 0
+IsFraction [] = Unit {0}
+IsFraction (Dot ∷ ts) = AllByRecursion IsDigits ts
+IsFraction _ = ⊥
+
+abbrev pub IsExponent : List Token → Type 0
+IsExponent [] = Unit {0}
+IsExponent (mark ∷ digits ∷ []) = IsExponentMark mark × IsDigits digits
+IsExponent _ = ⊥
+
+-- the parts of a sample: its integer digits, its fraction and its exponent
+pub record SampleParts : Type 0 where
+  pub integer : List Token
+  pub fraction : List Token
+  pub exponent : List Token
+
+abbrev pub IsSampleOf : List Token → SampleParts → Type 0
+IsSampleOf tokens s = (tokens ≡ s.integer ++ s.fraction ++ s.exponent) × AllByRecursion IsDigits s.integer × IsFraction s.fraction × IsExponent s.exponent × (tokens ≢ [])
+
+-- the text of a sample's token
+abbrev pub token_text : Token → List ℕ
+token_text Zero = 48 ∷ []
+token_text (Number n) = decimal n
+token_text Dot = 46 ∷ []
+token_text E = 101 ∷ []
+token_text (Operand C) = 99 ∷ []
+token_text _ = []
+
+abbrev pub IsSample : List Token → DecimalValue → Type 0
+IsSample tokens text = (s : SampleParts) × IsSampleOf tokens s × (text ≡ flat_map token_text tokens)
+
+-- range = sample (Tilde sample)?
+abbrev pub IsUpper : List Token → Option DecimalValue → Type 0
+IsUpper tokens None = tokens ≡ []
+IsUpper tokens (Some upper) = (rest : List Token) × (tokens ≡ Tilde ∷ rest) × IsSample rest upper
+
+abbrev pub IsSampleRange : List Token → SampleRange → Type 0
+IsSampleRange tokens r = (left : List Token) × (right : List Token) × (tokens ≡ left ++ right) × IsSample left r.lower_val × IsUpper right r.upper_val
+
+-- list = range (Comma range)* (Comma Ellipsis)?
+abbrev pub IsEllipsis : List Token → Bool → Type 0
+IsEllipsis tokens false = tokens ≡ []
+IsEllipsis tokens true = tokens ≡ Comma ∷ Ellipsis ∷ []
+
+abbrev pub IsSampleList : List Token → SampleList → Type 0
+IsSampleList tokens l = (left : List Token) × (right : List Token) × (tokens ≡ left ++ right) × Separated Comma IsSampleRange left l.sample_ranges × IsEllipsis right l.ellipsis
+
+-- samples = (At (Integer | Decimal) list)*
+pub record Section : Type 0 where
+  pub type : Token
+  pub list : SampleList
+
+abbrev pub AreSections : List Token → List Section → Type 0
+AreSections tokens [] = tokens ≡ []
+AreSections tokens (s ∷ ss) = (list : List Token) × (rest : List Token) × (tokens ≡ At ∷ s.type ∷ (list ++ rest)) × IsSampleType s.type × IsSampleList list s.list × AreSections rest ss
+
+-- a list takes the place of an earlier one of its type
+abbrev pub with_list : Token → SampleList → samples.Samples → samples.Samples
+with_list Integer list old = record { integer = Some list; decimal = old.decimal }
+with_list Decimal list old = record { integer = old.integer; decimal = Some list }
+with_list _ list old = old
+
+abbrev pub samples_of : List Section → Option samples.Samples
+samples_of [] = None
+samples_of (s ∷ ss) = Some (fold (λ old new. with_list new.type new.list old) (record { integer = None; decimal = None }) (s ∷ ss))
+
+-- ---- reading
+
+-- the last range, where no ellipsis is behind it
+abbrev pub open_range : List Section → Option SampleRange
+open_range sections = option_and_then (λ s. if s.list.ellipsis then None else last s.list.sample_ranges) (last sections)
+
+abbrev pub last_sample : SampleRange → DecimalValue
+last_sample r = unwrap_or r.upper_val r.lower_val
+
+-- the text of a sample has an exponent, has a point
+abbrev pub has_exponent : DecimalValue → Bool
+has_exponent text = list_any (λ b. b == 101 || b == 99) text
+
+abbrev pub has_point : DecimalValue → Bool
+has_point text = list_any (λ b. b == 46) text
+
+-- the sample can still take the token
+abbrev pub Takes : DecimalValue → Token → Type 0
+Takes text Dot = (has_exponent text ≡ false) × (has_point text ≡ false)
+Takes text t = (has_exponent text ≡ false) × (IsDigits t ⊎ IsExponentMark t)
+
+-- the token continues the samples
+abbrev pub ContinuesSamples : List Section → Token → Type 0
+ContinuesSamples sections At = Unit {0}
+ContinuesSamples sections Comma = IsSome (open_range sections)
+ContinuesSamples sections Tilde = IsSomeAnd (open_range sections) (λ r. r.upper_val ≡ None)
+ContinuesSamples sections t = IsSomeAnd (open_range sections) (λ r. Takes (last_sample r) t)
+
+-- the samples are read from the longest beginning of the tokens
+abbrev pub ReadsSamples : List Token → Option samples.Samples → Type 0
+ReadsSamples tokens s =
+    (sections : List Section) × (spelled : List Token) × (rest : List Token) × (tokens ≡ spelled ++ rest) × AreSections spelled sections
+    × IfSome (first rest) (λ t. ¬ (ContinuesSamples sections t)) × (s ≡ samples_of sections)
+
+-- ---- faults
+
+-- where a beginning of the samples waits for another token
+pub data SamplePlace : Type 0 where
+  after_at : SamplePlace
+  before_sample : SamplePlace
+  after_comma : SamplePlace
+  after_mark : SamplePlace
+
+-- sections, and then the tokens
+abbrev pub SectionsThen : (List Section → Type 0) → List Token → List Token → Type 0
+SectionsThen Here more tokens = (spelled : List Token) × (sections : List Section) × (tokens ≡ spelled ++ more) × AreSections spelled sections × Here sections
+
+abbrev pub IsAfterAt : List Token → Type 0
+IsAfterAt tokens = SectionsThen (λ _. Unit {0}) (At ∷ []) tokens
+
+abbrev pub IsBeforeSample : List Token → Type 0
+IsBeforeSample tokens =
+    ((type : Token) × IsSampleType type × SectionsThen (λ _. Unit {0}) (At ∷ type ∷ []) tokens)
+    ⊎ SectionsThen (λ sections. ContinuesSamples sections Tilde) (Tilde ∷ []) tokens
+
+abbrev pub IsAfterComma : List Token → Type 0
+IsAfterComma tokens = SectionsThen (λ sections. ContinuesSamples sections Comma) (Comma ∷ []) tokens
+
+-- behind E or C, in an empty sample or in one that can take it
+abbrev pub IsAfterMark : List Token → Type 0
+IsAfterMark tokens =
+    (mark : Token) × IsExponentMark mark
+    × (((before : List Token) × (tokens ≡ before ++ mark ∷ []) × (IsBeforeSample before ⊎ IsAfterComma before))
+    ⊎ SectionsThen (λ sections. ContinuesSamples sections mark) (mark ∷ []) tokens)
+
+abbrev pub WaitsInSamples : SamplePlace → List Token → Type 0
+WaitsInSamples after_at tokens = IsAfterAt tokens
+WaitsInSamples before_sample tokens = IsBeforeSample tokens
+WaitsInSamples after_comma tokens = IsAfterComma tokens
+WaitsInSamples after_mark tokens = IsAfterMark tokens
+
+abbrev pub type_fault : Option Token → Option ParseError
+type_fault (Some Integer) = None
+type_fault (Some Decimal) = None
+type_fault _ = Some ExpectedSampleType
+
+abbrev pub digits_fault : Option Token → Option ParseError
+digits_fault (Some Zero) = None
+digits_fault (Some (Number n)) = None
+digits_fault _ = Some ExpectedValue
+
+abbrev pub sample_fault : Option Token → Option ParseError
+sample_fault (Some Dot) = None
+sample_fault (Some E) = None
+sample_fault (Some (Operand C)) = None
+sample_fault t = digits_fault t
+
+-- the fault of the token that follows a place, or of the end
+abbrev pub fault_in_samples : SamplePlace → Option Token → Option ParseError
+fault_in_samples after_at t = type_fault t
+fault_in_samples before_sample t = sample_fault t
+fault_in_samples after_comma (Some Ellipsis) = None
+fault_in_samples after_comma t = sample_fault t
+fault_in_samples after_mark t = digits_fault t
+
+abbrev pub FaultyInSamples : List Token → ParseError → Type 0
+FaultyInSamples tokens kind = (place : SamplePlace) × (before : List Token) × (rest : List Token) × (tokens ≡ before ++ rest) × WaitsInSamples place before × (fault_in_samples place (first rest) ≡ Some kind)
+
+-- ---- a whole rule
+
+abbrev pub ReadsRule : List Token → Rule → Type 0
+ReadsRule tokens rule = (rest : List Token) × ReadsUpTo tokens rule.condition rest × ReadsSamples rest rule.samples
+
+abbrev pub FaultyRule : List Token → ParseError → Type 0
+FaultyRule tokens kind = Faulty tokens kind ⊎ ((c : Condition) × (rest : List Token) × ReadsUpTo tokens c rest × FaultyInSamples rest kind)

@@ -1,0 +1,84 @@
+-- The printed text of a rule and of its parts.
+use Rattle.std.specs.Prelude.{ℕ, List, [], ◌∷◌, ◌++◌, Bool, true, false, Option, Some, None, codes}
+use Rattle.std.specs.Fmt.{decimal}
+use Rattle.plural_reference.specs.declared.ast.AndCondition.{AndCondition}
+use Rattle.plural_reference.specs.declared.ast.Condition.{Condition}
+use Rattle.plural_reference.specs.declared.ast.DecimalValue.{DecimalValue}
+use Rattle.plural_reference.specs.declared.ast.Expression.{Expression}
+use Rattle.plural_reference.specs.declared.ast.Operand.{Operand}
+use Rattle.plural_reference.specs.declared.ast.Operand.TheVariants.{N, I, F, T, V, W, C, E}
+use Rattle.plural_reference.specs.declared.ast.Operator.{Operator}
+use Rattle.plural_reference.specs.declared.ast.Operator.TheVariants.{Eq, NotEq}
+use Rattle.plural_reference.specs.declared.ast.RangeListItem.{RangeListItem}
+use Rattle.plural_reference.specs.declared.ast.RangeListItem.TheVariants as items
+use Rattle.plural_reference.specs.declared.ast.Relation.{Relation}
+use Rattle.plural_reference.specs.declared.ast.Rule.{Rule}
+use Rattle.plural_reference.specs.declared.ast.SampleList.{SampleList}
+use Rattle.plural_reference.specs.declared.ast.SampleRange.{SampleRange}
+use Rattle.plural_reference.specs.declared.ast.Samples.{Samples}
+use Rattle.plural_reference.specs.declared.ast.Value.{Value}
+use Rattle.plural_reference.specs.Lexer.{ellipsis}
+
+-- the texts of the parts, with the separator between neighbours
+abbrev pub joined : {A : Type 0} → List ℕ → (A → List ℕ) → List A → List ℕ
+joined separator text [] = []
+joined separator text (x ∷ []) = text x
+joined separator text (x ∷ y ∷ ys) = text x ++ separator ++ joined separator text (y ∷ ys)
+
+-- the text before that of a part that is there, or nothing
+abbrev pub prefixed : {A : Type 0} → List ℕ → (A → List ℕ) → Option A → List ℕ
+prefixed before text None = []
+prefixed before text (Some x) = before ++ text x
+
+abbrev pub value_text : Value → List ℕ
+value_text v = decimal v.0
+
+abbrev pub operand_text : Operand → List ℕ
+operand_text N = codes "n"
+operand_text I = codes "i"
+operand_text V = codes "v"
+operand_text W = codes "w"
+operand_text F = codes "f"
+operand_text T = codes "t"
+operand_text C = codes "c"
+operand_text E = codes "e"
+
+abbrev pub operator_text : Operator → List ℕ
+operator_text Eq = codes "="
+operator_text NotEq = codes "!="
+
+abbrev pub expression_text : Expression → List ℕ
+expression_text e = operand_text e.operand ++ prefixed (codes " % ") value_text e.modulus
+
+abbrev pub item_text : RangeListItem → List ℕ
+item_text (items.Value v) = value_text v
+item_text (items.Range a b) = value_text a ++ codes ".." ++ value_text b
+
+abbrev pub relation_text : Relation → List ℕ
+relation_text r = expression_text r.expression ++ codes " " ++ operator_text r.operator ++ codes " " ++ joined (codes ", ") item_text r.range_list.0
+
+abbrev pub and_condition_text : AndCondition → List ℕ
+and_condition_text c = joined (codes " and ") relation_text c.0
+
+abbrev pub condition_text : Condition → List ℕ
+condition_text c = joined (codes " or ") and_condition_text c.0
+
+-- a sample's text stands as it is
+abbrev pub sample_text : DecimalValue → List ℕ
+sample_text s = s
+
+abbrev pub sample_range_text : SampleRange → List ℕ
+sample_range_text r = sample_text r.lower_val ++ prefixed (codes "~") sample_text r.upper_val
+
+abbrev pub ellipsis_text : Bool → List ℕ
+ellipsis_text false = []
+ellipsis_text true = codes ", " ++ ellipsis
+
+abbrev pub sample_list_text : SampleList → List ℕ
+sample_list_text l = joined (codes ", ") sample_range_text l.sample_ranges ++ ellipsis_text l.ellipsis
+
+abbrev pub samples_text : Samples → List ℕ
+samples_text s = prefixed (codes " @integer ") sample_list_text s.integer ++ prefixed (codes " @decimal ") sample_list_text s.decimal
+
+abbrev pub rule_text : Rule → List ℕ
+rule_text r = condition_text r.condition ++ prefixed [] samples_text r.samples

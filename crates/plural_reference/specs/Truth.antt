@@ -1,0 +1,108 @@
+-- When a relation holds and when a condition is true (UTS 35 Part 3, Plural Rules Syntax), in words that serve every
+-- form of a rule: a tree, packed relations, and the exact number.
+use Rattle.std.specs.Prelude.{ℕ, ◌*◌, ◌+◌, ◌/◌, ◌%◌, ◌^◌, ◌==◌, ◌&&◌, ◌||◌, List, [], ◌∷◌, map, Bool, true, false, not, nat_le, if◌then◌else◌, Option, Some, None, is_some, option_map}
+use Rattle.std.specs.List.{list_any, list_all}
+use Rattle.plural_reference.specs.declared.ast.AndCondition.{AndCondition}
+use Rattle.plural_reference.specs.declared.ast.Condition.{Condition}
+use Rattle.plural_reference.specs.declared.ast.Expression.{Expression}
+use Rattle.plural_reference.specs.declared.ast.Operand.{Operand}
+use Rattle.plural_reference.specs.declared.ast.Operand.TheVariants.{N, I, V, W, F, T, C, E}
+use Rattle.plural_reference.specs.declared.ast.Operator.{Operator}
+use Rattle.plural_reference.specs.declared.ast.Operator.TheVariants.{Eq, NotEq}
+use Rattle.plural_reference.specs.declared.ast.RangeList.{RangeList}
+use Rattle.plural_reference.specs.declared.ast.RangeListItem.{RangeListItem}
+use Rattle.plural_reference.specs.declared.ast.RangeListItem.TheVariants as items
+use Rattle.plural_reference.specs.declared.ast.Relation.{Relation}
+use Rattle.plural_reference.specs.declared.ast.Value.{Value}
+use Rattle.plural_reference.specs.Operands.{Operands}
+
+-- ---- A value in ranges
+
+-- a range holds what lies between its ends; nothing, where the first end is above the second
+abbrev pub range_holds : ℕ → ℕ × ℕ → Bool
+range_holds value range = nat_le range.0 value && nat_le value range.1
+
+-- some range of the list holds the value
+abbrev pub is_in_ranges : List (ℕ × ℕ) → ℕ → Bool
+is_in_ranges ranges value = list_any (range_holds value) ranges
+
+-- the same of a value that may be absent: it is in no list then
+abbrev pub holds_value : List (ℕ × ℕ) → Option ℕ → Bool
+holds_value ranges None = false
+holds_value ranges (Some value) = is_in_ranges ranges value
+
+-- ---- The value of an operand
+
+-- the operand's value at six operand numbers: n is i, and has no value where w isn't 0
+abbrev pub operand_value : Operand → Operands → Option ℕ
+operand_value N number = if number.w == 0 then Some number.i else None
+operand_value I number = Some number.i
+operand_value V number = Some number.v
+operand_value W number = Some number.w
+operand_value F number = Some number.f
+operand_value T number = Some number.t
+operand_value C number = Some number.c
+operand_value E number = Some number.c
+
+-- what a modulus leaves of a value; 0 is no modulus
+abbrev pub remainder : ℕ → ℕ → ℕ
+remainder modulus value = if modulus == 0 then value else (value % modulus)
+
+-- ---- A relation
+
+-- what a relation says, in whichever form it is written: a single value is a range of equal ends, and no modulus is 0
+pub record RelationMeaning : Type 0 where
+  pub operand : Operand
+  pub modulus : ℕ
+  pub operator : Operator
+  pub ranges : List (ℕ × ℕ)
+
+-- `=` holds in the list, `!=` holds outside it
+abbrev pub under : Operator → Bool → Bool
+under Eq is_in = is_in
+under NotEq is_in = not is_in
+
+-- the relation holds at six operand numbers
+abbrev pub relation_truth : Operands → RelationMeaning → Bool
+relation_truth number relation =
+    under relation.operator (holds_value relation.ranges (option_map (remainder relation.modulus) (operand_value relation.operand number)))
+
+-- ---- Groups
+
+-- all members of some group pass
+abbrev pub some_group : {A : Type 0} → (A → Bool) → List (List A) → Bool
+some_group test groups = list_any (list_all test) groups
+
+-- there is no group, or all members of some group pass
+abbrev pub is_true_of : {A : Type 0} → (A → Bool) → List (List A) → Bool
+is_true_of test [] = true
+is_true_of test (group ∷ groups) = some_group test (group ∷ groups)
+
+-- ---- The relations of a tree
+
+-- both ends of an item
+abbrev pub ends_of : RangeListItem → ℕ × ℕ
+ends_of (items.Range start end) = (start.0, end.0)
+ends_of (items.Value value) = (value.0, value.0)
+
+-- the ranges of a list
+abbrev pub ranges_of : RangeList → List (ℕ × ℕ)
+ranges_of list = map ends_of list.0
+
+-- no modulus is 0
+abbrev pub modulus_of : Option Value → ℕ
+modulus_of None = 0
+modulus_of (Some modulus) = modulus.0
+
+-- what a relation of a tree says
+abbrev pub meaning_of : Relation → RelationMeaning
+meaning_of relation = record {
+  operand = relation.expression.operand;
+  modulus = modulus_of relation.expression.modulus;
+  operator = relation.operator;
+  ranges = ranges_of relation.range_list;
+}
+
+-- the groups of a condition
+abbrev pub groups_of : Condition → List (List Relation)
+groups_of condition = map (λ group. group.0) condition.0

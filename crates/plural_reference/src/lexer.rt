@@ -1,0 +1,153 @@
+//! A text as tokens (UTS 35 Part 3, Plural Rules Syntax).
+
+ghost use Rattle.std.specs.Prelude.{◌≡◌, ◌≢◌, ◌≤◌, ◌+◌, ◌*◌, ◌∷◌, ℕ, Some, length, MatchOption};
+ghost use Rattle.plural_reference.specs.Parser.{first};
+ghost use Rattle.std.specs.Iterator.{YieldsFirst, item_count};
+ghost use Rattle.plural_reference.specs.Lexer.{AreTokensOf};
+ghost use Rattle.plural_reference.specs.Scan.{tokens_of, keyword_tokens, bounded};
+
+use crate::ast;
+use crate::token::Token;
+use std::marker::Model;
+
+/// The tokens of a text, one at a time. Contracts see the list of those that are left.
+#[derive(Debug, Drop)]
+pub struct Lexer<'l> {
+    rest: &'l [u8],
+}
+
+impl<'l> Model for Lexer<'l> {
+    ghost use Rattle.std.specs.Prelude.{List};
+    ghost use Rattle.plural_reference.specs.declared.token.Token.{Token};
+    ghost use Rattle.plural_reference.specs.Scan.{tokens_of};
+
+    ghost Value = { List Token };
+
+    ghost view = { λ l. tokens_of l.rest.now };
+}
+
+impl<'l> Lexer<'l> {
+    /// The tokens of a text.
+    pub fn new(text: &'l [u8]) -> Self
+        ensures tokens { AreTokensOf text.now result }
+        ensures at_most { length result ≤ length text.now }
+    {
+        Lexer { rest: text }
+    }
+}
+
+impl<'l> Iterator for Lexer<'l> {
+    type Item = Token;
+
+    ghost next_gives = { YieldsFirst (λ l. l) };
+
+    ghost remaining = { item_count (λ l. l) };
+
+    #[tactic(auto, unfolding(crate::specs::Scan::tokens_from))]
+    fn next(&mut self) -> Option<Token> {
+        while let [first, rest @ ..] = self.rest {
+            if *first != b' ' {
+                let (token, after) = token_at(*first, rest);
+                self.rest = after;
+                return Some(token);
+            }
+            self.rest = rest;
+        }
+        None
+    }
+}
+
+// The token that the byte begins, and the bytes behind it.
+#[tactic(auto, using(crate::proofs::Alone::i_alone, crate::proofs::Alone::point_alone), unfolding(crate::specs::Scan::tokens_from))]
+fn token_at(first: u8, rest: &[u8]) -> (Token, &[u8])
+    requires { first ≢ 32 }
+    ensures { tokens_of (first ∷ rest.now) ≡ result.0 ∷ tokens_of result.1.now }
+{
+    match first {
+        b'n' => (Token::Operand(ast::Operand::N), rest),
+        b'i' => match strip_byte(rest, b'n') {
+            Some(after) => keyword(b"teger", Token::Integer, after),
+            None => (Token::Operand(ast::Operand::I), rest),
+        },
+        b'f' => (Token::Operand(ast::Operand::F), rest),
+        b't' => (Token::Operand(ast::Operand::T), rest),
+        b'v' => (Token::Operand(ast::Operand::V), rest),
+        b'w' => (Token::Operand(ast::Operand::W), rest),
+        b'c' => (Token::Operand(ast::Operand::C), rest),
+        b'e' => (Token::E, rest),
+        b'=' => (Token::Operator(ast::Operator::Eq), rest),
+        b'0' => (Token::Zero, rest),
+        b'1'..=b'9' => number(first, rest),
+        b'.' => match strip_byte(rest, b'.') {
+            Some(after) => (Token::DotDot, after),
+            None => (Token::Dot, rest),
+        },
+        b',' => (Token::Comma, rest),
+        b'%' => (Token::Modulo, rest),
+        b'@' => (Token::At, rest),
+        b'~' => (Token::Tilde, rest),
+        b'a' => keyword(b"nd", Token::And, rest),
+        b'o' => keyword(b"r", Token::Or, rest),
+        b'!' => keyword(b"=", Token::Operator(ast::Operator::NotEq), rest),
+        b'd' => keyword(b"ecimal", Token::Decimal, rest),
+        0xe2 => keyword(b"\x80\xa6", Token::Ellipsis, rest),
+        _ => (Token::Junk, rest),
+    }
+}
+
+// The bytes behind the first, where that is the byte.
+fn strip_byte(text: &[u8], byte: u8) -> Option<&[u8]>
+    ensures { MatchOption result (first text.now ≢ Some byte) (λ after. text.now ≡ byte ∷ after.now) }
+{
+    match text {
+        [next, after @ ..] if *next == byte => Some(after),
+        _ => None,
+    }
+}
+
+// The token of a keyword, where these bytes of it are still awaited, and the bytes behind it.
+#[tactic(auto, unfolding(crate::specs::Scan::tokens_from))]
+fn keyword<'a>(expected: &[u8], token: Token, text: &'a [u8]) -> (Token, &'a [u8])
+    ensures { keyword_tokens expected.now token text.now ≡ result.0 ∷ tokens_of result.1.now }
+{
+    let mut rest = text;
+    for byte in expected {
+        let [next, after @ ..] = rest else {
+            return (Token::Junk, rest);
+        };
+        if next != byte {
+            return (Token::Junk, after);
+        }
+        rest = after;
+    }
+    (token, rest)
+}
+
+// The token of the number that begins with the digit, and the bytes behind it.
+#[tactic(auto, unfolding(crate::specs::Scan::tokens_from))]
+fn number(first: u8, text: &[u8]) -> (Token, &[u8])
+    requires low { 49 ≤ first }
+    requires high { first ≤ 57 }
+    ensures { tokens_of (first ∷ text.now) ≡ result.0 ∷ tokens_of result.1.now }
+{
+    let mut value = Some(u32::from(first - b'0'));
+    let mut rest = text;
+    while let [digit, after @ ..] = rest {
+        if !digit.is_ascii_digit() {
+            break;
+        }
+        value = pushed(value, *digit - b'0');
+        rest = after;
+    }
+    match value {
+        Some(n) => (Token::Number(n), rest),
+        None => (Token::Junk, rest),
+    }
+}
+
+// A number with one more digit, or none where it is too large.
+fn pushed(value: Option<u32>, digit: u8) -> Option<u32>
+    ensures { (n : ℕ) → value ≡ bounded n → result ≡ bounded (n * 10 + digit) }
+{
+    value?.checked_mul(10)?.checked_add(u32::from(digit))
+}

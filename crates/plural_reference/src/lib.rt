@@ -1,0 +1,28 @@
+//! Plural rules as text, and the operands of numbers: tokens, the tree of a rule, reading, printing and truth.
+#![tactic(auto)]
+
+pub mod ast;
+mod error;
+pub mod laws;
+mod lexer;
+mod operands;
+mod parser;
+mod resolver;
+mod sequence;
+mod serializer;
+mod token;
+
+pub use error::{LexerError, ParseError, ReadError};
+pub use lexer::Lexer;
+pub use operands::PluralOperands;
+pub use parser::{parse, parse_condition};
+pub use resolver::test_condition;
+pub use sequence::Sequence;
+pub use serializer::{
+    serialize, serialize_condition, serialize_decimal_value, serialize_sample_list,
+    serialize_sample_range, serialize_samples,
+};
+pub use token::Token;
+
+#[cfg(test)]
+mod tests;

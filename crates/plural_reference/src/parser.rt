@@ -1,0 +1,243 @@
+//! Reading rules.
+
+ghost use Rattle.std.specs.Prelude.{◌≡◌, ◌≢◌, ◌∷◌, [], List, Some, None, Ok, Err, IfOk, length, ◌≤◌, MatchBool, MatchOption, MatchResult};
+ghost use Rattle.plural_reference.specs.declared.token.Token.{Token};
+ghost use Rattle.plural_reference.specs.declared.error.ParseError.TheVariants.{ExpectedValue, ExpectedOperand, ExpectedOperator};
+ghost use Rattle.plural_reference.specs.declared.token.Token.TheVariants as token;
+ghost use Rattle.plural_reference.specs.declared.token.Token.TheVariants.{Comma, And, Or};
+ghost use Rattle.plural_reference.specs.declared.ast.AndCondition.{AndCondition};
+ghost use Rattle.plural_reference.specs.declared.ast.RangeListItem.{RangeListItem};
+ghost use Rattle.plural_reference.specs.Lexer.{AreTokensOf};
+ghost use Rattle.plural_reference.specs.Parser.{Reads, Faulty, first, value_of, operand_of, value_fault, operator_fault};
+ghost use Rattle.plural_reference.specs.Samples.{ReadsRule, FaultyRule};
+ghost use Rattle.plural_reference.specs.Reading.{AnswersExactly, IsAnswer};
+ghost use Rattle.plural_reference.specs.Reader.{Before, Opened, State, before_operand, before_item, with_relation, run, begin};
+ghost use Rattle.plural_reference.specs.ReaderSteps.{ReadsItem, ReadsItems, Completes, ReadsOption, ReadsExpression, TakesOperand, NoOperand, ReadsRelation, ReadsGroup, before_group};
+
+use crate::ast::{
+    AndCondition, Condition, Expression, Operand, Operator, RangeList, RangeListItem, Relation,
+    Rule, Value,
+};
+use crate::error::{ParseError, ReadError};
+use crate::sequence::Sequence;
+use crate::lexer::Lexer;
+use crate::token::Token;
+use std::alloc::Global;
+use std::marker::Model;
+
+/// Reads the condition of a rule, and doesn't look at its samples.
+#[tactic(auto, using(crate::proofs::Answered::condition_answers))]
+pub fn parse_condition(alloc: Global, text: &[u8]) -> Result<Condition, ReadError>
+    ensures { AnswersExactly Reads Faulty text.now result }
+{
+    let mut parser = Parser::new(text);
+    parser.condition(alloc)
+}
+
+/// Reads a rule with its samples.
+pub fn parse(alloc: Global, text: &[u8]) -> Result<Rule, ReadError>
+    ensures { AnswersExactly ReadsRule FaultyRule text.now result }
+{
+    Err(ReadError::Memory)
+}
+
+// The tokens that are left, the first of them at hand.
+#[derive(Drop)]
+struct Parser<'p> {
+    ahead: Option<Token>,
+    lexer: Lexer<'p>,
+}
+
+impl<'p> Model for Parser<'p> {
+    ghost use Rattle.std.specs.Prelude.{◌≡◌, List, [], None};
+    ghost use Rattle.std.specs.List.{cons_option};
+    ghost use Rattle.plural_reference.specs.declared.token.Token.{Token};
+
+    ghost Value = { List Token };
+
+    ghost view = { λ p. cons_option p.ahead p.lexer };
+
+    ghost invariant = { λ p. p.ahead ≡ None → p.lexer ≡ [] };
+}
+
+impl<'p> Parser<'p> {
+    fn new(text: &'p [u8]) -> Self
+        ensures { AreTokensOf text.now result }
+    {
+        let mut lexer = Lexer::new(text);
+        let ahead = lexer.next();
+        Parser { ahead, lexer }
+    }
+
+    // Takes the next token.
+    fn next(&mut self) -> Option<Token>
+        ensures { MatchOption result ((self.old ≡ []) × (self.new ≡ [])) (λ t. self.old ≡ t ∷ self.new) }
+    {
+        let token = self.ahead.take();
+        self.ahead = self.lexer.next();
+        token
+    }
+
+    // Takes the next token if it is this one.
+    fn take_if(&mut self, token: Token) -> bool
+        ensures { MatchBool result (self.old ≡ token ∷ self.new) ((first self.old ≢ Some token) × (self.new ≡ self.old)) }
+    {
+        if self.ahead == Some(token) {
+            self.ahead = self.lexer.next();
+            true
+        } else {
+            false
+        }
+    }
+
+    fn value(&mut self) -> Result<Value, ParseError>
+        ensures shorter { length self.new ≤ length self.old }
+        ensures value { MatchResult result (λ v. (t : Token) × (self.old ≡ t ∷ self.new) × (value_of t ≡ Some v)) (λ e. (e ≡ ExpectedValue) × (value_fault (first self.old) ≡ Some ExpectedValue)) }
+    {
+        match self.next() {
+            Some(Token::Number(n)) => Ok(Value(u64::from(n))),
+            Some(Token::Zero) => Ok(Value(0)),
+            _ => Err(ParseError::ExpectedValue),
+        }
+    }
+
+    // item = value | value DotDot value
+    #[tactic(auto, using(crate::proofs::ParserSteps::no_item, crate::proofs::ParserSteps::no_end, crate::proofs::ParserSteps::item_range, crate::proofs::ParserSteps::item_value))]
+    fn item(&mut self) -> Result<RangeListItem, ParseError>
+        ensures item { MatchResult result (λ x. ReadsItem self.old x self.new) (λ e. (o : Opened) (xs : List RangeListItem) → run (before_item o xs) self.old ≡ Err e) }
+        ensures shorter { length self.new ≤ length self.old }
+    {
+        let value = self.value()?;
+        if self.take_if(Token::DotDot) {
+            let end = self.value()?;
+            Ok(RangeListItem::Range(value, end))
+        } else {
+            Ok(RangeListItem::Value(value))
+        }
+    }
+
+    // range_list = item (Comma item)*
+    fn range_list(&mut self, alloc: Global) -> Result<RangeList, ReadError>
+        ensures list { IsAnswer (λ list. ReadsItems self.old list.0 self.new × (first self.new ≢ Some Comma)) (λ e. (o : Opened) → run (before_item o []) self.old ≡ Err e) result }
+        ensures shorter { length self.new ≤ length self.old }
+    {
+        let mut items = Vec::new(alloc);
+        items.push(self.item()?)?;
+        while self.take_if(Token::Comma) {
+            items.push(self.item()?)?;
+        }
+        Ok(RangeList(Sequence(items)))
+    }
+
+    // Takes the operand that begins a relation, unless the tokens end or At comes.
+    fn operand(&mut self) -> Result<Option<Operand>, ParseError>
+        ensures shorter { length self.new ≤ length self.old }
+        ensures operand { MatchResult result (λ r. ReadsOption (λ o rest. TakesOperand self.old o rest) self.old r self.new) (λ e. (e ≡ ExpectedOperand) × NoOperand (first self.old)) }
+    {
+        let Some(token) = &self.ahead else {
+            return Ok(None);
+        };
+        if *token == Token::At {
+            return Ok(None);
+        }
+        match operand_of(token) {
+            Some(operand) => {
+                self.next();
+                Ok(Some(operand))
+            }
+            None => Err(ParseError::ExpectedOperand),
+        }
+    }
+
+    // expr = (Operand | E) (Modulo value)?
+    fn expression(&mut self) -> Result<Option<Expression>, ParseError>
+        ensures shorter { length self.new ≤ length self.old }
+        ensures expression { MatchResult result (λ r. ReadsOption (λ e rest. ReadsExpression self.old e rest) self.old r self.new) (λ e. (b : Before) → run (before_operand b) self.old ≡ Err e) }
+    {
+        let Some(operand) = self.operand()? else {
+            return Ok(None);
+        };
+        if !self.take_if(Token::Modulo) {
+            return Ok(Some(Expression {
+                operand,
+                modulus: None,
+            }));
+        }
+        let modulus = Some(self.value()?);
+        Ok(Some(Expression { operand, modulus }))
+    }
+
+    fn operator(&mut self) -> Result<Operator, ParseError>
+        ensures shorter { length self.new ≤ length self.old }
+        ensures operator { MatchResult result (λ o. self.old ≡ token.Operator o ∷ self.new) (λ e. (e ≡ ExpectedOperator) × (operator_fault (first self.old) ≡ Some ExpectedOperator)) }
+    {
+        match self.next() {
+            Some(Token::Operator(operator)) => Ok(operator),
+            _ => Err(ParseError::ExpectedOperator),
+        }
+    }
+
+    // relation = expr Operator range_list
+    fn relation(&mut self, alloc: Global) -> Result<Option<Relation>, ReadError>
+        ensures shorter { length self.new ≤ length self.old }
+        ensures relation { IsAnswer (λ r. ReadsOption (λ r rest. ReadsRelation self.old r rest) self.old r self.new) (λ e. (b : Before) → run (before_operand b) self.old ≡ Err e) result }
+    {
+        let Some(expression) = self.expression()? else {
+            return Ok(None);
+        };
+        let operator = self.operator()?;
+        let range_list = self.range_list(alloc)?;
+        Ok(Some(Relation {
+            expression,
+            operator,
+            range_list,
+        }))
+    }
+
+    // and_condition = relation (And relation)*
+    fn and_condition(&mut self, alloc: Global) -> Result<Option<AndCondition>, ReadError>
+        ensures shorter { length self.new ≤ length self.old }
+        ensures group { IsAnswer (λ c. ReadsOption (λ c rest. ReadsGroup self.old c rest × (first rest ≢ Some And)) self.old c self.new) (λ e. (groups : List AndCondition) → run (before_group groups) self.old ≡ Err e) result }
+    {
+        let Some(relation) = self.relation(alloc)? else {
+            return Ok(None);
+        };
+        let mut relations = Vec::new(alloc);
+        relations.push(relation)?;
+        'relations: while self.take_if(Token::And) {
+            let Some(next) = self.relation(alloc)? else {
+                return Err(ReadError::Parse(ParseError::ExpectedRelation));
+            };
+            relations.push(next)?;
+        }
+        Ok(Some(AndCondition(Sequence(relations))))
+    }
+
+    // condition = and_condition (Or and_condition)*
+    fn condition(&mut self, alloc: Global) -> Result<Condition, ReadError>
+        ensures { IsAnswer (λ c. run begin self.old ≡ Ok (c, self.new)) (λ e. run begin self.old ≡ Err e) result }
+    {
+        let mut groups = Vec::new(alloc);
+        let Some(group) = self.and_condition(alloc)? else {
+            return Ok(Condition(Sequence(groups)));
+        };
+        groups.push(group)?;
+        'groups: while self.take_if(Token::Or) {
+            let Some(next) = self.and_condition(alloc)? else {
+                return Err(ReadError::Parse(ParseError::ExpectedAndCondition));
+            };
+            groups.push(next)?;
+        }
+        Ok(Condition(Sequence(groups)))
+    }
+}
+
+fn operand_of(token: &Token) -> Option<Operand>
+    ensures { result ≡ operand_of token.now }
+{
+    match token {
+        Token::Operand(operand) => Some(*operand),
+        Token::E => Some(Operand::E),
+        _ => None,
+    }
+}

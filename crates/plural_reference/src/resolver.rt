@@ -1,0 +1,99 @@
+//! When a condition is true.
+
+ghost use Rattle.std.specs.Prelude.{◌≡◌};
+ghost use Rattle.std.specs.List.{list_all, list_any};
+ghost use Rattle.plural_reference.specs.Truth.{operand_value, is_in_ranges, range_holds, ends_of, ranges_of};
+ghost use Rattle.plural_reference.specs.Resolver.{tree_truth, tree_relation_truth, tree_value};
+
+use crate::ast::{
+    AndCondition, Condition, Expression, Operand, Operator, RangeList, RangeListItem, Relation,
+};
+use crate::operands::PluralOperands;
+
+/// Whether the condition is true of the operands: it has no and-condition, or all relations of one
+/// of them are true (UTS 35 Part 3, Plural Rules Syntax).
+///
+/// A relation on `n` where the fraction isn't zero, and one by a modulus 0, is false under `=` and
+/// under `!=`. A range whose start is above its end holds nothing.
+pub fn test_condition(condition: &Condition, operands: &PluralOperands) -> bool
+    ensures { result ≡ tree_truth operands.now condition.now }
+{
+    let groups = condition.0.as_slice();
+    groups.is_empty() || test_groups(groups, operands)
+}
+
+fn test_groups(groups: &[AndCondition], operands: &PluralOperands) -> bool
+    ensures { result ≡ list_any (λ group. list_all (tree_relation_truth operands.now) group.0) groups.now }
+{
+    groups
+        .iter()
+        .any(|group| test_and_condition(group, operands))
+}
+
+fn test_and_condition(group: &AndCondition, operands: &PluralOperands) -> bool
+    ensures { result ≡ list_all (tree_relation_truth operands.now) group.now.0 }
+{
+    group
+        .0
+        .as_slice()
+        .iter()
+        .all(|relation| test_relation(relation, operands))
+}
+
+fn test_relation(relation: &Relation, operands: &PluralOperands) -> bool
+    ensures { result ≡ tree_relation_truth operands.now relation.now }
+{
+    let Some(value) = calculate_expression(&relation.expression, operands) else {
+        return false;
+    };
+    match relation.operator {
+        Operator::Eq => contains(&relation.range_list, value),
+        Operator::NotEq => !contains(&relation.range_list, value),
+    }
+}
+
+// The value of an expression: none for n with a fraction, and none by a modulus 0.
+fn calculate_expression(expression: &Expression, operands: &PluralOperands) -> Option<u64>
+    ensures { result ≡ tree_value operands.now expression.now }
+{
+    let value = operand_value(expression.operand, operands)?;
+    match &expression.modulus {
+        None => Some(value),
+        Some(modulus) => value.checked_rem(modulus.0),
+    }
+}
+
+fn operand_value(operand: Operand, operands: &PluralOperands) -> Option<u64>
+    ensures { result ≡ operand_value operand operands.now }
+{
+    match operand {
+        Operand::N if operands.w != 0 => None,
+        Operand::N | Operand::I => Some(operands.i),
+        Operand::V => Some(operands.v as u64),
+        Operand::W => Some(operands.w as u64),
+        Operand::F => Some(operands.f),
+        Operand::T => Some(operands.t),
+        Operand::C | Operand::E => Some(operands.c as u64),
+    }
+}
+
+fn contains(list: &RangeList, value: u64) -> bool
+    ensures { result ≡ is_in_ranges (ranges_of list.now) value }
+{
+    any_item_holds(list.0.as_slice(), value)
+}
+
+fn any_item_holds(items: &[RangeListItem], value: u64) -> bool
+    ensures { result ≡ list_any (λ item. range_holds value (ends_of item)) items.now }
+{
+    items.iter().any(|item| item_holds(item, value))
+}
+
+fn item_holds(item: &RangeListItem, value: u64) -> bool
+    ensures { result ≡ range_holds value (ends_of item.now) }
+{
+    match item {
+        RangeListItem::Value(single) => value == single.0,
+        RangeListItem::Range(start, end) => start.0 <= value && value <= end.0,
+    }
+}
