@@ -1,7 +1,7 @@
 //! Decimals without a sign.
 
-ghost use Rattle.std.specs.Prelude.{◌≡◌, ◌-◌, ◌++◌, ◌↔◌, pos, neg_ℤ, length, slice_index, IfErr, OnOk, OnErr};
-ghost use Rattle.fixed_decimal.specs.Places.{IsWritten, IsWithinLimit, IsOverLimit, shift, shift_left, shift_right, digit_at};
+ghost use Rattle.std.specs.Prelude.{◌≡◌, ◌-◌, ◌++◌, ◌↔◌, pos, neg_ℤ, length, slice_index, IfErr, OnOk, OnErr, IsTrue};
+ghost use Rattle.fixed_decimal.specs.Places.{IsWritten, IsWithinLimit, IsOverLimit, shift, shift_left, shift_right, digit_at, HasDigitFrom};
 
 use crate::DecimalError;
 use std::marker::Model;
@@ -71,6 +71,24 @@ impl UnsignedDecimal {
             -(self.fraction_places as i16),
             (self.whole_places - 1) as i16,
         )
+    }
+
+    /// Whether a digit at `10^magnitude` or above isn't 0. It looks at no digit: the span begins
+    /// with one.
+    pub fn has_digit_from(&self, magnitude: i16) -> bool
+        ensures { IsTrue result ↔ HasDigitFrom self.now magnitude }
+    {
+        if self.span.is_empty() {
+            return false;
+        }
+        let places = self.whole_places as usize;
+        let leading = self.leading_zeros as usize;
+        let power = magnitude.unsigned_abs() as usize;
+        if magnitude < 0 {
+            leading < places + power
+        } else {
+            leading + power < places
+        }
     }
 
     /// Moves the point to the right by so many places, or to the left where the number is negative.

@@ -1,3 +1,10 @@
+pub mod Numbers
+pub mod Fractions
+pub mod Agreement
+pub mod GroupsAgree
+pub mod Conversion
+pub mod OperandLawsProved
+pub mod ExactnessLawsProved
 pub mod Folds
 pub mod ReaderComplete
 pub mod ReaderSound

@@ -1,5 +1,7 @@
 //! Laws over the definitions and the calls of this crate: each is the contract of a function.
 
+pub mod exactness;
+pub mod operands;
 mod printing;
 mod reading;
 
