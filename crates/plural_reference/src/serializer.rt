@@ -1,7 +1,6 @@
 //! Printing rules (UTS 35 Part 3, "Plural Rules Syntax" and "Samples").
 //!
-//! Each call writes the text of one part to any writer, piece by piece and without memory. It stops at the writer's
-//! first fault and answers that; what was written before stays written.
+//! Each call writes the text of one part to any writer, piece by piece and without memory of its own.
 #![tactic(auto, using(crate::proofs::Writes::one_call, crate::proofs::Writes::then_writes))]
 
 ghost use Rattle.std.specs.Prelude.{◌≡◌, OnOk};
@@ -16,7 +15,9 @@ use part::{serialize_joined, serialize_prefixed, Part};
 use std::fmt;
 
 /// Writes a rule: its condition, then its samples where there are any, as `i = 1 and v = 0 @integer 1`.
-/// A rule without a condition and without samples has the empty text. `Err` is the writer's fault.
+/// A rule without a condition and without samples has the empty text.
+///
+/// Takes no memory. `Err` is the writer's first fault: nothing is written behind it, and what was written stays.
 pub fn serialize<W: fmt::Write>(rule: &ast::Rule, w: &mut W) -> fmt::Result
     ensures { OnOk result (WritesInCalls W.write_str_gives w.old (rule_text rule.now) w.new) }
 {
@@ -28,7 +29,9 @@ pub fn serialize<W: fmt::Write>(rule: &ast::Rule, w: &mut W) -> fmt::Result
 }
 
 /// Writes a condition: its and-conditions with ` or ` between them, the relations of each with ` and ` between them,
-/// as `n % 10 = 3..4, 9 and n % 100 != 10..19`. `Err` is the writer's fault.
+/// as `n % 10 = 3..4, 9 and n % 100 != 10..19`. The condition without and-conditions has the empty text.
+///
+/// Takes no memory. `Err` is the writer's first fault: nothing is written behind it, and what was written stays.
 pub fn serialize_condition<W: fmt::Write>(condition: &ast::Condition, w: &mut W) -> fmt::Result
     ensures { OnOk result (WritesInCalls W.write_str_gives w.old (condition_text condition.now) w.new) }
 {
@@ -36,7 +39,9 @@ pub fn serialize_condition<W: fmt::Write>(condition: &ast::Condition, w: &mut W)
 }
 
 /// Writes samples: ` @integer ` and its list where there is one, then ` @decimal ` and its list where there is one.
-/// Each list begins with a space, so that it may follow a condition. `Err` is the writer's fault.
+/// The text begins with a space, so that it may follow a condition.
+///
+/// Takes no memory. `Err` is the writer's first fault: nothing is written behind it, and what was written stays.
 pub fn serialize_samples<W: fmt::Write>(samples: &ast::Samples, w: &mut W) -> fmt::Result
     ensures { OnOk result (WritesInCalls W.write_str_gives w.old (samples_text samples.now) w.new) }
 {
@@ -44,8 +49,10 @@ pub fn serialize_samples<W: fmt::Write>(samples: &ast::Samples, w: &mut W) -> fm
     serialize_prefixed(" @decimal ", &samples.decimal, w)
 }
 
-/// Writes a list of samples: its ranges with `, ` between them, then `, …` where the list has an ellipsis, as `0, 2~16, …`.
-/// `Err` is the writer's fault.
+/// Writes a list of samples: its ranges with `, ` between them, then `, …` where the list has an ellipsis, as
+/// `0, 2~16, …`.
+///
+/// Takes no memory. `Err` is the writer's first fault: nothing is written behind it, and what was written stays.
 pub fn serialize_sample_list<W: fmt::Write>(samples: &ast::SampleList, w: &mut W) -> fmt::Result
     ensures { OnOk result (WritesInCalls W.write_str_gives w.old (sample_list_text samples.now) w.new) }
 {
@@ -56,7 +63,9 @@ pub fn serialize_sample_list<W: fmt::Write>(samples: &ast::SampleList, w: &mut W
     Ok(())
 }
 
-/// Writes a range of samples: one sample, or two with `~` between them, as `0.1~1.6`. `Err` is the writer's fault.
+/// Writes a range of samples: one sample, or two with `~` between them, as `0.1~1.6`.
+///
+/// Takes no memory. `Err` is the writer's first fault: nothing is written behind it, and what was written stays.
 pub fn serialize_sample_range<W: fmt::Write>(range: &ast::SampleRange, w: &mut W) -> fmt::Result
     ensures { OnOk result (WritesInCalls W.write_str_gives w.old (sample_range_text range.now) w.new) }
 {
@@ -64,7 +73,9 @@ pub fn serialize_sample_range<W: fmt::Write>(range: &ast::SampleRange, w: &mut W
     serialize_prefixed("~", &range.upper_val, w)
 }
 
-/// Writes a sample, its text as it is, in one piece. `Err` is the writer's fault.
+/// Writes a sample: its text as it is, in one piece.
+///
+/// Takes no memory. `Err` is the writer's first fault: nothing is written behind it, and what was written stays.
 pub fn serialize_decimal_value<W: fmt::Write>(value: &ast::DecimalValue, w: &mut W) -> fmt::Result
     ensures { OnOk result (WritesInCalls W.write_str_gives w.old (sample_text value.now) w.new) }
 {
