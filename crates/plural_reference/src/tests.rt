@@ -1,1 +1,3 @@
-//! Worked conditions.
+//! Worked rows.
+
+mod operands;
