@@ -1,3 +1,5 @@
-//! Worked conditions.
+//! What no clause says: worked values, printed texts, refusing writers, refused growth.
 
+mod operands;
 mod printing;
+mod reading;
