@@ -1,1 +1,8 @@
-//! Worked conditions.
+//! Worked rows.
+
+mod growth;
+mod reading;
+mod samples;
+mod tokens;
+mod trees;
+mod truth;
