@@ -1,3 +1,11 @@
+pub mod Numbers
+pub mod Fractions
+pub mod Agreement
+pub mod GroupsAgree
+pub mod Conversion
+pub mod OperandLawsProved
+pub mod OperandTexts
+pub mod ExactnessLawsProved
 pub mod Folds
 pub mod ReaderComplete
 pub mod ReaderSound
@@ -17,3 +25,10 @@ pub mod SampleComplete
 pub mod SampleParserSteps
 pub mod RuleReadings
 pub mod RuleRows
+pub mod TokensFit
+pub mod PrintedTokens
+pub mod SpellableConditions
+pub mod PrintedConditions
+pub mod PrintedSamples
+pub mod PrintedRules
+pub mod PrintedBack

@@ -149,7 +149,7 @@ first_mark_run _ _ E rest (at_comma p) d = refl
 first_mark_run _ _ (Operand C) rest (at_comma p) d = refl
 first_mark_run _ _ _ rest (at_comma p) d = absurd d
 
-flat_map-append : (a b : List Token) → flat_map token_text (a ++ b) ≡ flat_map token_text a ++ flat_map token_text b
+pub flat_map-append : (a b : List Token) → flat_map token_text (a ++ b) ≡ flat_map token_text a ++ flat_map token_text b
 flat_map-append [] b = refl
 flat_map-append (x ∷ a) b = ap (λ l. token_text x ++ l) (flat_map-append a b) ∙ sym (append_assoc (token_text x) (flat_map token_text a) (flat_map token_text b))
 

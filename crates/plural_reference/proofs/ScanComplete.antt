@@ -162,7 +162,7 @@ number_scans n (d ∷ ds) rest all whole = rw (digit_yes d all.0) (number_scans 
 pub begin_digit : (d : ℕ) → IsAsciiDigit d → d ≢ 48 → begin d ≡ ([], in_number (0 * 10 + digit_value d))
 begin_digit d h k = let low : 49 ≤ d = omega arith in rw (no_eq d 32 (omega arith), le-leb 49 d low, le-leb d 57 h.1) refl
 
-run_scans : (digits rest : List ℕ) → IsDigitRun digits rest → tokens_of (digits ++ rest) ≡ number_token (digits_value 10 digits) ∷ tokens_of rest
+pub run_scans : (digits rest : List ℕ) → IsDigitRun digits rest → tokens_of (digits ++ rest) ≡ number_token (digits_value 10 digits) ∷ tokens_of rest
 unfolding tokens_from
 run_scans [] rest h = absurd (h.nonempty refl)
 run_scans (d ∷ ds) rest h =

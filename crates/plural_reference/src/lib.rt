@@ -7,6 +7,7 @@ pub mod laws;
 mod lexer;
 mod operands;
 mod parser;
+mod raw_operands;
 mod resolver;
 mod sequence;
 mod serializer;
@@ -14,8 +15,9 @@ mod token;
 
 pub use error::{LexerError, ParseError, ReadError};
 pub use lexer::Lexer;
-pub use operands::PluralOperands;
+pub use operands::{OperandsError, PluralOperands};
 pub use parser::{parse, parse_condition};
+pub use raw_operands::RawPluralOperands;
 pub use resolver::test_condition;
 pub use sequence::Sequence;
 pub use serializer::{

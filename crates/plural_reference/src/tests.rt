@@ -1,6 +1,8 @@
 //! Worked rows.
 
 mod growth;
+mod operands;
+mod printing;
 mod reading;
 mod samples;
 mod tokens;

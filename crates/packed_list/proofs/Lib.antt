@@ -1,0 +1,7 @@
+mod TwoBytes
+mod ListPlaces
+mod OneList
+mod HighStarts
+mod Accepted
+mod Refused
+mod ListRows

@@ -1,0 +1,4 @@
+pub mod ListBytes
+pub mod ListFaults
+pub mod ListReading
+pub mod ListErrorTexts

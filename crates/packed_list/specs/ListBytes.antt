@@ -1,0 +1,40 @@
+-- The bytes of a list of byte items: the count, the starts of all items but the first, and the items.
+use Rattle.std.specs.Prelude.{◌≡◌, ℕ, ◌+◌, ◌/◌, ◌%◌, ◌≤◌, List, [], ◌∷◌, ◌++◌, length, drop, flat_map, map, Bool, nat_lt, IsFalse}
+use Rattle.std.specs.List.{concat, list_any}
+use Rattle.std.specs.Borrow.{Bor}
+
+-- the lists that references lend
+abbrev pub lent : List (Bor (List ℕ)) → List (List ℕ)
+lent items = map (λ (item : Bor (List ℕ)). item.now) items
+
+-- a number as two bytes, low byte first
+abbrev pub two_bytes : ℕ → List ℕ
+two_bytes n = (n % 256) ∷ (n / 256) ∷ []
+
+-- where each item starts in the data, if the first one starts at the given place
+abbrev pub starts_from : ℕ → List (List ℕ) → List ℕ
+starts_from place [] = []
+starts_from place (item ∷ items) = place ∷ starts_from (place + length item) items
+
+-- where each item starts in the data: the sum of the lengths before it
+abbrev pub starts : List (List ℕ) → List ℕ
+starts items = starts_from 0 items
+
+-- no item is no byte; else the count, the starts of all items but the first, and the items without gaps
+abbrev pub list_bytes : List (List ℕ) → List ℕ
+list_bytes [] = []
+list_bytes (item ∷ items) = two_bytes (length (item ∷ items)) ++ (flat_map two_bytes (drop 1 (starts (item ∷ items))) ++ concat (item ∷ items))
+
+-- whether a start is above what two bytes hold
+abbrev pub has_high_start : List (List ℕ) → Bool
+has_high_start items = list_any (λ start. nat_lt 65535 start) (starts items)
+
+-- the items can be packed: neither their count nor a start is above what two bytes hold
+pub record CanPack (items : List (List ℕ)) : Type 0 where
+  pub count : length items ≤ 65535
+  pub starts : IsFalse (has_high_start items)
+
+-- the bytes are those of the items
+pub record ListBytes (items : List (List ℕ)) (bytes : List ℕ) : Type 0 where
+  pub can_pack : CanPack items
+  pub spelled : bytes ≡ list_bytes items

@@ -1,0 +1,21 @@
+//! What is true of all packed lists.
+
+ghost use Rattle.std.specs.Prelude.{◌≡◌, ◌↔◌, ℕ, List};
+ghost use Rattle.std.specs.List.{AllByRecursion};
+ghost use Rattle.packed_list.specs.ListBytes.{ListBytes};
+ghost use Rattle.packed_list.specs.ListReading.{AreBytes, items_in};
+
+/// Packed lists are the same bytes exactly if they are the same items.
+pub fn one_encoding()
+    ensures { (items others : List (List ℕ)) (a b : List ℕ) → ListBytes items a → ListBytes others b → (a ≡ b) ↔ (items ≡ others) }
+{}
+
+/// What the reader of bytes gives is the list that they are packed from.
+pub fn read_again()
+    ensures { (items : List (List ℕ)) (bytes : List ℕ) → ListBytes items bytes → items_in bytes ≡ items }
+{}
+
+/// The items of a list of bytes are bytes.
+pub fn item_bytes()
+    ensures { (items : List (List ℕ)) (bytes : List ℕ) → ListBytes items bytes → AreBytes bytes → AllByRecursion AreBytes items }
+{}

@@ -1,0 +1,151 @@
+use super::*;
+use std::alloc::Global;
+use std::test::Fail;
+
+// The list of `ab`, the empty item and `cd`.
+const THREE_ITEMS: &[u8] = b"\x03\x00\x02\x00\x02\x00abcd";
+
+// What reading bytes answers, in a word.
+fn answer(bytes: &[u8]) -> &'static str {
+    match PackedList::parse_bytes(bytes) {
+        Ok(_) => "list",
+        Err(ListError::Header) => "header",
+        Err(ListError::ZeroCount) => "zero count",
+        Err(ListError::Start) => "start",
+    }
+}
+
+#[test]
+fn gives_the_items_and_their_starts(rt: HostRuntime) {
+    let expected: [(&[u8], usize); 3] = [(b"ab", 0), (b"", 2), (b"cd", 2)];
+    let list = PackedList::parse_bytes(THREE_ITEMS).expect(&rt, "a list");
+    assert_eq!(rt; list.len(), 3);
+    assert_eq!(rt; list.as_bytes(), THREE_ITEMS);
+    let mut items = list.iter();
+    for (place, (item, start)) in expected.iter().enumerate() {
+        assert_eq!(rt; list.get(place), Some(*item), "item {place}");
+        assert_eq!(rt; list.start(place), Some(*start), "start {place}");
+        assert_eq!(rt; items.next(), Some(*item), "next {place}");
+    }
+    assert_eq!(rt; list.get(3), None);
+    assert_eq!(rt; list.start(3), None);
+    assert_eq!(rt; items.next(), None);
+}
+
+#[test]
+fn refuses_hostile_bytes(rt: HostRuntime) {
+    let cases: [(&[u8], &str); 9] = [
+        (b"", "list"),
+        (b"\x01", "header"),
+        (b"\x02\x00", "header"),
+        (b"\xff\xff", "header"),
+        (b"\x00\x00", "zero count"),
+        (b"\x00\x00\x00", "zero count"),
+        (b"\x02\x00\x05\x00\x01", "start"),
+        (b"\x03\x00\x05\x00\x03\x00abcde", "start"),
+        (b"\x01\x00", "list"),
+    ];
+    for (bytes, expected) in cases {
+        assert_eq!(rt; answer(bytes), expected, "{bytes:?}");
+    }
+}
+
+#[test]
+fn answers_at_every_beginning(rt: HostRuntime) {
+    // How many bytes are no list for want of a header, and how many for a start behind the data.
+    let cases: [(&[u8], usize, usize); 3] = [
+        (THREE_ITEMS, 6, 8),
+        (
+            b"\x02\x00\x0d\x00\xc1\0\0\0\0\x01\0\0\0\x01\0\0\0\x42\0\0\0\0\0\0\0\0\0\0\0\0",
+            4,
+            17,
+        ),
+        (b"\x03\x00\x05\x00\x03\x00abcde", 6, 12),
+    ];
+    for (bytes, header, start) in cases {
+        for end in 0..=bytes.len() {
+            let expected = if end == 0 {
+                "list"
+            } else if end < header {
+                "header"
+            } else if end < start {
+                "start"
+            } else {
+                "list"
+            };
+            assert_eq!(rt; answer(&bytes[..end]), expected, "first {end} of {bytes:?}");
+        }
+    }
+}
+
+#[test]
+fn packs_up_to_its_limits(rt: HostRuntime) -> Result<(), Fail> {
+    let alloc = rt.alloc();
+    let most = vec![in alloc; 7u8; 70000]?;
+    let long = most.as_slice();
+    let empty: &[u8] = &[];
+    // One item alone; an item and then an empty one.
+    let alone = PackedList::encode(alloc, &[long]).expect(&rt, "one long item");
+    assert_eq!(rt; alone.len(), 70002);
+    let at_limit = PackedList::encode(alloc, &[&long[..65535], empty]).expect(&rt, "start 65535");
+    assert_eq!(rt; at_limit.len(), 65539);
+    assert_eq!(rt; &at_limit[..4], b"\x02\x00\xff\xff".as_slice());
+    let list = PackedList::parse_bytes(&at_limit).expect(&rt, "a list");
+    assert_eq!(rt; list.get(1), Some(empty));
+    let behind = PackedList::encode(alloc, &[&long[..65536], empty]);
+    assert!(rt; matches!(behind, Err(PackError::StartLimit)));
+    Ok(())
+}
+
+#[test]
+fn packs_at_most_65535_items(rt: HostRuntime) -> Result<(), Fail> {
+    let alloc = rt.alloc();
+    let empty: &[u8] = &[];
+    let items = vec![in alloc; empty; 65536]?;
+    let most = PackedList::encode(alloc, &items[..65535]).expect(&rt, "65535 items");
+    assert_eq!(rt; most.len(), 131070);
+    assert_eq!(rt; answer(&most), "list");
+    assert!(rt; matches!(PackedList::encode(alloc, &items), Err(PackError::CountLimit)));
+    Ok(())
+}
+
+// Whether packing gives the three items, or there was no memory.
+fn packs_three(alloc: Global) -> Option<bool> {
+    match PackedList::encode(alloc, &[b"ab", b"", b"cd"]) {
+        Ok(bytes) => Some(bytes.as_slice() == THREE_ITEMS),
+        Err(PackError::Memory) => None,
+        Err(_) => Some(false),
+    }
+}
+
+#[test]
+fn packs_again_after_want_of_memory(rt: HostRuntime) {
+    let first = packs_three(rt.alloc());
+    let second = packs_three(rt.alloc());
+    assert!(rt; first == None || first == Some(true));
+    assert!(rt; second == None || second == Some(true));
+    assert!(rt; first == Some(true) || second == Some(true));
+    assert!(rt; PackedList::encode(rt.alloc(), &[]).is_ok(), "no item takes no memory");
+}
+
+#[test]
+fn errors_say_what_is_wrong(rt: HostRuntime) -> Result<(), Fail> {
+    let alloc = rt.alloc();
+    let lists = [
+        (ListError::Header, "list header too short"),
+        (ListError::ZeroCount, "list without items"),
+        (ListError::Start, "bad start of a list item"),
+    ];
+    for (error, expected) in lists {
+        assert_eq!(rt; format!(in alloc; "{error}")?.as_str(), expected);
+    }
+    let packs = [
+        (PackError::CountLimit, "too many list items"),
+        (PackError::StartLimit, "list too long"),
+        (PackError::Memory, "out of memory"),
+    ];
+    for (error, expected) in packs {
+        assert_eq!(rt; format!(in alloc; "{error}")?.as_str(), expected);
+    }
+    Ok(())
+}
