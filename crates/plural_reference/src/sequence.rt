@@ -29,6 +29,7 @@ impl<T: PartialEq> PartialEq for Sequence<T> {
 
 impl<T> Sequence<T> {
     /// The elements.
+    #[inline]
     pub fn as_slice(&self) -> &[T]
         ensures { result.now ≡ self.now }
     {

@@ -1,7 +1,6 @@
 //! Worked rows.
 
 mod growth;
-mod operands;
 mod printing;
 mod reading;
 mod samples;
