@@ -1,5 +1,10 @@
 //! What no clause says: worked values, printed texts, refusing writers, refused growth.
 
+mod growth;
 mod operands;
 mod printing;
 mod reading;
+mod samples;
+mod tokens;
+mod trees;
+mod truth;
