@@ -43,7 +43,10 @@ fn an_integer_has_no_fraction(rt: HostRuntime) {
     assert_eq!(rt; PluralOperands::from(-1i128), one);
     assert_eq!(rt; PluralOperands::from(-1isize), one);
     assert_eq!(rt; PluralOperands::from(i16::MIN), six(32768, 0, 0, 0, 0, 0));
-    assert_eq!(rt; PluralOperands::from(u64::MAX), six(u64::MAX, 0, 0, 0, 0, 0));
+    assert_eq!(rt;
+        PluralOperands::from(u64::MAX),
+        six(u64::MAX, 0, 0, 0, 0, 0)
+    );
     assert_eq!(rt; PluralOperands::default(), six(0, 0, 0, 0, 0, 0));
 }
 
@@ -58,9 +61,16 @@ fn an_integer_of_128_bits_keeps_its_last_digits(rt: HostRuntime) {
         (u128::MAX, 1_374_607_431_768_211_455),
     ];
     for (number, i) in rows {
-        assert_eq!(rt; PluralOperands::from(number), six(i, 0, 0, 0, 0, 0), "{number}");
+        assert_eq!(rt;
+            PluralOperands::from(number),
+            six(i, 0, 0, 0, 0, 0),
+            "{number}"
+        );
     }
-    assert_eq!(rt; PluralOperands::from(i128::MIN), six(1_687_303_715_884_105_728, 0, 0, 0, 0, 0));
+    assert_eq!(rt;
+        PluralOperands::from(i128::MIN),
+        six(1_687_303_715_884_105_728, 0, 0, 0, 0, 0)
+    );
 }
 
 #[test]
@@ -77,7 +87,17 @@ fn a_decimal_shows_its_fraction(rt: HostRuntime) -> Result<(), Fail> {
         ("1000000.20", six(1_000_000, 2, 1, 20, 2, 0)),
         ("0.000000000000000001", six(0, 18, 18, 1, 1, 0)),
         ("1.0000000000000000001", six(1, 18, 0, 0, 0, 0)),
-        ("0.1234567890123456789", six(0, 18, 18, 123_456_789_012_345_678, 123_456_789_012_345_678, 0)),
+        (
+            "0.1234567890123456789",
+            six(
+                0,
+                18,
+                18,
+                123_456_789_012_345_678,
+                123_456_789_012_345_678,
+                0,
+            ),
+        ),
     ];
     for (text, want) in rows {
         let number = Decimal::from_str(rt.alloc(), text)?;
@@ -118,7 +138,11 @@ fn a_long_decimal_keeps_its_last_digits(rt: HostRuntime) -> Result<(), Fail> {
     for (before, zeros, after, i) in rows {
         let text = long_text(rt.alloc(), before, "0", zeros, after)?;
         let number = Decimal::from_str(rt.alloc(), text.as_str())?;
-        assert_eq!(rt; PluralOperands::from(&number), six(i, 0, 0, 0, 0, 0), "{before}, {zeros} zeros, {after}");
+        assert_eq!(rt;
+            PluralOperands::from(&number),
+            six(i, 0, 0, 0, 0, 0),
+            "{before}, {zeros} zeros, {after}"
+        );
     }
     Ok(())
 }
@@ -139,7 +163,11 @@ fn a_compact_decimal_moves_its_point(rt: HostRuntime) -> Result<(), Fail> {
         assert_eq!(rt; PluralOperands::from(&number), want, "{text}");
         let absolute = &number.significand().absolute;
         let exponent = number.exponent();
-        assert_eq!(rt; PluralOperands::from_significand_and_exponent(absolute, exponent), want, "{text}");
+        assert_eq!(rt;
+            PluralOperands::from_significand_and_exponent(absolute, exponent),
+            want,
+            "{text}"
+        );
     }
     Ok(())
 }
@@ -148,7 +176,10 @@ fn a_compact_decimal_moves_its_point(rt: HostRuntime) -> Result<(), Fail> {
 fn the_longest_compact_decimal_has_operands(rt: HostRuntime) -> Result<(), Fail> {
     let text = long_text(rt.alloc(), "", "9", 32767, "c2")?;
     let number = CompactDecimal::from_str(rt.alloc(), text.as_str())?;
-    assert_eq!(rt; PluralOperands::from(&number), six(1_999_999_999_999_999_900, 0, 0, 0, 0, 2));
+    assert_eq!(rt;
+        PluralOperands::from(&number),
+        six(1_999_999_999_999_999_900, 0, 0, 0, 0, 2)
+    );
     let text = long_text(rt.alloc(), "", "9", 32768, "")?;
     let refused = Decimal::from_str(rt.alloc(), text.as_str()).err();
     assert_eq!(rt; refused, Some(DecimalError::Limit));
@@ -179,12 +210,35 @@ fn a_text_names_its_operands(rt: HostRuntime) {
 #[test]
 fn another_text_names_none(rt: HostRuntime) {
     let texts = [
-        "1.+5", "1.", "-", "+", ".5", "1e3.5", "18446744073709551616", "1.18446744073709551616",
-        "1e18446744073709551616", "1e", "e3", "1c3", "1E3", "--1", "1-", "1.2.3", "1e3e3", " 1",
-        "1_000", "1e-3", "1.2e", "\u{661}",
+        "1.+5",
+        "1.",
+        "-",
+        "+",
+        ".5",
+        "1e3.5",
+        "18446744073709551616",
+        "1.18446744073709551616",
+        "1e18446744073709551616",
+        "1e",
+        "e3",
+        "1c3",
+        "1E3",
+        "--1",
+        "1-",
+        "1.2.3",
+        "1e3e3",
+        " 1",
+        "1_000",
+        "1e-3",
+        "1.2e",
+        "\u{661}",
     ];
     for text in texts {
-        assert_eq!(rt; text.parse::<PluralOperands>(), Err(OperandsError::Invalid), "{text}");
+        assert_eq!(rt;
+            text.parse::<PluralOperands>(),
+            Err(OperandsError::Invalid),
+            "{text}"
+        );
     }
     assert_eq!(rt; "".parse::<PluralOperands>(), Err(OperandsError::Empty));
 }
@@ -192,7 +246,10 @@ fn another_text_names_none(rt: HostRuntime) {
 #[test]
 fn raw_operands_go_both_ways(rt: HostRuntime) {
     let raw = RawPluralOperands::from(six(1, 2, 3, 4, 5, 6));
-    assert_eq!(rt; (raw.i, raw.v, raw.w, raw.f, raw.t, raw.c), (1, 2, 3, 4, 5, 6));
+    assert_eq!(rt;
+        (raw.i, raw.v, raw.w, raw.f, raw.t, raw.c),
+        (1, 2, 3, 4, 5, 6)
+    );
     assert_eq!(rt; PluralOperands::from(raw), six(1, 2, 3, 4, 5, 6));
 }
 
@@ -210,7 +267,9 @@ fn only_a_whole_number_without_exponent_is_exact(rt: HostRuntime) {
         ("2", false, false),
     ];
     for (text, zero, one) in rows {
-        let exact = text.parse::<PluralOperands>().map(|o| (o.is_exactly_zero(), o.is_exactly_one()));
+        let exact = text
+            .parse::<PluralOperands>()
+            .map(|o| (o.is_exactly_zero(), o.is_exactly_one()));
         assert_eq!(rt; exact, Ok((zero, one)), "{text}");
     }
 }
