@@ -5,6 +5,7 @@ pub mod GroupsAgree
 pub mod Conversion
 pub mod OperandLawsProved
 pub mod OperandTexts
+mod OperandRows
 pub mod ExactnessLawsProved
 pub mod Folds
 pub mod ReaderComplete
