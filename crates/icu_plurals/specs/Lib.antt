@@ -36,4 +36,4 @@ pub use Rattle.plural_base.specs.RulesData
 pub use Rattle.plural_base.specs.RuleTexts
 pub use Rattle.plural_base.specs.TextAnswers
 pub use Rattle.plural_base.specs.RuleModuli
-pub use Rattle.plural_base.specs.ExactChoice
+pub use Rattle.plural_base.specs.DecimalChoice

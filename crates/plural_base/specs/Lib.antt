@@ -4,7 +4,7 @@ pub mod RulesData
 pub mod RuleTexts
 pub mod TextAnswers
 pub mod RuleModuli
-pub mod ExactChoice
+pub mod DecimalChoice
 -- not definitions of the subject
 pub mod CategoryFlags
 pub mod CategoriesLeft

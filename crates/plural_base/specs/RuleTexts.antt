@@ -1,9 +1,13 @@
 -- Five rules and the texts that they come from.
 --     ReadsAs text condition      the text is read as a rule with this condition
 --     AreReadFrom texts conditions rules      each rule is the packing of the condition that its text is read as
+--     AreRulesOf texts rules      the same of some conditions
 --     HaveNoZeroModulus conditions      no relation has the modulus 0
+--     texts_of zero one two few many      the texts behind references
 use Rattle.std.specs.Prelude.{◌≡◌, ◌≢◌, ℕ, List, Option, Some, None, Ok}
+use Rattle.std.specs.Borrow.{Bor}
 use Rattle.std.specs.List.{AllByRecursion}
+use Rattle.std.specs.Option.{option_copied}
 use Rattle.plural_reference.specs.declared.ast.Condition.{Condition}
 use Rattle.plural_reference.specs.declared.ast.Rule.{Rule}
 use Rattle.plural_reference.specs.declared.ast.Value.{Value}
@@ -13,7 +17,7 @@ use Rattle.plural_reference.specs.Samples.{ReadsRule}
 use Rattle.plural_reference.specs.Truth.{groups_of}
 use Rattle.plural_runtime.specs.PackedRelations.{PackedRelation}
 use Rattle.plural_runtime.specs.Packing.{packing}
-use Rattle.plural_base.specs.FiveRules.{Five, FiveRules}
+use Rattle.plural_base.specs.FiveRules.{Five, five, FiveRules}
 
 -- the tokens of the text are read as a rule with this condition
 abbrev pub ReadsAs : List ℕ → Condition → Type 0
@@ -32,6 +36,15 @@ pub record AreReadFrom (texts : Five (Option (List ℕ))) (conditions : Five (Op
   pub two : IsReadFrom texts.two conditions.two rules.two
   pub few : IsReadFrom texts.few conditions.few rules.few
   pub many : IsReadFrom texts.many conditions.many rules.many
+
+-- the rules are those of the texts
+abbrev pub AreRulesOf : Five (Option (List ℕ)) → FiveRules → Type 0
+AreRulesOf texts rules = (conditions : Five (Option Condition)) × AreReadFrom texts conditions rules
+
+-- the texts behind five references
+abbrev pub texts_of : {A : Type 0} → Option (Bor A) → Option (Bor A) → Option (Bor A) → Option (Bor A) → Option (Bor A) → Five (Option A)
+texts_of zero one two few many =
+    five (option_copied zero) (option_copied one) (option_copied two) (option_copied few) (option_copied many)
 
 -- ---- Without a zero modulus
 

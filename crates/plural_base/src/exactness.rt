@@ -1,17 +1,13 @@
 //! The categories of decimals, and when they are exact.
 
 ghost use Rattle.std.specs.Prelude.{◌≡◌, ◌↔◌, ◌^◌, ◌≤◌, pos, ◌-ℤ◌, length, IsTrue};
+ghost use Rattle.std.specs.List.{list_all};
 ghost use Rattle.fixed_decimal.specs.Digits.{value_of};
 ghost use Rattle.fixed_decimal.specs.Places.{IsWritten, shift_right};
-ghost use Rattle.plural_reference.specs.DecimalOperands.{AreCut};
 ghost use Rattle.plural_reference.specs.Exactness.{IsWithinBound};
-ghost use Rattle.plural_reference.specs.Operands.{Operands};
-ghost use Rattle.plural_runtime.specs.PackedTruth.{packed_truth};
 ghost use Rattle.plural_runtime.specs.RuleViews.{lent_relation};
-ghost use Rattle.plural_base.specs.ExactChoice.{IsExactChoice};
-ghost use Rattle.plural_base.specs.FiveRules.{first_category};
+ghost use Rattle.plural_base.specs.DecimalChoice.{IsExactChoice, IsKeptChoice};
 ghost use Rattle.plural_base.specs.ModulusTests.{divides_limit, is_admitted, is_rule_admitted, are_all_admitted};
-ghost use Rattle.std.specs.List.{list_all};
 ghost use Rattle.plural_base.specs.RuleModuli.{moduli_of};
 
 use crate::category::PluralCategory;
@@ -29,10 +25,10 @@ const LIMIT: u64 = 1_000_000_000_000_000_000;
 
 impl<'data> PluralRules<'data> {
     /// The category of a decimal by the operands that are kept of it. Where
-    /// [`PluralRules::is_exact_for_decimal`] holds, it is the category of the number itself,
-    /// whatever its length. It takes no memory.
+    /// [`PluralRules::is_exact_for_decimal`] holds and the rules come from texts without a modulus
+    /// 0, it is the category of the number itself, whatever its length. It takes no memory.
     pub fn category_for_decimal(&self, number: &Decimal) -> PluralCategory
-        ensures kept { (kept : Operands) × AreCut number.now.absolute 0 kept × (result ≡ first_category (packed_truth kept) self.now) }
+        ensures kept { IsKeptChoice self.now number.now.absolute 0 result }
         ensures exact { IsExactChoice self.now number.now.absolute 0 result }
     {
         kept_operands_agree();
@@ -40,10 +36,11 @@ impl<'data> PluralRules<'data> {
     }
 
     /// The category of a compact decimal by the operands that are kept of it, after the point has
-    /// moved by the exponent. Where [`PluralRules::is_exact_for`] holds, it is the category of the
-    /// number itself, whatever its length. It takes no memory.
+    /// moved by the exponent. Where [`PluralRules::is_exact_for`] holds and the rules come from texts
+    /// without a modulus 0, it is the category of the number itself, whatever its length. It takes no
+    /// memory.
     pub fn category_for_compact(&self, number: &CompactDecimal) -> PluralCategory
-        ensures kept { (kept : Operands) × AreCut number.now.significand.absolute number.now.exponent kept × (result ≡ first_category (packed_truth kept) self.now) }
+        ensures kept { IsKeptChoice self.now number.now.significand.absolute number.now.exponent result }
         ensures exact { IsExactChoice self.now number.now.significand.absolute number.now.exponent result }
     {
         kept_operands_agree();
@@ -59,7 +56,8 @@ impl<'data> PluralRules<'data> {
     /// rules whose moduli on `n` and `i` all divide `10^18`. Places count as they are written, with
     /// leading and trailing zeros. It takes no memory.
     pub fn is_exact_for(&self, number: &CompactDecimal) -> bool
-        ensures { IsTrue result ↔ IsWithinBound number.now.significand.absolute number.now.exponent (moduli_of self.now) }
+        ensures { let digits = number.now.significand.absolute in
+            IsTrue result ↔ IsWithinBound digits number.now.exponent (moduli_of self.now) }
     {
         self.is_within_bound(&number.significand().absolute, number.exponent())
     }

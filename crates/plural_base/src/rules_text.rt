@@ -2,7 +2,6 @@
 
 ghost use Rattle.std.specs.Prelude.{◌≡◌, ◌++◌, ◌⊎◌, Some, Ok, Err, option_map, codes, IfOk, IfErr};
 ghost use Rattle.std.specs.Option.{option_copied};
-ghost use Rattle.plural_reference.specs.declared.ast.Condition.{Condition};
 ghost use Rattle.plural_runtime.specs.RuleErrorTexts.{rule_error_text};
 ghost use Rattle.plural_base.specs.CategoryNames.{name_of};
 ghost use Rattle.plural_base.specs.TextAnswers.{IsTakenAs, IsRefused, IsFirstRefused, TextGives};
@@ -37,11 +36,8 @@ impl fmt::Display for RulesTextError {
 impl Error for RulesTextError {}
 
 impl PluralRulesData<'static> {
-    ghost use Rattle.std.specs.Prelude.{Option};
-    ghost use Rattle.std.specs.Option.{option_copied};
-    ghost use Rattle.plural_base.specs.FiveRules.{Five, five};
     ghost use Rattle.plural_base.specs.RulesData.{rules_of};
-    ghost use Rattle.plural_base.specs.RuleTexts.{AreReadFrom};
+    ghost use Rattle.plural_base.specs.RuleTexts.{AreRulesOf, texts_of};
 
     /// The rules of texts as CLDR writes them, samples included, looked at in the order zero, one,
     /// two, few, many. The first that gives no rule is named with its fault; what stands behind it is
@@ -54,9 +50,9 @@ impl PluralRulesData<'static> {
         few: Option<&str>,
         many: Option<&str>,
     ) -> Result<PluralRulesData<'static>, RulesTextError>
-        ensures ok { let texts = five (option_copied zero.entry) (option_copied one.entry) (option_copied two.entry) (option_copied few.entry) (option_copied many.entry) in
-            IfOk result (λ rules. (conditions : Five (Option Condition)) × AreReadFrom texts conditions (rules_of rules)) }
-        ensures refused { let texts = five (option_copied zero.entry) (option_copied one.entry) (option_copied two.entry) (option_copied few.entry) (option_copied many.entry) in
+        ensures ok { let texts = texts_of zero.entry one.entry two.entry few.entry many.entry in
+            IfOk result (λ rules. AreRulesOf texts (rules_of rules)) }
+        ensures refused { let texts = texts_of zero.entry one.entry two.entry few.entry many.entry in
             IfErr result (λ e. IsFirstRefused texts e.category e.error) }
     {
         Ok(PluralRulesData {
