@@ -1,0 +1,5 @@
+pub mod Bytes
+pub mod Truth
+pub mod TreeLemmas
+pub mod Joined
+pub mod TwoTruths

@@ -1,0 +1,29 @@
+use Rattle.std.proofs.Common.{arith, ap, sym, ◌≡◌, ◌∙◌, ◌++◌, ◌∷◌, [], ◌+◌, drop, Some}
+use Rattle.std.specs.Prelude.{slice_get}
+use Rattle.plural_runtime.specs.RuleWalk.{done_before, open_before}
+use Rattle.plural_runtime.specs.RuleViews.{lent_relation}
+use Rattle.plural_runtime.proofs.TreeLemmas.{no_relations, glued, glued-all, glued_more}
+use Rattle.plural_runtime.proofs.tree.condition_of.Goals as goal
+
+pub returns-then-count-eq0 : goal.returns-then-count-eq0
+returns-then-count-eq0 c = c.new-groups.ensures.items ∙ sym (no_relations c.args.rule.now (omega arith))
+
+pub loop-index-init : goal.loop-index-init
+loop-index-init c =
+    ap (λ done. glued done c.new-group.result.items c.args.rule.now) c.new-groups.ensures.items
+    ∙ ap (λ group. glued [] group c.args.rule.now) c.new-group.ensures.items ∙ glued-all c.args.rule.now (omega arith)
+
+pub loop-index-preserved : goal.loop-index-preserved
+loop-index-preserved c =
+    let rule = c.args.rule.now in
+    let k = c.loop-index.index in
+    let relation = lent_relation c.as_relation-relation.result in
+    let here : Some relation ≡ slice_get rule k = ap Some c.as_relation-relation.ensures ∙ c.in-Some.ensures in
+    let more = glued_more c.loop-index.groups.items c.loop-index.group.items rule k relation (omega arith) here in
+    let done = c.loop-index.groups.items in
+    let group = c.loop-index.group.items in
+    let rest = drop (k + 1) rule in
+    let closed = c.in_ok-close_group.ensures.groups ∙ ap (λ mark. done_before mark done group) c.and_or.ensures in
+    let open_group = c.in_ok-close_group.ensures.group ∙ ap (λ mark. open_before mark group) c.and_or.ensures in
+    let longer = c.in_ok-push.ensures.items ∙ ap (λ g. g ++ c.in_ok-relation_of.field-0 ∷ []) open_group ∙ ap (λ r. open_before relation.and_or group ++ r ∷ []) c.in_ok-relation_of.ensures in
+    ap (λ d. glued d c.push.new.self.items rest) closed ∙ ap (λ g. glued (done_before relation.and_or done group) g rest) longer ∙ sym more ∙ c.loop-index.invariant

@@ -1,0 +1,40 @@
+-- Not a definition of the subject: what lent relations, first bytes and ranges stand for.
+use Rattle.std.specs.Prelude.{ℕ, List, ◌++◌, codes, if◌then◌else◌, ◌==◌, Option, option_map}
+use Rattle.std.specs.Fmt.{decimal}
+use Rattle.plural_runtime.specs.declared.first_byte.AndOrPolarityOperand.{AndOrPolarityOperand}
+use Rattle.plural_runtime.specs.declared.range.RangeOrValue.{RangeOrValue}
+use Rattle.plural_runtime.specs.declared.range.RangeOrValue.TheVariants.{Range, Value}
+use Rattle.plural_runtime.specs.declared.relation.RelationULE.{RelationULE}
+use Rattle.plural_runtime.specs.declared.relation.Relation.{Relation}
+use Rattle.plural_runtime.specs.PackedRelations.{PackedRelation}
+use Rattle.plural_runtime.specs.RuleKinds.{operator_of, tree_operand_of, packed_operand_of, polarity_of}
+use Rattle.plural_runtime.specs.RuleReading.{relation_in, ranges_in, and_or_in, operator_in, operand_in}
+
+-- the relation of an item's bytes
+abbrev pub item_relation : RelationULE → PackedRelation
+item_relation item = relation_in item.bytes.now
+
+-- the relation that is lent
+abbrev pub lent_relation : Relation → PackedRelation
+lent_relation relation = record {
+  and_or = relation.kind.and_or;
+  meaning = record {
+    operand = tree_operand_of relation.kind.operand;
+    modulus = relation.modulo;
+    operator = operator_of relation.kind.polarity;
+    ranges = ranges_in relation.ranges.now;
+  };
+}
+
+-- what a first byte says, if its bits 0 to 5 are at most 7
+abbrev pub parts_of : ℕ → Option AndOrPolarityOperand
+parts_of byte = option_map (λ operand. record { and_or = and_or_in byte; polarity = polarity_of (operator_in byte); operand = packed_operand_of operand }) (operand_in byte)
+
+-- equal ends are a value
+abbrev pub range_or_value : ℕ × ℕ → RangeOrValue
+range_or_value range = if range.0 == range.1 then Value range.0 else Range range.0 range.1
+
+-- how a range is printed
+abbrev pub shown : RangeOrValue → List ℕ
+shown (Range start end) = decimal start ++ codes ".." ++ decimal end
+shown (Value value) = decimal value
