@@ -1,5 +1,11 @@
-pub mod Bytes
-pub mod Truth
-pub mod TreeLemmas
-pub mod Joined
-pub mod TwoTruths
+mod ItemBytes
+mod ItemRanges
+mod RuleItems
+mod Meanings
+mod TreeGroups
+mod Counts
+mod NeededGroups
+mod Walks
+mod RangeSteps
+mod NeededMost
+mod TwoTruths

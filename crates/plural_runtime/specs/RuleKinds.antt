@@ -1,5 +1,5 @@
 -- What the conversions of the kinds give.
-use Rattle.std.specs.Prelude.{◌≡◌, ℕ, IsTrue, IsFalse, Option, Some, None, Result, Ok, Err}
+use Rattle.std.specs.Prelude.{◌≡◌, ℕ, IsTrue, IsFalse, Result, Ok, Err, if◌then◌else◌, ◌==◌}
 use Rattle.plural_reference.specs.declared.ast.Operand.{Operand as TreeOperand}
 use Rattle.plural_reference.specs.declared.ast.Operand.TheVariants as tree
 use Rattle.plural_reference.specs.declared.ast.Operator.{Operator}
@@ -52,6 +52,10 @@ packed_operand_of tree.E = E
 abbrev pub ends : RangeOrValue → ℕ × ℕ
 ends (Range start end) = (start, end)
 ends (Value value) = (value, value)
+
+-- the range of two ends; equal ends are a value
+abbrev pub range_or_value : ℕ × ℕ → RangeOrValue
+range_or_value range = if range.0 == range.1 then Value range.0 else Range range.0 range.1
 
 -- the item of a tree
 abbrev pub item_of : RangeOrValue → RangeListItem

@@ -1,5 +1,5 @@
 -- Not a definition of the subject: what lent relations, first bytes and ranges stand for.
-use Rattle.std.specs.Prelude.{ℕ, List, ◌++◌, codes, if◌then◌else◌, ◌==◌, Option, option_map}
+use Rattle.std.specs.Prelude.{ℕ, List, ◌++◌, codes, Option, option_map}
 use Rattle.std.specs.Fmt.{decimal}
 use Rattle.plural_runtime.specs.declared.first_byte.AndOrPolarityOperand.{AndOrPolarityOperand}
 use Rattle.plural_runtime.specs.declared.range.RangeOrValue.{RangeOrValue}
@@ -29,10 +29,6 @@ lent_relation relation = record {
 -- what a first byte says, if its bits 0 to 5 are at most 7
 abbrev pub parts_of : ℕ → Option AndOrPolarityOperand
 parts_of byte = option_map (λ operand. record { and_or = and_or_in byte; polarity = polarity_of (operator_in byte); operand = packed_operand_of operand }) (operand_in byte)
-
--- equal ends are a value
-abbrev pub range_or_value : ℕ × ℕ → RangeOrValue
-range_or_value range = if range.0 == range.1 then Value range.0 else Range range.0 range.1
 
 -- how a range is printed
 abbrev pub shown : RangeOrValue → List ℕ

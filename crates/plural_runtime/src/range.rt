@@ -3,8 +3,7 @@
 ghost use Rattle.std.specs.Prelude.{◌≡◌};
 ghost use Rattle.plural_runtime.specs.RuleBytes.{range_bytes};
 ghost use Rattle.plural_runtime.specs.RuleReading.{range_in};
-ghost use Rattle.plural_runtime.specs.RuleKinds.{ends, item_of, ItemGives};
-ghost use Rattle.plural_runtime.specs.RuleViews.{range_or_value};
+ghost use Rattle.plural_runtime.specs.RuleKinds.{ends, item_of, ItemGives, range_or_value};
 
 use plural_reference::{ParseError, ast};
 

@@ -4,7 +4,7 @@ ghost use Rattle.std.specs.Prelude.{◌≡◌, ◌*◌, ◌/◌, ◌<◌, drop, 
 ghost use Rattle.plural_runtime.specs.RuleBytes.{relation_bytes};
 ghost use Rattle.plural_runtime.specs.RuleFaults.{is_relation};
 ghost use Rattle.plural_runtime.specs.RuleReading.{range_in, relation_in};
-ghost use Rattle.plural_runtime.specs.RuleViews.{range_or_value};
+ghost use Rattle.plural_runtime.specs.RuleKinds.{range_or_value};
 
 use crate::first_byte::AndOrPolarityOperand;
 use crate::item::{and_or_at, modulo_at, operand_at, polarity_at, ranges_at};
@@ -69,8 +69,8 @@ impl<'a> RelationULE<'a> {
 
 impl<'a> Relation<'a> {
     ghost use Rattle.std.specs.Prelude.{◌≡◌, length, option_map, slice_get};
-    ghost use Rattle.plural_runtime.specs.RuleKinds.{operator_of, tree_operand_of};
-    ghost use Rattle.plural_runtime.specs.RuleViews.{lent_relation, range_or_value};
+    ghost use Rattle.plural_runtime.specs.RuleKinds.{operator_of, range_or_value, tree_operand_of};
+    ghost use Rattle.plural_runtime.specs.RuleViews.{lent_relation};
 
     /// How it is joined to the one before it.
     pub fn and_or(&self) -> AndOr

@@ -35,7 +35,7 @@ impl<'a> Model for Relations<'a> {
 impl<'a> Relations<'a> {
     // The relations of items that were checked.
     pub(crate) fn of(items: Items<'a>) -> Relations<'a>
-        requires { IsTrue (list_all is_relation items.entry) }
+        requires { IsTrue (list_all is_relation items) }
         ensures { result ≡ map relation_in items.entry }
     {
         Relations { items }

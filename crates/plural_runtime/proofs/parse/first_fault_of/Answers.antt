@@ -1,6 +1,6 @@
 use Rattle.std.proofs.Common.{arith, ◌∙◌, sym, ◌+◌, drop}
 use Rattle.plural_runtime.specs.RuleFaults.{first_fault}
-use Rattle.plural_runtime.proofs.Bytes.{first_fault_step, or_else_some, or_else_none}
+use Rattle.plural_runtime.proofs.RuleItems.{first_fault_step, or_else_some, or_else_none}
 use Rattle.plural_runtime.proofs.parse.first_fault_of.Goals as goal
 
 pub returns-then-is_some : goal.returns-then-is_some

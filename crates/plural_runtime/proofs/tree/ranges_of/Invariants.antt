@@ -5,4 +5,4 @@ use Rattle.plural_runtime.proofs.tree.ranges_of.Given as goal
 
 -- The ranges so far are made.
 abbrev pub invariant-loop-index : goal.invariant-loop-index
-invariant-loop-index l = l.items.items ≡ map unpacked_range (take l.index (lent_relation l.relation).ranges)
+invariant-loop-index l = l.items.items ≡ map unpacked_range (take l.index (lent_relation l.relation).meaning.ranges)

@@ -1,86 +1,60 @@
--- Lemmas on packing and unpacking trees.
-use Rattle.std.proofs.Common.{◌≡◌, ℕ, ◌+◌, ◌<◌, List, [], ◌∷◌, ◌++◌, length, take, drop, get_or, map, refl, sym, ap, ◌∙◌, Bool, true, false, Some, arith, append_assoc, append-nil}
-use Rattle.std.specs.Prelude.{◌==◌, slice_get, option_map}
-use Rattle.std.proofs.lemmas.Bool.{eqb-true}
+-- The groups of a rule and of its tree.
+use Rattle.std.proofs.Common.{◌≡◌, ℕ, ◌+◌, ◌<◌, List, [], ◌∷◌, ◌++◌, length, take, drop, get_or, map, refl, sym, ap, ◌∙◌, Some, arith, append_assoc, append-nil}
+use Rattle.std.specs.Prelude.{slice_get, option_map, flat_map, ◌==◌, Bool, true, false}
 use Rattle.std.proofs.lemmas.List.{take_more, drop_more, map-append}
 use Rattle.std.proofs.lemmas.Option.{slice_get-get_or}
+use Rattle.plural_reference.specs.declared.ast.AndCondition.{AndCondition}
+use Rattle.plural_reference.specs.declared.ast.Condition.{Condition}
 use Rattle.plural_reference.specs.declared.ast.Relation.{Relation}
+use Rattle.plural_reference.specs.Truth.{groups_of}
 use Rattle.plural_runtime.specs.declared.kinds.AndOr.{AndOr}
 use Rattle.plural_runtime.specs.declared.kinds.AndOr.TheVariants.{And, Or}
-use Rattle.plural_runtime.specs.declared.kinds.Polarity.{Polarity}
-use Rattle.plural_runtime.specs.declared.kinds.Polarity.TheVariants.{Negative, Positive}
-use Rattle.plural_runtime.specs.declared.kinds.Operand.{Operand}
-use Rattle.plural_runtime.specs.declared.kinds.Operand.TheVariants.{N, I, V, W, F, T, C, E}
 use Rattle.plural_runtime.specs.declared.range.RangeOrValue.{RangeOrValue}
-use Rattle.plural_runtime.specs.RuleKinds.{item_of}
+use Rattle.plural_runtime.specs.RuleKinds.{item_of, range_or_value}
 use Rattle.plural_runtime.specs.PackedRelations.{PackedRelation, groups, at_front, cut_before}
-use Rattle.plural_runtime.specs.RuleKinds.{polarity_of, operator_of, packed_operand_of, tree_operand_of}
-use Rattle.plural_runtime.specs.Tree.{packed_range, packed_modulus}
-use Rattle.plural_runtime.specs.PackedTree.{packed_relation, packed_and_condition, packed, unpacked_range, unpacked_modulus, unpacked_relation, unpacked}
-use Rattle.plural_runtime.specs.RuleViews.{range_or_value}
+use Rattle.plural_runtime.specs.PackedTree.{packed_relation, packed_and_condition, packed_groups, packed, unpacked_range, unpacked_relation, unpacked_groups, unpacked, condition_of}
 use Rattle.plural_runtime.specs.RuleWalk.{done_before, open_before}
-use Rattle.plural_runtime.proofs.Truth.{first_group}
+use Rattle.plural_runtime.proofs.Meanings.{meaning_again}
+use Rattle.plural_runtime.proofs.Walks.{first_group}
 
-polarity_again : (polarity : Polarity) → polarity_of (operator_of polarity) ≡ polarity
-polarity_again Positive = refl
-polarity_again Negative = refl
+-- ---- the groups of a condition
 
-operand_again : (operand : Operand) → packed_operand_of (tree_operand_of operand) ≡ operand
-operand_again N = refl
-operand_again I = refl
-operand_again V = refl
-operand_again W = refl
-operand_again F = refl
-operand_again T = refl
-operand_again C = refl
-operand_again E = refl
+pub wrapped : (groups : List (List Relation)) → map (λ (group : AndCondition). group.0) (map (λ (group : List Relation). record { 0 = group }) groups) ≡ groups
+wrapped [] = refl
+wrapped (group ∷ groups) = ap (λ gs. group ∷ gs) (wrapped groups)
 
-range_again : (range : ℕ × ℕ) → packed_range (unpacked_range range) ≡ range
-range_again range = by (range.0 == range.1) refl
-  where
-    by : (same : Bool) → (range.0 == range.1) ≡ same → packed_range (unpacked_range range) ≡ range
-    by true h = let e = eqb-true range.0 range.1 h in rw h (ap (λ end. (range.0, end)) e)
-    by false h = rw h refl
+pub unwrapped : (conditions : List AndCondition) → map (λ (group : List Relation). record { 0 = group }) (map (λ (group : AndCondition). group.0) conditions) ≡ conditions
+unwrapped [] = refl
+unwrapped (condition ∷ conditions) = ap (λ cs. condition ∷ cs) (unwrapped conditions)
 
-ranges_again : (ranges : List (ℕ × ℕ)) → map packed_range (map unpacked_range ranges) ≡ ranges
-ranges_again [] = refl
-ranges_again (range ∷ ranges) = rw (range_again range, ranges_again ranges) refl
-
-modulus_again : (modulo : ℕ) → packed_modulus (unpacked_modulus modulo) ≡ modulo
-modulus_again modulo = by (modulo == 0) refl
-  where
-    by : (none : Bool) → (modulo == 0) ≡ none → packed_modulus (unpacked_modulus modulo) ≡ modulo
-    by true h = let e = eqb-true modulo 0 h in rw h (sym e)
-    by false h = rw h refl
+-- ---- packing again
 
 -- a relation is the same after its tree, under its own mark
 relation_again : (mark : AndOr) (relation : PackedRelation) → relation.and_or ≡ mark → packed_relation mark (unpacked_relation relation) ≡ relation
-relation_again mark relation h = rw (polarity_again relation.meaning.operator, operand_again relation.meaning.operand, ranges_again relation.meaning.ranges, modulus_again relation.meaning.modulus, sym h) refl
-
-abbrev unpacked_groups : List (List PackedRelation) → List (List Relation)
-unpacked_groups gs = map (map unpacked_relation) gs
+relation_again mark relation h = rw (meaning_again relation.meaning, sym h) refl
 
 all_and : (relations : List Relation) → packed_and_condition And relations ≡ map (packed_relation And) relations
 all_and [] = refl
 all_and (relation ∷ relations) = refl
 
-packed-front : (mark : AndOr) (relation : PackedRelation) (gs : List (List PackedRelation)) → relation.and_or ≡ mark → packed (unpacked_groups (cut_before mark (at_front relation gs))) ≡ relation ∷ packed (unpacked_groups gs)
-unfolding packed
+packed-front : (mark : AndOr) (relation : PackedRelation) (gs : List (List PackedRelation)) → relation.and_or ≡ mark → packed_groups (map (map unpacked_relation) (cut_before mark (at_front relation gs))) ≡ relation ∷ packed_groups (map (map unpacked_relation) gs)
 packed-front And relation [] h = rw (relation_again And relation h) refl
 packed-front And relation (g ∷ gs) h = rw (relation_again And relation h, all_and (map unpacked_relation g)) refl
 packed-front Or relation [] h = rw (relation_again Or relation h) refl
 packed-front Or relation (g ∷ gs) h = rw (relation_again Or relation h, all_and (map unpacked_relation g)) refl
 
-packed-groups : (relations : List PackedRelation) → packed (unpacked_groups (groups relations)) ≡ relations
-unfolding packed
+packed-groups : (relations : List PackedRelation) → packed_groups (map (map unpacked_relation) (groups relations)) ≡ relations
 packed-groups [] = refl
 packed-groups (relation ∷ relations) = packed-front relation.and_or relation (groups relations) refl ∙ ap (λ r. relation ∷ r) (packed-groups relations)
+
+packed-unpacked_groups : (relations : List PackedRelation) → packed_groups (unpacked_groups relations) ≡ relations
+packed-unpacked_groups [] = refl
+packed-unpacked_groups (relation ∷ relations) = packed-groups (relation ∷ relations)
 
 -- the tree of relations packs to them again
 pub packed-unpacked : (relations : List PackedRelation) → packed (unpacked relations) ≡ relations
 unfolding packed unpacked
-packed-unpacked [] = refl
-packed-unpacked (relation ∷ relations) = packed-groups (relation ∷ relations)
+packed-unpacked relations = ap packed_groups (wrapped (unpacked_groups relations)) ∙ packed-unpacked_groups relations
 
 -- ---- making the tree
 
@@ -91,6 +65,7 @@ item_of-range range = by (range.0 == range.1) refl
     by true h = rw h refl
     by false h = rw h refl
 
+-- one more range of a list
 pub made_more : (ranges : List (ℕ × ℕ)) (k : ℕ) (range : RangeOrValue) → k < length ranges → Some range ≡ option_map range_or_value (slice_get ranges k) → map unpacked_range (take k ranges) ++ item_of range ∷ [] ≡ map unpacked_range (take (k + 1) ranges)
 made_more ranges k range h e =
     let g = slice_get-get_or ranges k (0, 0) h in
@@ -99,10 +74,11 @@ made_more ranges k range h e =
     ap (λ r. map unpacked_range (take k ranges) ++ item_of r ∷ []) i ∙ ap (λ r. map unpacked_range (take k ranges) ++ r ∷ []) (item_of-range (get_or ranges k (0, 0)))
     ∙ sym (map-append unpacked_range (take k ranges) (get_or ranges k (0, 0) ∷ [])) ∙ ap (map unpacked_range) (sym (take_more ranges k (0, 0) h))
 
-pub no_relations : (relations : List PackedRelation) → length relations ≡ 0 → unpacked relations ≡ []
+-- the tree of no relation
+pub no_relations : (conditions : List AndCondition) (relations : List PackedRelation) → length relations ≡ 0 → conditions ≡ [] → record { 0 = conditions } ≡ unpacked relations
 unfolding unpacked
-no_relations [] h = refl
-no_relations (relation ∷ relations) h = absurd (omega arith)
+no_relations conditions [] h e = ap (λ (cs : List AndCondition). record { 0 = cs }) e
+no_relations conditions (relation ∷ relations) h e = absurd (omega arith)
 
 -- the groups of a tree, if some are done, one is open, and relations are left
 abbrev pub glued : List (List Relation) → List Relation → List PackedRelation → List (List Relation)
@@ -127,15 +103,24 @@ glued-groups done group (relation ∷ relations) =
     glued-groups (done_before relation.and_or done group) (open_before relation.and_or group ++ unpacked_relation relation ∷ []) relations
     ∙ open_step relation.and_or done group relation (groups relations)
 
--- gluing all relations makes the tree
-pub glued-all : (relations : List PackedRelation) → 0 < length relations → glued [] [] relations ≡ unpacked relations
-unfolding unpacked
+-- gluing all relations makes the groups of the tree
+pub glued-all : (relations : List PackedRelation) → 0 < length relations → glued [] [] relations ≡ unpacked_groups relations
 glued-all [] h = absurd (omega arith)
-glued-all (relation ∷ relations) h = let f = first_group (relation ∷ relations) in
+glued-all (relation ∷ relations) h =
+    let f = first_group (relation ∷ relations) in
     glued-groups [] [] (relation ∷ relations) ∙ ap (λ gs. with_open [] (map (map unpacked_relation) gs)) f.is ∙ ap (map (map unpacked_relation)) (sym f.is)
 
+-- one more relation is glued
 pub glued_more : (done : List (List Relation)) (group : List Relation) (relations : List PackedRelation) (k : ℕ) (relation : PackedRelation) → k < length relations → Some relation ≡ slice_get relations k → glued done group (drop k relations) ≡ glued (done_before relation.and_or done group) (open_before relation.and_or group ++ unpacked_relation relation ∷ []) (drop (k + 1) relations)
 glued_more done group relations k relation h e =
     let g = slice_get-get_or relations k relation h in
     let i : get_or relations k relation ≡ relation = cc in
     ap (glued done group) (drop_more relations k relation h) ∙ ap (λ r. glued done group (r ∷ drop (k + 1) relations)) i
+
+-- the groups that are done and the open one are the tree
+pub whole_tree : (conditions : List AndCondition) (group : List Relation) (relations : List PackedRelation) → map (λ (c : AndCondition). c.0) conditions ++ group ∷ [] ≡ unpacked_groups relations → record { 0 = conditions ++ record { 0 = group } ∷ [] } ≡ unpacked relations
+unfolding unpacked
+whole_tree conditions group relations h =
+    let last : List AndCondition = record { 0 = group } ∷ [] in
+    let e = map-append (λ (c : AndCondition). c.0) conditions last in
+    ap (λ (cs : List AndCondition). record { 0 = cs }) (sym (unwrapped (conditions ++ last)) ∙ ap (map (λ (g : List Relation). record { 0 = g })) (e ∙ h))
