@@ -1,5 +1,6 @@
 use Rattle.std.proofs.Common.{arith, ap, sym, map, ◌≡◌, ◌∙◌, ◌++◌, ◌∷◌, [], ◌+◌, drop, Some, List}
 use Rattle.std.specs.Prelude.{slice_get}
+use Rattle.std.proofs.lemmas.List.{drop_all}
 use Rattle.plural_reference.specs.declared.ast.AndCondition.{AndCondition}
 use Rattle.plural_reference.specs.declared.ast.Relation.{Relation}
 use Rattle.plural_runtime.specs.RuleWalk.{done_before, open_before}
@@ -29,3 +30,12 @@ loop-index-preserved c =
     let open_group = c.in_ok-close_group.ensures.group ∙ ap (λ mark. open_before mark group) c.and_or.ensures in
     let longer = c.in_ok-push.ensures.items ∙ ap (λ g. g ++ c.in_ok-relation_of.field-0 ∷ []) open_group ∙ ap (λ r. open_before relation.and_or group ++ r ∷ []) c.in_ok-relation_of.ensures in
     ap (λ d. glued d c.push.new.self.items rest) closed ∙ ap (λ g. glued (done_before relation.and_or done group) g rest) longer ∙ sym more ∙ c.loop-index.invariant
+
+pub returns : goal.returns
+returns c =
+    let rule = c.args.rule.now in
+    let conditions = c.loop-index.groups.items in
+    let group = c.loop-index.group.items in
+    let none : drop c.loop-index.index rule ≡ [] = drop_all c.loop-index.index rule (omega arith) in
+    ap (λ (cs : List AndCondition). record { 0 = cs }) c.in_ok-push-2.ensures.items
+    ∙ whole_tree conditions group rule (sym (ap (glued (map (λ (c : AndCondition). c.0) conditions) group) none) ∙ c.loop-index.invariant)
