@@ -9,3 +9,5 @@ mod Walks
 mod RangeSteps
 mod NeededMost
 mod TwoTruths
+mod KindsAgain
+mod PackedTrees

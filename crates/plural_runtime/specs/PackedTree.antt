@@ -52,7 +52,7 @@ is_large_relation relation = is_large_modulus relation.expression.modulus || lis
 
 -- whether some value of a tree is
 unfoldable pub has_large_value : Condition → Bool
-has_large_value condition = list_any (list_any is_large_relation) (groups_of condition)
+has_large_value condition = list_any (λ group. list_any is_large_relation group.0) condition.0
 
 -- ---- Unpacking
 

@@ -18,6 +18,7 @@ mod steps;
 #[cfg(test)]
 mod tests;
 mod tree;
+mod tree_bytes;
 
 pub use error::{RuleBytesError, RuleError};
 pub use first_byte::AndOrPolarityOperand;
