@@ -1,4 +1,6 @@
 pub mod Operands
+pub mod DecimalOperands
+pub mod OperandText
 pub mod Lexer
 pub mod Parser
 pub mod Samples
@@ -8,10 +10,16 @@ pub mod Reading
 pub mod Truth
 pub mod Resolver
 pub mod ExactTruth
+pub mod Exactness
+pub mod OperandLaws
+pub mod ExactnessLaws
 pub mod ReadingLaws
 pub mod PrintingLaws
 -- not definitions of the subject
 pub mod Scan
+pub mod DigitsFrom
+pub mod OperandReader
 pub mod Reader
 pub mod ReaderSteps
 pub mod SampleReader
+pub mod SampleSteps

@@ -1,7 +1,9 @@
 -- The operands of a number (UTS 35 Part 3, Plural Operand Meanings): i its integer part; v and w how many fraction digits
 -- it shows, with and without trailing zeros; f and t those digits as a number, with and without trailing zeros; and c the
 -- compact exponent, which e names too.
-use Rattle.std.specs.Prelude.{ℕ}
+--     of_whole n      those of a whole number: no fraction, no exponent
+--     of_wide n      those that are kept of a whole number of more than 64 bits
+use Rattle.std.specs.Prelude.{ℕ, ◌+◌, ◌%◌, ◌^◌, nat_lt, if◌then◌else◌}
 
 pub record Operands : Type 0 where
   pub i : ℕ
@@ -14,3 +16,7 @@ pub record Operands : Type 0 where
 -- those of a whole number without a fraction or an exponent
 abbrev pub of_whole : ℕ → Operands
 of_whole n = record { i = n; v = 0; w = 0; f = 0; t = 0; c = 0 }
+
+-- the same below 10 ^ 18; from there on i has the last 18 digits, and 10 ^ 18 besides
+abbrev pub of_wide : ℕ → Operands
+of_wide n = of_whole (if nat_lt n (10 ^ 18) then n else n % 10 ^ 18 + 10 ^ 18)

@@ -3,9 +3,22 @@
 ghost use Rattle.std.specs.Prelude.{◌≡◌, ◌↔◌, IsTrue};
 ghost use Rattle.plural_reference.specs.Operands.{of_whole};
 
+mod decimals;
+mod error;
+mod fraction;
+mod integers;
+mod text;
+
+pub use error::OperandsError;
 use std::marker::Model;
 
 /// The operands of a number (UTS 35 Part 3, Plural Operand Meanings).
+///
+/// They come from integers, from decimals, from texts and from [`RawPluralOperands`]. No conversion
+/// takes memory. Decimals keep at most 18 places on each side of the point; how a longer number
+/// is cut is said at [`PluralOperands::from_significand_and_exponent`].
+///
+/// [`RawPluralOperands`]: crate::RawPluralOperands
 #[derive(Clone, Copy, Debug, PartialEq, Default)]
 pub struct PluralOperands {
     pub(crate) i: u64,
@@ -26,49 +39,22 @@ impl Model for PluralOperands {
     ghost inverse = { λ o. record { i = o.i; v = o.v; w = o.w; f = o.f; t = o.t; c = o.c } };
 }
 
-impl From<u8> for PluralOperands {
-    ghost from_gives = { λ n o. o ≡ of_whole n };
-
-    fn from(number: u8) -> PluralOperands {
-        PluralOperands::from(number as u64)
+impl PluralOperands {
+    /// Whether they are those of the whole number 0: no fraction digit is shown, and there is no
+    /// exponent.
+    #[inline]
+    pub fn is_exactly_zero(self) -> bool
+        ensures { IsTrue result ↔ (self ≡ of_whole 0) }
+    {
+        self == PluralOperands::from(0u64)
     }
-}
 
-impl From<u16> for PluralOperands {
-    ghost from_gives = { λ n o. o ≡ of_whole n };
-
-    fn from(number: u16) -> PluralOperands {
-        PluralOperands::from(number as u64)
-    }
-}
-
-impl From<u32> for PluralOperands {
-    ghost from_gives = { λ n o. o ≡ of_whole n };
-
-    fn from(number: u32) -> PluralOperands {
-        PluralOperands::from(number as u64)
-    }
-}
-
-impl From<u64> for PluralOperands {
-    ghost from_gives = { λ n o. o ≡ of_whole n };
-
-    fn from(number: u64) -> PluralOperands {
-        PluralOperands {
-            i: number,
-            v: 0,
-            w: 0,
-            f: 0,
-            t: 0,
-            c: 0,
-        }
-    }
-}
-
-impl From<usize> for PluralOperands {
-    ghost from_gives = { λ n o. o ≡ of_whole n };
-
-    fn from(number: usize) -> PluralOperands {
-        PluralOperands::from(number as u64)
+    /// Whether they are those of the whole number 1: no fraction digit is shown, and there is no
+    /// exponent.
+    #[inline]
+    pub fn is_exactly_one(self) -> bool
+        ensures { IsTrue result ↔ (self ≡ of_whole 1) }
+    {
+        self == PluralOperands::from(1u64)
     }
 }

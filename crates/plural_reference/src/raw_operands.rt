@@ -1,28 +1,29 @@
-//! The six numbers of operands.
+//! The operands of a number as plain numbers.
 
 ghost use Rattle.std.specs.Prelude.{◌≡◌};
 
 use crate::operands::PluralOperands;
 
-/// The six numbers of a number's operands, whatever they are (UTS 35 Part 3, Plural Operand Meanings).
+/// The operands of a number (UTS 35 Part 3, Plural Operand Meanings), each to be set by hand: any
+/// values are allowed, also those of no number.
 #[derive(Debug, Drop)]
 pub struct RawPluralOperands {
     /// The integer part.
     pub i: u64,
-    /// How many fraction digits are visible.
+    /// How many fraction digits are shown.
     pub v: usize,
-    /// How many of them there are without trailing zeros.
+    /// How many fraction digits are shown, without the trailing zeros.
     pub w: usize,
-    /// The visible fraction digits as a number.
+    /// The fraction digits as a number.
     pub f: u64,
-    /// The same without trailing zeros.
+    /// The fraction digits without the trailing zeros as a number.
     pub t: u64,
     /// The compact exponent.
     pub c: usize,
 }
 
 impl From<RawPluralOperands> for PluralOperands {
-    ghost from_gives = { λ raw operands. operands ≡ record { i = raw.i; v = raw.v; w = raw.w; f = raw.f; t = raw.t; c = raw.c } };
+    ghost from_gives = { λ r o. o ≡ record { i = r.i; v = r.v; w = r.w; f = r.f; t = r.t; c = r.c } };
 
     #[inline]
     fn from(raw: RawPluralOperands) -> PluralOperands {
@@ -38,7 +39,7 @@ impl From<RawPluralOperands> for PluralOperands {
 }
 
 impl From<PluralOperands> for RawPluralOperands {
-    ghost from_gives = { λ operands raw. raw ≡ record { i = operands.i; v = operands.v; w = operands.w; f = operands.f; t = operands.t; c = operands.c } };
+    ghost from_gives = { λ o r. r ≡ record { i = o.i; v = o.v; w = o.w; f = o.f; t = o.t; c = o.c } };
 
     #[inline]
     fn from(operands: PluralOperands) -> RawPluralOperands {

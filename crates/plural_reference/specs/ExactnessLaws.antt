@@ -1,0 +1,83 @@
+-- The operands that are kept of a number decide a rule as the number itself does, within the bound.
+use Rattle.std.specs.Prelude.{◌≡◌, ℕ, ◌+◌, ◌-◌, ◌*◌, ◌%◌, ◌^◌, ◌<◌, ◌≤◌, ◌↔◌, List, [], ◌∷◌, length, IsTrue, Bool, true, false, pos, ◌-ℤ◌}
+use Rattle.std.specs.Int.{◌∣◌}
+use Rattle.std.specs.List.{AllByRecursion}
+use Rattle.fixed_decimal.specs.Digits.{IsNumeral, value_of}
+use Rattle.fixed_decimal.specs.Places.{Places, IsWritten, HasDigitFrom, shift_right}
+use Rattle.plural_reference.specs.Operands.{Operands}
+use Rattle.plural_reference.specs.DecimalOperands.{AreCut, AreExact}
+use Rattle.plural_reference.specs.Truth.{RelationMeaning, holds_value, is_in_ranges, is_true_of, relation_truth, remainder, meaning_of, groups_of}
+use Rattle.plural_reference.specs.ExactTruth.{exact_value, exact_relation_truth, exact_truth, parts}
+use Rattle.plural_reference.specs.Exactness.{IsWithinBound, IsAdmitted}
+use Rattle.plural_reference.specs.declared.ast.Condition.{Condition}
+use Rattle.plural_reference.specs.declared.ast.Operand.TheVariants.{N, I}
+use Rattle.plural_reference.specs.declared.ast.Operator.TheVariants.{Eq}
+
+-- ---- The agreement
+
+-- a number within the bound, with its cut and its exact operands
+pub record IsKept (x : Places) (e : ℕ) (moduli : List ℕ) (cut exact : Operands) : Type 0 where
+  pub written : IsWritten x
+  pub within : IsWithinBound x e moduli
+  pub are_cut : AreCut x e cut
+  pub are_exact : AreExact x e exact
+
+-- a relation is true of the operands that are kept exactly if it is true of the exact ones
+abbrev pub RelationsAgree : Type 0
+RelationsAgree =
+    (x : Places) (e : ℕ) (moduli : List ℕ) (cut exact : Operands) (relation : RelationMeaning)
+    → IsKept x e moduli cut exact → IsAdmitted moduli relation
+    → relation_truth cut relation ≡ exact_relation_truth exact relation
+
+-- the same of groups of relations
+abbrev pub GroupsAgree : Type 0
+GroupsAgree =
+    (x : Places) (e : ℕ) (moduli : List ℕ) (cut exact : Operands) (groups : List (List RelationMeaning))
+    → IsKept x e moduli cut exact → AllByRecursion (AllByRecursion (IsAdmitted moduli)) groups
+    → is_true_of (relation_truth cut) groups ≡ is_true_of (exact_relation_truth exact) groups
+
+-- the same of a condition
+abbrev pub ConditionsAgree : Type 0
+ConditionsAgree =
+    (x : Places) (e : ℕ) (moduli : List ℕ) (cut exact : Operands) (condition : Condition)
+    → IsKept x e moduli cut exact
+    → AllByRecursion (AllByRecursion (λ relation. IsAdmitted moduli (meaning_of relation))) (groups_of condition)
+    → is_true_of (λ relation. relation_truth cut (meaning_of relation)) (groups_of condition) ≡ exact_truth exact condition
+
+-- ---- Whole numbers
+
+-- The exact value of n is in ranges exactly if some whole number of the ranges is the number, or what the modulus leaves of
+-- it: the number is so many parts of 10 ^ v.
+abbrev pub HoldsWholeNumbers : Type 0
+HoldsWholeNumbers =
+    (ranges : List (ℕ × ℕ)) (modulus : ℕ) (o : Operands)
+    → IsTrue (holds_value ranges (exact_value N modulus o))
+    ↔ ((k : ℕ) × IsTrue (is_in_ranges ranges k) × (remainder (modulus * 10 ^ o.v) (parts o) ≡ k * 10 ^ o.v))
+
+-- ---- The bound
+
+-- the point moved e places to the right: so many more integer places, and fewer fraction places
+abbrev pub ShiftedPlaces : Type 0
+ShiftedPlaces =
+    (x : Places) (e : ℕ)
+    → (length (shift_right e x).whole ≡ length x.whole + e) × (length (shift_right e x).fraction ≡ length x.fraction - e)
+
+-- the integer digits then write at least 10 ^ n exactly if a digit that isn't 0 stands at 10 ^ (n - e) or above
+abbrev pub LongValue : Type 0
+LongValue =
+    (x : Places) (e n : ℕ) → IsWritten x → (10 ^ n ≤ value_of (shift_right e x).whole) ↔ HasDigitFrom x (pos n -ℤ pos e)
+
+-- the number 2 * 10 ^ 18
+abbrev pub IsTwice : Places → Type 0
+IsTwice x = IsNumeral x.whole (2 * 10 ^ 18) × (x.fraction ≡ [])
+
+-- `i % m = r`, where r is what m leaves of 2 * 10 ^ 18
+abbrev pub left_of_twice : ℕ → RelationMeaning
+left_of_twice m = let r = 2 * 10 ^ 18 % m in record { operand = I; modulus = m; operator = Eq; ranges = (r, r) ∷ [] }
+
+-- a modulus that doesn't divide 10 ^ 18 tells the exact 2 * 10 ^ 18 from what is kept of it
+abbrev pub BoundIsWidest : Type 0
+BoundIsWidest =
+    (m : ℕ) (x : Places) (cut exact : Operands) → 0 < m → ¬ (m ∣ 10 ^ 18)
+    → IsTwice x → AreCut x 0 cut → AreExact x 0 exact
+    → (exact_relation_truth exact (left_of_twice m) ≡ true) × (relation_truth cut (left_of_twice m) ≡ false)

@@ -1,0 +1,52 @@
+//! What holds of the operands of numbers, whichever they are.
+
+ghost use Rattle.std.specs.Prelude.{◌≡◌, nat_abs};
+ghost use Rattle.plural_reference.specs.Operands.{of_whole, of_wide};
+ghost use Rattle.plural_reference.specs.OperandLaws.{SameBelowLimit, CongruentFromLimit, NothingIsCut, OneCut, OneExact, TellTheNumber};
+
+use crate::operands::PluralOperands;
+
+/// An integer has the same operands at 64 and at 128 bits below `10^18`; from there on both integer
+/// parts are at least `10^18` and congruent by it.
+pub fn integers_of_every_width()
+    ensures below { SameBelowLimit }
+    ensures above { CongruentFromLimit }
+{}
+
+/// The operands of a signed integer, and those of its absolute value: they are the same.
+pub fn signed_as_absolute(number: i64) -> (PluralOperands, PluralOperands)
+    ensures same { result.0 ≡ result.1 }
+    ensures signed { result.0 ≡ of_whole (nat_abs number) }
+{
+    (
+        PluralOperands::from(number),
+        PluralOperands::from(number.unsigned_abs()),
+    )
+}
+
+/// The same at 128 bits.
+pub fn wide_signed_as_absolute(number: i128) -> (PluralOperands, PluralOperands)
+    ensures same { result.0 ≡ result.1 }
+    ensures signed { result.0 ≡ of_wide (nat_abs number) }
+{
+    (
+        PluralOperands::from(number),
+        PluralOperands::from(number.unsigned_abs()),
+    )
+}
+
+/// With at most 18 places on each side of the point nothing is cut: the operands are the exact ones.
+pub fn short_numbers_are_exact()
+    ensures { NothingIsCut }
+{}
+
+/// A number has one list of cut operands, and one of exact ones.
+pub fn one_list_of_operands()
+    ensures cut { OneCut }
+    ensures exact { OneExact }
+{}
+
+/// The exact operands tell the number.
+pub fn operands_tell_the_number()
+    ensures { TellTheNumber }
+{}

@@ -1,0 +1,129 @@
+//! The operands of integers.
+
+ghost use Rattle.std.specs.Prelude.{◌≡◌, nat_abs};
+ghost use Rattle.plural_reference.specs.Operands.{of_whole, of_wide};
+
+use crate::operands::PluralOperands;
+
+// From here on the 18 last digits of an integer are kept, with this added.
+pub(crate) const LIMIT: u64 = 1_000_000_000_000_000_000;
+
+impl From<u8> for PluralOperands {
+    ghost from_gives = { λ n o. o ≡ of_whole n };
+
+    #[inline]
+    fn from(number: u8) -> PluralOperands {
+        PluralOperands::from(number as u64)
+    }
+}
+
+impl From<u16> for PluralOperands {
+    ghost from_gives = { λ n o. o ≡ of_whole n };
+
+    #[inline]
+    fn from(number: u16) -> PluralOperands {
+        PluralOperands::from(number as u64)
+    }
+}
+
+impl From<u32> for PluralOperands {
+    ghost from_gives = { λ n o. o ≡ of_whole n };
+
+    #[inline]
+    fn from(number: u32) -> PluralOperands {
+        PluralOperands::from(number as u64)
+    }
+}
+
+impl From<u64> for PluralOperands {
+    ghost from_gives = { λ n o. o ≡ of_whole n };
+
+    #[inline]
+    fn from(number: u64) -> PluralOperands {
+        PluralOperands {
+            i: number,
+            v: 0,
+            w: 0,
+            f: 0,
+            t: 0,
+            c: 0,
+        }
+    }
+}
+
+impl From<usize> for PluralOperands {
+    ghost from_gives = { λ n o. o ≡ of_whole n };
+
+    #[inline]
+    fn from(number: usize) -> PluralOperands {
+        PluralOperands::from(number as u64)
+    }
+}
+
+impl From<u128> for PluralOperands {
+    ghost from_gives = { λ n o. o ≡ of_wide n };
+
+    #[inline]
+    fn from(number: u128) -> PluralOperands {
+        let i = if number < LIMIT as u128 {
+            number as u64
+        } else {
+            (number % LIMIT as u128) as u64 + LIMIT
+        };
+        PluralOperands::from(i)
+    }
+}
+
+impl From<i8> for PluralOperands {
+    ghost from_gives = { λ z o. o ≡ of_whole (nat_abs z) };
+
+    #[inline]
+    fn from(number: i8) -> PluralOperands {
+        PluralOperands::from(number.unsigned_abs())
+    }
+}
+
+impl From<i16> for PluralOperands {
+    ghost from_gives = { λ z o. o ≡ of_whole (nat_abs z) };
+
+    #[inline]
+    fn from(number: i16) -> PluralOperands {
+        PluralOperands::from(number.unsigned_abs())
+    }
+}
+
+impl From<i32> for PluralOperands {
+    ghost from_gives = { λ z o. o ≡ of_whole (nat_abs z) };
+
+    #[inline]
+    fn from(number: i32) -> PluralOperands {
+        PluralOperands::from(number.unsigned_abs())
+    }
+}
+
+impl From<i64> for PluralOperands {
+    ghost from_gives = { λ z o. o ≡ of_whole (nat_abs z) };
+
+    #[inline]
+    fn from(number: i64) -> PluralOperands {
+        PluralOperands::from(number.unsigned_abs())
+    }
+}
+
+impl From<isize> for PluralOperands {
+    ghost from_gives = { λ z o. o ≡ of_whole (nat_abs z) };
+
+    #[inline]
+    fn from(number: isize) -> PluralOperands {
+        PluralOperands::from(number.unsigned_abs())
+    }
+}
+
+impl From<i128> for PluralOperands {
+    ghost from_gives = { λ z o. o ≡ of_wide (nat_abs z) };
+
+    #[inline]
+    fn from(number: i128) -> PluralOperands {
+        PluralOperands::from(number.unsigned_abs())
+    }
+}
