@@ -11,3 +11,6 @@ mod NeededMost
 mod TwoTruths
 mod KindsAgain
 mod PackedTrees
+mod JoinedTexts
+mod RuleTexts
+mod SameRelations

@@ -1,5 +1,6 @@
 pub mod PackedRelations
 pub mod RuleBytes
+pub mod RelationEquality
 pub mod RuleFaults
 pub mod PackedTruth
 pub mod NeededRanges
@@ -11,3 +12,4 @@ pub mod RuleErrorTexts
 pub mod RuleReading
 pub mod RuleViews
 pub mod RuleWalk
+pub mod RuleText

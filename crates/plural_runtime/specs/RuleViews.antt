@@ -1,9 +1,6 @@
--- Not a definition of the subject: what lent relations, first bytes and ranges stand for.
-use Rattle.std.specs.Prelude.{ℕ, List, ◌++◌, codes, Option, option_map}
-use Rattle.std.specs.Fmt.{decimal}
+-- Not a definition of the subject: what lent relations and first bytes stand for.
+use Rattle.std.specs.Prelude.{ℕ, Option, option_map}
 use Rattle.plural_runtime.specs.declared.first_byte.AndOrPolarityOperand.{AndOrPolarityOperand}
-use Rattle.plural_runtime.specs.declared.range.RangeOrValue.{RangeOrValue}
-use Rattle.plural_runtime.specs.declared.range.RangeOrValue.TheVariants.{Range, Value}
 use Rattle.plural_runtime.specs.declared.relation.RelationULE.{RelationULE}
 use Rattle.plural_runtime.specs.declared.relation.Relation.{Relation}
 use Rattle.plural_runtime.specs.PackedRelations.{PackedRelation}
@@ -29,8 +26,3 @@ lent_relation relation = record {
 -- what a first byte says, if its bits 0 to 5 are at most 7
 abbrev pub parts_of : ℕ → Option AndOrPolarityOperand
 parts_of byte = option_map (λ operand. record { and_or = and_or_in byte; polarity = polarity_of (operator_in byte); operand = packed_operand_of operand }) (operand_in byte)
-
--- how a range is printed
-abbrev pub shown : RangeOrValue → List ℕ
-shown (Range start end) = decimal start ++ codes ".." ++ decimal end
-shown (Value value) = decimal value

@@ -4,6 +4,7 @@
 mod display;
 mod error;
 mod first_byte;
+mod from_text;
 mod item;
 mod kinds;
 pub mod laws;

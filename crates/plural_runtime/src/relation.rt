@@ -1,9 +1,9 @@
 //! One relation of a packed rule: its checked bytes, and what they say.
 
-ghost use Rattle.std.specs.Prelude.{◌≡◌, ◌*◌, ◌/◌, ◌<◌, drop, IsTrue, length, ◌%◌, ◌==◌};
-ghost use Rattle.plural_runtime.specs.RuleBytes.{relation_bytes};
+ghost use Rattle.std.specs.Prelude.{◌≡◌, ◌↔◌, ◌*◌, ◌/◌, ◌<◌, drop, flat_map, IsTrue, length, ◌%◌, ◌==◌};
+ghost use Rattle.plural_runtime.specs.RuleBytes.{range_bytes, relation_bytes};
 ghost use Rattle.plural_runtime.specs.RuleFaults.{is_relation};
-ghost use Rattle.plural_runtime.specs.RuleReading.{range_in, relation_in};
+ghost use Rattle.plural_runtime.specs.RuleReading.{range_in, ranges_in, relation_in};
 ghost use Rattle.plural_runtime.specs.RuleKinds.{range_or_value};
 
 use crate::first_byte::AndOrPolarityOperand;
@@ -18,8 +18,9 @@ pub struct RelationULE<'a> {
     ghost checked: { IsTrue (is_relation bytes.now) },
 }
 
-/// A relation, with its ranges lent from the bytes of an item.
-#[derive(Clone, Copy, Debug, PartialEq, Eq)]
+/// A relation, with its ranges lent from the bytes of an item. Relations are equal if their mark, polarity, operand,
+/// modulus and ranges are.
+#[derive(Clone, Copy, Debug)]
 pub struct Relation<'a> {
     kind: AndOrPolarityOperand,
     modulo: u32,
@@ -117,6 +118,65 @@ impl<'a> Relation<'a> {
             None
         }
     }
+}
+
+impl<'a> PartialEq for Relation<'a> {
+    ghost use Rattle.std.specs.Prelude.{◌≡◌, ◌↔◌, IsTrue};
+    ghost use Rattle.std.specs.Cmp.{on_per, partial_equiv_from_equiv};
+    ghost use Rattle.std.specs.Cmp.Lexicographic.{nat_list_eq_equiv};
+    ghost use Rattle.plural_runtime.specs.RelationEquality.{is_same_relation, relation_numbers};
+    ghost use Rattle.plural_runtime.specs.RuleViews.{lent_relation};
+
+    ghost eq = { λ relation other. is_same_relation (lent_relation relation) (lent_relation other) };
+
+    ghost laws = { on_per (λ relation. relation_numbers (lent_relation relation)) (partial_equiv_from_equiv nat_list_eq_equiv) };
+
+    fn eq(&self, other: &Self) -> bool
+        ensures same { result ≡ is_same_relation (lent_relation self.now) (lent_relation other.now) }
+        ensures equal { IsTrue result ↔ (lent_relation self.now ≡ lent_relation other.now) }
+    {
+        if !same_kind(self.kind, other.kind) {
+            return false;
+        }
+        if self.modulo != other.modulo {
+            return false;
+        }
+        same_ranges(self.ranges, other.ranges)
+    }
+}
+
+impl<'a> Eq for Relation<'a> {
+    ghost use Rattle.std.specs.Cmp.{on_equiv};
+    ghost use Rattle.std.specs.Cmp.Lexicographic.{nat_list_eq_equiv};
+    ghost use Rattle.plural_runtime.specs.RelationEquality.{relation_numbers};
+    ghost use Rattle.plural_runtime.specs.RuleViews.{lent_relation};
+
+    ghost laws = { on_equiv (λ relation. relation_numbers (lent_relation relation)) nat_list_eq_equiv };
+}
+
+// Whether mark, polarity and operand are the same.
+fn same_kind(kind: AndOrPolarityOperand, other: AndOrPolarityOperand) -> bool
+    ensures { IsTrue result ↔ (kind ≡ other) }
+{
+    kind == other
+}
+
+// Whether two lists of ranges are the same: they are if their bytes are.
+fn same_ranges(ranges: &[u8], others: &[u8]) -> bool
+    requires ranges { IsTrue (length ranges.now % 8 == 0) }
+    requires others { IsTrue (length others.now % 8 == 0) }
+    ensures { IsTrue result ↔ (ranges_in ranges.now ≡ ranges_in others.now) }
+{
+    spelled_ranges(ranges) == spelled_ranges(others)
+}
+
+// The bytes of ranges are those of the ranges that they hold.
+fn spelled_ranges(ranges: &[u8]) -> &[u8]
+    requires { IsTrue (length ranges.now % 8 == 0) }
+    ensures same { result.now ≡ ranges.now }
+    ensures spelled { flat_map range_bytes (ranges_in ranges.now) ≡ ranges.now }
+{
+    ranges
 }
 
 // The range at a place.
