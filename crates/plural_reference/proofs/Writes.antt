@@ -33,7 +33,7 @@ joined-push separator text x [] y = append_assoc (text x) separator (text y)
 joined-push separator text x (z ∷ zs) y = ap (λ l. (text x ++ separator) ++ l) (joined-push separator text z zs y) ∙ sym (append_assoc (text x ++ separator) (joined separator text (z ∷ zs)) (separator ++ text y))
 
 -- a turn of the loop that writes the parts behind the first
-pub more_written : {W A : Type 0} (took : W → List ℕ → W → Type 0) (separator : List ℕ) (text : A → List ℕ) (x : A) (xs : List A) (i : ℕ) (d : A) (w v u z : W) → i < length xs → WritesInCalls took w (joined separator text (x ∷ take i xs)) v → took v separator u → WritesInCalls took u (text (get_or xs i d)) z → WritesInCalls took w (joined separator text (x ∷ take (i + 1) xs)) z
-more_written took separator text x xs i d w v u z lt h k l =
-    subst (λ bs. WritesInCalls took w bs z) (sym (ap (λ ys. joined separator text (x ∷ ys)) (take_more xs i d lt) ∙ joined-push separator text x (take i xs) (get_or xs i d)))
-    (then_writes took w _ v _ z h (then_writes took v separator u _ z (one_call took v separator u k) l))
+pub more_written : {W A : Type 0} (took : W → List ℕ → W → Type 0) (separator : List ℕ) (text : A → List ℕ) (x : A) (xs : List A) (i : ℕ) (y : A) (w v u z : W) → i < length xs → y ≡ get_or xs i y → WritesInCalls took w (joined separator text (x ∷ take i xs)) v → took v separator u → WritesInCalls took u (text y) z → WritesInCalls took w (joined separator text (x ∷ take (i + 1) xs)) z
+more_written {A = A} took separator text x xs i y w v u z lt here h k l =
+    subst (λ bs. WritesInCalls took w bs z) (sym (ap (λ ys. joined separator text (x ∷ ys)) (take_more xs i y lt) ∙ joined-push separator text x (take i xs) (get_or xs i y)))
+    (then_writes took w _ v _ z h (then_writes took v separator u _ z (one_call took v separator u k) (subst (λ (e : A). WritesInCalls took u (text e) z) here l)))

@@ -1,37 +1,79 @@
 -- What is printed is read as what it was printed from.
-use Rattle.std.specs.Prelude.{◌≡◌, ◌≤◌, ◌⊎◌, ◌++◌, ℕ, List, Option, Some, None, All, IfSome}
+use Rattle.std.specs.Prelude.{◌≡◌, ◌≢◌, ◌≤◌, ◌++◌, ℕ, List, [], Option, Some, None, All, IfSome}
 use Rattle.std.specs.Char.{IsAsciiDigit}
 use Rattle.std.specs.Str.Parse.{digits_value}
+use Rattle.plural_reference.specs.declared.ast.AndCondition.{AndCondition}
 use Rattle.plural_reference.specs.declared.ast.Condition.{Condition}
+use Rattle.plural_reference.specs.declared.ast.DecimalValue.{DecimalValue}
+use Rattle.plural_reference.specs.declared.ast.RangeListItem.{RangeListItem}
+use Rattle.plural_reference.specs.declared.ast.RangeListItem.TheVariants as items
+use Rattle.plural_reference.specs.declared.ast.Relation.{Relation}
 use Rattle.plural_reference.specs.declared.ast.Rule.{Rule}
 use Rattle.plural_reference.specs.declared.ast.SampleList.{SampleList}
-use Rattle.plural_reference.specs.declared.ast.DecimalValue.{DecimalValue}
-use Rattle.plural_reference.specs.declared.error.ParseError.{ParseError}
+use Rattle.plural_reference.specs.declared.ast.Value.{Value}
 use Rattle.plural_reference.specs.declared.token.Token.{Token}
-use Rattle.plural_reference.specs.Parser.{Reads, Faulty}
 use Rattle.plural_reference.specs.Lexer.{AreTokensOf, max_number}
-use Rattle.plural_reference.specs.Samples.{ReadsRule, FaultyRule}
+use Rattle.plural_reference.specs.Parser.{first, last, Reads}
+use Rattle.plural_reference.specs.Samples.{ReadsRule}
 use Rattle.plural_reference.specs.Serializer.{condition_text, rule_text}
 
--- a condition that was read from a text is read again from its printed text
+-- the text is read as x: x is read from its tokens
+abbrev pub TextReads : {A : Type 0} → (List Token → A → Type 0) → List ℕ → A → Type 0
+TextReads Read text x = (tokens : List Token) × AreTokensOf text tokens × Read tokens x
+
+-- ---- conditions
+
+-- a token holds the number
+abbrev pub FitsToken : Value → Type 0
+FitsToken v = v.0 ≤ max_number
+
+abbrev pub IsSpellableItem : RangeListItem → Type 0
+IsSpellableItem (items.Value v) = FitsToken v
+IsSpellableItem (items.Range a b) = FitsToken a × FitsToken b
+
+abbrev pub IsSpellableRelation : Relation → Type 0
+IsSpellableRelation r = IfSome r.expression.modulus FitsToken × (r.range_list.0 ≢ []) × All IsSpellableItem r.range_list.0
+
+abbrev pub IsSpellableGroup : AndCondition → Type 0
+IsSpellableGroup group = (group.0 ≢ []) × All IsSpellableRelation group.0
+
+-- a condition that some text spells: no group and no list of ranges is empty, and tokens hold all numbers
+abbrev pub IsSpellable : Condition → Type 0
+IsSpellable c = All IsSpellableGroup c.0
+
+-- what is read from a text is such a condition
+abbrev pub ConditionsOfTextsAreSpellable : Type 0
+ConditionsOfTextsAreSpellable = (text : List ℕ) (c : Condition) → TextReads Reads text c → IsSpellable c
+
+-- each such condition is read from its printed text, by itself and as a rule without samples
+abbrev pub SpellableConditionsPrintBack : Type 0
+SpellableConditionsPrintBack = (c : Condition) → IsSpellable c → TextReads Reads (condition_text c) c × TextReads ReadsRule (condition_text c) (record { condition = c; samples = None })
+
+-- a condition that was read from a text is read from its printed text
 abbrev pub ConditionsPrintBack : Type 0
-ConditionsPrintBack = (text : List ℕ) (tokens : List Token) (c : Condition) → AreTokensOf text tokens → Reads tokens c → (again : List Token) → AreTokensOf (condition_text c) again → Reads again c
+ConditionsPrintBack = (text : List ℕ) (c : Condition) → TextReads Reads text c → TextReads Reads (condition_text c) c
 
--- each run of digits of a sample's text, leading zeros aside, fits a token
+-- ---- rules
+
+-- digits of a text with no digit before or behind them
+pub record IsRunIn (run text : List ℕ) : Type 0 where
+  pub before : List ℕ
+  pub after : List ℕ
+  pub place : text ≡ before ++ run ++ after
+  pub all_digits : All IsAsciiDigit run
+  pub begins : IfSome (last before) (λ b. ¬ (IsAsciiDigit b))
+  pub ends : IfSome (first after) (λ b. ¬ (IsAsciiDigit b))
+
+-- a token holds the number of each run of digits of a sample, leading zeros aside
 abbrev pub HasSmallRuns : DecimalValue → Type 0
-HasSmallRuns text = (before : List ℕ) (run : List ℕ) (after : List ℕ) → text ≡ before ++ (run ++ after) → All IsAsciiDigit run → digits_value 10 run ≤ max_number
+HasSmallRuns text = (run : List ℕ) → IsRunIn run text → digits_value 10 run ≤ max_number
 
-abbrev pub UpperHasSmallRuns : Option DecimalValue → Type 0
-UpperHasSmallRuns None = Unit {0}
-UpperHasSmallRuns (Some text) = HasSmallRuns text
-
-abbrev pub ListHasSmallRuns : Option SampleList → Type 0
-ListHasSmallRuns None = Unit {0}
-ListHasSmallRuns (Some l) = All (λ r. HasSmallRuns r.lower_val × UpperHasSmallRuns r.upper_val) l.sample_ranges
+abbrev pub ListHasSmallRuns : SampleList → Type 0
+ListHasSmallRuns l = All (λ r. HasSmallRuns r.lower_val × IfSome r.upper_val HasSmallRuns) l.sample_ranges
 
 abbrev pub RuleHasSmallRuns : Rule → Type 0
-RuleHasSmallRuns r = IfSome r.samples (λ s. ListHasSmallRuns s.integer × ListHasSmallRuns s.decimal)
+RuleHasSmallRuns r = IfSome r.samples (λ s. IfSome s.integer ListHasSmallRuns × IfSome s.decimal ListHasSmallRuns)
 
--- a rule that was read from a text is read again from its printed text
+-- a rule that was read from a text, and whose samples have small runs, is read from its printed text
 abbrev pub RulesPrintBack : Type 0
-RulesPrintBack = (text : List ℕ) (tokens : List Token) (r : Rule) → AreTokensOf text tokens → ReadsRule tokens r → RuleHasSmallRuns r → (again : List Token) → AreTokensOf (rule_text r) again → ReadsRule again r
+RulesPrintBack = (text : List ℕ) (r : Rule) → TextReads ReadsRule text r → RuleHasSmallRuns r → TextReads ReadsRule (rule_text r) r

@@ -1,4 +1,4 @@
--- The printed text of a rule and of its parts.
+-- The printed text of a rule and of its parts, in the syntax of UTS 35 Part 3, "Plural Rules Syntax".
 use Rattle.std.specs.Prelude.{ℕ, List, [], ◌∷◌, ◌++◌, Bool, true, false, Option, Some, None, codes}
 use Rattle.std.specs.Fmt.{decimal}
 use Rattle.plural_reference.specs.declared.ast.AndCondition.{AndCondition}
@@ -9,6 +9,7 @@ use Rattle.plural_reference.specs.declared.ast.Operand.{Operand}
 use Rattle.plural_reference.specs.declared.ast.Operand.TheVariants.{N, I, F, T, V, W, C, E}
 use Rattle.plural_reference.specs.declared.ast.Operator.{Operator}
 use Rattle.plural_reference.specs.declared.ast.Operator.TheVariants.{Eq, NotEq}
+use Rattle.plural_reference.specs.declared.ast.RangeList.{RangeList}
 use Rattle.plural_reference.specs.declared.ast.RangeListItem.{RangeListItem}
 use Rattle.plural_reference.specs.declared.ast.RangeListItem.TheVariants as items
 use Rattle.plural_reference.specs.declared.ast.Relation.{Relation}
@@ -30,9 +31,11 @@ abbrev pub prefixed : {A : Type 0} → List ℕ → (A → List ℕ) → Option 
 prefixed before text None = []
 prefixed before text (Some x) = before ++ text x
 
+-- a number in decimal, without leading zeros
 abbrev pub value_text : Value → List ℕ
 value_text v = decimal v.0
 
+-- an operand's letter
 abbrev pub operand_text : Operand → List ℕ
 operand_text N = codes "n"
 operand_text I = codes "i"
@@ -43,23 +46,33 @@ operand_text T = codes "t"
 operand_text C = codes "c"
 operand_text E = codes "e"
 
+-- `=` or `!=`
 abbrev pub operator_text : Operator → List ℕ
 operator_text Eq = codes "="
 operator_text NotEq = codes "!="
 
+-- the operand, then with a modulus ` % ` and its value
 abbrev pub expression_text : Expression → List ℕ
 expression_text e = operand_text e.operand ++ prefixed (codes " % ") value_text e.modulus
 
+-- a value, or two with `..` between them
 abbrev pub item_text : RangeListItem → List ℕ
 item_text (items.Value v) = value_text v
 item_text (items.Range a b) = value_text a ++ codes ".." ++ value_text b
 
-abbrev pub relation_text : Relation → List ℕ
-relation_text r = expression_text r.expression ++ codes " " ++ operator_text r.operator ++ codes " " ++ joined (codes ", ") item_text r.range_list.0
+-- the items, with `, ` between them
+abbrev pub range_list_text : RangeList → List ℕ
+range_list_text l = joined (codes ", ") item_text l.0
 
+-- the expression, the operator and the list, with a space between them
+abbrev pub relation_text : Relation → List ℕ
+relation_text r = expression_text r.expression ++ codes " " ++ operator_text r.operator ++ codes " " ++ range_list_text r.range_list
+
+-- the relations, with ` and ` between them
 abbrev pub and_condition_text : AndCondition → List ℕ
 and_condition_text c = joined (codes " and ") relation_text c.0
 
+-- the and-conditions, with ` or ` between them
 abbrev pub condition_text : Condition → List ℕ
 condition_text c = joined (codes " or ") and_condition_text c.0
 
@@ -67,18 +80,23 @@ condition_text c = joined (codes " or ") and_condition_text c.0
 abbrev pub sample_text : DecimalValue → List ℕ
 sample_text s = s
 
+-- one sample, or two with `~` between them
 abbrev pub sample_range_text : SampleRange → List ℕ
 sample_range_text r = sample_text r.lower_val ++ prefixed (codes "~") sample_text r.upper_val
 
+-- `, …` where there is an ellipsis
 abbrev pub ellipsis_text : Bool → List ℕ
 ellipsis_text false = []
 ellipsis_text true = codes ", " ++ ellipsis
 
+-- the ranges, with `, ` between them, and the ellipsis
 abbrev pub sample_list_text : SampleList → List ℕ
 sample_list_text l = joined (codes ", ") sample_range_text l.sample_ranges ++ ellipsis_text l.ellipsis
 
+-- the list of integers and the list of decimals, each behind its name, where they are there
 abbrev pub samples_text : Samples → List ℕ
 samples_text s = prefixed (codes " @integer ") sample_list_text s.integer ++ prefixed (codes " @decimal ") sample_list_text s.decimal
 
+-- the condition, then the samples where there are any
 abbrev pub rule_text : Rule → List ℕ
 rule_text r = condition_text r.condition ++ prefixed [] samples_text r.samples

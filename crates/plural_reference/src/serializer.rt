@@ -1,115 +1,107 @@
-//! Printing rules.
+//! Printing rules (UTS 35 Part 3, "Plural Rules Syntax" and "Samples").
+//!
+//! Each call writes the text of one part to any writer, piece by piece and without memory of its own.
 #![tactic(auto, using(crate::proofs::Writes::one_call, crate::proofs::Writes::then_writes))]
 
-ghost use Rattle.std.specs.Prelude.{◌≡◌, OnOk, codes};
+ghost use Rattle.std.specs.Prelude.{◌≡◌, OnOk};
 ghost use Rattle.std.specs.Fmt.{WritesInCalls};
-ghost use Rattle.plural_reference.specs.Serializer.{rule_text, condition_text, and_condition_text, relation_text, expression_text, operator_text, operand_text, item_text, value_text, samples_text, sample_list_text, sample_range_text, sample_text, joined};
+ghost use Rattle.plural_reference.specs.Serializer.{rule_text, condition_text, samples_text, sample_list_text, sample_range_text, sample_text};
+
+mod condition;
+mod part;
 
 use crate::ast;
+use part::{serialize_joined, serialize_prefixed, Part};
 use std::fmt;
 
-/// Writes a rule.
+/// Writes a rule: its condition, then its samples where there are any, as `i = 1 and v = 0 @integer 1`.
+/// A rule without a condition and without samples has the empty text.
+///
+/// Takes no memory. `Err` is the writer's first fault: nothing is written behind it, and what was written stays.
 pub fn serialize<W: fmt::Write>(rule: &ast::Rule, w: &mut W) -> fmt::Result
     ensures { OnOk result (WritesInCalls W.write_str_gives w.old (rule_text rule.now) w.new) }
 {
-    Err(fmt::Error)
+    serialize_condition(&rule.condition, w)?;
+    match &rule.samples {
+        Some(samples) => serialize_samples(samples, w),
+        None => Ok(()),
+    }
 }
 
-/// Writes a condition.
+/// Writes a condition: its and-conditions with ` or ` between them, the relations of each with ` and ` between them,
+/// as `n % 10 = 3..4, 9 and n % 100 != 10..19`. The condition without and-conditions has the empty text.
+///
+/// Takes no memory. `Err` is the writer's first fault: nothing is written behind it, and what was written stays.
 pub fn serialize_condition<W: fmt::Write>(condition: &ast::Condition, w: &mut W) -> fmt::Result
     ensures { OnOk result (WritesInCalls W.write_str_gives w.old (condition_text condition.now) w.new) }
 {
-    Err(fmt::Error)
+    serialize_joined(condition.0.as_slice(), " or ", w)
 }
 
-/// Writes samples.
+/// Writes samples: ` @integer ` and its list where there is one, then ` @decimal ` and its list where there is one.
+/// The text begins with a space, so that it may follow a condition.
+///
+/// Takes no memory. `Err` is the writer's first fault: nothing is written behind it, and what was written stays.
 pub fn serialize_samples<W: fmt::Write>(samples: &ast::Samples, w: &mut W) -> fmt::Result
     ensures { OnOk result (WritesInCalls W.write_str_gives w.old (samples_text samples.now) w.new) }
 {
-    Err(fmt::Error)
+    serialize_prefixed(" @integer ", &samples.integer, w)?;
+    serialize_prefixed(" @decimal ", &samples.decimal, w)
 }
 
-/// Writes a list of samples.
+/// Writes a list of samples: its ranges with `, ` between them, then `, …` where the list has an ellipsis, as
+/// `0, 2~16, …`.
+///
+/// Takes no memory. `Err` is the writer's first fault: nothing is written behind it, and what was written stays.
 pub fn serialize_sample_list<W: fmt::Write>(samples: &ast::SampleList, w: &mut W) -> fmt::Result
     ensures { OnOk result (WritesInCalls W.write_str_gives w.old (sample_list_text samples.now) w.new) }
 {
-    Err(fmt::Error)
-}
-
-/// Writes a range of samples.
-pub fn serialize_sample_range<W: fmt::Write>(range: &ast::SampleRange, w: &mut W) -> fmt::Result
-    ensures { OnOk result (WritesInCalls W.write_str_gives w.old (sample_range_text range.now) w.new) }
-{
-    serialize_decimal_value(&range.lower_val, w)?;
-    if let Some(upper) = &range.upper_val {
-        w.write_str("~")?;
-        serialize_decimal_value(upper, w)?;
+    serialize_joined(samples.sample_ranges.as_slice(), ", ", w)?;
+    if samples.ellipsis {
+        w.write_str(", …")?;
     }
     Ok(())
 }
 
-/// Writes a sample.
+/// Writes a range of samples: one sample, or two with `~` between them, as `0.1~1.6`.
+///
+/// Takes no memory. `Err` is the writer's first fault: nothing is written behind it, and what was written stays.
+pub fn serialize_sample_range<W: fmt::Write>(range: &ast::SampleRange, w: &mut W) -> fmt::Result
+    ensures { OnOk result (WritesInCalls W.write_str_gives w.old (sample_range_text range.now) w.new) }
+{
+    serialize_decimal_value(&range.lower_val, w)?;
+    serialize_prefixed("~", &range.upper_val, w)
+}
+
+/// Writes a sample: its text as it is, in one piece.
+///
+/// Takes no memory. `Err` is the writer's first fault: nothing is written behind it, and what was written stays.
 pub fn serialize_decimal_value<W: fmt::Write>(value: &ast::DecimalValue, w: &mut W) -> fmt::Result
     ensures { OnOk result (WritesInCalls W.write_str_gives w.old (sample_text value.now) w.new) }
 {
     w.write_str(value.0.as_str())
 }
 
-fn serialize_relation<W: fmt::Write>(relation: &ast::Relation, w: &mut W) -> fmt::Result
-    ensures { OnOk result (WritesInCalls W.write_str_gives w.old (relation_text relation.now) w.new) }
-{
-    serialize_expression(&relation.expression, w)?;
-    w.write_str(" ")?;
-    serialize_operator(relation.operator, w)?;
-    w.write_str(" ")?;
-    serialize_range_list(&relation.range_list, w)
-}
+impl Part for ast::SampleList {
+    ghost text = { sample_list_text };
 
-fn serialize_expression<W: fmt::Write>(expression: &ast::Expression, w: &mut W) -> fmt::Result
-    ensures { OnOk result (WritesInCalls W.write_str_gives w.old (expression_text expression.now) w.new) }
-{
-    Err(fmt::Error)
-}
-
-fn serialize_operator<W: fmt::Write>(operator: ast::Operator, w: &mut W) -> fmt::Result
-    ensures { OnOk result (WritesInCalls W.write_str_gives w.old (operator_text operator) w.new) }
-{
-    match operator {
-        ast::Operator::Eq => w.write_str("="),
-        ast::Operator::NotEq => w.write_str("!="),
+    fn write_to<W: fmt::Write>(&self, w: &mut W) -> fmt::Result {
+        serialize_sample_list(self, w)
     }
 }
 
-fn serialize_range_list<W: fmt::Write>(list: &ast::RangeList, w: &mut W) -> fmt::Result
-    ensures { OnOk result (WritesInCalls W.write_str_gives w.old (joined (codes ", ") item_text list.now.0) w.new) }
-{
-    let Some((first, others)) = list.0.as_slice().split_first() else {
-        return Ok(());
-    };
-    serialize_item(first, w)?;
-    for item in others {
-        w.write_str(", ")?;
-        serialize_item(item, w)?;
-    }
-    Ok(())
-}
+impl Part for ast::SampleRange {
+    ghost text = { sample_range_text };
 
-fn serialize_item<W: fmt::Write>(item: &ast::RangeListItem, w: &mut W) -> fmt::Result
-    ensures { OnOk result (WritesInCalls W.write_str_gives w.old (item_text item.now) w.new) }
-{
-    match item {
-        ast::RangeListItem::Range(start, end) => {
-            serialize_value(start, w)?;
-            w.write_str("..")?;
-            serialize_value(end, w)
-        }
-        ast::RangeListItem::Value(value) => serialize_value(value, w),
+    fn write_to<W: fmt::Write>(&self, w: &mut W) -> fmt::Result {
+        serialize_sample_range(self, w)
     }
 }
 
-fn serialize_value<W: fmt::Write>(value: &ast::Value, w: &mut W) -> fmt::Result
-    ensures { OnOk result (WritesInCalls W.write_str_gives w.old (value_text value.now) w.new) }
-{
-    let number = value.0;
-    write!(w, "{number}")
+impl Part for ast::DecimalValue {
+    ghost text = { sample_text };
+
+    fn write_to<W: fmt::Write>(&self, w: &mut W) -> fmt::Result {
+        serialize_decimal_value(self, w)
+    }
 }

@@ -1,1 +1,3 @@
 //! Worked conditions.
+
+mod printing;

@@ -1,0 +1,5 @@
+use Rattle.plural_reference.proofs.PrintedBack.{rules_print_back}
+use Rattle.plural_reference.proofs.laws.printing.rules_print_back.Goals as goal
+
+pub returns : goal.returns
+returns c = rules_print_back

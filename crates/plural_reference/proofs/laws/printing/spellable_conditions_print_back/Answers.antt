@@ -1,0 +1,5 @@
+use Rattle.plural_reference.proofs.PrintedBack.{spellable_conditions_print_back}
+use Rattle.plural_reference.proofs.laws.printing.spellable_conditions_print_back.Goals as goal
+
+pub returns : goal.returns
+returns c = spellable_conditions_print_back

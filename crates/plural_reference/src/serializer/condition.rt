@@ -1,0 +1,111 @@
+//! The printed texts of a condition's parts.
+#![tactic(auto, using(crate::proofs::Writes::one_call, crate::proofs::Writes::then_writes))]
+
+use super::part::{serialize_joined, serialize_prefixed, Part};
+use crate::ast;
+use std::fmt;
+
+impl Part for ast::AndCondition {
+    ghost use Rattle.plural_reference.specs.Serializer.{and_condition_text};
+
+    ghost text = { and_condition_text };
+
+    fn write_to<W: fmt::Write>(&self, w: &mut W) -> fmt::Result {
+        serialize_joined(self.0.as_slice(), " and ", w)
+    }
+}
+
+impl Part for ast::Relation {
+    ghost use Rattle.plural_reference.specs.Serializer.{relation_text};
+
+    ghost text = { relation_text };
+
+    fn write_to<W: fmt::Write>(&self, w: &mut W) -> fmt::Result {
+        self.expression.write_to(w)?;
+        w.write_str(" ")?;
+        self.operator.write_to(w)?;
+        w.write_str(" ")?;
+        self.range_list.write_to(w)
+    }
+}
+
+impl Part for ast::Expression {
+    ghost use Rattle.plural_reference.specs.Serializer.{expression_text};
+
+    ghost text = { expression_text };
+
+    fn write_to<W: fmt::Write>(&self, w: &mut W) -> fmt::Result {
+        self.operand.write_to(w)?;
+        serialize_prefixed(" % ", &self.modulus, w)
+    }
+}
+
+impl Part for ast::Operand {
+    ghost use Rattle.plural_reference.specs.Serializer.{operand_text};
+
+    ghost text = { operand_text };
+
+    fn write_to<W: fmt::Write>(&self, w: &mut W) -> fmt::Result {
+        match self {
+            ast::Operand::N => w.write_str("n"),
+            ast::Operand::I => w.write_str("i"),
+            ast::Operand::V => w.write_str("v"),
+            ast::Operand::W => w.write_str("w"),
+            ast::Operand::F => w.write_str("f"),
+            ast::Operand::T => w.write_str("t"),
+            ast::Operand::C => w.write_str("c"),
+            ast::Operand::E => w.write_str("e"),
+        }
+    }
+}
+
+impl Part for ast::Operator {
+    ghost use Rattle.plural_reference.specs.Serializer.{operator_text};
+
+    ghost text = { operator_text };
+
+    fn write_to<W: fmt::Write>(&self, w: &mut W) -> fmt::Result {
+        match self {
+            ast::Operator::Eq => w.write_str("="),
+            ast::Operator::NotEq => w.write_str("!="),
+        }
+    }
+}
+
+impl Part for ast::RangeList {
+    ghost use Rattle.plural_reference.specs.Serializer.{range_list_text};
+
+    ghost text = { range_list_text };
+
+    fn write_to<W: fmt::Write>(&self, w: &mut W) -> fmt::Result {
+        serialize_joined(self.0.as_slice(), ", ", w)
+    }
+}
+
+impl Part for ast::RangeListItem {
+    ghost use Rattle.plural_reference.specs.Serializer.{item_text};
+
+    ghost text = { item_text };
+
+    fn write_to<W: fmt::Write>(&self, w: &mut W) -> fmt::Result {
+        match self {
+            ast::RangeListItem::Range(start, end) => {
+                start.write_to(w)?;
+                w.write_str("..")?;
+                end.write_to(w)
+            }
+            ast::RangeListItem::Value(value) => value.write_to(w),
+        }
+    }
+}
+
+impl Part for ast::Value {
+    ghost use Rattle.plural_reference.specs.Serializer.{value_text};
+
+    ghost text = { value_text };
+
+    fn write_to<W: fmt::Write>(&self, w: &mut W) -> fmt::Result {
+        let number = self.0;
+        write!(w, "{number}")
+    }
+}

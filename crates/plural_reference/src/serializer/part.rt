@@ -1,0 +1,42 @@
+//! The parts of a rule that print themselves, one after another or behind a prefix.
+#![tactic(auto, using(crate::proofs::Writes::one_call, crate::proofs::Writes::then_writes))]
+
+ghost use Rattle.std.specs.Prelude.{◌≡◌, ℕ, List, OnOk};
+ghost use Rattle.std.specs.Fmt.{WritesInCalls};
+ghost use Rattle.plural_reference.specs.Serializer.{joined, prefixed};
+
+use std::fmt;
+
+// A part of a rule, with its printed text.
+pub trait Part {
+    ghost text: { Self → List ℕ };
+
+    fn write_to<W: fmt::Write>(&self, w: &mut W) -> fmt::Result
+        ensures { OnOk result (WritesInCalls W.write_str_gives w.old (text self.now) w.new) };
+}
+
+// The parts, with the separator between neighbours.
+pub fn serialize_joined<P: Part, W: fmt::Write>(parts: &[P], separator: &str, w: &mut W) -> fmt::Result
+    ensures { OnOk result (WritesInCalls W.write_str_gives w.old (joined separator.now P.text parts.now) w.new) }
+{
+    let Some((first, others)) = parts.split_first() else {
+        return Ok(());
+    };
+    first.write_to(w)?;
+    for part in others {
+        w.write_str(separator)?;
+        part.write_to(w)?;
+    }
+    Ok(())
+}
+
+// The prefix and then the part, where there is one.
+pub fn serialize_prefixed<P: Part, W: fmt::Write>(prefix: &str, part: &Option<P>, w: &mut W) -> fmt::Result
+    ensures { OnOk result (WritesInCalls W.write_str_gives w.old (prefixed prefix.now P.text part.now) w.new) }
+{
+    if let Some(part) = part {
+        w.write_str(prefix)?;
+        part.write_to(w)?;
+    }
+    Ok(())
+}
