@@ -14,16 +14,16 @@ zeros_are_digits : (n : ℕ) → AreDigits (replicate n 0)
 zeros_are_digits zero = tt
 zeros_are_digits (suc n) = (omega arith, zeros_are_digits n)
 
-AreDigits-append : (xs ys : List ℕ) → AreDigits xs → AreDigits ys → AreDigits (xs ++ ys)
+pub AreDigits-append : (xs ys : List ℕ) → AreDigits xs → AreDigits ys → AreDigits (xs ++ ys)
 AreDigits-append [] ys h k = k
 AreDigits-append (x ∷ xs) ys h k = (h.0, AreDigits-append xs ys h.1 k)
 
-AreDigits-drop : (n : ℕ) (ds : List ℕ) → AreDigits ds → AreDigits (drop n ds)
+pub AreDigits-drop : (n : ℕ) (ds : List ℕ) → AreDigits ds → AreDigits (drop n ds)
 AreDigits-drop zero ds h = h
 AreDigits-drop (suc n) [] h = h
 AreDigits-drop (suc n) (d ∷ ds) h = AreDigits-drop n ds h.1
 
-AreDigits-take : (n : ℕ) (ds : List ℕ) → AreDigits ds → AreDigits (take n ds)
+pub AreDigits-take : (n : ℕ) (ds : List ℕ) → AreDigits ds → AreDigits (take n ds)
 AreDigits-take zero ds h = tt
 AreDigits-take (suc n) [] h = tt
 AreDigits-take (suc n) (d ∷ ds) h = (h.0, AreDigits-take n ds h.1)

@@ -1,8 +1,14 @@
 //! Decimals with a compact exponent.
 
-ghost use Rattle.std.specs.Prelude.{◌≡◌};
+ghost use Rattle.std.specs.Prelude.{◌≡◌, ◌≤◌, ◌↔◌, IfOk};
+ghost use Rattle.fixed_decimal.specs.Places.{IsWithinLimit};
+ghost use Rattle.fixed_decimal.specs.Compact.{CompactNumber};
+ghost use Rattle.fixed_decimal.specs.Written.{WritesCompact, IsCompactOverLimit};
 
-use crate::Decimal;
+use crate::decimal::parts_within;
+use crate::exponent::split_exponent;
+use crate::{Decimal, DecimalError, UnsignedDecimal};
+use std::alloc::Global;
 use std::marker::Model;
 
 /// A decimal and the power of ten that its text names behind a `c` (UTS 35 Part 3, operands c and e).
@@ -13,14 +19,35 @@ pub struct CompactDecimal {
 }
 
 impl Model for CompactDecimal {
-    ghost use Rattle.fixed_decimal.specs.Compact.{CompactNumber};
-
     ghost Value = { CompactNumber };
 
     ghost view = { λ a. record { significand = a.significand; exponent = a.exponent } };
 }
 
 impl CompactDecimal {
+    /// The number that a text writes: a decimal, then nothing, or `c` and one to three digits. All of
+    /// the text is judged before memory is taken: `Syntax` where it isn't of this form, `Limit`
+    /// where it has more than 32767 places on a side or an exponent above 255, and `Memory` where
+    /// there is none for the digits.
+    pub fn from_str(alloc: Global, text: &str) -> Result<CompactDecimal, DecimalError>
+        ensures number { IfOk result (λ x. WritesCompact text.now x × IsWithinLimit x.significand.absolute × (x.exponent ≤ 255)) }
+        ensures syntax { (result ≡ Err DecimalError.Syntax) ↔ ((x : CompactNumber) → ¬ (WritesCompact text.now x)) }
+        ensures limit { (result ≡ Err DecimalError.Limit) ↔ ((x : CompactNumber) × WritesCompact text.now x × IsCompactOverLimit x) }
+    {
+        let Some((front, exponent)) = split_exponent(text.as_bytes()) else {
+            return Err(DecimalError::Syntax);
+        };
+        let (sign, digits, point) = parts_within(front)?;
+        let Ok(exponent) = u8::try_from(exponent) else {
+            return Err(DecimalError::Limit);
+        };
+        let absolute = UnsignedDecimal::from_point(alloc, digits, point)?;
+        Ok(CompactDecimal {
+            significand: Decimal { sign, absolute },
+            exponent,
+        })
+    }
+
     /// The number of the two parts.
     pub fn from_parts(significand: Decimal, exponent: u8) -> CompactDecimal
         ensures { result ≡ record { significand = significand; exponent = exponent } }

@@ -1,9 +1,17 @@
 //! Decimals with a sign.
 
-ghost use Rattle.std.specs.Prelude.{◌≡◌, ◌↔◌, IfErr, OnOk, OnErr};
-ghost use Rattle.fixed_decimal.specs.Places.{IsOverLimit, shift};
+ghost use Rattle.std.specs.Prelude.{◌≡◌, ◌≢◌, ◌↔◌, ◌++◌, [], pos, nat_abs, int_lt, if◌then◌else◌, IfOk, IfErr, OnOk, OnErr};
+ghost use Rattle.fixed_decimal.specs.Places.{IsWithinLimit, IsOverLimit, shift};
+ghost use Rattle.fixed_decimal.specs.Digits.{IsNumeral};
+ghost use Rattle.fixed_decimal.specs.Written.{WritesDecimal, sign_text};
+ghost use Rattle.fixed_decimal.specs.Points.{HasPointWithin};
+ghost use Rattle.fixed_decimal.specs.declared.sign.Sign.TheVariants as sign;
+ghost use Rattle.fixed_decimal.specs.declared.decimal.Decimal.{Decimal as SignedNumber};
 
+use crate::point::point_within;
+use crate::sign::split_sign;
 use crate::{DecimalError, Sign, UnsignedDecimal};
+use std::alloc::Global;
 
 /// A written number with the sign that its text has.
 #[derive(Debug, Drop)]
@@ -15,6 +23,38 @@ pub struct Decimal {
 }
 
 impl Decimal {
+    /// The number that a text writes: an unsigned decimal, behind `+` or `-` or neither. The errors
+    /// are those of [`UnsignedDecimal::from_str`].
+    pub fn from_str(alloc: Global, text: &str) -> Result<Decimal, DecimalError>
+        ensures number { IfOk result (λ x. WritesDecimal text.now x × IsWithinLimit x.absolute) }
+        ensures syntax { (result ≡ Err DecimalError.Syntax) ↔ ((x : SignedNumber) → ¬ (WritesDecimal text.now x)) }
+        ensures limit { (result ≡ Err DecimalError.Limit) ↔ ((x : SignedNumber) × WritesDecimal text.now x × IsOverLimit x.absolute) }
+    {
+        let (sign, digits, point) = parts_within(text.as_bytes())?;
+        Ok(Decimal {
+            sign,
+            absolute: UnsignedDecimal::from_point(alloc, digits, point)?,
+        })
+    }
+
+    /// The number without leading zeros, and 0 as one digit, without a fraction; its sign is
+    /// `Negative` below 0, else `None`. `Memory` where there is none for the digits.
+    pub fn from_i128(alloc: Global, number: i128) -> Result<Decimal, DecimalError>
+        ensures digits { IfOk result (λ x. IsNumeral x.absolute.whole (nat_abs number) × (x.absolute.fraction ≡ [])) }
+        ensures sign { IfOk result (λ x. x.sign ≡ (if int_lt number (pos 0) then sign.Negative else sign.None)) }
+        ensures only_memory { IfErr result (λ e. e ≡ DecimalError.Memory) }
+    {
+        let sign = if number < 0 {
+            Sign::Negative
+        } else {
+            Sign::None
+        };
+        Ok(Decimal {
+            sign,
+            absolute: UnsignedDecimal::from_u128(alloc, number.unsigned_abs())?,
+        })
+    }
+
     /// Moves the point as [`UnsignedDecimal::multiply_pow10`] does; the sign stays.
     pub fn multiply_pow10(&mut self, places: i16) -> Result<(), DecimalError>
         ensures shifted { OnOk result (self.new ≡ record self.old { absolute = shift places self.old.absolute }) }
@@ -24,4 +64,16 @@ impl Decimal {
     {
         self.absolute.multiply_pow10(places)
     }
+}
+
+// The sign of a decimal's text within the limit, the digits behind it, and where their point stands.
+pub(crate) fn parts_within(text: &[u8]) -> Result<(Sign, &[u8], usize), DecimalError>
+    ensures parts { IfOk result (λ p. (text.now ≡ sign_text p.0 ++ p.1.now) × HasPointWithin p.1.now p.2) }
+    ensures syntax { (result ≡ Err DecimalError.Syntax) ↔ ((x : SignedNumber) → ¬ (WritesDecimal text.now x)) }
+    ensures limit { (result ≡ Err DecimalError.Limit) ↔ ((x : SignedNumber) × WritesDecimal text.now x × IsOverLimit x.absolute) }
+    ensures no_memory { result ≢ Err DecimalError.Memory }
+{
+    let (sign, digits) = split_sign(text);
+    let point = point_within(digits)?;
+    Ok((sign, digits, point))
 }

@@ -4,8 +4,10 @@
 mod compact;
 mod decimal;
 mod error;
-mod reading;
+mod exponent;
+mod point;
 mod sign;
+mod span;
 mod unsigned;
 
 pub use compact::CompactDecimal;

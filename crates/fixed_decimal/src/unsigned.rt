@@ -1,9 +1,16 @@
 //! Decimals without a sign.
 
-ghost use Rattle.std.specs.Prelude.{◌≡◌, ◌-◌, ◌++◌, ◌↔◌, pos, neg_ℤ, length, slice_index, IfErr, OnOk, OnErr, IsTrue};
-ghost use Rattle.fixed_decimal.specs.Places.{IsWritten, IsWithinLimit, IsOverLimit, shift, shift_left, shift_right, digit_at, HasDigitFrom};
+ghost use Rattle.std.specs.Prelude.{◌≡◌, ◌+◌, ◌-◌, ◌≤◌, ◌++◌, ◌↔◌, pos, neg_ℤ, [], length, slice_index, IfOk, IfErr, OnOk, OnErr, IsTrue};
+ghost use Rattle.fixed_decimal.specs.Digits.{IsNumeral};
+ghost use Rattle.fixed_decimal.specs.Written.{WritesUnsigned};
+ghost use Rattle.fixed_decimal.specs.Points.{AllDigitBytes, HasPointWithin, number_of, number_at};
+ghost use Rattle.fixed_decimal.specs.Places.{Places, IsWritten, IsWithinLimit, IsOverLimit, shift, shift_left, shift_right, digit_at, HasDigitFrom};
 
 use crate::DecimalError;
+use crate::point::point_within;
+use crate::span::{digits_between, end_before_zeros, zeros_before};
+use itoa::Buffer;
+use std::alloc::{AllocError, Global};
 use std::marker::Model;
 
 const MOST_PLACES: u16 = 32767;
@@ -20,10 +27,9 @@ pub struct UnsignedDecimal {
 
 impl Model for UnsignedDecimal {
     ghost use Rattle.fixed_decimal.specs.Places.{Places};
+    ghost use Rattle.fixed_decimal.specs.Span.{places_of, IsSpan};
 
     ghost Value = { Places };
-
-    ghost use Rattle.fixed_decimal.specs.Span.{places_of, IsSpan};
 
     ghost view = { places_of };
 
@@ -31,6 +37,68 @@ impl Model for UnsignedDecimal {
 }
 
 impl UnsignedDecimal {
+    /// The number that a text without a sign writes: digits, digits `.` digits, or `.` digits. All of
+    /// the text is judged before memory is taken: `Syntax` where it isn't of this form, `Limit`
+    /// where it has more than 32767 places on a side, and `Memory` where there is none for the digits.
+    pub fn from_str(alloc: Global, text: &str) -> Result<UnsignedDecimal, DecimalError>
+        ensures number { IfOk result (λ x. WritesUnsigned text.now x × IsWithinLimit x) }
+        ensures syntax { (result ≡ Err DecimalError.Syntax) ↔ ((x : Places) → ¬ (WritesUnsigned text.now x)) }
+        ensures limit { (result ≡ Err DecimalError.Limit) ↔ ((x : Places) × WritesUnsigned text.now x × IsOverLimit x) }
+    {
+        let digits = text.as_bytes();
+        let point = point_within(digits)?;
+        Ok(UnsignedDecimal::from_point(alloc, digits, point)?)
+    }
+
+    /// The number without leading zeros, and 0 as one digit; it has no fraction. `Memory` where there
+    /// is none for the digits.
+    pub fn from_u128(alloc: Global, number: u128) -> Result<UnsignedDecimal, DecimalError>
+        ensures digits { IfOk result (λ x. IsNumeral x.whole number × (x.fraction ≡ [])) }
+        ensures only_memory { IfErr result (λ e. e ≡ DecimalError.Memory) }
+    {
+        let mut buffer = Buffer::new();
+        let digits = buffer.format(number).as_bytes();
+        Ok(UnsignedDecimal::from_digits(alloc, digits, &[])?)
+    }
+
+    // The number with these digits before and behind the point.
+    pub(crate) fn from_digits(
+        alloc: Global,
+        whole: &[u8],
+        fraction: &[u8],
+    ) -> Result<UnsignedDecimal, AllocError>
+        requires whole { AllDigitBytes whole.now }
+        requires fraction { AllDigitBytes fraction.now }
+        requires whole_within { length whole.now ≤ MOST_PLACES }
+        requires fraction_within { length fraction.now ≤ MOST_PLACES }
+        ensures { IfOk result (λ x. x ≡ number_of whole.now fraction.now) }
+    {
+        let whole_places = whole.len().max(1);
+        let count = whole_places + fraction.len();
+        let from = zeros_before(whole, fraction, count);
+        let end = end_before_zeros(whole, fraction, from, count);
+        Ok(UnsignedDecimal {
+            whole_places: whole_places as u16,
+            fraction_places: fraction.len() as u16,
+            leading_zeros: from as u16,
+            span: digits_between(alloc, whole, fraction, from, end)?,
+        })
+    }
+
+    // The number of a text whose point stands there.
+    pub(crate) fn from_point(
+        alloc: Global,
+        text: &[u8],
+        point: usize,
+    ) -> Result<UnsignedDecimal, AllocError>
+        requires { HasPointWithin text.now point }
+        ensures { IfOk result (λ x. x ≡ number_at text.now point) }
+    {
+        let (whole, rest) = text.split_at(point);
+        let fraction = &rest[rest.len().min(1)..];
+        UnsignedDecimal::from_digits(alloc, whole, fraction)
+    }
+
     /// The digit at `10^magnitude`, and 0 outside the written places.
     pub fn digit_at(&self, magnitude: i16) -> u8
         ensures digit { result ≡ digit_at self.now magnitude }

@@ -1,41 +1,75 @@
--- An answer that the reader gives is exact.
-use Rattle.std.proofs.Common.{◌≡◌, ℕ, List, Result, Ok, Err, refl, sym, ap, ◌∙◌, subst, inl, inr}
+-- An answer that is read, or a fault that is there, is the exact one.
+use Rattle.std.proofs.Common.{◌≡◌, ℕ, List, [], Result, Ok, Err, refl, sym, ap, ◌∙◌, subst, inl, inr}
 use Rattle.plural_reference.specs.declared.ast.Condition.{Condition}
+use Rattle.plural_reference.specs.declared.ast.Rule.{Rule}
 use Rattle.plural_reference.specs.declared.error.ParseError.{ParseError}
 use Rattle.plural_reference.specs.declared.error.ReadError.{ReadError}
 use Rattle.plural_reference.specs.declared.error.ReadError.TheVariants.{Parse, Memory}
 use Rattle.plural_reference.specs.declared.token.Token.{Token}
-use Rattle.plural_reference.specs.Parser.{Reads, Faulty}
 use Rattle.plural_reference.specs.Lexer.{AreTokensOf}
+use Rattle.plural_reference.specs.Parser.{Reads, Faulty}
 use Rattle.plural_reference.specs.Reading.{AnswersExactly, IsAnswer, AnswersUnlessMemory}
+use Rattle.plural_reference.specs.ReadingLaws.{HasOneReading}
+use Rattle.plural_reference.specs.Samples.{ReadsRule, FaultyRule}
 use Rattle.plural_reference.specs.Reader.{run, begin}
+use Rattle.plural_reference.specs.SampleSteps.{ReadsAllSamples}
+use Rattle.plural_reference.specs.SampleReader.{after_sections, run_samples}
 use Rattle.plural_reference.proofs.ScanSound.{tokens_are}
 use Rattle.plural_reference.proofs.ReaderSound.{Said, said}
-use Rattle.plural_reference.proofs.Readings.{one_condition, one_fault, not_both}
+use Rattle.plural_reference.proofs.Readings.{one_reading}
+use Rattle.plural_reference.proofs.RuleReadings.{rule_of, of_condition, with_samples, Given, given, one_rule}
 
-pub same_tokens : (text : List ℕ) (a b : List Token) → AreTokensOf text a → AreTokensOf text b → a ≡ b
+-- ---- one answer
+
+same_tokens : (text : List ℕ) (a b : List Token) → AreTokensOf text a → AreTokensOf text b → a ≡ b
 same_tokens text a b h k = tokens_are text a h ∙ sym (tokens_are text b k)
 
-only_of : (tokens rest : List Token) (r : Result Condition ReadError) → IsAnswer (λ c. run begin tokens ≡ Ok (c, rest)) (λ e. run begin tokens ≡ Err e) r → IsAnswer (Reads tokens) (Faulty tokens) r
-only_of tokens rest (Ok c) h = (rest, subst (Said tokens) h (said tokens))
-only_of tokens rest (Err (Parse e)) h = subst (Said tokens) h (said tokens)
-only_of tokens rest (Err Memory) h = tt
+read_of : {A : Type 0} (Read : List Token → A → Type 0) (Fault : List Token → ParseError → Type 0) (tokens : List Token) (x : A) (r : Result A ReadError) → HasOneReading Read Fault tokens → IsAnswer (Read tokens) (Fault tokens) r → Read tokens x → AnswersUnlessMemory r (Ok x)
+read_of Read Fault tokens x (Ok y) (inl one) h k = inl (ap Ok (one.0.2 y h ∙ sym (one.0.2 x k)))
+read_of Read Fault tokens x (Err (Parse e)) (inl one) h k = absurd (one.1 e h)
+read_of Read Fault tokens x (Err Memory) (inl one) h k = inr refl
+read_of Read Fault tokens x r (inr one) h k = absurd (one.1 x k)
 
-read_of : (tokens : List Token) (c : Condition) (r : Result Condition ReadError) → IsAnswer (Reads tokens) (Faulty tokens) r → Reads tokens c → AnswersUnlessMemory r (Ok c)
-read_of tokens c (Ok d) h k = inl (ap Ok (one_condition tokens d c h k))
-read_of tokens c (Err (Parse e)) h k = absurd (not_both tokens c e k h)
-read_of tokens c (Err Memory) h k = inr refl
+fault_of : {A : Type 0} (Read : List Token → A → Type 0) (Fault : List Token → ParseError → Type 0) (tokens : List Token) (e : ParseError) (r : Result A ReadError) → HasOneReading Read Fault tokens → IsAnswer (Read tokens) (Fault tokens) r → Fault tokens e → AnswersUnlessMemory r (Err (Parse e))
+fault_of Read Fault tokens e r (inl one) h k = absurd (one.1 e k)
+fault_of Read Fault tokens e (Ok y) (inr one) h k = absurd (one.1 y h)
+fault_of Read Fault tokens e (Err (Parse f)) (inr one) h k = inl (ap (λ x. Err (Parse x)) (one.0.2 f h ∙ sym (one.0.2 e k)))
+fault_of Read Fault tokens e (Err Memory) (inr one) h k = inr refl
 
-fault_of : (tokens : List Token) (e : ParseError) (r : Result Condition ReadError) → IsAnswer (Reads tokens) (Faulty tokens) r → Faulty tokens e → AnswersUnlessMemory r (Err (Parse e))
-fault_of tokens e (Ok d) h k = absurd (not_both tokens d e h k)
-fault_of tokens e (Err (Parse f)) h k = inl (ap (λ x. Err (Parse x)) (one_fault tokens f e h k))
-fault_of tokens e (Err Memory) h k = inr refl
+exactly : {A : Type 0} (Read : List Token → A → Type 0) (Fault : List Token → ParseError → Type 0) (text : List ℕ) (tokens : List Token) (r : Result A ReadError) → AreTokensOf text tokens → HasOneReading Read Fault tokens → IsAnswer (Read tokens) (Fault tokens) r → AnswersExactly Read Fault text r
+exactly Read Fault text tokens r t one h = record {
+  only = λ other k. subst (λ l. IsAnswer (Read l) (Fault l) r) (same_tokens text tokens other t k) h;
+  read = λ other x k l. read_of Read Fault tokens x r one h (subst (λ y. Read y x) (same_tokens text other tokens k t) l);
+  fault = λ other e k l. fault_of Read Fault tokens e r one h (subst (λ y. Fault y e) (same_tokens text other tokens k t) l);
+}
+
+-- ---- conditions
+
+condition_said : (tokens rest : List Token) (r : Result Condition ReadError) → IsAnswer (λ c. run begin tokens ≡ Ok (c, rest)) (λ e. run begin tokens ≡ Err e) r → IsAnswer (Reads tokens) (Faulty tokens) r
+condition_said tokens rest (Ok c) h = (rest, subst (Said tokens) h (said tokens))
+condition_said tokens rest (Err (Parse e)) h = subst (Said tokens) h (said tokens)
+condition_said tokens rest (Err Memory) h = tt
 
 pub condition_answers : (text : List ℕ) (tokens rest : List Token) (r : Result Condition ReadError) → AreTokensOf text tokens → IsAnswer (λ c. run begin tokens ≡ Ok (c, rest)) (λ e. run begin tokens ≡ Err e) r → AnswersExactly Reads Faulty text r
-condition_answers text tokens rest r t h =
-    let only = only_of tokens rest r h in
-    record {
-      only = λ other k. subst (λ l. IsAnswer (Reads l) (Faulty l) r) (same_tokens text tokens other t k) only;
-      read = λ other c k l. read_of tokens c r only (subst (λ x. Reads x c) (same_tokens text other tokens k t) l);
-      fault = λ other e k l. fault_of tokens e r only (subst (λ x. Faulty x e) (same_tokens text other tokens k t) l);
-    }
+condition_answers text tokens rest r t h = exactly Reads Faulty text tokens r t (one_reading tokens) (condition_said tokens rest r h)
+
+-- ---- rules
+
+rule_said : (tokens : List Token) (r : Result Rule ReadError) → IsAnswer (λ x. rule_of tokens ≡ Ok x) (λ e. rule_of tokens ≡ Err e) r → IsAnswer (ReadsRule tokens) (FaultyRule tokens) r
+unfolding Given
+rule_said tokens (Ok x) h = subst (Given tokens) h (given tokens)
+rule_said tokens (Err (Parse e)) h = subst (Given tokens) h (given tokens)
+rule_said tokens (Err Memory) h = tt
+
+pub rule_answers : (text : List ℕ) (tokens : List Token) (r : Result Rule ReadError) → AreTokensOf text tokens → IsAnswer (λ x. rule_of tokens ≡ Ok x) (λ e. rule_of tokens ≡ Err e) r → AnswersExactly ReadsRule FaultyRule text r
+rule_answers text tokens r t h = exactly ReadsRule FaultyRule text tokens r t (one_rule tokens) (rule_said tokens r h)
+
+-- a condition, and samples behind it
+pub rule_is : (tokens middle rest : List Token) (rule : Rule) → run begin tokens ≡ Ok (rule.condition, middle) → ReadsAllSamples middle rule.samples rest → rule_of tokens ≡ Ok rule
+rule_is tokens middle rest rule h k = ap of_condition h ∙ ap (with_samples rule.condition) k.run_is ∙ ap (λ x. Ok (record { condition = rule.condition; samples = x })) (sym k.samples_are)
+
+pub condition_fault : (tokens : List Token) (kind : ParseError) → run begin tokens ≡ Err kind → rule_of tokens ≡ Err kind
+condition_fault tokens kind h = ap of_condition h
+
+pub samples_fault : (tokens middle : List Token) (c : Condition) (kind : ParseError) → run begin tokens ≡ Ok (c, middle) → run_samples (after_sections []) middle ≡ Err kind → rule_of tokens ≡ Err kind
+samples_fault tokens middle c kind h k = ap of_condition h ∙ ap (with_samples c) k

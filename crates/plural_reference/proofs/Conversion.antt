@@ -11,6 +11,7 @@ use Rattle.std.proofs.Math.ListN.{get_or-eq_default, get_or-append}
 use Rattle.std.specs.Int.{◌∣◌}
 use Rattle.fixed_decimal.specs.Digits.{value_of, AreDigits}
 use Rattle.fixed_decimal.specs.Places.{Places, IsWritten, digit_at, shift_right}
+use Rattle.plural_reference.specs.Operands.{Operands}
 use Rattle.plural_reference.specs.DecimalOperands.{HasFraction, cut_whole}
 use Rattle.plural_reference.specs.DigitsFrom.{digits_from}
 use Rattle.plural_reference.proofs.Numbers.{value_of-append, power_above}
@@ -197,7 +198,5 @@ cut_fraction_of e x top n f k t v =
           | inr long ↦ (let m : n ≡ 18 = omega arith in ap (λ j. take j fs) m)
         ]
 
-pub fraction_parts : (shown written v f w t : ℕ) (i c : ℕ) → v ≡ shown → f ≡ written → 10 ^ (v - w) ∣ f → ((k : ℕ) → 10 ^ (v - k) ∣ f → w ≤ k) → t ≡ f / 10 ^ (v - w) → HasFraction (record { i = i; v = v; w = w; f = f; t = t; c = c }) shown written
-fraction_parts shown written v f w t i c e g d l n =
-    subst (λ (s : ℕ). HasFraction (record { i = i; v = v; w = w; f = f; t = t; c = c }) s written) e
-    (subst (λ (x : ℕ). HasFraction (record { i = i; v = v; w = w; f = f; t = t; c = c }) v x) g (record { v = refl; f = refl; w_divides = d; w_least = l; t = n }))
+pub same_fraction_of : (o : Operands) (v f shown written : ℕ) → v ≡ shown → f ≡ written → HasFraction o v f → HasFraction o shown written
+same_fraction_of o v f shown written e g h = subst (λ (s : ℕ). HasFraction o s written) e (subst (λ (x : ℕ). HasFraction o v x) g h)

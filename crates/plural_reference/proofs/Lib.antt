@@ -4,6 +4,7 @@ pub mod Agreement
 pub mod GroupsAgree
 pub mod Conversion
 pub mod OperandLawsProved
+pub mod OperandTexts
 pub mod ExactnessLawsProved
 pub mod Folds
 pub mod ReaderComplete
@@ -13,6 +14,7 @@ pub mod ScanComplete
 pub mod ScanSound
 pub mod ScanSize
 pub mod Alone
+pub mod CutOnce
 pub mod ParserSteps
 pub mod Answered
 pub mod Rows
@@ -20,6 +22,7 @@ pub mod Writes
 pub mod SampleRows
 pub mod SampleSound
 pub mod SampleComplete
+pub mod SampleParserSteps
 pub mod RuleReadings
 pub mod RuleRows
 pub mod TokensFit

@@ -1,6 +1,5 @@
 -- Of every list of tokens exactly one rule is read, or it has exactly one fault.
 use Rattle.std.proofs.Common.{◌≡◌, List, [], Option, Result, Ok, Err, refl, sym, ap, ◌∙◌, inl, inr}
-use Rattle.std.specs.Prelude.{◌⊎◌}
 use Rattle.plural_reference.specs.declared.ast.Condition.{Condition}
 use Rattle.plural_reference.specs.declared.ast.Rule.{Rule}
 use Rattle.plural_reference.specs.declared.ast.Samples as samples
@@ -8,7 +7,7 @@ use Rattle.plural_reference.specs.declared.error.ParseError.{ParseError}
 use Rattle.plural_reference.specs.declared.token.Token.{Token}
 use Rattle.plural_reference.specs.Parser.{ReadsUpTo}
 use Rattle.plural_reference.specs.Samples.{Section, samples_of, ReadsSamples, ReadsRule, FaultyRule}
-use Rattle.plural_reference.specs.ReadingLaws.{HaveOneRule}
+use Rattle.plural_reference.specs.ReadingLaws.{HasOneReading, HaveOneRule}
 use Rattle.plural_reference.specs.Reader.{run, begin, Outcome}
 use Rattle.plural_reference.specs.SampleReader.{after_sections, run_samples, SampleOutcome}
 use Rattle.plural_reference.proofs.ReaderComplete.{reads_run, faulty_run}
@@ -67,10 +66,10 @@ same_err o e f h k = cc
 no_both : (o : RuleOutcome) (r : Rule) (e : ParseError) → o ≡ Ok r → o ≡ Err e → ⊥
 no_both o r e h k = cc
 
-one_of : (tokens : List Token) (o : RuleOutcome) → rule_of tokens ≡ o → Given tokens o → ((r : Rule) × ReadsRule tokens r × ((s : Rule) → ReadsRule tokens s → s ≡ r) × ((kind : ParseError) → FaultyRule tokens kind → ⊥)) ⊎ ((kind : ParseError) × FaultyRule tokens kind × ((other : ParseError) → FaultyRule tokens other → other ≡ kind) × ((r : Rule) → ReadsRule tokens r → ⊥))
+one_of : (tokens : List Token) (o : RuleOutcome) → rule_of tokens ≡ o → Given tokens o → HasOneReading ReadsRule FaultyRule tokens
 unfolding Given
-one_of tokens (Ok r) e h = inl (r, h, λ s k. same_ok (rule_of tokens) r s e (reads_rule tokens s k), λ kind k. no_both (rule_of tokens) r kind e (faulty_rule tokens kind k))
-one_of tokens (Err kind) e h = inr (kind, h, λ other k. same_err (rule_of tokens) kind other e (faulty_rule tokens other k), λ r k. no_both (rule_of tokens) r kind (reads_rule tokens r k) e)
+one_of tokens (Ok r) e h = inl ((r, h, (λ s k. same_ok (rule_of tokens) r s e (reads_rule tokens s k))), (λ kind k. no_both (rule_of tokens) r kind e (faulty_rule tokens kind k)))
+one_of tokens (Err kind) e h = inr ((kind, h, (λ other k. same_err (rule_of tokens) kind other e (faulty_rule tokens other k))), (λ r k. no_both (rule_of tokens) r kind (reads_rule tokens r k) e))
 
 pub one_rule : HaveOneRule
 one_rule tokens = one_of tokens (rule_of tokens) refl (given_condition tokens (run begin tokens) (said tokens))

@@ -22,7 +22,7 @@ use Rattle.plural_reference.proofs.ScanComplete.{no_eq}
 
 -- ---- the text of digits has no mark and no point
 
-any-append : (p : ℕ → Bool) (u v : List ℕ) → list_any p u ≡ false → list_any p v ≡ false → list_any p (u ++ v) ≡ false
+pub any-append : (p : ℕ → Bool) (u v : List ℕ) → list_any p u ≡ false → list_any p v ≡ false → list_any p (u ++ v) ≡ false
 any-append p [] v h k = k
 any-append p (x ∷ u) v h k = both_false (p x) (list_any p (u ++ v)) (left_false (p x) (list_any p u) h) (any-append p u v (right_false (p x) (list_any p u) h) k)
 
@@ -49,19 +49,19 @@ no_mark d h = both_false _ _ (no_eq (48 + d) 101 (λ e. omega arith)) (no_eq (48
 no_point : (d : ℕ) → d < 10 → nat_eq (48 + d) 46 ≡ false
 no_point d h = no_eq (48 + d) 46 (λ e. omega arith)
 
-digits_no_mark : (t : Token) → IsDigits t → has_exponent (token_text t) ≡ false
+pub digits_no_mark : (t : Token) → IsDigits t → has_exponent (token_text t) ≡ false
 digits_no_mark Zero h = refl
 digits_no_mark (Number n) h = decimal_none (λ b. nat_eq b 101 || nat_eq b 99) no_mark n
 digits_no_mark _ h = absurd h
 
-digits_no_point : (t : Token) → IsDigits t → has_point (token_text t) ≡ false
+pub digits_no_point : (t : Token) → IsDigits t → has_point (token_text t) ≡ false
 digits_no_point Zero h = refl
 digits_no_point (Number n) h = decimal_none (λ b. nat_eq b 46) no_point n
 digits_no_point _ h = absurd h
 
 -- ---- digits, fractions and exponents
 
-digit_run : (p : Partial) (text : DecimalValue) (t : Token) (rest : List Token) → IsDigits t → has_exponent text ≡ false → run_samples (in_sample p text) (t ∷ rest) ≡ run_samples (in_sample p (text ++ token_text t)) rest
+pub digit_run : (p : Partial) (text : DecimalValue) (t : Token) (rest : List Token) → IsDigits t → has_exponent text ≡ false → run_samples (in_sample p text) (t ∷ rest) ≡ run_samples (in_sample p (text ++ token_text t)) rest
 unfolding run_samples
 digit_run p text Zero rest d h = rw h refl
 digit_run p text (Number n) rest d h = rw h refl
@@ -87,7 +87,7 @@ fraction_no_mark [] h = refl
 fraction_no_mark (Dot ∷ ts) h = all_no_mark ts h
 fraction_no_mark (_ ∷ ts) h = absurd h
 
-point_run : (p : Partial) (text : DecimalValue) (rest : List Token) → has_exponent text ≡ false → has_point text ≡ false → run_samples (in_sample p text) (Dot ∷ rest) ≡ run_samples (in_sample p (text ++ token_text Dot)) rest
+pub point_run : (p : Partial) (text : DecimalValue) (rest : List Token) → has_exponent text ≡ false → has_point text ≡ false → run_samples (in_sample p text) (Dot ∷ rest) ≡ run_samples (in_sample p (text ++ token_text Dot)) rest
 unfolding run_samples
 point_run p text rest h k = rw (both_false _ _ h k) refl
 
@@ -99,13 +99,13 @@ fraction_run p text (Dot ∷ ts) rest f h k =
     ∙ ap (λ x. run_samples (in_sample p x) rest) (append_assoc text (token_text Dot) (flat_map token_text ts))
 fraction_run p text (_ ∷ ts) rest f h k = absurd f
 
-mark_run : (p : Partial) (text : DecimalValue) (m : Token) (rest : List Token) → IsExponentMark m → has_exponent text ≡ false → run_samples (in_sample p text) (m ∷ rest) ≡ run_samples (behind_mark p (text ++ token_text m)) rest
+pub mark_run : (p : Partial) (text : DecimalValue) (m : Token) (rest : List Token) → IsExponentMark m → has_exponent text ≡ false → run_samples (in_sample p text) (m ∷ rest) ≡ run_samples (behind_mark p (text ++ token_text m)) rest
 unfolding run_samples
 mark_run p text E rest m h = rw h refl
 mark_run p text (Operand C) rest m h = rw h refl
 mark_run p text _ rest m h = absurd m
 
-after_mark_run : (p : Partial) (text : DecimalValue) (t : Token) (rest : List Token) → IsDigits t → run_samples (behind_mark p text) (t ∷ rest) ≡ run_samples (in_sample p (text ++ token_text t)) rest
+pub after_mark_run : (p : Partial) (text : DecimalValue) (t : Token) (rest : List Token) → IsDigits t → run_samples (behind_mark p text) (t ∷ rest) ≡ run_samples (in_sample p (text ++ token_text t)) rest
 unfolding run_samples
 after_mark_run p text Zero rest d = refl
 after_mark_run p text (Number n) rest d = refl
@@ -122,11 +122,11 @@ exponent_run p text (m ∷ d ∷ g ∷ gs) rest e h = absurd e
 -- ---- samples
 
 -- a state where a sample may begin
-data Starts : SampleState → Partial → Type 0 where
+pub data Starts : SampleState → Partial → Type 0 where
   at_start : (p : Partial) → Starts (awaits_sample p) p
   at_comma : (p : Partial) → Starts (behind_comma p) p
 
-first_digit_run : (s : SampleState) (p : Partial) (t : Token) (rest : List Token) → Starts s p → IsDigits t → run_samples s (t ∷ rest) ≡ run_samples (in_sample p (token_text t)) rest
+pub first_digit_run : (s : SampleState) (p : Partial) (t : Token) (rest : List Token) → Starts s p → IsDigits t → run_samples s (t ∷ rest) ≡ run_samples (in_sample p (token_text t)) rest
 unfolding run_samples
 first_digit_run _ _ Zero rest (at_start p) d = refl
 first_digit_run _ _ (Number n) rest (at_start p) d = refl
@@ -135,12 +135,12 @@ first_digit_run _ _ Zero rest (at_comma p) d = refl
 first_digit_run _ _ (Number n) rest (at_comma p) d = refl
 first_digit_run _ _ _ rest (at_comma p) d = absurd d
 
-first_point_run : (s : SampleState) (p : Partial) (rest : List Token) → Starts s p → run_samples s (Dot ∷ rest) ≡ run_samples (in_sample p (token_text Dot)) rest
+pub first_point_run : (s : SampleState) (p : Partial) (rest : List Token) → Starts s p → run_samples s (Dot ∷ rest) ≡ run_samples (in_sample p (token_text Dot)) rest
 unfolding run_samples
 first_point_run _ _ rest (at_start p) = refl
 first_point_run _ _ rest (at_comma p) = refl
 
-first_mark_run : (s : SampleState) (p : Partial) (m : Token) (rest : List Token) → Starts s p → IsExponentMark m → run_samples s (m ∷ rest) ≡ run_samples (behind_mark p (token_text m)) rest
+pub first_mark_run : (s : SampleState) (p : Partial) (m : Token) (rest : List Token) → Starts s p → IsExponentMark m → run_samples s (m ∷ rest) ≡ run_samples (behind_mark p (token_text m)) rest
 unfolding run_samples
 first_mark_run _ _ E rest (at_start p) d = refl
 first_mark_run _ _ (Operand C) rest (at_start p) d = refl
@@ -193,11 +193,11 @@ sample_run s p y text rest st h =
 
 -- ---- ranges
 
-tilde_run : (p : Partial) (text : DecimalValue) (rest : List Token) → p.lower ≡ None → run_samples (in_sample p text) (Tilde ∷ rest) ≡ run_samples (awaits_sample (record p { lower = Some text })) rest
+pub tilde_run : (p : Partial) (text : DecimalValue) (rest : List Token) → p.lower ≡ None → run_samples (in_sample p text) (Tilde ∷ rest) ≡ run_samples (awaits_sample (record p { lower = Some text })) rest
 unfolding run_samples
 tilde_run p text rest h = rw h refl
 
-comma_run : (p : Partial) (text : DecimalValue) (rest : List Token) → run_samples (in_sample p text) (Comma ∷ rest) ≡ run_samples (behind_comma (record p { ranges = ranges_of p text; lower = None })) rest
+pub comma_run : (p : Partial) (text : DecimalValue) (rest : List Token) → run_samples (in_sample p text) (Comma ∷ rest) ≡ run_samples (behind_comma (record p { ranges = ranges_of p text; lower = None })) rest
 unfolding run_samples
 comma_run p text rest = refl
 
@@ -265,7 +265,7 @@ record LeadsToEnd (from : SampleState) (tokens : List Token) (ss : List Section)
   run_is : (rest : List Token) → run_samples from (tokens ++ rest) ≡ run_samples state rest
   closes : Closes state ss
 
-ellipsis_run : (p : Partial) (rest : List Token) → run_samples (behind_comma p) (Ellipsis ∷ rest) ≡ run_samples (after_sections (with_sections p p.ranges true)) rest
+pub ellipsis_run : (p : Partial) (rest : List Token) → run_samples (behind_comma p) (Ellipsis ∷ rest) ≡ run_samples (after_sections (with_sections p p.ranges true)) rest
 unfolding run_samples
 ellipsis_run p rest = refl
 
@@ -298,7 +298,7 @@ unfolding run_samples
 at_run _ _ rest (closed ss h) = refl
 at_run _ _ rest (in_last p text ss h) = ap (λ x. run_samples (behind_at x) rest) h
 
-type_run : (ss : List Section) (t : Token) (rest : List Token) → IsSampleType t → run_samples (behind_at ss) (t ∷ rest) ≡ run_samples (awaits_sample (begin_list ss t)) rest
+pub type_run : (ss : List Section) (t : Token) (rest : List Token) → IsSampleType t → run_samples (behind_at ss) (t ∷ rest) ≡ run_samples (awaits_sample (begin_list ss t)) rest
 unfolding run_samples
 type_run ss Integer rest h = refl
 type_run ss Decimal rest h = refl
@@ -330,11 +330,11 @@ all_lead tokens ss h = sections_lead (after_sections []) [] tokens ss (closed []
 takes_on : (p : Partial) (text : DecimalValue) (P : DecimalValue → Type 0) → P text → IsSomeAnd (open_range (with_sections p (ranges_of p text) false)) (λ r. P (last_sample r))
 takes_on p text P k = rw open-done (subst P (sym (last_sample-range p.lower text)) k)
 
-joins_ends : (full : Bool) (next : SampleState) (p : Partial) (text : DecimalValue) (ts : List Token) (k : SampleState → SampleOutcome) → (full ≡ false → ⊥) → sample_proceed (joins full next p text) ts k ≡ Ok (with_sections p (ranges_of p text) false, ts)
+pub joins_ends : (full : Bool) (next : SampleState) (p : Partial) (text : DecimalValue) (ts : List Token) (k : SampleState → SampleOutcome) → (full ≡ false → ⊥) → sample_proceed (joins full next p text) ts k ≡ Ok (with_sections p (ranges_of p text) false, ts)
 joins_ends true next p text ts k h = refl
 joins_ends false next p text ts k h = absurd (h refl)
 
-tilde_ends : (lower : Option DecimalValue) (p : Partial) (text : DecimalValue) (ts : List Token) (k : SampleState → SampleOutcome) → (lower ≡ None → ⊥) → sample_proceed (tilde_move lower p text) ts k ≡ Ok (with_sections p (ranges_of p text) false, ts)
+pub tilde_ends : (lower : Option DecimalValue) (p : Partial) (text : DecimalValue) (ts : List Token) (k : SampleState → SampleOutcome) → (lower ≡ None → ⊥) → sample_proceed (tilde_move lower p text) ts k ≡ Ok (with_sections p (ranges_of p text) false, ts)
 tilde_ends None p text ts k h = absurd (h refl)
 tilde_ends (Some lower) p text ts k h = refl
 
@@ -369,14 +369,14 @@ reads_samples_run tokens ss rest h =
 
 -- ---- faults
 
-type_stop : (ss : List Section) (rest : List Token) (kind : ParseError) → type_fault (first rest) ≡ Some kind → run_samples (behind_at ss) rest ≡ Err kind
+pub type_stop : (ss : List Section) (rest : List Token) (kind : ParseError) → type_fault (first rest) ≡ Some kind → run_samples (behind_at ss) rest ≡ Err kind
 unfolding run_samples
 type_stop ss [] kind h = cc
 type_stop ss (Integer ∷ ts) kind h = cc
 type_stop ss (Decimal ∷ ts) kind h = cc
 type_stop ss (_ ∷ ts) kind h = cc
 
-sample_stop : (p : Partial) (rest : List Token) (kind : ParseError) → sample_fault (first rest) ≡ Some kind → run_samples (awaits_sample p) rest ≡ Err kind
+pub sample_stop : (p : Partial) (rest : List Token) (kind : ParseError) → sample_fault (first rest) ≡ Some kind → run_samples (awaits_sample p) rest ≡ Err kind
 unfolding run_samples
 sample_stop p [] kind h = cc
 sample_stop p (Zero ∷ ts) kind h = cc
@@ -397,7 +397,7 @@ comma_stop p (E ∷ ts) kind h = cc
 comma_stop p (Operand C ∷ ts) kind h = cc
 comma_stop p (_ ∷ ts) kind h = cc
 
-mark_stop : (p : Partial) (text : DecimalValue) (rest : List Token) (kind : ParseError) → digits_fault (first rest) ≡ Some kind → run_samples (behind_mark p text) rest ≡ Err kind
+pub mark_stop : (p : Partial) (text : DecimalValue) (rest : List Token) (kind : ParseError) → digits_fault (first rest) ≡ Some kind → run_samples (behind_mark p text) rest ≡ Err kind
 unfolding run_samples
 mark_stop p text [] kind h = cc
 mark_stop p text (Zero ∷ ts) kind h = cc

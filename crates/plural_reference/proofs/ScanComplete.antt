@@ -15,7 +15,7 @@ use Rattle.plural_reference.specs.Parser.{first}
 use Rattle.plural_reference.specs.Lexer.{Word, marks, keywords, MayFollow, IsDigitRun, IsBegun, BeginsNone, IsPiece, space, mark, keyword, number, unknown, too_large, broken, cut_off, Piece, IsCut}
 use Rattle.plural_reference.specs.Scan.{Start, between, in_keyword, in_number, starts, look_up, begin, number_token, tokens_from, tokens_of}
 
-no_more : (b : ℕ) (bs : List ℕ) (next : ℕ) (more : List ℕ) (k : ℕ) → k ∷ [] ≡ (b ∷ bs) ++ next ∷ more → ⊥
+pub no_more : (b : ℕ) (bs : List ℕ) (next : ℕ) (more : List ℕ) (k : ℕ) → k ∷ [] ≡ (b ∷ bs) ++ next ∷ more → ⊥
 no_more b [] next more k h = cc
 no_more b (c ∷ cs) next more k h = cc
 
@@ -147,10 +147,10 @@ cut_off_scans begun next h = begun_leads begun next [] h
 
 -- ---- numbers
 
-digit_yes : (b : ℕ) → IsAsciiDigit b → is_ascii_digit b ≡ true
+pub digit_yes : (b : ℕ) → IsAsciiDigit b → is_ascii_digit b ≡ true
 digit_yes b h = grind (arith, nat_tests)
 
-digit_no : (b : ℕ) → (IsAsciiDigit b → ⊥) → is_ascii_digit b ≡ false
+pub digit_no : (b : ℕ) → (IsAsciiDigit b → ⊥) → is_ascii_digit b ≡ false
 digit_no b h = ⊎_elim (λ low. ⊎_elim (λ high. absurd (h (low.1, high.1))) (λ high. rw (low.0, high.0) refl) (leb_tells b 57)) (λ low. rw low.0 refl) (leb_tells 48 b)
 
 number_scans : (n : ℕ) (digits rest : List ℕ) → AllByRecursion IsAsciiDigit digits → IfSome (first rest) (λ d. ¬ (IsAsciiDigit d)) → tokens_from (in_number n) (digits ++ rest) ≡ number_token (digits_value_after 10 n digits) ∷ tokens_of rest
@@ -159,7 +159,7 @@ number_scans n [] [] all whole = refl
 number_scans n [] (b ∷ bs) all whole = rw (digit_no b whole) refl
 number_scans n (d ∷ ds) rest all whole = rw (digit_yes d all.0) (number_scans (n * 10 + digit_value d) ds rest all.1 whole)
 
-begin_digit : (d : ℕ) → IsAsciiDigit d → d ≢ 48 → begin d ≡ ([], in_number (0 * 10 + digit_value d))
+pub begin_digit : (d : ℕ) → IsAsciiDigit d → d ≢ 48 → begin d ≡ ([], in_number (0 * 10 + digit_value d))
 begin_digit d h k = let low : 49 ≤ d = omega arith in rw (no_eq d 32 (omega arith), le-leb 49 d low, le-leb d 57 h.1) refl
 
 pub run_scans : (digits rest : List ℕ) → IsDigitRun digits rest → tokens_of (digits ++ rest) ≡ number_token (digits_value 10 digits) ∷ tokens_of rest
@@ -179,7 +179,7 @@ no_start : (b : ℕ) → All (λ (word : Word). first word.0 ≢ Some b) (marks 
 no_start b h = let r = recursion_from_All (λ (word : Word). first word.0 ≢ Some b) (marks ++ keywords) h in
     (λ e. r.0 (ap Some (sym e)), (λ e. r.1.0 (ap Some (sym e)), (λ e. r.1.1.0 (ap Some (sym e)), (λ e. r.1.1.1.0 (ap Some (sym e)), (λ e. r.1.1.1.1.0 (ap Some (sym e)), (λ e. r.1.1.1.1.1.0 (ap Some (sym e)), (λ e. r.1.1.1.1.1.1.0 (ap Some (sym e)), (λ e. r.1.1.1.1.1.1.1.0 (ap Some (sym e)), (λ e. r.1.1.1.1.1.1.1.1.0 (ap Some (sym e)), (λ e. r.1.1.1.1.1.1.1.1.1.0 (ap Some (sym e)), (λ e. r.1.1.1.1.1.1.1.1.1.1.0 (ap Some (sym e)), (λ e. r.1.1.1.1.1.1.1.1.1.1.1.1.0 (ap Some (sym e)), (λ e. r.1.1.1.1.1.1.1.1.1.1.1.1.1.0 (ap Some (sym e)), (λ e. r.1.1.1.1.1.1.1.1.1.1.1.1.1.1.0 (ap Some (sym e)), (λ e. r.1.1.1.1.1.1.1.1.1.1.1.1.1.1.1.0 (ap Some (sym e)), (λ e. r.1.1.1.1.1.1.1.1.1.1.1.1.1.1.1.1.0 (ap Some (sym e)), (λ e. r.1.1.1.1.1.1.1.1.1.1.1.1.1.1.1.1.1.0 (ap Some (sym e)), (λ e. r.1.1.1.1.1.1.1.1.1.1.1.1.1.1.1.1.1.1.0 (ap Some (sym e)), (λ e. r.1.1.1.1.1.1.1.1.1.1.1.1.1.1.1.1.1.1.1.0 (ap Some (sym e)), (λ e. r.1.1.1.1.1.1.1.1.1.1.1.1.1.1.1.1.1.1.1.1.0 (ap Some (sym e)), tt))))))))))))))))))))
 
-begin_unknown : (b : ℕ) → BeginsNone b → begin b ≡ (Junk ∷ [], between)
+pub begin_unknown : (b : ℕ) → BeginsNone b → begin b ≡ (Junk ∷ [], between)
 begin_unknown b h =
     let none = none_found b starts (no_start b h.2) in
     ⊎_elim (λ low. ⊎_elim (λ high. absurd (h.1 (omega arith, high.1))) (λ high. rw (no_eq b 32 h.0, low.0, high.0) none) (leb_tells b 57)) (λ low. rw (no_eq b 32 h.0, low.0) none) (leb_tells 49 b)
@@ -190,7 +190,7 @@ unknown_scans b rest h = rw (begin_unknown b h) refl
 
 -- ---- pieces and cuts
 
-piece_scans : (piece rest : List ℕ) (token : Option Token) → IsPiece piece rest token → tokens_of (piece ++ rest) ≡ cons_option token (tokens_of rest)
+pub piece_scans : (piece rest : List ℕ) (token : Option Token) → IsPiece piece rest token → tokens_of (piece ++ rest) ≡ cons_option token (tokens_of rest)
 unfolding tokens_from
 piece_scans piece rest token (space e t) = rw (e, t) refl
 piece_scans piece rest token (mark t c f k) = All-contains MarkScans marks (piece, t) (All-from_recursion MarkScans marks marks_scan) c rest f ∙ rw k refl

@@ -1,5 +1,6 @@
 pub mod Operands
 pub mod DecimalOperands
+pub mod OperandText
 pub mod Lexer
 pub mod Parser
 pub mod Samples
@@ -17,6 +18,8 @@ pub mod PrintingLaws
 -- not definitions of the subject
 pub mod Scan
 pub mod DigitsFrom
+pub mod OperandReader
 pub mod Reader
 pub mod ReaderSteps
 pub mod SampleReader
+pub mod SampleSteps

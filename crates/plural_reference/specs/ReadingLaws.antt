@@ -1,30 +1,33 @@
 -- What is read of a text is determined.
-use Rattle.std.specs.Prelude.{◌≡◌, ◌≤◌, ◌⊎◌, ◌++◌, ℕ, List, Option, Some, None, All, IfSome}
-use Rattle.std.specs.Char.{IsAsciiDigit}
-use Rattle.std.specs.Str.Parse.{digits_value}
-use Rattle.plural_reference.specs.declared.ast.Condition.{Condition}
-use Rattle.plural_reference.specs.declared.ast.Rule.{Rule}
-use Rattle.plural_reference.specs.declared.ast.SampleList.{SampleList}
-use Rattle.plural_reference.specs.declared.ast.DecimalValue.{DecimalValue}
+use Rattle.std.specs.Prelude.{◌≡◌, ◌⊎◌, ℕ, List}
 use Rattle.plural_reference.specs.declared.error.ParseError.{ParseError}
 use Rattle.plural_reference.specs.declared.token.Token.{Token}
+use Rattle.plural_reference.specs.Lexer.{IsCut, AreTokensOf}
 use Rattle.plural_reference.specs.Parser.{Reads, Faulty}
-use Rattle.plural_reference.specs.Lexer.{AreTokensOf, max_number}
 use Rattle.plural_reference.specs.Samples.{ReadsRule, FaultyRule}
-use Rattle.plural_reference.specs.Serializer.{condition_text, rule_text}
 
--- every text has tokens, and no others
+-- there is one thing of this kind, and no other
+abbrev pub ThereIsOne : {A : Type 0} → (A → Type 0) → Type 0
+ThereIsOne {A = A} Is = (x : A) × Is x × ((y : A) → Is y → y ≡ x)
+
+-- every text is cut in exactly one way
+abbrev pub HaveOneCut : Type 0
+HaveOneCut = (text : List ℕ) → ThereIsOne (IsCut text)
+
+-- every text has exactly one list of tokens
 abbrev pub HaveOneListOfTokens : Type 0
-HaveOneListOfTokens = (text : List ℕ) → (tokens : List Token) × AreTokensOf text tokens × ((other : List Token) → AreTokensOf text other → other ≡ tokens)
+HaveOneListOfTokens = (text : List ℕ) → ThereIsOne (AreTokensOf text)
 
--- of each list of tokens one condition is read, or it has one fault
+-- one thing is read of the tokens and they have no fault, or they have one fault and nothing is read
+abbrev pub HasOneReading : {A : Type 0} → (List Token → A → Type 0) → (List Token → ParseError → Type 0) → List Token → Type 0
+HasOneReading {A = A} Read Fault tokens =
+    (ThereIsOne (Read tokens) × ((kind : ParseError) → ¬ (Fault tokens kind)))
+    ⊎ (ThereIsOne (Fault tokens) × ((x : A) → ¬ (Read tokens x)))
+
+-- of every list of tokens one condition is read, or it has one fault
 abbrev pub HaveOneReading : Type 0
-HaveOneReading = (tokens : List Token) →
-    ((c : Condition) × Reads tokens c × ((d : Condition) → Reads tokens d → d ≡ c) × ((kind : ParseError) → ¬ (Faulty tokens kind)))
-    ⊎ ((kind : ParseError) × Faulty tokens kind × ((other : ParseError) → Faulty tokens other → other ≡ kind) × ((c : Condition) → ¬ (Reads tokens c)))
+HaveOneReading = (tokens : List Token) → HasOneReading Reads Faulty tokens
 
--- of each list of tokens one rule is read, or it has one fault
+-- of every list of tokens one rule is read, or it has one fault
 abbrev pub HaveOneRule : Type 0
-HaveOneRule = (tokens : List Token) →
-    ((r : Rule) × ReadsRule tokens r × ((s : Rule) → ReadsRule tokens s → s ≡ r) × ((kind : ParseError) → ¬ (FaultyRule tokens kind)))
-    ⊎ ((kind : ParseError) × FaultyRule tokens kind × ((other : ParseError) → FaultyRule tokens other → other ≡ kind) × ((r : Rule) → ¬ (ReadsRule tokens r)))
+HaveOneRule = (tokens : List Token) → HasOneReading ReadsRule FaultyRule tokens

@@ -1,89 +1,152 @@
-//! The tree of a plural rule.
+//! The tree of a plural rule (UTS 35 Part 3, Plural Rules Syntax).
+//!
+//! Each list is a [`Sequence`] of its parts; the fields are public, so a tree can be made by hand.
 
-ghost use Rattle.std.specs.Prelude.{◌≡◌, ◌==◌, List, ℕ, IfOk, string_bytes};
+mod clones;
+
+ghost use Rattle.std.specs.Prelude.{◌≡◌, ◌==◌, List, ℕ, Ok, Err, nat_le, if◌then◌else◌, string_bytes};
+ghost use Rattle.plural_reference.specs.declared.error.ParseError.TheVariants.{ValueTooLarge};
+ghost use Rattle.plural_reference.specs.Lexer.{max_number};
 ghost use Rattle.std.specs.Cmp.Lexicographic.{pointwise};
 ghost use Rattle.std.specs.Cmp.Rules.{comparing};
 ghost use Rattle.std.proofs.Common.{rules};
 
+use crate::error::ParseError;
 use crate::sequence::Sequence;
 use std::marker::Model;
 
+/// A rule: `n = 1 @integer 1`.
 #[derive(Debug, PartialEq, Drop)]
 pub struct Rule {
+    /// When the rule is true.
     pub condition: Condition,
+    /// The samples behind the condition, where there is a list of them.
     pub samples: Option<Samples>,
 }
 
-/// Groups of relations: true if some group is all true, or if there is no group.
+/// And-conditions joined by `or`: true where one of them is true, or where there is none.
 #[derive(Debug, PartialEq, Drop)]
 pub struct Condition(pub Sequence<AndCondition>);
 
-/// Relations that are all to be true.
+/// Relations joined by `and`: true where all of them are.
 #[derive(Debug, PartialEq, Drop)]
 pub struct AndCondition(pub Sequence<Relation>);
 
+/// An expression compared with ranges: `n % 10 = 3..4, 9`.
 #[derive(Debug, PartialEq, Drop)]
 pub struct Relation {
+    /// What is compared.
     pub expression: Expression,
+    /// Whether its value is to be in the ranges.
     pub operator: Operator,
+    /// The ranges.
     pub range_list: RangeList,
 }
 
+/// The operator of a relation.
 #[derive(Clone, Copy, Debug, PartialEq)]
 pub enum Operator {
+    /// `=`: the value is in the ranges.
     Eq,
+    /// `!=`: the value is in none of the ranges.
     NotEq,
 }
 
+/// An operand, or its remainder: `n % 10`.
 #[derive(Debug, PartialEq, Drop)]
 pub struct Expression {
+    /// The operand.
     pub operand: Operand,
+    /// What the operand is divided by, where the remainder is compared.
     pub modulus: Option<Value>,
 }
 
+/// An operand of a number (UTS 35 Part 3, Operands).
 #[derive(Clone, Copy, Debug, PartialEq)]
 pub enum Operand {
+    /// The absolute value of the number.
     N,
+    /// Its integer part.
     I,
+    /// How many fraction digits are visible, with trailing zeros.
     V,
+    /// How many fraction digits are visible, without trailing zeros.
     W,
+    /// The visible fraction digits as an integer, with trailing zeros.
     F,
+    /// The visible fraction digits as an integer, without trailing zeros.
     T,
+    /// The exponent of the power of ten of a compact number.
     C,
+    /// A synonym of [`Operand::C`].
     E,
 }
 
+/// The ranges and values of a relation.
 #[derive(Debug, PartialEq, Drop)]
 pub struct RangeList(pub Sequence<RangeListItem>);
 
+/// A range or a single value.
 #[derive(Debug, PartialEq, Drop)]
 pub enum RangeListItem {
+    /// The values from the first to the second, both ends included; none, where the first is above
+    /// the second.
     Range(Value, Value),
+    /// A single value.
     Value(Value),
 }
 
+/// A value of a relation. A text gives 0 to 4294967295; a tree that was made by hand may hold more.
 #[derive(Debug, PartialEq, PartialOrd, Drop)]
 pub struct Value(pub u64);
 
+impl From<u32> for Value {
+    ghost from_gives = { λ number value. value ≡ record { 0 = number } };
+
+    fn from(number: u32) -> Self {
+        Value(u64::from(number))
+    }
+}
+
+impl TryFrom<&Value> for u32 {
+    type Error = ParseError;
+
+    // Exact: only a value above 4294967295 is refused.
+    ghost try_from_gives = { λ value r. r ≡ (if nat_le value.now.0 max_number then Ok value.now.0 else Err ValueTooLarge) };
+
+    fn try_from(value: &Value) -> Result<u32, ParseError> {
+        u32::try_from(value.0).map_err(|_| ParseError::ValueTooLarge)
+    }
+}
+
+/// The samples of a rule (UTS 35 Part 3, Samples): `@integer 1 @decimal 1.0~1.5, …`.
 #[derive(Debug, PartialEq, Drop)]
 pub struct Samples {
+    /// The list behind `@integer`.
     pub integer: Option<SampleList>,
+    /// The list behind `@decimal`.
     pub decimal: Option<SampleList>,
 }
 
+/// A list of samples: `0, 2~16, 100, …`.
 #[derive(Debug, PartialEq, Drop)]
 pub struct SampleList {
+    /// Its ranges and single samples.
     pub sample_ranges: Sequence<SampleRange>,
+    /// Whether `…` ends the list: there are samples beyond it.
     pub ellipsis: bool,
 }
 
+/// A sample, or the samples from one to another: `2~16`.
 #[derive(Debug, PartialEq, Drop)]
 pub struct SampleRange {
+    /// The sample, or the first one.
     pub lower_val: DecimalValue,
+    /// The last sample of a range.
     pub upper_val: Option<DecimalValue>,
 }
 
-/// The text of a sample.
+/// The text of a sample, as `1.20` or `1c6`: its tokens joined, without spaces. Contracts see its bytes.
 #[derive(Debug, Drop)]
 pub struct DecimalValue(pub String);
 

@@ -1,22 +1,31 @@
-//! What reading a rule refuses.
+//! Why a text isn't read.
 
-ghost use Rattle.std.specs.Prelude.{◌≡◌, Some, Err};
-ghost use Rattle.plural_reference.specs.FaultTexts.{parse_error_text};
+ghost use Rattle.std.specs.Prelude.{◌≡◌, Some};
+ghost use Rattle.plural_reference.specs.FaultTexts.{parse_error_text, read_error_text, lexer_error_text};
 ghost use Rattle.plural_reference.specs.declared.error.ReadError.TheVariants.{Memory, Parse};
 
 use std::alloc::{AllocError, AllocFailed};
 use std::error::Error;
 use std::fmt;
 
-/// Why a text is no rule. `ValueTooLarge` is answered of trees that were made by hand alone.
+/// Why a text is no rule: what is wanted at the first place where the text doesn't go on as a rule
+/// (UTS 35 Part 3, Plural Rules Syntax).
 #[derive(Clone, Copy, Debug, PartialEq, Eq)]
 pub enum ParseError {
+    /// An and-condition behind `or`, where the text or the condition ends.
     ExpectedAndCondition,
+    /// A relation behind `and`, where the text or the condition ends.
     ExpectedRelation,
+    /// `=` or `!=` behind an operand or a modulus.
     ExpectedOperator,
+    /// An operand at the start, behind `or` or behind `and`, where another token stands.
     ExpectedOperand,
+    /// A number: of a modulus, of a range, or of a sample or its exponent.
     ExpectedValue,
+    /// `integer` or `decimal` behind `@`.
     ExpectedSampleType,
+    /// A value above 4294967295. No text gives it, since the lexer takes such a number for
+    /// [`Token::Junk`](crate::Token::Junk): only a tree that was made by hand has one.
     ValueTooLarge,
 }
 
@@ -38,17 +47,21 @@ impl fmt::Display for ParseError {
 
 impl Error for ParseError {}
 
-/// Why a rule isn't read.
-#[derive(Debug, Drop)]
+/// Why [`parse`](crate::parse) and [`parse_condition`](crate::parse_condition) answer no tree.
+#[derive(Clone, Copy, Debug, PartialEq, Eq)]
 pub enum ReadError {
+    /// The text is no rule.
     Parse(ParseError),
+    /// A growth was refused.
     Memory,
 }
 
 impl fmt::Display for ReadError {
+    ghost output = { λ e. Some (read_error_text e) };
+
     fn fmt<W: fmt::Write>(&self, f: &mut fmt::Formatter<W>) -> fmt::Result {
         match self {
-            ReadError::Parse(e) => write!(f, "{e}"),
+            ReadError::Parse(kind) => write!(f, "{kind}"),
             ReadError::Memory => f.write_str("out of memory"),
         }
     }
@@ -80,18 +93,23 @@ impl From<ParseError> for ReadError {
     }
 }
 
-/// No public call answers one: the lexer gives `Token::Junk`.
-#[derive(Debug, Drop)]
+/// Why a byte begins or continues no token. No public call answers it: the lexer gives
+/// [`Token::Junk`](crate::Token::Junk) in its place.
+#[derive(Clone, Copy, Debug)]
 pub enum LexerError {
+    /// The byte that a begun keyword wants.
     ExpectedByte(u8),
+    /// A byte that begins no token.
     UnknownToken(u8),
 }
 
 impl fmt::Display for LexerError {
+    ghost output = { λ e. Some (lexer_error_text e) };
+
     fn fmt<W: fmt::Write>(&self, f: &mut fmt::Formatter<W>) -> fmt::Result {
         match self {
-            LexerError::ExpectedByte(b) => write!(f, "Expected byte: {b}"),
-            LexerError::UnknownToken(b) => write!(f, "Unknown token: {b}"),
+            LexerError::ExpectedByte(byte) => write!(f, "Expected byte: {byte}"),
+            LexerError::UnknownToken(byte) => write!(f, "Unknown token: {byte}"),
         }
     }
 }

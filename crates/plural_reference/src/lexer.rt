@@ -10,7 +10,9 @@ use crate::ast;
 use crate::token::Token;
 use std::marker::Model;
 
-/// The tokens of a text, one at a time. Contracts see the list of those that are left.
+/// The tokens of a text, one at a time: at most one for each byte, and none for good behind the last.
+/// It takes no memory, and refuses nothing: what is no piece of a rule is [`Token::Junk`]. Contracts see
+/// the list of the tokens that are left.
 #[derive(Debug, Drop)]
 pub struct Lexer<'l> {
     rest: &'l [u8],
@@ -27,7 +29,9 @@ impl<'l> Model for Lexer<'l> {
 }
 
 impl<'l> Lexer<'l> {
-    /// The tokens of a text.
+    /// The tokens of a text. Each spelling gives its token, a space gives none, and the longest
+    /// spelling is taken: a number takes all digits that follow, and is Junk above 4294967295.
+    #[inline]
     pub fn new(text: &'l [u8]) -> Self
         ensures tokens { AreTokensOf text.now result }
         ensures at_most { length result ≤ length text.now }

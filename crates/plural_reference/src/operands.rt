@@ -5,6 +5,7 @@ ghost use Rattle.plural_reference.specs.Operands.{of_whole};
 
 mod decimals;
 mod error;
+mod fraction;
 mod integers;
 mod text;
 

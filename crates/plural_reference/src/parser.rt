@@ -1,31 +1,34 @@
-//! Reading rules.
+//! Reading rules (UTS 35 Part 3, Plural Rules Syntax).
 
-ghost use Rattle.std.specs.Prelude.{◌≡◌, ◌≢◌, ◌∷◌, [], List, Some, None, Ok, Err, IfOk, length, ◌≤◌, MatchBool, MatchOption, MatchResult};
-ghost use Rattle.plural_reference.specs.declared.token.Token.{Token};
-ghost use Rattle.plural_reference.specs.declared.error.ParseError.TheVariants.{ExpectedValue, ExpectedOperand, ExpectedOperator};
+mod samples;
+
+ghost use Rattle.std.specs.Prelude.{◌≡◌, ◌≢◌, ◌∷◌, [], Some, Ok, Err, length, ◌≤◌, MatchBool, MatchOption, MatchResult};
 ghost use Rattle.plural_reference.specs.declared.token.Token.TheVariants as token;
-ghost use Rattle.plural_reference.specs.declared.token.Token.TheVariants.{Comma, And, Or};
-ghost use Rattle.plural_reference.specs.declared.ast.AndCondition.{AndCondition};
-ghost use Rattle.plural_reference.specs.declared.ast.RangeListItem.{RangeListItem};
+ghost use Rattle.plural_reference.specs.declared.token.Token.TheVariants.{Comma};
 ghost use Rattle.plural_reference.specs.Lexer.{AreTokensOf};
-ghost use Rattle.plural_reference.specs.Parser.{Reads, Faulty, first, value_of, operand_of, value_fault, operator_fault};
+ghost use Rattle.plural_reference.specs.Parser.{Reads, Faulty, first, operand_of};
 ghost use Rattle.plural_reference.specs.Samples.{ReadsRule, FaultyRule};
 ghost use Rattle.plural_reference.specs.Reading.{AnswersExactly, IsAnswer};
-ghost use Rattle.plural_reference.specs.Reader.{Before, Opened, State, before_operand, before_item, with_relation, run, begin};
-ghost use Rattle.plural_reference.specs.ReaderSteps.{ReadsItem, ReadsItems, Completes, ReadsOption, ReadsExpression, TakesOperand, NoOperand, ReadsRelation, ReadsGroup, before_group};
+ghost use Rattle.plural_reference.specs.Reader.{run, begin};
+ghost use Rattle.plural_reference.specs.ReaderSteps.{TakesValue, NoValue, TakesOperand, NoOperand, NoOperator, ReadsItem, ReadsItems, ReadsExpression, ReadsRelation, ReadsWholeGroup, ReadsOption};
+ghost use Rattle.plural_reference.specs.ReaderSteps.{FailsAtItem, FailsAtItems, FailsAtOperand, FailsAtGroup};
 
 use crate::ast::{
     AndCondition, Condition, Expression, Operand, Operator, RangeList, RangeListItem, Relation,
     Rule, Value,
 };
 use crate::error::{ParseError, ReadError};
-use crate::sequence::Sequence;
 use crate::lexer::Lexer;
+use crate::sequence::Sequence;
 use crate::token::Token;
 use std::alloc::Global;
 use std::marker::Model;
 
-/// Reads the condition of a rule, and doesn't look at its samples.
+/// The condition of a rule. It is read from the longest beginning of the text that is one; what
+/// follows it is ignored, samples too. A text that is empty or begins with `@` is the empty condition.
+///
+/// It refuses a text by the [`ParseError`] of the first place where the condition doesn't go on, or for
+/// want of memory.
 #[tactic(auto, using(crate::proofs::Answered::condition_answers))]
 pub fn parse_condition(alloc: Global, text: &[u8]) -> Result<Condition, ReadError>
     ensures { AnswersExactly Reads Faulty text.now result }
@@ -34,11 +37,18 @@ pub fn parse_condition(alloc: Global, text: &[u8]) -> Result<Condition, ReadErro
     parser.condition(alloc)
 }
 
-/// Reads a rule with its samples.
+/// A rule: its condition as by [`parse_condition`], and the samples behind it (UTS 35 Part 3, Samples).
+/// Of several lists of one type the last is kept, and what follows the samples is ignored.
+///
+/// A fault in the samples refuses the text, too, by the [`ParseError`] of its place; else only want of
+/// memory does.
 pub fn parse(alloc: Global, text: &[u8]) -> Result<Rule, ReadError>
     ensures { AnswersExactly ReadsRule FaultyRule text.now result }
 {
-    Err(ReadError::Memory)
+    let mut parser = Parser::new(text);
+    let condition = parser.condition(alloc)?;
+    let samples = parser.samples(alloc)?;
+    Ok(Rule { condition, samples })
 }
 
 // The tokens that are left, the first of them at hand.
@@ -90,9 +100,10 @@ impl<'p> Parser<'p> {
         }
     }
 
+    // value = Number | Zero
     fn value(&mut self) -> Result<Value, ParseError>
         ensures shorter { length self.new ≤ length self.old }
-        ensures value { MatchResult result (λ v. (t : Token) × (self.old ≡ t ∷ self.new) × (value_of t ≡ Some v)) (λ e. (e ≡ ExpectedValue) × (value_fault (first self.old) ≡ Some ExpectedValue)) }
+        ensures value { MatchResult result (λ v. TakesValue self.old v self.new) (NoValue self.old) }
     {
         match self.next() {
             Some(Token::Number(n)) => Ok(Value(u64::from(n))),
@@ -104,8 +115,8 @@ impl<'p> Parser<'p> {
     // item = value | value DotDot value
     #[tactic(auto, using(crate::proofs::ParserSteps::no_item, crate::proofs::ParserSteps::no_end, crate::proofs::ParserSteps::item_range, crate::proofs::ParserSteps::item_value))]
     fn item(&mut self) -> Result<RangeListItem, ParseError>
-        ensures item { MatchResult result (λ x. ReadsItem self.old x self.new) (λ e. (o : Opened) (xs : List RangeListItem) → run (before_item o xs) self.old ≡ Err e) }
         ensures shorter { length self.new ≤ length self.old }
+        ensures item { MatchResult result (λ x. ReadsItem self.old x self.new) (FailsAtItem self.old) }
     {
         let value = self.value()?;
         if self.take_if(Token::DotDot) {
@@ -118,8 +129,11 @@ impl<'p> Parser<'p> {
 
     // range_list = item (Comma item)*
     fn range_list(&mut self, alloc: Global) -> Result<RangeList, ReadError>
-        ensures list { IsAnswer (λ list. ReadsItems self.old list.0 self.new × (first self.new ≢ Some Comma)) (λ e. (o : Opened) → run (before_item o []) self.old ≡ Err e) result }
         ensures shorter { length self.new ≤ length self.old }
+        ensures list { IsAnswer
+            (λ list. ReadsItems self.old list.0 self.new × (first self.new ≢ Some Comma))
+            (FailsAtItems self.old)
+            result }
     {
         let mut items = Vec::new(alloc);
         items.push(self.item()?)?;
@@ -132,7 +146,7 @@ impl<'p> Parser<'p> {
     // Takes the operand that begins a relation, unless the tokens end or At comes.
     fn operand(&mut self) -> Result<Option<Operand>, ParseError>
         ensures shorter { length self.new ≤ length self.old }
-        ensures operand { MatchResult result (λ r. ReadsOption (λ o rest. TakesOperand self.old o rest) self.old r self.new) (λ e. (e ≡ ExpectedOperand) × NoOperand (first self.old)) }
+        ensures operand { MatchResult result (λ o. ReadsOption TakesOperand self.old o self.new) (NoOperand self.old) }
     {
         let Some(token) = &self.ahead else {
             return Ok(None);
@@ -152,7 +166,7 @@ impl<'p> Parser<'p> {
     // expr = (Operand | E) (Modulo value)?
     fn expression(&mut self) -> Result<Option<Expression>, ParseError>
         ensures shorter { length self.new ≤ length self.old }
-        ensures expression { MatchResult result (λ r. ReadsOption (λ e rest. ReadsExpression self.old e rest) self.old r self.new) (λ e. (b : Before) → run (before_operand b) self.old ≡ Err e) }
+        ensures expression { MatchResult result (λ x. ReadsOption ReadsExpression self.old x self.new) (FailsAtOperand self.old) }
     {
         let Some(operand) = self.operand()? else {
             return Ok(None);
@@ -169,7 +183,7 @@ impl<'p> Parser<'p> {
 
     fn operator(&mut self) -> Result<Operator, ParseError>
         ensures shorter { length self.new ≤ length self.old }
-        ensures operator { MatchResult result (λ o. self.old ≡ token.Operator o ∷ self.new) (λ e. (e ≡ ExpectedOperator) × (operator_fault (first self.old) ≡ Some ExpectedOperator)) }
+        ensures operator { MatchResult result (λ o. self.old ≡ token.Operator o ∷ self.new) (NoOperator self.old) }
     {
         match self.next() {
             Some(Token::Operator(operator)) => Ok(operator),
@@ -180,7 +194,7 @@ impl<'p> Parser<'p> {
     // relation = expr Operator range_list
     fn relation(&mut self, alloc: Global) -> Result<Option<Relation>, ReadError>
         ensures shorter { length self.new ≤ length self.old }
-        ensures relation { IsAnswer (λ r. ReadsOption (λ r rest. ReadsRelation self.old r rest) self.old r self.new) (λ e. (b : Before) → run (before_operand b) self.old ≡ Err e) result }
+        ensures relation { IsAnswer (λ r. ReadsOption ReadsRelation self.old r self.new) (FailsAtOperand self.old) result }
     {
         let Some(expression) = self.expression()? else {
             return Ok(None);
@@ -197,7 +211,7 @@ impl<'p> Parser<'p> {
     // and_condition = relation (And relation)*
     fn and_condition(&mut self, alloc: Global) -> Result<Option<AndCondition>, ReadError>
         ensures shorter { length self.new ≤ length self.old }
-        ensures group { IsAnswer (λ c. ReadsOption (λ c rest. ReadsGroup self.old c rest × (first rest ≢ Some And)) self.old c self.new) (λ e. (groups : List AndCondition) → run (before_group groups) self.old ≡ Err e) result }
+        ensures group { IsAnswer (λ c. ReadsOption ReadsWholeGroup self.old c self.new) (FailsAtGroup self.old) result }
     {
         let Some(relation) = self.relation(alloc)? else {
             return Ok(None);

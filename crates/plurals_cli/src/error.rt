@@ -7,7 +7,8 @@ use fixed_decimal::DecimalError;
 use plural_reference::ParseError;
 use thiserror::Error;
 
-const USAGE: &str = "usage: test CONDITION INTEGER; category LOCALE TYPE NUMBER; range LOCALE TYPE START END; print LOCALE TYPE; select LOCALE TYPE NUMBER; message LOCALE TYPE NUMBER";
+const USAGE: &str =
+    "usage: test CONDITION INTEGER; category LOCALE TYPE NUMBER; range LOCALE TYPE START END; print LOCALE TYPE; select LOCALE TYPE NUMBER; message LOCALE TYPE NUMBER";
 
 /// Why the program fails. Faults are looked for in this order.
 #[derive(Debug, Drop, Error)]

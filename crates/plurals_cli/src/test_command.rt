@@ -6,7 +6,7 @@ ghost use Rattle.plurals_cli.specs.Answer.{AnswersTest, Gives, said, truth_at, i
 use crate::error::RunError;
 use crate::integer::integer;
 use plural_reference::ast::Condition;
-use plural_reference::laws::one_list_of_tokens;
+use plural_reference::laws::reading::one_list_of_tokens;
 use plural_reference::{PluralOperands, ReadError, parse_condition, test_condition};
 use std::alloc::Global;
 

@@ -1,6 +1,11 @@
 //! What is read of a text is determined.
 
-ghost use Rattle.plural_reference.specs.ReadingLaws.{HaveOneListOfTokens, HaveOneReading, HaveOneRule};
+ghost use Rattle.plural_reference.specs.ReadingLaws.{HaveOneCut, HaveOneListOfTokens, HaveOneReading, HaveOneRule};
+
+/// Every text is cut into pieces in exactly one way.
+pub fn one_cut()
+    ensures { HaveOneCut }
+{}
 
 /// Every text has exactly one list of tokens.
 pub fn one_list_of_tokens()

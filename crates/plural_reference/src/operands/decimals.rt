@@ -1,7 +1,6 @@
 //! The operands of decimals.
 
-ghost use Rattle.std.specs.Prelude.{◌≡◌, ℕ, ◌-◌, ◌/◌, ◌^◌, ◌<◌, ◌≤◌, ◌≤ℤ◌, pos, neg_ℤ};
-ghost use Rattle.std.specs.Int.{◌∣◌};
+ghost use Rattle.std.specs.Prelude.{◌≡◌, ◌^◌, ◌<◌, ◌≤◌, ◌≤ℤ◌, pos, neg_ℤ};
 ghost use Rattle.fixed_decimal.specs.Digits.{value_of};
 ghost use Rattle.fixed_decimal.specs.Places.{IsWritten};
 ghost use Rattle.plural_reference.specs.DecimalOperands.{AreCut};
@@ -36,15 +35,7 @@ impl PluralOperands {
         let i = if whole <= KEPT { last } else { last + LIMIT };
         let v = fraction.min(KEPT);
         let f = number_at(significand, -1 - shift, v);
-        let (w, t) = without_zeros(v, f);
-        PluralOperands {
-            i,
-            v,
-            w,
-            f,
-            t,
-            c: exponent as usize,
-        }
+        PluralOperands::from_parts(i, v, f, exponent as usize)
     }
 }
 
@@ -90,19 +81,4 @@ fn number_at(significand: &UnsignedDecimal, top: i16, count: usize) -> u64
         number = number * 10 + significand.digit_at(top - index as i16) as u64;
     }
     number
-}
-
-// The fraction without its trailing zeros: how many digits are left, and what they write.
-pub(crate) fn without_zeros(shown: usize, written: u64) -> (usize, u64)
-    ensures divides { 10 ^ (shown - result.0) ∣ written }
-    ensures least { (k : ℕ) → 10 ^ (shown - k) ∣ written → result.0 ≤ k }
-    ensures number { result.1 ≡ written / 10 ^ (shown - result.0) }
-{
-    let mut left = shown;
-    let mut number = written;
-    while left > 0 && number % 10 == 0 {
-        left -= 1;
-        number /= 10;
-    }
-    (left, number)
 }

@@ -1,0 +1,215 @@
+//! Clones of trees.
+
+ghost use Rattle.std.specs.Prelude.{◌≡◌, IfOk};
+
+use crate::ast::{
+    AndCondition, Condition, DecimalValue, Expression, RangeList, RangeListItem, Relation, Rule,
+    SampleList, SampleRange, Samples, Value,
+};
+use crate::sequence::Sequence;
+use std::alloc::AllocError;
+
+impl Rule {
+    /// A clone, equal to the rule; only want of memory is refused.
+    pub fn try_clone(&self) -> Result<Self, AllocError>
+        ensures { IfOk result (λ x. x ≡ self.now) }
+    {
+        Ok(Rule {
+            condition: self.condition.try_clone()?,
+            samples: clone_option(&self.samples)?,
+        })
+    }
+}
+
+impl Condition {
+    /// A clone, equal to the condition; only want of memory is refused.
+    pub fn try_clone(&self) -> Result<Self, AllocError>
+        ensures { IfOk result (λ x. x ≡ self.now) }
+    {
+        Ok(Condition(clone_sequence(&self.0)?))
+    }
+}
+
+impl AndCondition {
+    /// A clone, equal to the and-condition; only want of memory is refused.
+    pub fn try_clone(&self) -> Result<Self, AllocError>
+        ensures { IfOk result (λ x. x ≡ self.now) }
+    {
+        Ok(AndCondition(clone_sequence(&self.0)?))
+    }
+}
+
+impl Relation {
+    /// A clone, equal to the relation; only want of memory is refused.
+    pub fn try_clone(&self) -> Result<Self, AllocError>
+        ensures { IfOk result (λ x. x ≡ self.now) }
+    {
+        Ok(Relation {
+            expression: self.expression.try_clone()?,
+            operator: self.operator,
+            range_list: self.range_list.try_clone()?,
+        })
+    }
+}
+
+impl Expression {
+    /// A clone, equal to the expression; it takes no memory.
+    pub fn try_clone(&self) -> Result<Self, AllocError>
+        ensures { IfOk result (λ x. x ≡ self.now) }
+    {
+        Ok(Expression {
+            operand: self.operand,
+            modulus: clone_option(&self.modulus)?,
+        })
+    }
+}
+
+impl RangeList {
+    /// A clone, equal to the list; only want of memory is refused.
+    pub fn try_clone(&self) -> Result<Self, AllocError>
+        ensures { IfOk result (λ x. x ≡ self.now) }
+    {
+        Ok(RangeList(clone_sequence(&self.0)?))
+    }
+}
+
+impl RangeListItem {
+    /// A clone, equal to the item; it takes no memory.
+    pub fn try_clone(&self) -> Result<Self, AllocError>
+        ensures { IfOk result (λ x. x ≡ self.now) }
+    {
+        match self {
+            RangeListItem::Range(start, end) => {
+                Ok(RangeListItem::Range(Value(start.0), Value(end.0)))
+            }
+            RangeListItem::Value(value) => Ok(RangeListItem::Value(Value(value.0))),
+        }
+    }
+}
+
+impl Value {
+    /// A clone, equal to the value; it takes no memory.
+    pub fn try_clone(&self) -> Result<Self, AllocError>
+        ensures { IfOk result (λ x. x ≡ self.now) }
+    {
+        Ok(Value(self.0))
+    }
+}
+
+impl Samples {
+    /// A clone, equal to the samples; only want of memory is refused.
+    pub fn try_clone(&self) -> Result<Self, AllocError>
+        ensures { IfOk result (λ x. x ≡ self.now) }
+    {
+        Ok(Samples {
+            integer: clone_option(&self.integer)?,
+            decimal: clone_option(&self.decimal)?,
+        })
+    }
+}
+
+impl SampleList {
+    /// A clone, equal to the list; only want of memory is refused.
+    pub fn try_clone(&self) -> Result<Self, AllocError>
+        ensures { IfOk result (λ x. x ≡ self.now) }
+    {
+        Ok(SampleList {
+            sample_ranges: clone_sequence(&self.sample_ranges)?,
+            ellipsis: self.ellipsis,
+        })
+    }
+}
+
+impl SampleRange {
+    /// A clone, equal to the range; only want of memory is refused.
+    pub fn try_clone(&self) -> Result<Self, AllocError>
+        ensures { IfOk result (λ x. x ≡ self.now) }
+    {
+        Ok(SampleRange {
+            lower_val: self.lower_val.try_clone()?,
+            upper_val: clone_option(&self.upper_val)?,
+        })
+    }
+}
+
+impl DecimalValue {
+    /// A clone, equal to the sample; only want of memory is refused.
+    pub fn try_clone(&self) -> Result<Self, AllocError>
+        ensures { IfOk result (λ x. x ≡ self.now) }
+    {
+        Ok(DecimalValue(self.0.clone()?))
+    }
+}
+
+// What stands in lists and options of a tree.
+trait Cloned: Drop {
+    fn cloned(&self) -> Result<Self, AllocError>
+        ensures { IfOk result (λ x. x ≡ self.now) };
+}
+
+impl Cloned for AndCondition {
+    fn cloned(&self) -> Result<Self, AllocError> {
+        self.try_clone()
+    }
+}
+
+impl Cloned for Relation {
+    fn cloned(&self) -> Result<Self, AllocError> {
+        self.try_clone()
+    }
+}
+
+impl Cloned for RangeListItem {
+    fn cloned(&self) -> Result<Self, AllocError> {
+        self.try_clone()
+    }
+}
+
+impl Cloned for Value {
+    fn cloned(&self) -> Result<Self, AllocError> {
+        self.try_clone()
+    }
+}
+
+impl Cloned for Samples {
+    fn cloned(&self) -> Result<Self, AllocError> {
+        self.try_clone()
+    }
+}
+
+impl Cloned for SampleList {
+    fn cloned(&self) -> Result<Self, AllocError> {
+        self.try_clone()
+    }
+}
+
+impl Cloned for SampleRange {
+    fn cloned(&self) -> Result<Self, AllocError> {
+        self.try_clone()
+    }
+}
+
+impl Cloned for DecimalValue {
+    fn cloned(&self) -> Result<Self, AllocError> {
+        self.try_clone()
+    }
+}
+
+fn clone_option<T: Cloned>(source: &Option<T>) -> Result<Option<T>, AllocError>
+    ensures { IfOk result (λ x. x ≡ source.now) }
+{
+    match source {
+        Some(value) => Ok(Some(value.cloned()?)),
+        None => Ok(None),
+    }
+}
+
+fn clone_sequence<T: Cloned>(source: &Sequence<T>) -> Result<Sequence<T>, AllocError>
+    ensures { IfOk result (λ x. x ≡ source.now) }
+{
+    let mut clones = Vec::with_capacity(*source.0.allocator(), source.as_slice().len())?;
+    for value in source.as_slice() {
+        clones.push(value.cloned()?)?;
+    }
+    Ok(Sequence(clones))
+}
