@@ -1,5 +1,7 @@
--- How an unsigned decimal is kept: the digits from the highest nonzero one to the lowest nonzero one, and how many
--- zeros stand before them among the written places.
+-- Not a definition of the subject: how an unsigned decimal is kept, as the digits from the highest nonzero one to the
+-- lowest nonzero one, and how many zeros stand before them among the written places.
+--     places_of a      the number that is kept so
+--     IsSpan a      what holds of each number that is kept
 use Rattle.std.specs.Prelude.{◌≢◌, ℕ, ◌+◌, ◌-◌, ◌<◌, ◌≤◌, List, ◌++◌, length, take, drop, replicate, slice_index}
 use Rattle.fixed_decimal.specs.Digits.{AreDigits}
 use Rattle.fixed_decimal.specs.Places.{Places}
@@ -11,9 +13,11 @@ digits_of a =
     replicate a.leading_zeros 0 ++ a.span.items
     ++ replicate (a.whole_places + a.fraction_places - (a.leading_zeros + length a.span.items)) 0
 
+-- ... cut at the point
 abbrev pub places_of : Inside → Places
 places_of a = record { whole = take a.whole_places (digits_of a); fraction = drop a.whole_places (digits_of a) }
 
+-- the limits, the places of the span, and its nonzero ends
 pub record IsSpan (a : Inside) : Type 0 where
   pub whole_nonempty : 0 < a.whole_places
   pub whole_within : a.whole_places ≤ 32767

@@ -1,4 +1,4 @@
--- Texts and the numbers that they write.
+-- Texts and the numbers that they write. A text is a list of bytes.
 --     WritesUnsigned text x      digits, digits `.` digits, or `.` digits; without integer digits the integer digit is 0
 --     WritesDecimal text x      an unsigned decimal, behind a sign or not
 --     WritesCompact text x      a decimal, then nothing, or `c` and one to three digits
@@ -17,15 +17,18 @@ StandsAs text x =
     ⊎ ((0 < length x.fraction) × (text ≡ text_of x.whole ++ codes "." ++ text_of x.fraction))
     ⊎ ((0 < length x.fraction) × (x.whole ≡ 0 ∷ []) × (text ≡ codes "." ++ text_of x.fraction))
 
+-- the digits stand in one of them
 pub record WritesUnsigned (text : List ℕ) (x : Places) : Type 0 where
   pub digits : IsWritten x
   pub form : StandsAs text x
 
+-- no sign, `-` or `+`
 abbrev pub sign_text : Sign → List ℕ
 sign_text sign.None = []
 sign_text sign.Negative = codes "-"
 sign_text sign.Positive = codes "+"
 
+-- the sign, then the digits
 abbrev pub WritesDecimal : List ℕ → Decimal → Type 0
 WritesDecimal text x = (digits : List ℕ) × WritesUnsigned digits x.absolute × (text ≡ sign_text x.sign ++ digits)
 
@@ -37,12 +40,15 @@ pub record WritesExponent (text : List ℕ) (exponent : ℕ) (ds : List ℕ) : T
   pub value : exponent ≡ value_of ds
   pub form : text ≡ codes "c" ++ text_of ds
 
+-- nothing, for 0, or a written exponent
 abbrev pub HasExponent : List ℕ → ℕ → Type 0
 HasExponent text exponent = ((text ≡ []) × (exponent ≡ 0)) ⊎ ((ds : List ℕ) × WritesExponent text exponent ds)
 
+-- a decimal, then its exponent
 abbrev pub WritesCompact : List ℕ → CompactNumber → Type 0
 WritesCompact text x =
     (front rest : List ℕ) × WritesDecimal front x.significand × HasExponent rest x.exponent × (text ≡ front ++ rest)
 
+-- too many places, or an exponent above 255
 abbrev pub IsCompactOverLimit : CompactNumber → Type 0
 IsCompactOverLimit x = IsOverLimit x.significand.absolute ⊎ (255 < x.exponent)

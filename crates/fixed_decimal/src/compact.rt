@@ -59,6 +59,7 @@ impl CompactDecimal {
     }
 
     /// The decimal before the `c`, not yet multiplied by the power of ten.
+    #[inline]
     pub fn significand(&self) -> &Decimal
         ensures { result.now ≡ self.now.significand }
     {
@@ -66,6 +67,7 @@ impl CompactDecimal {
     }
 
     /// The power of ten behind the `c`, and 0 where none is written.
+    #[inline]
     pub fn exponent(&self) -> u8
         ensures { result ≡ self.now.exponent }
     {

@@ -1,7 +1,8 @@
 //! Why a decimal can't be had.
 
-ghost use Rattle.std.specs.Prelude.{◌≡◌, Some, codes};
-ghost use Rattle.fixed_decimal.specs.declared.error.DecimalError.TheVariants.{Syntax, Limit, Memory};
+ghost use Rattle.std.specs.Prelude.{◌≡◌, Some};
+ghost use Rattle.fixed_decimal.specs.DecimalErrorText.{error_text};
+ghost use Rattle.fixed_decimal.specs.declared.error.DecimalError.TheVariants.{Memory};
 
 use std::alloc::{AllocError, AllocFailed};
 use std::error::Error;
@@ -19,7 +20,7 @@ pub enum DecimalError {
 }
 
 impl fmt::Display for DecimalError {
-    ghost output = { λ e. Some (elim e [ Syntax ↦ codes "bad number" | Limit ↦ codes "number out of limits" | Memory ↦ codes "out of memory" ]) };
+    ghost output = { λ e. Some (error_text e) };
 
     fn fmt<W: fmt::Write>(&self, f: &mut fmt::Formatter<W>) -> fmt::Result {
         f.write_str(match self {

@@ -5,9 +5,12 @@ mod compact;
 mod decimal;
 mod error;
 mod exponent;
+pub mod laws;
 mod point;
 mod sign;
 mod span;
+#[cfg(test)]
+mod tests;
 mod unsigned;
 
 pub use compact::CompactDecimal;

@@ -13,7 +13,8 @@ use itoa::Buffer;
 use std::alloc::{AllocError, Global};
 use std::marker::Model;
 
-const MOST_PLACES: u16 = 32767;
+/// How many places there may be on a side.
+pub(crate) const MOST_PLACES: u16 = 32767;
 
 /// A written number without a sign: its integer digits, at least one, and its fraction digits. All
 /// written zeros count. Only the digits from the first to the last that isn't zero take memory.
@@ -100,6 +101,7 @@ impl UnsignedDecimal {
     }
 
     /// The digit at `10^magnitude`, and 0 outside the written places.
+    #[inline]
     pub fn digit_at(&self, magnitude: i16) -> u8
         ensures digit { result ≡ digit_at self.now magnitude }
         ensures written { IsWritten self.now }
@@ -129,6 +131,7 @@ impl UnsignedDecimal {
 
     /// The lowest and the highest power of ten that has a written place: minus the count of
     /// fraction digits, and the count of integer digits minus 1.
+    #[inline]
     pub fn magnitude_range(&self) -> (i16, i16)
         ensures lowest { result.0 ≡ neg_ℤ (pos (length self.now.fraction)) }
         ensures highest { result.1 ≡ pos (length self.now.whole - 1) }
@@ -143,6 +146,7 @@ impl UnsignedDecimal {
 
     /// Whether a digit at `10^magnitude` or above isn't 0. It looks at no digit: the span begins
     /// with one.
+    #[inline]
     pub fn has_digit_from(&self, magnitude: i16) -> bool
         ensures { IsTrue result ↔ HasDigitFrom self.now magnitude }
     {

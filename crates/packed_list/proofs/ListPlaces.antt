@@ -17,7 +17,6 @@ pub length-starts_from : (place : ℕ) (items : List (List ℕ)) → length (sta
 length-starts_from place [] = refl
 length-starts_from place (item ∷ items) = ap suc (length-starts_from (place + length item) items)
 
-
 pub count_is : (items : List (List ℕ)) (bytes : List ℕ) → bytes ≡ list_bytes items → number_at bytes 0 ≡ length items
 count_is [] bytes h = ap (λ b. number_at b 0) h
 count_is (item ∷ items) bytes h = ap (λ b. number_at b 0) h ∙ two_bytes_again (length (item ∷ items))

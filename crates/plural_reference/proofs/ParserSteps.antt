@@ -35,6 +35,9 @@ pub item_value : (old middle new : List Token) (t : Token) (v : Value) → old �
 unfolding run
 item_value old middle new t v e h f g = record { run_is = λ o xs. rw (e, h, g) refl; no_dots = rw g f }
 
+-- what a parser of an item may be left to show
+pub ruleset item_steps = (no_item, no_end, item_range, item_value)
+
 -- ---- lists of items
 
 pub one_item : (old new : List Token) (x : RangeListItem) → ReadsItem old x new → ReadsItems old (x ∷ []) new

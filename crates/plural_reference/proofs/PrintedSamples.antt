@@ -1,5 +1,5 @@
 -- The tokens of a printed list of samples spell it, though they need not be those that it was read from.
-use Rattle.std.proofs.Common.{◌≡◌, ◌≢◌, ◌≤◌, ◌<◌, ℕ, Bool, true, false, List, [], ◌∷◌, ◌++◌, length, Option, Some, None, refl, sym, ap, ◌∙◌, subst, append_assoc, arith, ⊎_elim}
+use Rattle.std.proofs.Common.{◌≡◌, ◌≢◌, ◌≤◌, ◌<◌, ℕ, Bool, true, false, List, [], ◌∷◌, ◌++◌, Option, Some, None, refl, sym, ap, ◌∙◌, subst, append_assoc, arith, ⊎_elim}
 use Rattle.std.proofs.lemmas.Bool.{eqb-false}
 use Rattle.std.proofs.lemmas.Bool.Decides.{eqb_tells}
 use Rattle.std.proofs.lemmas.Fmt.{decimal_is_IsNumeral, digits_decimal, decimal-digits_value}
@@ -19,8 +19,8 @@ use Rattle.plural_reference.specs.declared.ast.Value.{Value}
 use Rattle.plural_reference.specs.declared.token.Token.{Token}
 use Rattle.plural_reference.specs.declared.token.Token.TheVariants.{Operand, Number, Zero, Dot, Comma, Ellipsis, Tilde, E}
 use Rattle.plural_reference.specs.Lexer.{max_number}
-use Rattle.plural_reference.specs.Parser.{first, last, value_of, IsItem}
-use Rattle.plural_reference.specs.PrintingLaws.{IsRunIn, HasSmallRuns, ListHasSmallRuns}
+use Rattle.plural_reference.specs.Parser.{first, value_of, IsItem}
+use Rattle.plural_reference.specs.PrintingLaws.{HasSmallRuns, ListHasSmallRuns}
 use Rattle.plural_reference.specs.Samples.{IsDigits, IsExponentMark, IsFraction, IsExponent, SampleParts, IsSampleOf, token_text, IsSample, IsUpper, IsSampleRange, IsEllipsis, IsSampleList}
 use Rattle.plural_reference.specs.Scan.{tokens_of, tokens_from}
 use Rattle.plural_reference.specs.Serializer.{joined, prefixed, sample_text, sample_range_text, ellipsis_text, sample_list_text}

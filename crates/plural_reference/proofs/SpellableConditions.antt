@@ -1,5 +1,5 @@
 -- A condition that is read from a text is spellable.
-use Rattle.std.proofs.Common.{◌≡◌, ◌≢◌, List, [], ◌∷◌, ◌++◌, Option, Some, None, sym, subst, inl, inr, arith}
+use Rattle.std.proofs.Common.{◌≡◌, ◌≢◌, List, [], ◌∷◌, Option, Some, None, sym, subst, inl, inr, arith}
 use Rattle.std.proofs.lemmas.List.Elements.{All-from_recursion, All-nil}
 use Rattle.std.specs.Prelude.{IfSome}
 use Rattle.std.specs.List.{AllByRecursion}
@@ -25,8 +25,7 @@ pub separated_parts : {A : Type 0} (separator : Token) (Part : List Token → A 
 separated_parts separator Part P each tokens [] f h = absurd h
 separated_parts separator Part P each tokens (x ∷ []) f h = (λ e. cc, (each tokens x f h, tt))
 separated_parts separator Part P each tokens (x ∷ y ∷ ys) f h =
-    let fits = subst AllFit h.2 f in
-    (
+    let fits = subst AllFit h.2 f in (
       λ e. cc,
       (each h.0 x (fit_left h.0 (separator ∷ h.1) fits) h.3, (separated_parts separator Part P each h.1 (y ∷ ys) (fit_right h.0 (separator ∷ h.1) fits).1 h.4).1),
     )

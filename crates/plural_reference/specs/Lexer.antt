@@ -1,4 +1,5 @@
--- How a text is cut into pieces, and the tokens of the pieces.
+-- How a text is cut into pieces, and the tokens of the pieces (UTS 35 Part 3, Plural Rules Syntax; what is no piece of a
+-- rule is one token Junk, so that every text has tokens).
 use Rattle.std.specs.Prelude.{◌≡◌, ◌≢◌, ◌≤◌, ◌<◌, ℕ, List, [], ◌∷◌, ◌++◌, Option, Some, None, IfSome, All, Contains, codes}
 use Rattle.std.specs.List.{filter_map}
 use Rattle.std.specs.Char.{IsAsciiDigit}
@@ -58,7 +59,7 @@ pub record IsBegun (begun : List ℕ) (next : ℕ) : Type 0 where
 abbrev pub BeginsNone : ℕ → Type 0
 BeginsNone b = (b ≢ 32) × (¬ (IsAsciiDigit b)) × All (λ word. first word.0 ≢ Some b) (marks ++ keywords)
 
--- a piece of a text, the rest that follows it, and the token that it gives
+-- a piece of a text, the rest that follows it, and the token that it gives: none for a space
 pub data IsPiece (piece rest : List ℕ) (token : Option Token) : Type 0 where
   space : piece ≡ 32 ∷ [] → token ≡ None → IsPiece piece rest token
   mark : (t : Token) → Contains marks (piece, t) → MayFollow piece rest → token ≡ Some t → IsPiece piece rest token

@@ -1,4 +1,5 @@
--- The grammar of conditions over tokens, what is read of a list of tokens, and which fault it has.
+-- The grammar of conditions over tokens (UTS 35 Part 3, Plural Rules Syntax), what is read of a list of tokens, and which
+-- fault it has.
 use Rattle.std.specs.Prelude.{◌≡◌, ◌⊎◌, List, [], ◌∷◌, ◌++◌, Option, Some, None, IfSome, is_some, if◌then◌else◌}
 use Rattle.std.specs.Option.{option_and_then}
 use Rattle.plural_reference.specs.declared.ast.AndCondition.{AndCondition}
@@ -32,24 +33,32 @@ operand_of _ = None
 abbrev pub Separated : {A : Type 0} → Token → (List Token → A → Type 0) → List Token → List A → Type 0
 Separated separator Part tokens [] = ⊥
 Separated separator Part tokens (x ∷ []) = Part tokens x
-Separated separator Part tokens (x ∷ y ∷ ys) = (part : List Token) × (rest : List Token) × (tokens ≡ part ++ separator ∷ rest) × Part part x × Separated separator Part rest (y ∷ ys)
+Separated separator Part tokens (x ∷ y ∷ ys) =
+    (part : List Token) × (rest : List Token)
+    × (tokens ≡ part ++ separator ∷ rest) × Part part x × Separated separator Part rest (y ∷ ys)
 
 -- item = value | value DotDot value
 abbrev pub IsItem : List Token → RangeListItem → Type 0
 IsItem tokens (items.Value v) = (t : Token) × (tokens ≡ t ∷ []) × (value_of t ≡ Some v)
-IsItem tokens (items.Range a b) = (t : Token) × (u : Token) × (tokens ≡ t ∷ DotDot ∷ u ∷ []) × (value_of t ≡ Some a) × (value_of u ≡ Some b)
+IsItem tokens (items.Range a b) =
+    (t : Token) × (u : Token) × (tokens ≡ t ∷ DotDot ∷ u ∷ []) × (value_of t ≡ Some a) × (value_of u ≡ Some b)
 
--- expr = (Operand | E) (Modulo value)?
+-- a modulus that is there, or none
 abbrev pub IsModulus : List Token → Option Value → Type 0
 IsModulus tokens None = tokens ≡ []
 IsModulus tokens (Some m) = (t : Token) × (tokens ≡ Modulo ∷ t ∷ []) × (value_of t ≡ Some m)
 
+-- expr = (Operand | E) (Modulo value)?
 abbrev pub IsExpression : List Token → Expression → Type 0
-IsExpression tokens e = (t : Token) × (modulus : List Token) × (tokens ≡ t ∷ modulus) × (operand_of t ≡ Some e.operand) × IsModulus modulus e.modulus
+IsExpression tokens e =
+    (t : Token) × (modulus : List Token)
+    × (tokens ≡ t ∷ modulus) × (operand_of t ≡ Some e.operand) × IsModulus modulus e.modulus
 
 -- relation = expr Operator range_list
 abbrev pub IsRelation : List Token → Relation → Type 0
-IsRelation tokens r = (left : List Token) × (right : List Token) × (tokens ≡ left ++ Operator r.operator ∷ right) × IsExpression left r.expression × Separated Comma IsItem right r.range_list.0
+IsRelation tokens r =
+    (left : List Token) × (right : List Token)
+    × (tokens ≡ left ++ Operator r.operator ∷ right) × IsExpression left r.expression × Separated Comma IsItem right r.range_list.0
 
 -- and_condition = relation (And relation)*
 abbrev pub IsAndCondition : List Token → AndCondition → Type 0
@@ -61,10 +70,12 @@ IsCondition tokens c = Separated Or IsAndCondition tokens c.0
 
 -- ---- reading
 
+-- the first of a list
 abbrev pub first : {A : Type 0} → List A → Option A
 first [] = None
 first (x ∷ xs) = Some x
 
+-- the last of a list
 abbrev pub last : {A : Type 0} → List A → Option A
 last [] = None
 last (x ∷ []) = Some x
@@ -118,25 +129,35 @@ pub data Place : Type 0 where
 abbrev pub ConditionThen : Token → List Token → Type 0
 ConditionThen t tokens = (spelled : List Token) × (c : Condition) × (tokens ≡ spelled ++ t ∷ []) × IsCondition spelled c
 
+-- an operand is awaited: at the start, after Or, or after And
 abbrev pub IsBeforeOperand : List Token → Type 0
 IsBeforeOperand tokens = (tokens ≡ []) ⊎ (ConditionThen Or tokens ⊎ ConditionThen And tokens)
 
+-- an operand is the last token
 abbrev pub IsAfterOperand : List Token → Type 0
-IsAfterOperand tokens = (before : List Token) × (t : Token) × (o : operand.Operand) × (tokens ≡ before ++ t ∷ []) × IsBeforeOperand before × (operand_of t ≡ Some o)
+IsAfterOperand tokens =
+    (before : List Token) × (t : Token) × (o : operand.Operand)
+    × (tokens ≡ before ++ t ∷ []) × IsBeforeOperand before × (operand_of t ≡ Some o)
 
+-- Modulo behind an operand is the last token
 abbrev pub IsAfterModulo : List Token → Type 0
 IsAfterModulo tokens = (before : List Token) × (tokens ≡ before ++ Modulo ∷ []) × IsAfterOperand before
 
+-- a whole modulus stands last
 abbrev pub IsAfterModulus : List Token → Type 0
-IsAfterModulus tokens = (before : List Token) × (t : Token) × (v : Value) × (tokens ≡ before ++ t ∷ []) × IsAfterModulo before × (value_of t ≡ Some v)
+IsAfterModulus tokens =
+    (before : List Token) × (t : Token) × (v : Value)
+    × (tokens ≡ before ++ t ∷ []) × IsAfterModulo before × (value_of t ≡ Some v)
 
 -- after an operator, after Comma, or after DotDot behind a single value
 abbrev pub IsBeforeValue : List Token → Type 0
 IsBeforeValue tokens =
-    ((before : List Token) × (o : operator.Operator) × (tokens ≡ before ++ Operator o ∷ []) × (IsAfterOperand before ⊎ IsAfterModulus before))
+    ((before : List Token) × (o : operator.Operator)
+    × (tokens ≡ before ++ Operator o ∷ []) × (IsAfterOperand before ⊎ IsAfterModulus before))
     ⊎ (ConditionThen Comma tokens
     ⊎ ((spelled : List Token) × (c : Condition) × (tokens ≡ spelled ++ DotDot ∷ []) × IsCondition spelled c × EndsInValue c))
 
+-- the tokens are a beginning that waits at the place
 abbrev pub Waits : Place → List Token → Type 0
 Waits start tokens = tokens ≡ []
 Waits after_or tokens = ConditionThen Or tokens
@@ -152,10 +173,12 @@ operand_fault at_end None = at_end
 operand_fault at_end (Some At) = at_end
 operand_fault at_end (Some t) = if is_some (operand_of t) then None else Some ExpectedOperand
 
+-- the fault where an operator is wanted
 abbrev pub operator_fault : Option Token → Option ParseError
 operator_fault (Some (Operator o)) = None
 operator_fault _ = Some ExpectedOperator
 
+-- the fault where a value is wanted
 abbrev pub value_fault : Option Token → Option ParseError
 value_fault None = Some ExpectedValue
 value_fault (Some t) = if is_some (value_of t) then None else Some ExpectedValue
@@ -173,4 +196,6 @@ fault before_value t = value_fault t
 
 -- a beginning of the tokens waits, and what follows it has this fault
 abbrev pub Faulty : List Token → ParseError → Type 0
-Faulty tokens kind = (place : Place) × (before : List Token) × (rest : List Token) × (tokens ≡ before ++ rest) × Waits place before × (fault place (first rest) ≡ Some kind)
+Faulty tokens kind =
+    (place : Place) × (before : List Token) × (rest : List Token)
+    × (tokens ≡ before ++ rest) × Waits place before × (fault place (first rest) ≡ Some kind)

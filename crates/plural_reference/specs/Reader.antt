@@ -1,4 +1,5 @@
--- A reader of tokens, state by state: a second way to say what is read of a list of tokens.
+-- Not a definition of the subject: a reader of conditions, token by token. The parser's private contracts cite it; that it
+-- answers what the grammar says is proved.
 use Rattle.std.specs.Prelude.{List, [], ◌∷◌, ◌++◌, Option, Some, None, Result, Ok, Err}
 use Rattle.plural_reference.specs.declared.ast.AndCondition.{AndCondition}
 use Rattle.plural_reference.specs.declared.ast.Condition.{Condition}
@@ -26,6 +27,7 @@ pub record Opened : Type 0 where
   pub expression : Expression
   pub operator : operator.Operator
 
+-- what is awaited, and what is complete
 pub data State : Type 0 where
   before_operand : Before → State
   after_operand : Before → operand.Operand → State
@@ -35,19 +37,23 @@ pub data State : Type 0 where
   after_item : Opened → List RangeListItem → RangeListItem → State
   before_end : Opened → List RangeListItem → Value → State
 
+-- the relation with these items
 abbrev pub relation_of : Opened → List RangeListItem → Relation
 relation_of o xs = record { expression = o.expression; operator = o.operator; range_list = record { 0 = xs } }
 
--- the relation joins the group, or also ends it
+-- the relation joins the group
 abbrev pub with_relation : Before → Relation → Before
 with_relation b r = record { groups = b.groups; relations = b.relations ++ r ∷ [] }
 
+-- the same, where the group ends
 abbrev pub with_group : Before → Before
 with_group b = record { groups = b.groups ++ (record { 0 = b.relations }) ∷ []; relations = [] }
 
+-- the condition that ends here
 abbrev pub condition_of : Before → Condition
 condition_of b = record { 0 = b.groups ++ (record { 0 = b.relations }) ∷ [] }
 
+-- what a token does: it leads on, ends the condition, or is a fault
 pub data Move : Type 0 where
   go : State → Move
   finish : Condition → Move
@@ -59,23 +65,28 @@ no_operand [] [] = finish (record { 0 = [] })
 no_operand (g ∷ gs) [] = refuse ExpectedAndCondition
 no_operand gs (r ∷ rs) = refuse ExpectedRelation
 
+-- the token where an operand is awaited
 abbrev pub operand_move : Option operand.Operand → Token → Before → Move
 operand_move (Some o) t b = go (after_operand b o)
 operand_move None At b = no_operand b.groups b.relations
 operand_move None _ b = refuse ExpectedOperand
 
+-- where a value is
 abbrev pub value_move : Option Value → (Value → State) → Move
 value_move None next = refuse ExpectedValue
 value_move (Some v) next = go (next v)
 
+-- where an operator is
 abbrev pub operator_move : Token → Before → Expression → Move
 operator_move (Operator op) b e = go (before_item (record { before = b; expression = e; operator = op }) [])
 operator_move _ b e = refuse ExpectedOperator
 
+-- dots behind an item
 abbrev pub dots_move : Opened → List RangeListItem → RangeListItem → Move
 dots_move o xs (items.Value v) = go (before_end o xs v)
 dots_move o xs (items.Range a b) = finish (condition_of (with_relation o.before (relation_of o (xs ++ (items.Range a b) ∷ []))))
 
+-- a token behind an item
 abbrev pub item_move : Opened → List RangeListItem → RangeListItem → Token → Move
 item_move o xs x And = go (before_operand (with_relation o.before (relation_of o (xs ++ x ∷ []))))
 item_move o xs x Or = go (before_operand (with_group (with_relation o.before (relation_of o (xs ++ x ∷ [])))))
@@ -83,10 +94,12 @@ item_move o xs x Comma = go (before_item o (xs ++ x ∷ []))
 item_move o xs x DotDot = dots_move o xs x
 item_move o xs x _ = finish (condition_of (with_relation o.before (relation_of o (xs ++ x ∷ []))))
 
+-- a token behind an operand
 abbrev pub operand_next : Token → Before → operand.Operand → Move
 operand_next Modulo b o = go (after_modulo b o)
 operand_next t b o = operator_move t b (record { operand = o; modulus = None })
 
+-- what a token does
 abbrev pub step : State → Token → Move
 step (before_operand b) t = operand_move (operand_of t) t b
 step (after_operand b o) t = operand_next t b o
@@ -110,14 +123,17 @@ at_end (before_end o xs v) = refuse ExpectedValue
 abbrev pub Outcome : Type 0
 Outcome = Result (Condition × List Token) ParseError
 
+-- what follows a move
 abbrev pub proceed : Move → List Token → (State → Outcome) → Outcome
 proceed (go s) rest next = next s
 proceed (finish c) rest next = Ok (c, rest)
 proceed (refuse e) rest next = Err e
 
+-- what the reader answers from a state on
 unfoldable pub run : State → List Token → Outcome
 run s [] = proceed (at_end s) [] (λ _. Err ExpectedValue)
 run s (t ∷ ts) = proceed (step s t) (t ∷ ts) (λ next. run next ts)
 
+-- where the reader begins
 abbrev pub begin : State
 begin = before_operand (record { groups = []; relations = [] })

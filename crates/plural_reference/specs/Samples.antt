@@ -1,9 +1,9 @@
--- The grammar of samples over tokens, what is read of the tokens after a condition, and which fault they have.
+-- The grammar of samples over tokens (UTS 35 Part 3, Samples), what is read of the tokens after a condition, and which
+-- fault they have.
 use Rattle.std.specs.Prelude.{◌≡◌, ◌≢◌, ◌⊎◌, ℕ, List, [], ◌∷◌, ◌++◌, Bool, true, false, Option, Some, None, IfSome, IsSome, IsSomeAnd, fold, unwrap_or, ◌==◌, ◌||◌, if◌then◌else◌}
 use Rattle.std.specs.Option.{option_and_then}
-use Rattle.std.specs.List.{AllByRecursion, list_any}
+use Rattle.std.specs.List.{AllByRecursion, list_any, flat_map}
 use Rattle.std.specs.Fmt.{decimal}
-use Rattle.std.specs.List.{flat_map}
 use Rattle.plural_reference.specs.declared.ast.Operand.TheVariants.{C}
 use Rattle.plural_reference.specs.declared.ast.Samples as samples
 use Rattle.plural_reference.specs.declared.ast.SampleList.{SampleList}
@@ -19,6 +19,7 @@ use Rattle.plural_reference.specs.Parser.{first, last, Separated, ReadsUpTo, Fau
 
 -- ---- kinds of token
 
+-- a run of digits
 abbrev pub IsDigits : Token → Type 0
 IsDigits Zero = Unit {0}
 IsDigits (Number n) = Unit {0}
@@ -30,6 +31,7 @@ IsExponentMark E = Unit {0}
 IsExponentMark (Operand C) = Unit {0}
 IsExponentMark _ = ⊥
 
+-- what may follow At
 abbrev pub IsSampleType : Token → Type 0
 IsSampleType Integer = Unit {0}
 IsSampleType Decimal = Unit {0}
@@ -37,12 +39,13 @@ IsSampleType _ = ⊥
 
 -- ---- the grammar
 
--- sample = digits (Dot digits)? ((E | C) (Number | Zero))?      not empty as a whole
+-- (Dot digits)?
 abbrev pub IsFraction : List Token → Type 0
 IsFraction [] = Unit {0}
 IsFraction (Dot ∷ ts) = AllByRecursion IsDigits ts
 IsFraction _ = ⊥
 
+-- ((E | C) (Number | Zero))?
 abbrev pub IsExponent : List Token → Type 0
 IsExponent [] = Unit {0}
 IsExponent (mark ∷ digits ∷ []) = IsExponentMark mark × IsDigits digits
@@ -54,8 +57,11 @@ pub record SampleParts : Type 0 where
   pub fraction : List Token
   pub exponent : List Token
 
+-- sample = digits (Dot digits)? ((E | C) (Number | Zero))?      not empty as a whole
 abbrev pub IsSampleOf : List Token → SampleParts → Type 0
-IsSampleOf tokens s = (tokens ≡ s.integer ++ s.fraction ++ s.exponent) × AllByRecursion IsDigits s.integer × IsFraction s.fraction × IsExponent s.exponent × (tokens ≢ [])
+IsSampleOf tokens s =
+    (tokens ≡ s.integer ++ s.fraction ++ s.exponent)
+    × AllByRecursion IsDigits s.integer × IsFraction s.fraction × IsExponent s.exponent × (tokens ≢ [])
 
 -- the text of a sample's token
 abbrev pub token_text : Token → List ℕ
@@ -66,33 +72,42 @@ token_text E = 101 ∷ []
 token_text (Operand C) = 99 ∷ []
 token_text _ = []
 
+-- a sample, whose text joins the texts of its tokens
 abbrev pub IsSample : List Token → DecimalValue → Type 0
 IsSample tokens text = (s : SampleParts) × IsSampleOf tokens s × (text ≡ flat_map token_text tokens)
 
--- range = sample (Tilde sample)?
+-- (Tilde sample)?
 abbrev pub IsUpper : List Token → Option DecimalValue → Type 0
 IsUpper tokens None = tokens ≡ []
 IsUpper tokens (Some upper) = (rest : List Token) × (tokens ≡ Tilde ∷ rest) × IsSample rest upper
 
+-- range = sample (Tilde sample)?
 abbrev pub IsSampleRange : List Token → SampleRange → Type 0
-IsSampleRange tokens r = (left : List Token) × (right : List Token) × (tokens ≡ left ++ right) × IsSample left r.lower_val × IsUpper right r.upper_val
+IsSampleRange tokens r =
+    (left : List Token) × (right : List Token) × (tokens ≡ left ++ right) × IsSample left r.lower_val × IsUpper right r.upper_val
 
--- list = range (Comma range)* (Comma Ellipsis)?
+-- (Comma Ellipsis)?
 abbrev pub IsEllipsis : List Token → Bool → Type 0
 IsEllipsis tokens false = tokens ≡ []
 IsEllipsis tokens true = tokens ≡ Comma ∷ Ellipsis ∷ []
 
+-- list = range (Comma range)* (Comma Ellipsis)?
 abbrev pub IsSampleList : List Token → SampleList → Type 0
-IsSampleList tokens l = (left : List Token) × (right : List Token) × (tokens ≡ left ++ right) × Separated Comma IsSampleRange left l.sample_ranges × IsEllipsis right l.ellipsis
+IsSampleList tokens l =
+    (left : List Token) × (right : List Token)
+    × (tokens ≡ left ++ right) × Separated Comma IsSampleRange left l.sample_ranges × IsEllipsis right l.ellipsis
 
--- samples = (At (Integer | Decimal) list)*
+-- a list with its type
 pub record Section : Type 0 where
   pub type : Token
   pub list : SampleList
 
+-- samples = (At (Integer | Decimal) list)*
 abbrev pub AreSections : List Token → List Section → Type 0
 AreSections tokens [] = tokens ≡ []
-AreSections tokens (s ∷ ss) = (list : List Token) × (rest : List Token) × (tokens ≡ At ∷ s.type ∷ (list ++ rest)) × IsSampleType s.type × IsSampleList list s.list × AreSections rest ss
+AreSections tokens (s ∷ ss) =
+    (list : List Token) × (rest : List Token)
+    × (tokens ≡ At ∷ s.type ∷ (list ++ rest)) × IsSampleType s.type × IsSampleList list s.list × AreSections rest ss
 
 -- a list takes the place of an earlier one of its type
 abbrev pub with_list : Token → SampleList → samples.Samples → samples.Samples
@@ -100,6 +115,7 @@ with_list Integer list old = record { integer = Some list; decimal = old.decimal
 with_list Decimal list old = record { integer = old.integer; decimal = Some list }
 with_list _ list old = old
 
+-- the samples of all lists: none without a list
 abbrev pub samples_of : List Section → Option samples.Samples
 samples_of [] = None
 samples_of (s ∷ ss) = Some (fold (λ old new. with_list new.type new.list old) (record { integer = None; decimal = None }) (s ∷ ss))
@@ -110,13 +126,15 @@ samples_of (s ∷ ss) = Some (fold (λ old new. with_list new.type new.list old)
 abbrev pub open_range : List Section → Option SampleRange
 open_range sections = option_and_then (λ s. if s.list.ellipsis then None else last s.list.sample_ranges) (last sections)
 
+-- the last sample of a range
 abbrev pub last_sample : SampleRange → DecimalValue
 last_sample r = unwrap_or r.upper_val r.lower_val
 
--- the text of a sample has an exponent, has a point
+-- the text of a sample has an exponent: an `e` or a `c`
 abbrev pub has_exponent : DecimalValue → Bool
 has_exponent text = list_any (λ b. b == 101 || b == 99) text
 
+-- it has a point
 abbrev pub has_point : DecimalValue → Bool
 has_point text = list_any (λ b. b == 46) text
 
@@ -149,16 +167,21 @@ pub data SamplePlace : Type 0 where
 
 -- sections, and then the tokens
 abbrev pub SectionsThen : (List Section → Type 0) → List Token → List Token → Type 0
-SectionsThen Here more tokens = (spelled : List Token) × (sections : List Section) × (tokens ≡ spelled ++ more) × AreSections spelled sections × Here sections
+SectionsThen Here more tokens =
+    (spelled : List Token) × (sections : List Section)
+    × (tokens ≡ spelled ++ more) × AreSections spelled sections × Here sections
 
+-- At behind sections
 abbrev pub IsAfterAt : List Token → Type 0
 IsAfterAt tokens = SectionsThen (λ _. Unit {0}) (At ∷ []) tokens
 
+-- a sample is awaited: after a type, or after Tilde behind a single sample
 abbrev pub IsBeforeSample : List Token → Type 0
 IsBeforeSample tokens =
     ((type : Token) × IsSampleType type × SectionsThen (λ _. Unit {0}) (At ∷ type ∷ []) tokens)
     ⊎ SectionsThen (λ sections. ContinuesSamples sections Tilde) (Tilde ∷ []) tokens
 
+-- Comma behind a list without an ellipsis
 abbrev pub IsAfterComma : List Token → Type 0
 IsAfterComma tokens = SectionsThen (λ sections. ContinuesSamples sections Comma) (Comma ∷ []) tokens
 
@@ -169,22 +192,26 @@ IsAfterMark tokens =
     × (((before : List Token) × (tokens ≡ before ++ mark ∷ []) × (IsBeforeSample before ⊎ IsAfterComma before))
     ⊎ SectionsThen (λ sections. ContinuesSamples sections mark) (mark ∷ []) tokens)
 
+-- the tokens are a beginning that waits at the place
 abbrev pub WaitsInSamples : SamplePlace → List Token → Type 0
 WaitsInSamples after_at tokens = IsAfterAt tokens
 WaitsInSamples before_sample tokens = IsBeforeSample tokens
 WaitsInSamples after_comma tokens = IsAfterComma tokens
 WaitsInSamples after_mark tokens = IsAfterMark tokens
 
+-- the fault where a type is wanted
 abbrev pub type_fault : Option Token → Option ParseError
 type_fault (Some Integer) = None
 type_fault (Some Decimal) = None
 type_fault _ = Some ExpectedSampleType
 
+-- the fault where digits are wanted
 abbrev pub digits_fault : Option Token → Option ParseError
 digits_fault (Some Zero) = None
 digits_fault (Some (Number n)) = None
 digits_fault _ = Some ExpectedValue
 
+-- the fault where a sample is wanted
 abbrev pub sample_fault : Option Token → Option ParseError
 sample_fault (Some Dot) = None
 sample_fault (Some E) = None
@@ -199,13 +226,18 @@ fault_in_samples after_comma (Some Ellipsis) = None
 fault_in_samples after_comma t = sample_fault t
 fault_in_samples after_mark t = digits_fault t
 
+-- a beginning of the tokens waits, and what follows it has this fault
 abbrev pub FaultyInSamples : List Token → ParseError → Type 0
-FaultyInSamples tokens kind = (place : SamplePlace) × (before : List Token) × (rest : List Token) × (tokens ≡ before ++ rest) × WaitsInSamples place before × (fault_in_samples place (first rest) ≡ Some kind)
+FaultyInSamples tokens kind =
+    (place : SamplePlace) × (before : List Token) × (rest : List Token)
+    × (tokens ≡ before ++ rest) × WaitsInSamples place before × (fault_in_samples place (first rest) ≡ Some kind)
 
 -- ---- a whole rule
 
+-- a condition is read from the longest beginning, and the samples from what follows it
 abbrev pub ReadsRule : List Token → Rule → Type 0
 ReadsRule tokens rule = (rest : List Token) × ReadsUpTo tokens rule.condition rest × ReadsSamples rest rule.samples
 
+-- the condition has the fault, or it is read and the samples have the fault
 abbrev pub FaultyRule : List Token → ParseError → Type 0
 FaultyRule tokens kind = Faulty tokens kind ⊎ ((c : Condition) × (rest : List Token) × ReadsUpTo tokens c rest × FaultyInSamples rest kind)

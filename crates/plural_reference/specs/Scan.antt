@@ -1,4 +1,5 @@
--- The tokens of a text, byte by byte: a second way to say what a text is cut into.
+-- Not a definition of the subject: the tokens of a text, byte by byte. The view of the lexer and its private contracts
+-- cite it; that these are the tokens of the text's pieces is proved.
 use Rattle.std.specs.Prelude.{ℕ, ◌+◌, ◌*◌, List, [], ◌∷◌, ◌++◌, Option, Some, None, nat_eq, cond}
 use Rattle.std.specs.Prelude.{nat_le}
 use Rattle.std.specs.Char.{is_ascii_digit, digit_value}
@@ -34,10 +35,12 @@ starts =
 abbrev pub Move : Type 0
 Move = List Token × Scan
 
+-- what the first byte of a piece does
 abbrev pub start_move : Start → Move
 start_move (gives t) = (t ∷ [], between)
 start_move (opens s) = ([], s)
 
+-- the same by a table: a byte that isn't in it is Junk
 abbrev pub look_up : ℕ → List (ℕ × Start) → Move
 look_up b [] = (Junk ∷ [], between)
 look_up b (s ∷ ss) = cond (nat_eq b s.0) (start_move s.1) (look_up b ss)
@@ -46,9 +49,11 @@ look_up b (s ∷ ss) = cond (nat_eq b s.0) (start_move s.1) (look_up b ss)
 abbrev pub begin : ℕ → Move
 begin b = cond (nat_eq b 32) ([], between) (cond (nat_le 49 b) (cond (nat_le b 57) ([], in_number (0 * 10 + digit_value b)) (look_up b starts)) (look_up b starts))
 
+-- the token of a whole number
 abbrev pub number_token : ℕ → Token
 number_token n = cond (nat_le n max_number) (Number n) Junk
 
+-- a byte of a keyword that fits
 abbrev pub keyword_move : List ℕ → Token → Move
 keyword_move [] t = (t ∷ [], between)
 keyword_move (k ∷ ks) t = ([], in_keyword k ks t)
@@ -57,6 +62,7 @@ keyword_move (k ∷ ks) t = ([], in_keyword k ks t)
 abbrev pub then_begin : Token → Move → Move
 then_begin t m = (t ∷ m.0, m.1)
 
+-- what a byte does
 abbrev pub step : Scan → ℕ → Move
 step between b = begin b
 step (in_keyword k ks t) b = cond (nat_eq b k) (keyword_move ks t) (Junk ∷ [], between)
@@ -64,6 +70,7 @@ step (in_number n) b = cond (is_ascii_digit b) ([], in_number (n * 10 + digit_va
 step after_i b = cond (nat_eq b 110) ([], in_keyword 116 (101 ∷ 103 ∷ 101 ∷ 114 ∷ []) Integer) (then_begin (Operand I) (begin b))
 step after_point b = cond (nat_eq b 46) (DotDot ∷ [], between) (then_begin Dot (begin b))
 
+-- what the end of the text does
 abbrev pub at_end : Scan → List Token
 at_end between = []
 at_end (in_keyword k ks t) = Junk ∷ []
@@ -71,6 +78,7 @@ at_end (in_number n) = number_token n ∷ []
 at_end after_i = Operand I ∷ []
 at_end after_point = Dot ∷ []
 
+-- the tokens of the bytes that are left
 unfoldable pub tokens_from : Scan → List ℕ → List Token
 tokens_from s [] = at_end s
 tokens_from s (b ∷ bs) = let m = step s b in m.0 ++ tokens_from m.1 bs

@@ -62,6 +62,7 @@ impl<'l> Iterator for Lexer<'l> {
 }
 
 // The token that the byte begins, and the bytes behind it.
+#[inline]
 #[tactic(auto, using(crate::proofs::Alone::i_alone, crate::proofs::Alone::point_alone), unfolding(crate::specs::Scan::tokens_from))]
 fn token_at(first: u8, rest: &[u8]) -> (Token, &[u8])
     requires { first ≢ 32 }
@@ -100,6 +101,7 @@ fn token_at(first: u8, rest: &[u8]) -> (Token, &[u8])
 }
 
 // The bytes behind the first, where that is the byte.
+#[inline]
 fn strip_byte(text: &[u8], byte: u8) -> Option<&[u8]>
     ensures { MatchOption result (first text.now ≢ Some byte) (λ after. text.now ≡ byte ∷ after.now) }
 {
@@ -150,6 +152,7 @@ fn number(first: u8, text: &[u8]) -> (Token, &[u8])
 }
 
 // A number with one more digit, or none where it is too large.
+#[inline]
 fn pushed(value: Option<u32>, digit: u8) -> Option<u32>
     ensures { (n : ℕ) → value ≡ bounded n → result ≡ bounded (n * 10 + digit) }
 {

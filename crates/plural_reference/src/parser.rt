@@ -80,6 +80,7 @@ impl<'p> Parser<'p> {
     }
 
     // Takes the next token.
+    #[inline]
     fn next(&mut self) -> Option<Token>
         ensures { MatchOption result ((self.old ≡ []) × (self.new ≡ [])) (λ t. self.old ≡ t ∷ self.new) }
     {
@@ -89,6 +90,7 @@ impl<'p> Parser<'p> {
     }
 
     // Takes the next token if it is this one.
+    #[inline]
     fn take_if(&mut self, token: Token) -> bool
         ensures { MatchBool result (self.old ≡ token ∷ self.new) ((first self.old ≢ Some token) × (self.new ≡ self.old)) }
     {
@@ -113,7 +115,7 @@ impl<'p> Parser<'p> {
     }
 
     // item = value | value DotDot value
-    #[tactic(auto, using(crate::proofs::ParserSteps::no_item, crate::proofs::ParserSteps::no_end, crate::proofs::ParserSteps::item_range, crate::proofs::ParserSteps::item_value))]
+    #[tactic(auto, using(crate::proofs::ParserSteps::item_steps))]
     fn item(&mut self) -> Result<RangeListItem, ParseError>
         ensures shorter { length self.new ≤ length self.old }
         ensures item { MatchResult result (λ x. ReadsItem self.old x self.new) (FailsAtItem self.old) }
@@ -181,6 +183,7 @@ impl<'p> Parser<'p> {
         Ok(Some(Expression { operand, modulus }))
     }
 
+    // operator = Operator
     fn operator(&mut self) -> Result<Operator, ParseError>
         ensures shorter { length self.new ≤ length self.old }
         ensures operator { MatchResult result (λ o. self.old ≡ token.Operator o ∷ self.new) (NoOperator self.old) }
@@ -246,6 +249,8 @@ impl<'p> Parser<'p> {
     }
 }
 
+// The operand that a token is.
+#[inline]
 fn operand_of(token: &Token) -> Option<Operand>
     ensures { result ≡ operand_of token.now }
 {

@@ -23,12 +23,13 @@ impl<T: PartialEq> PartialEq for Sequence<T> {
     ghost laws = { lists_per T.laws };
 
     fn eq(&self, other: &Self) -> bool {
-        self.0.as_slice() == other.0.as_slice()
+        self.as_slice() == other.as_slice()
     }
 }
 
 impl<T> Sequence<T> {
     /// The elements.
+    #[inline]
     pub fn as_slice(&self) -> &[T]
         ensures { result.now ≡ self.now }
     {

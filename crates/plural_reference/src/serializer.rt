@@ -11,7 +11,7 @@ mod condition;
 mod part;
 
 use crate::ast;
-use part::{serialize_joined, serialize_prefixed, Part};
+use part::{Part, serialize_joined, serialize_prefixed};
 use std::fmt;
 
 /// Writes a rule: its condition, then its samples where there are any, as `i = 1 and v = 0 @integer 1`.

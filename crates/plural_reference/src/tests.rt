@@ -1,3 +1,10 @@
-//! Worked conditions.
+//! What no clause says: worked values, printed texts, refusing writers, refused growth.
 
+mod growth;
+mod operands;
 mod printing;
+mod reading;
+mod samples;
+mod tokens;
+mod trees;
+mod truth;

@@ -33,6 +33,6 @@ impl From<ParseIntError> for OperandsError {
     ghost from_gives = { λ _ e. e ≡ Invalid };
 
     fn from(_error: ParseIntError) -> OperandsError {
-        OperandsError::Invalid
+        Self::Invalid
     }
 }

@@ -41,6 +41,7 @@ impl<'p> Parser<'p> {
         Ok(samples)
     }
 
+    // type = Integer | Decimal
     fn sample_type(&mut self) -> Result<SampleType, ParseError>
         ensures shorter { length self.new ≤ length self.old }
         ensures kind { MatchResult result (λ kind. self.old ≡ type_token kind ∷ self.new) (NoType self.old) }
@@ -155,6 +156,7 @@ impl<'p> Parser<'p> {
     }
 
     // Takes the next token if it is digits: their number.
+    #[inline]
     fn take_digits(&mut self) -> Option<u32>
         ensures { MatchOption result
             (NoDigits self.old × (self.new ≡ self.old))
@@ -166,6 +168,7 @@ impl<'p> Parser<'p> {
     }
 
     // Takes the next token if it begins an exponent: its text.
+    #[inline]
     fn take_mark(&mut self) -> Option<&'static str>
         ensures { MatchOption result
             (NoMark self.old × (self.new ≡ self.old))
@@ -178,6 +181,7 @@ impl<'p> Parser<'p> {
 }
 
 // The number of a token of digits.
+#[inline]
 fn digits_of(next: &Option<Token>) -> Option<u32>
     ensures { MatchOption result
         (digits_fault next.now ≡ Some ExpectedValue)
@@ -191,6 +195,7 @@ fn digits_of(next: &Option<Token>) -> Option<u32>
 }
 
 // The text of a token that begins an exponent.
+#[inline]
 fn mark_of(next: &Option<Token>) -> Option<&'static str>
     ensures { MatchOption result
         (IfSome next.now (λ t. ¬ (IsExponentMark t)))

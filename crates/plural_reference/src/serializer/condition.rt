@@ -1,7 +1,7 @@
 //! The printed texts of a condition's parts.
 #![tactic(auto, using(crate::proofs::Writes::one_call, crate::proofs::Writes::then_writes))]
 
-use super::part::{serialize_joined, serialize_prefixed, Part};
+use super::part::{Part, serialize_joined, serialize_prefixed};
 use crate::ast;
 use std::fmt;
 

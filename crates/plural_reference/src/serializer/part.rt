@@ -16,7 +16,11 @@ pub trait Part {
 }
 
 // The parts, with the separator between neighbours.
-pub fn serialize_joined<P: Part, W: fmt::Write>(parts: &[P], separator: &str, w: &mut W) -> fmt::Result
+pub fn serialize_joined<P: Part, W: fmt::Write>(
+    parts: &[P],
+    separator: &str,
+    w: &mut W,
+) -> fmt::Result
     ensures { OnOk result (WritesInCalls W.write_str_gives w.old (joined separator.now P.text parts.now) w.new) }
 {
     let Some((first, others)) = parts.split_first() else {
@@ -31,7 +35,11 @@ pub fn serialize_joined<P: Part, W: fmt::Write>(parts: &[P], separator: &str, w:
 }
 
 // The prefix and then the part, where there is one.
-pub fn serialize_prefixed<P: Part, W: fmt::Write>(prefix: &str, part: &Option<P>, w: &mut W) -> fmt::Result
+pub fn serialize_prefixed<P: Part, W: fmt::Write>(
+    prefix: &str,
+    part: &Option<P>,
+    w: &mut W,
+) -> fmt::Result
     ensures { OnOk result (WritesInCalls W.write_str_gives w.old (prefixed prefix.now P.text part.now) w.new) }
 {
     if let Some(part) = part {

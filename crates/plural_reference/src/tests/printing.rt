@@ -2,8 +2,8 @@
 
 use crate::ast::{Condition, DecimalValue, Rule, SampleList, SampleRange, Samples};
 use crate::{
-    parse_condition, serialize, serialize_condition, serialize_decimal_value, serialize_sample_list,
-    serialize_sample_range, serialize_samples, Sequence,
+    Sequence, parse_condition, serialize, serialize_condition, serialize_decimal_value,
+    serialize_sample_list, serialize_sample_range, serialize_samples,
 };
 use std::alloc::Global;
 use std::fmt;
@@ -64,9 +64,18 @@ fn prints_conditions(rt: HostRuntime) -> Result<(), Fail> {
         ("i=01", "i = 0"),
         ("i % 0 = 5", "i % 0 = 5"),
         ("i = 4294967295 @integer 1", "i = 4294967295"),
-        ("n%10=3..4,9and n%100!=10..19,70..79or n=0", "n % 10 = 3..4, 9 and n % 100 != 10..19, 70..79 or n = 0"),
-        ("n = 1 or i = 1 or v = 1 or w = 1", "n = 1 or i = 1 or v = 1 or w = 1"),
-        ("f = 1 and t = 1 and c = 1 and e = 1", "f = 1 and t = 1 and c = 1 and e = 1"),
+        (
+            "n%10=3..4,9and n%100!=10..19,70..79or n=0",
+            "n % 10 = 3..4, 9 and n % 100 != 10..19, 70..79 or n = 0",
+        ),
+        (
+            "n = 1 or i = 1 or v = 1 or w = 1",
+            "n = 1 or i = 1 or v = 1 or w = 1",
+        ),
+        (
+            "f = 1 and t = 1 and c = 1 and e = 1",
+            "f = 1 and t = 1 and c = 1 and e = 1",
+        ),
     ];
     for (text, want) in table {
         let condition = parse_condition(rt.alloc(), text.as_bytes())?;
@@ -96,14 +105,23 @@ fn prints_rules(rt: HostRuntime) -> Result<(), Fail> {
     let mut rule = rule(rt.alloc())?;
     let mut text = String::new(rt.alloc());
     serialize(&rule, &mut text)?;
-    assert_eq!(rt; text.as_str(), "i = 0 or n = 1 @integer 0, 1 @decimal 0.0~1.0, 0.00~0.04, …");
+    assert_eq!(rt;
+        text.as_str(),
+        "i = 0 or n = 1 @integer 0, 1 @decimal 0.0~1.0, 0.00~0.04, …"
+    );
     rule.samples = None;
     let mut text = String::new(rt.alloc());
     serialize(&rule, &mut text)?;
     assert_eq!(rt; text.as_str(), "i = 0 or n = 1");
     let mut text = String::new(rt.alloc());
     let decimal = Some(sample_list(rt.alloc(), &["1.5"], false)?);
-    serialize_samples(&Samples { integer: None, decimal }, &mut text)?;
+    serialize_samples(
+        &Samples {
+            integer: None,
+            decimal,
+        },
+        &mut text,
+    )?;
     assert_eq!(rt; text.as_str(), " @decimal 1.5");
     Ok(())
 }
@@ -128,16 +146,36 @@ impl fmt::Write for Refusing {
 }
 
 // The serializer stops at the refused piece, and what was taken is a beginning of the text.
-fn stops_at_each_piece<F: FnMut(&mut Refusing) -> fmt::Result>(rt: &impl Abort, alloc: Global, pieces: usize, want: &str, mut serializes: F)
+fn stops_at_each_piece<F: FnMut(&mut Refusing) -> fmt::Result>(
+    rt: &impl Abort,
+    alloc: Global,
+    pieces: usize,
+    want: &str,
+    mut serializes: F,
+)
     requires { F.IsAlwaysCallable serializes }
 {
     for left in 0..pieces {
-        let mut writer = Refusing { text: String::new(alloc), left, refused: 0 };
-        assert!(rt; serializes(&mut writer).is_err(), "{want} after {left} pieces");
+        let mut writer = Refusing {
+            text: String::new(alloc),
+            left,
+            refused: 0,
+        };
+        assert!(rt;
+            serializes(&mut writer).is_err(),
+            "{want} after {left} pieces"
+        );
         assert_eq!(rt; writer.refused, 1);
-        assert!(rt; want.starts_with(writer.text.as_str()), "{want} after {left} pieces");
+        assert!(rt;
+            want.starts_with(writer.text.as_str()),
+            "{want} after {left} pieces"
+        );
     }
-    let mut writer = Refusing { text: String::new(alloc), left: pieces, refused: 0 };
+    let mut writer = Refusing {
+        text: String::new(alloc),
+        left: pieces,
+        refused: 0,
+    };
     assert!(rt; serializes(&mut writer).is_ok());
     assert_eq!(rt; writer.text.as_str(), want);
 }
@@ -146,15 +184,51 @@ fn stops_at_each_piece<F: FnMut(&mut Refusing) -> fmt::Result>(rt: &impl Abort, 
 fn stops_at_the_writers_first_fault(rt: HostRuntime) -> Result<(), Fail> {
     let alloc = rt.alloc();
     let rule = rule(alloc)?;
-    stops_at_each_piece(&rt, alloc, 24, "i = 0 or n = 1 @integer 0, 1 @decimal 0.0~1.0, 0.00~0.04, …", |w| serialize(&rule, w));
-    stops_at_each_piece(&rt, alloc, 11, "i = 0 or n = 1", |w| serialize_condition(&rule.condition, w));
+    stops_at_each_piece(
+        &rt,
+        alloc,
+        24,
+        "i = 0 or n = 1 @integer 0, 1 @decimal 0.0~1.0, 0.00~0.04, …",
+        |w| serialize(&rule, w),
+    );
+    stops_at_each_piece(
+        &rt,
+        alloc,
+        11,
+        "i = 0 or n = 1",
+        |w| serialize_condition(&rule.condition, w),
+    );
     if let Some(samples) = &rule.samples {
-        stops_at_each_piece(&rt, alloc, 13, " @integer 0, 1 @decimal 0.0~1.0, 0.00~0.04, …", |w| serialize_samples(samples, w));
+        stops_at_each_piece(
+            &rt,
+            alloc,
+            13,
+            " @integer 0, 1 @decimal 0.0~1.0, 0.00~0.04, …",
+            |w| serialize_samples(samples, w),
+        );
     }
     let list = sample_list(alloc, &["0", "2~16"], true)?;
-    stops_at_each_piece(&rt, alloc, 6, "0, 2~16, …", |w| serialize_sample_list(&list, w));
+    stops_at_each_piece(
+        &rt,
+        alloc,
+        6,
+        "0, 2~16, …",
+        |w| serialize_sample_list(&list, w),
+    );
     let range = sample_range(alloc, "0.1~1.6")?;
-    stops_at_each_piece(&rt, alloc, 3, "0.1~1.6", |w| serialize_sample_range(&range, w));
-    stops_at_each_piece(&rt, alloc, 1, "0.1", |w| serialize_decimal_value(&range.lower_val, w));
+    stops_at_each_piece(
+        &rt,
+        alloc,
+        3,
+        "0.1~1.6",
+        |w| serialize_sample_range(&range, w),
+    );
+    stops_at_each_piece(
+        &rt,
+        alloc,
+        1,
+        "0.1",
+        |w| serialize_decimal_value(&range.lower_val, w),
+    );
     Ok(())
 }

@@ -1,0 +1,328 @@
+// What no clause says: the values of worked texts, sizes at and over the limits, and that calls
+// succeed where there is memory.
+use crate::{CompactDecimal, Decimal, DecimalError, Sign, UnsignedDecimal};
+use std::alloc::{AllocError, Global};
+use std::test::Fail;
+
+// Whether a number has these places and digits, the highest first.
+fn is_written(number: &UnsignedDecimal, range: (i16, i16), digits: &str) -> bool {
+    let mut at = range.1;
+    for digit in digits.as_bytes() {
+        if number.digit_at(at).wrapping_add(b'0') != *digit {
+            return false;
+        }
+        at = at.saturating_sub(1);
+    }
+    number.magnitude_range() == range && at == range.0.saturating_sub(1)
+}
+
+// So many copies of a text.
+fn repeated(alloc: Global, text: &str, count: usize) -> Result<String, AllocError> {
+    let mut all = String::new(alloc);
+    for _ in 0..count {
+        all.push_str(text)?;
+    }
+    Ok(all)
+}
+
+#[test]
+fn a_text_gives_its_sign_and_all_its_digits(rt: HostRuntime) -> Result<(), Fail> {
+    let rows = [
+        ("-0.050", Sign::Negative, (-3, 0), "0050"),
+        ("+1", Sign::Positive, (0, 0), "1"),
+        ("1", Sign::None, (0, 0), "1"),
+        ("-0", Sign::Negative, (0, 0), "0"),
+        (".50", Sign::None, (-2, 0), "050"),
+        ("-.5", Sign::Negative, (-1, 0), "05"),
+        ("007.00", Sign::None, (-2, 2), "00700"),
+        ("1000000.20", Sign::None, (-2, 6), "100000020"),
+        (
+            "100000000000000000000000000007",
+            Sign::None,
+            (0, 29),
+            "100000000000000000000000000007",
+        ),
+    ];
+    for (text, sign, range, digits) in rows {
+        let number = Decimal::from_str(rt.alloc(), text)?;
+        assert_eq!(rt; number.sign, sign, "{text}");
+        assert!(rt; is_written(&number.absolute, range, digits), "{text}");
+    }
+    Ok(())
+}
+
+#[test]
+fn an_unsigned_text_has_no_sign(rt: HostRuntime) -> Result<(), Fail> {
+    let number = UnsignedDecimal::from_str(rt.alloc(), "12.30")?;
+    assert!(rt; is_written(&number, (-2, 1), "1230"));
+    for text in ["+1", "-1", "1c1"] {
+        let outcome = UnsignedDecimal::from_str(rt.alloc(), text).err();
+        assert_eq!(rt; outcome, Some(DecimalError::Syntax), "{text}");
+    }
+    Ok(())
+}
+
+#[test]
+fn a_text_of_another_form_is_refused(rt: HostRuntime) {
+    let texts = [
+        "", "+", "-", ".", "5.", "+.", "1.2.3", "+-1", "--1", "1-", " 1", "1 ", "1_0", "1,0", "x",
+        "1e6", "1C6", "c", "c5", "1c", "1c0256", "1c1000", "1c+5", "1c 5", "1c5c", "1.c5", "1c1.5",
+        "xc256", "1xc256", "1c25x", "\u{661}", "\u{ff11}",
+    ];
+    for text in texts {
+        let outcome = CompactDecimal::from_str(rt.alloc(), text).err();
+        assert_eq!(rt; outcome, Some(DecimalError::Syntax), "{text}");
+        let outcome = Decimal::from_str(rt.alloc(), text).err();
+        assert_eq!(rt; outcome, Some(DecimalError::Syntax), "{text}");
+    }
+}
+
+#[test]
+fn an_exponent_has_one_to_three_digits_and_ends_at_255(rt: HostRuntime) -> Result<(), Fail> {
+    let rows = [
+        ("1", 0),
+        ("1c0", 0),
+        ("1c6", 6),
+        ("1c06", 6),
+        ("1c006", 6),
+        ("1.00000020c6", 6),
+        ("-.5c255", 255),
+    ];
+    for (text, exponent) in rows {
+        assert_eq!(rt;
+            CompactDecimal::from_str(rt.alloc(), text)?.exponent(),
+            exponent,
+            "{text}"
+        );
+    }
+    for text in ["1c256", "1c999", "+.5c256"] {
+        let outcome = CompactDecimal::from_str(rt.alloc(), text).err();
+        assert_eq!(rt; outcome, Some(DecimalError::Limit), "{text}");
+    }
+    Ok(())
+}
+
+#[test]
+fn a_compact_decimal_has_its_parts(rt: HostRuntime) -> Result<(), Fail> {
+    let number = CompactDecimal::from_str(rt.alloc(), "-1.00000020c6")?;
+    assert_eq!(rt; number.significand().sign, Sign::Negative);
+    assert!(rt; is_written(&number.significand().absolute, (-8, 0), "100000020"));
+    let number = CompactDecimal::from_parts(Decimal::from_str(rt.alloc(), "+2.5")?, 255);
+    assert_eq!(rt; number.exponent(), 255);
+    assert_eq!(rt; number.significand().sign, Sign::Positive);
+    assert!(rt; is_written(&number.significand().absolute, (-1, 0), "25"));
+    Ok(())
+}
+
+#[test]
+fn a_side_has_32767_places_at_most(rt: HostRuntime) -> Result<(), Fail> {
+    let mut text = repeated(rt.alloc(), "9", 32767)?;
+    let number = UnsignedDecimal::from_str(rt.alloc(), text.as_str())?;
+    assert_eq!(rt; number.magnitude_range(), (0, 32766));
+    assert_eq!(rt; number.digit_at(32766), 9);
+    text.push_str("c2")?;
+    assert_eq!(rt;
+        CompactDecimal::from_str(rt.alloc(), text.as_str())?.exponent(),
+        2
+    );
+
+    let mut text = repeated(rt.alloc(), "0", 32768)?;
+    let outcome = UnsignedDecimal::from_str(rt.alloc(), text.as_str()).err();
+    assert_eq!(rt; outcome, Some(DecimalError::Limit));
+    text.push_str("c256")?;
+    let outcome = CompactDecimal::from_str(rt.alloc(), text.as_str()).err();
+    assert_eq!(rt; outcome, Some(DecimalError::Limit));
+    text.push_str("x")?;
+    let outcome = CompactDecimal::from_str(rt.alloc(), text.as_str()).err();
+    assert_eq!(rt; outcome, Some(DecimalError::Syntax));
+
+    let mut text = String::new(rt.alloc());
+    text.push_str(".")?;
+    text.push_str(repeated(rt.alloc(), "5", 32767)?.as_str())?;
+    let number = Decimal::from_str(rt.alloc(), text.as_str())?;
+    assert_eq!(rt; number.absolute.magnitude_range(), (-32767, 0));
+    assert_eq!(rt; number.absolute.digit_at(-32767), 5);
+    text.push_str("0")?;
+    let outcome = Decimal::from_str(rt.alloc(), text.as_str()).err();
+    assert_eq!(rt; outcome, Some(DecimalError::Limit));
+    text.push_str(".")?;
+    let outcome = Decimal::from_str(rt.alloc(), text.as_str()).err();
+    assert_eq!(rt; outcome, Some(DecimalError::Syntax));
+    Ok(())
+}
+
+#[test]
+fn a_shift_keeps_every_digit_or_is_refused(rt: HostRuntime) -> Result<(), Fail> {
+    let refused = Err(DecimalError::Limit);
+    let rows = [
+        ("0.5", 1, Ok(()), (0, 1), "05"),
+        ("12345", -2, Ok(()), (-2, 2), "12345"),
+        ("1.00000020", 6, Ok(()), (-2, 6), "100000020"),
+        ("7", 3, Ok(()), (0, 3), "7000"),
+        ("7", -3, Ok(()), (-3, 0), "0007"),
+        ("0.50", 0, Ok(()), (-2, 0), "050"),
+        ("1", 32767, refused, (0, 0), "1"),
+        ("5", i16::MIN, refused, (0, 0), "5"),
+        ("0", i16::MIN, refused, (0, 0), "0"),
+        ("0.5", -32767, refused, (-1, 0), "05"),
+    ];
+    for (text, places, outcome, range, digits) in rows {
+        let mut number = Decimal::from_str(rt.alloc(), text)?;
+        assert_eq!(rt;
+            number.multiply_pow10(places),
+            outcome,
+            "{text} by {places}"
+        );
+        assert!(rt;
+            is_written(&number.absolute, range, digits),
+            "{text} by {places}"
+        );
+    }
+    Ok(())
+}
+
+#[test]
+fn a_shift_reaches_the_last_place(rt: HostRuntime) -> Result<(), Fail> {
+    let rows = [
+        ("1", 32766, (0, 32766), 32766),
+        ("5", -32767, (-32767, 0), -32767),
+    ];
+    for (text, places, range, magnitude) in rows {
+        let mut number = UnsignedDecimal::from_str(rt.alloc(), text)?;
+        assert!(rt; number.multiply_pow10(places).is_ok(), "{text}");
+        assert_eq!(rt; number.magnitude_range(), range, "{text}");
+        assert!(rt; number.digit_at(magnitude) > 0, "{text}");
+        assert_eq!(rt; number.digit_at(magnitude / 2), 0, "{text}");
+    }
+    Ok(())
+}
+
+#[test]
+fn integers_have_their_digits(rt: HostRuntime) -> Result<(), Fail> {
+    let rows = [
+        (0, (0, 0), "0"),
+        (50, (0, 1), "50"),
+        (1000000000000000001, (0, 18), "1000000000000000001"),
+        (
+            u128::MAX,
+            (0, 38),
+            "340282366920938463463374607431768211455",
+        ),
+    ];
+    for (number, range, digits) in rows {
+        let decimal = UnsignedDecimal::from_u128(rt.alloc(), number)?;
+        assert!(rt; is_written(&decimal, range, digits), "{number}");
+    }
+    let rows = [
+        (-50, Sign::Negative, (0, 1), "50"),
+        (50, Sign::None, (0, 1), "50"),
+        (0, Sign::None, (0, 0), "0"),
+        (
+            i128::MIN,
+            Sign::Negative,
+            (0, 38),
+            "170141183460469231731687303715884105728",
+        ),
+    ];
+    for (number, sign, range, digits) in rows {
+        let decimal = Decimal::from_i128(rt.alloc(), number)?;
+        assert_eq!(rt; decimal.sign, sign, "{number}");
+        assert!(rt; is_written(&decimal.absolute, range, digits), "{number}");
+    }
+    Ok(())
+}
+
+#[test]
+fn outside_the_places_each_digit_is_zero(rt: HostRuntime) -> Result<(), Fail> {
+    let number = UnsignedDecimal::from_str(rt.alloc(), "98.76")?;
+    for magnitude in [i16::MIN, -32767, -4, -3, 2, 3, 32766, i16::MAX] {
+        assert_eq!(rt; number.digit_at(magnitude), 0, "{magnitude}");
+    }
+    Ok(())
+}
+
+#[test]
+fn a_digit_from_a_place_on_is_found(rt: HostRuntime) -> Result<(), Fail> {
+    let rows = [
+        ("100000000000000000000000000007", 29, true),
+        ("100000000000000000000000000007", 30, false),
+        ("0000000000000000000", i16::MIN, false),
+        ("0.050", -2, true),
+        ("0.050", -1, false),
+        ("0.050", 18, false),
+        ("1", i16::MIN, true),
+        ("1", 0, true),
+        ("1", i16::MAX, false),
+    ];
+    for (text, magnitude, found) in rows {
+        let number = UnsignedDecimal::from_str(rt.alloc(), text)?;
+        assert_eq!(rt;
+            number.has_digit_from(magnitude),
+            found,
+            "{text} from {magnitude}"
+        );
+    }
+    Ok(())
+}
+
+// The answer of two equal calls of which one may be refused its growth.
+fn either<T: Drop>(
+    first: Result<T, DecimalError>,
+    second: Result<T, DecimalError>,
+) -> Result<T, DecimalError> {
+    match first {
+        Err(DecimalError::Memory) => second,
+        Ok(value) => match second {
+            Ok(_) | Err(DecimalError::Memory) => Ok(value),
+            Err(error) => Err(error),
+        },
+        Err(error) => Err(error),
+    }
+}
+
+#[test]
+fn where_growth_is_refused_a_call_wants_memory_and_then_answers(
+    rt: HostRuntime,
+) -> Result<(), Fail> {
+    let alloc = rt.alloc();
+    let mut number = either(
+        UnsignedDecimal::from_str(alloc, "12.30"),
+        UnsignedDecimal::from_str(alloc, "12.30"),
+    )?;
+    assert!(rt; is_written(&number, (-2, 1), "1230"));
+    assert_eq!(rt; number.multiply_pow10(32765), Ok(()));
+    assert_eq!(rt; number.multiply_pow10(-32767), Ok(()));
+    assert_eq!(rt; number.magnitude_range(), (-32767, 0));
+    assert_eq!(rt; (number.digit_at(-1), number.digit_at(-4)), (1, 0));
+
+    let number = either(
+        Decimal::from_str(alloc, "-0.050"),
+        Decimal::from_str(alloc, "-0.050"),
+    )?;
+    assert!(rt; is_written(&number.absolute, (-3, 0), "0050"));
+    let number = either(
+        CompactDecimal::from_str(alloc, "+5c3"),
+        CompactDecimal::from_str(alloc, "+5c3"),
+    )?;
+    assert!(rt; is_written(&number.significand().absolute, (0, 0), "5"));
+    let number = either(
+        UnsignedDecimal::from_u128(alloc, 1000000),
+        UnsignedDecimal::from_u128(alloc, 1000000),
+    )?;
+    assert!(rt; is_written(&number, (0, 6), "1000000"));
+    let number = either(
+        Decimal::from_i128(alloc, -50),
+        Decimal::from_i128(alloc, -50),
+    )?;
+    assert!(rt; is_written(&number.absolute, (0, 1), "50"));
+
+    for text in ["", "5.", "1c0256"] {
+        let outcome = CompactDecimal::from_str(alloc, text).err();
+        assert_eq!(rt; outcome, Some(DecimalError::Syntax), "{text}");
+    }
+    assert_eq!(rt;
+        CompactDecimal::from_str(alloc, "1c256").err(),
+        Some(DecimalError::Limit)
+    );
+    Ok(())
+}
