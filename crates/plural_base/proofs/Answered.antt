@@ -26,12 +26,12 @@ pub is_answered : HaveOneListOfTokens → HaveOneRule → (text : List ℕ) (ans
 is_answered one_list one_rule text answer read fault =
     let tokens = one_list text in
     elim (one_rule tokens.0) [
-      | inl rule ↦ elim (read tokens.0 rule.0 tokens.1 rule.1) [
-        | inl packed ↦ inl (tokens.0, tokens.1, inl (rule.0, rule.1, packed))
+      | inl rule ↦ elim (read tokens.0 rule.0.0 tokens.1 rule.0.1) [
+        | inl packed ↦ inl (tokens.0, tokens.1, inl (rule.0.0, rule.0.1, packed))
         | inr memory ↦ inr memory
       ]
-      | inr kind ↦ elim (fault tokens.0 kind.0 tokens.1 kind.1) [
-        | inl same ↦ inl (tokens.0, tokens.1, inr (kind.0, kind.1, same))
+      | inr kind ↦ elim (fault tokens.0 kind.0.0 tokens.1 kind.0.1) [
+        | inl same ↦ inl (tokens.0, tokens.1, inr (kind.0.0, kind.0.1, same))
         | inr memory ↦ inr memory
       ]
     ]

@@ -5,6 +5,7 @@ use Rattle.std.specs.Prelude.{◌||◌, nat_lt, if◌then◌else◌, Contains}
 use Rattle.std.specs.List.{list_any, AllByRecursion}
 use Rattle.std.proofs.lemmas.Bool.Decides.{nat_tests}
 use Rattle.std.proofs.lemmas.List.Elements.{Contains-append_left, Contains-append_right, Contains-push}
+use Rattle.plural_reference.specs.declared.ast.AndCondition.{AndCondition}
 use Rattle.plural_reference.specs.declared.ast.Condition.{Condition}
 use Rattle.plural_reference.specs.declared.ast.Relation.{Relation}
 use Rattle.plural_reference.specs.declared.ast.RangeListItem.{RangeListItem}
@@ -118,9 +119,13 @@ groups_small : (gs : List (List Relation)) → list_any (list_any is_large_relat
 groups_small [] e = tt
 groups_small (group ∷ gs) e = let both = neither (list_any is_large_relation group) (list_any (list_any is_large_relation) gs) e in (group_small group both.0, groups_small gs both.1)
 
+large_groups : (gs : List AndCondition) → list_any (λ group. list_any is_large_relation group.0) gs ≡ list_any (list_any is_large_relation) (map (λ group. group.0) gs)
+large_groups [] = refl
+large_groups (group ∷ gs) = ap (λ b. list_any is_large_relation group.0 || b) (large_groups gs)
+
 condition_small : (condition : Condition) → has_large_value condition ≡ false → AllByRecursion (AllByRecursion (Means HasSmallEnds)) (groups_of condition)
 unfolding has_large_value
-condition_small condition e = groups_small (groups_of condition) e
+condition_small condition e = groups_small (groups_of condition) (sym (large_groups condition.0) ∙ e)
 
 -- ---- Both
 

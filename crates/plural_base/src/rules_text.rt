@@ -9,7 +9,7 @@ ghost use Rattle.plural_base.specs.TextAnswers.{IsTakenAs, IsRefused, IsFirstRef
 use crate::category::PluralCategory;
 use crate::raw_category::RawPluralCategory;
 use crate::rules_data::PluralRulesData;
-use plural_reference::laws::{one_list_of_tokens, one_rule};
+use plural_reference::laws::reading::{one_list_of_tokens, one_rule};
 use plural_runtime::{Rule, RuleError};
 use std::alloc::Global;
 use std::error::Error;

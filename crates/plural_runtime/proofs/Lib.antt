@@ -14,3 +14,4 @@ mod PackedTrees
 mod JoinedTexts
 mod RuleTexts
 mod SameRelations
+mod WorkedRules

@@ -105,11 +105,11 @@ fn rules_of_texts_choose_as_languages_do(rt: HostRuntime) -> Result<(), Fail> {
 // Checks that the first text that gives no rule is the one of the category, and why.
 fn check_refused(
     rt: &impl Abort,
-    result: Result<PluralRulesData<'static>, RulesTextError>,
+    answer: Result<PluralRulesData<'static>, RulesTextError>,
     category: PluralCategory,
     error: RuleError,
 ) {
-    match result {
+    match answer {
         Ok(_) => assert!(rt; false, "taken, and not refused for {category:?}"),
         Err(found) => assert_eq!(rt; found, RulesTextError { category, error }),
     }
