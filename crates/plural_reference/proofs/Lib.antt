@@ -30,6 +30,7 @@ pub mod TokensFit
 pub mod PrintedTokens
 pub mod SpellableConditions
 pub mod PrintedConditions
+pub mod PrintedDigits
 pub mod PrintedSamples
 pub mod PrintedRules
 pub mod PrintedBack

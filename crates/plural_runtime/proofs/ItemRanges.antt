@@ -1,0 +1,29 @@
+-- The ranges in the bytes of an item.
+use Rattle.std.proofs.Common.{◌≡◌, ℕ, zero, suc, ◌-◌, ◌*◌, ◌/◌, ◌<◌, List, [], ◌∷◌, length, drop, refl, sym, ap, ◌∙◌, arith, Some}
+use Rattle.std.specs.Prelude.{slice_get}
+use Rattle.plural_runtime.specs.RuleReading.{range_in, ranges_in}
+
+pub length-ranges_in : (bytes : List ℕ) → length (ranges_in bytes) ≡ length bytes / 8
+length-ranges_in [] = refl
+length-ranges_in (a ∷ []) = refl
+length-ranges_in (a ∷ b ∷ []) = refl
+length-ranges_in (a ∷ b ∷ c ∷ []) = refl
+length-ranges_in (a ∷ b ∷ c ∷ d ∷ []) = refl
+length-ranges_in (a ∷ b ∷ c ∷ d ∷ e ∷ []) = refl
+length-ranges_in (a ∷ b ∷ c ∷ d ∷ e ∷ f ∷ []) = refl
+length-ranges_in (a ∷ b ∷ c ∷ d ∷ e ∷ f ∷ g ∷ []) = refl
+length-ranges_in (a ∷ b ∷ c ∷ d ∷ e ∷ f ∷ g ∷ i ∷ bytes) = let h = length-ranges_in bytes in omega arith
+
+pub slice_get-ranges_in : (bytes : List ℕ) (k : ℕ) → k < length bytes / 8 → slice_get (ranges_in bytes) k ≡ Some (range_in (drop (8 * k) bytes))
+slice_get-ranges_in [] k h = absurd (omega arith)
+slice_get-ranges_in (a ∷ []) k h = absurd (omega arith)
+slice_get-ranges_in (a ∷ b ∷ []) k h = absurd (omega arith)
+slice_get-ranges_in (a ∷ b ∷ c ∷ []) k h = absurd (omega arith)
+slice_get-ranges_in (a ∷ b ∷ c ∷ d ∷ []) k h = absurd (omega arith)
+slice_get-ranges_in (a ∷ b ∷ c ∷ d ∷ e ∷ []) k h = absurd (omega arith)
+slice_get-ranges_in (a ∷ b ∷ c ∷ d ∷ e ∷ f ∷ []) k h = absurd (omega arith)
+slice_get-ranges_in (a ∷ b ∷ c ∷ d ∷ e ∷ f ∷ g ∷ []) k h = absurd (omega arith)
+slice_get-ranges_in (a ∷ b ∷ c ∷ d ∷ e ∷ f ∷ g ∷ i ∷ bytes) zero h = refl
+slice_get-ranges_in (a ∷ b ∷ c ∷ d ∷ e ∷ f ∷ g ∷ i ∷ bytes) (suc k) h =
+    let n : 8 * suc k ≡ suc (suc (suc (suc (suc (suc (suc (suc (8 * k)))))))) = omega arith in
+    slice_get-ranges_in bytes k (omega arith) ∙ ap (λ m. Some (range_in (drop m (a ∷ b ∷ c ∷ d ∷ e ∷ f ∷ g ∷ i ∷ bytes)))) (sym n)

@@ -1,0 +1,17 @@
+mod ItemBytes
+mod ItemRanges
+mod RuleItems
+mod Meanings
+mod TreeGroups
+mod Counts
+mod NeededGroups
+mod Walks
+mod RangeSteps
+mod NeededMost
+mod TwoTruths
+mod KindsAgain
+mod PackedTrees
+mod JoinedTexts
+mod RuleTexts
+mod SameRelations
+mod WorkedRules

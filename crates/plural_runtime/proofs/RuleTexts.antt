@@ -1,0 +1,150 @@
+-- The printed text of a rule is that of its tree.
+use Rattle.std.proofs.Common.{◌≡◌, ℕ, zero, suc, ◌+◌, ◌<◌, List, [], ◌∷◌, ◌++◌, length, take, map, refl, sym, ap, ◌∙◌, append_assoc, append-nil, Bool, true, false, Some, arith}
+use Rattle.std.specs.Prelude.{◌==◌, if◌then◌else◌, slice_get, flat_map, codes, Option}
+use Rattle.std.specs.Fmt.{decimal}
+use Rattle.std.proofs.lemmas.Bool.{ne_eqb}
+use Rattle.plural_reference.specs.declared.ast.AndCondition.{AndCondition}
+use Rattle.plural_reference.specs.declared.ast.Operator.{Operator}
+use Rattle.plural_reference.specs.declared.ast.Operator.TheVariants.{Eq, NotEq}
+use Rattle.plural_reference.specs.declared.ast.Relation.{Relation}
+use Rattle.plural_reference.specs.Serializer.{joined, prefixed, value_text, operand_text, operator_text, expression_text, item_text, range_list_text, relation_text, and_condition_text, condition_text}
+use Rattle.plural_reference.specs.Truth.{RelationMeaning}
+use Rattle.plural_runtime.specs.declared.kinds.AndOr.{AndOr}
+use Rattle.plural_runtime.specs.declared.kinds.AndOr.TheVariants.{And, Or}
+use Rattle.plural_runtime.specs.PackedRelations.{PackedRelation, groups, at_front, cut_before}
+use Rattle.plural_runtime.specs.PackedTree.{unpacked_range, unpacked_modulus, unpacked_meaning, unpacked_relation, unpacked_groups, unpacked}
+use Rattle.plural_runtime.specs.RuleKinds.{range_or_value}
+use Rattle.plural_runtime.specs.RuleText.{mark_text, modulus_text, sign_text, range_shown, ranges_shown, relation_shown, others_shown, relations_shown}
+use Rattle.plural_runtime.proofs.JoinedTexts.{joined-flat_map, joined-map, take_next}
+use Rattle.plural_runtime.proofs.Walks.{first_group}
+
+-- ---- a relation
+
+range_text : (range : ℕ × ℕ) → item_text (unpacked_range range) ≡ range_shown (range_or_value range)
+range_text range = by (range.0 == range.1) refl
+  where
+    by : (same : Bool) → (range.0 == range.1) ≡ same → item_text (unpacked_range range) ≡ range_shown (range_or_value range)
+    by true h = rw h refl
+    by false h = rw h (append_assoc (decimal range.0) (codes "..") (decimal range.1))
+
+modulus_text-is : (modulus : ℕ) → prefixed (codes " % ") value_text (unpacked_modulus modulus) ≡ modulus_text modulus
+modulus_text-is modulus = by (modulus == 0) refl
+  where
+    by : (none : Bool) → (modulus == 0) ≡ none → prefixed (codes " % ") value_text (unpacked_modulus modulus) ≡ modulus_text modulus
+    by true h = rw h refl
+    by false h = rw h refl
+
+sign_text-is : (operator : Operator) → sign_text operator ≡ (codes " " ++ operator_text operator) ++ codes " "
+sign_text-is Eq = refl
+sign_text-is NotEq = refl
+
+regroup : (a b c d e : List ℕ) → (((a ++ b) ++ c) ++ d) ++ e ≡ a ++ (((b ++ c) ++ d) ++ e)
+regroup a b c d e = simp append_assoc
+
+pub relation_text-is : (relation : RelationMeaning) → relation_text (unpacked_meaning relation) ≡ relation_shown relation
+relation_text-is relation =
+    let list = joined-map (codes ", ") item_text (λ range. range_shown (range_or_value range)) unpacked_range range_text relation.ranges in
+    ap (λ l. (((expression_text (unpacked_meaning relation).expression ++ codes " ") ++ operator_text relation.operator) ++ codes " ") ++ l) list
+    ∙ regroup (expression_text (unpacked_meaning relation).expression) (codes " ") (operator_text relation.operator) (codes " ") (ranges_shown relation.ranges)
+    ∙ ap (λ s. expression_text (unpacked_meaning relation).expression ++ (s ++ ranges_shown relation.ranges)) (sym (sign_text-is relation.operator))
+    ∙ ap (λ m. (operand_text relation.operand ++ m) ++ (sign_text relation.operator ++ ranges_shown relation.ranges)) (modulus_text-is relation.modulus)
+
+-- ---- groups
+
+-- the text of a group, as its relations show
+abbrev group_shown : List PackedRelation → List ℕ
+group_shown group = joined (codes " and ") (λ (relation : PackedRelation). relation_shown relation.meaning) group
+
+-- relations that go on in a group, and groups that go on
+abbrev ands : List PackedRelation → List ℕ
+ands group = flat_map (λ (relation : PackedRelation). codes " and " ++ relation_shown relation.meaning) group
+
+abbrev ors : List (List PackedRelation) → List ℕ
+ors gs = flat_map (λ (group : List PackedRelation). codes " or " ++ group_shown group) gs
+
+group_shown-cons : (relation : PackedRelation) (group : List PackedRelation) → group_shown (relation ∷ group) ≡ relation_shown relation.meaning ++ ands group
+group_shown-cons relation group = joined-flat_map (codes " and ") (λ (r : PackedRelation). relation_shown r.meaning) relation group
+
+-- the groups behind the first relation
+abbrev tail_shown : List (List PackedRelation) → List ℕ
+tail_shown [] = []
+tail_shown (group ∷ gs) = ands group ++ ors gs
+
+step_shown : (mark : AndOr) (relation : PackedRelation) (group : List PackedRelation) (gs : List (List PackedRelation)) →
+    tail_shown (cut_before mark (at_front relation (group ∷ gs))) ≡ (mark_text false mark ++ relation_shown relation.meaning) ++ tail_shown (group ∷ gs)
+step_shown And relation group gs = append_assoc (codes " and " ++ relation_shown relation.meaning) (ands group) (ors gs)
+step_shown Or relation group gs =
+    ap (λ g. (codes " or " ++ g) ++ ors gs) (group_shown-cons relation group)
+    ∙ four (codes " or ") (relation_shown relation.meaning) (ands group) (ors gs)
+  where
+    four : (a b c d : List ℕ) → (a ++ (b ++ c)) ++ d ≡ (a ++ b) ++ (c ++ d)
+    four a b c d = simp append_assoc
+
+others_shown-is : (relations : List PackedRelation) → tail_shown (groups relations) ≡ others_shown relations
+others_shown-is [] = refl
+others_shown-is (relation ∷ relations) =
+    let f = first_group relations in
+    ap (λ gs. tail_shown (cut_before relation.and_or (at_front relation gs))) f.is ∙ step_shown relation.and_or relation f.first f.others
+    ∙ ap (λ gs. (mark_text false relation.and_or ++ relation_shown relation.meaning) ++ tail_shown gs) (sym f.is)
+    ∙ ap (λ t. (mark_text false relation.and_or ++ relation_shown relation.meaning) ++ t) (others_shown-is relations)
+
+-- the groups, from the first relation on
+abbrev groups_shown : List (List PackedRelation) → List ℕ
+groups_shown gs = joined (codes " or ") group_shown gs
+
+first_shown : (mark : AndOr) (relation : PackedRelation) (group : List PackedRelation) (gs : List (List PackedRelation)) →
+    groups_shown (cut_before mark (at_front relation (group ∷ gs))) ≡ (mark_text true mark ++ relation_shown relation.meaning) ++ tail_shown (group ∷ gs)
+first_shown And relation group gs =
+    joined-flat_map (codes " or ") group_shown (relation ∷ group) gs ∙ ap (λ g. g ++ ors gs) (group_shown-cons relation group)
+    ∙ append_assoc (relation_shown relation.meaning) (ands group) (ors gs)
+first_shown Or relation group gs =
+    joined-flat_map (codes " or ") group_shown [] ((relation ∷ group) ∷ gs) ∙ step_shown Or relation group gs
+
+shown_groups : (relations : List PackedRelation) (relation : PackedRelation) → groups_shown (groups (relation ∷ relations)) ≡ relations_shown (relation ∷ relations)
+shown_groups relations relation =
+    let f = first_group relations in
+    ap (λ gs. groups_shown (cut_before relation.and_or (at_front relation gs))) f.is ∙ first_shown relation.and_or relation f.first f.others
+    ∙ ap (λ gs. (mark_text true relation.and_or ++ relation_shown relation.meaning) ++ tail_shown gs) (sym f.is)
+    ∙ ap (λ t. (mark_text true relation.and_or ++ relation_shown relation.meaning) ++ t) (others_shown-is relations)
+
+group_text-is : (group : List PackedRelation) → joined (codes " and ") relation_text (map unpacked_relation group) ≡ group_shown group
+group_text-is group = joined-map (codes " and ") relation_text (λ (r : PackedRelation). relation_shown r.meaning) unpacked_relation (λ r. relation_text-is r.meaning) group
+
+-- the text of the tree
+pub condition_text-is : (relations : List PackedRelation) → condition_text (unpacked relations) ≡ relations_shown relations
+unfolding unpacked
+condition_text-is [] = refl
+condition_text-is (relation ∷ relations) =
+    joined-map (codes " or ") and_condition_text (λ (group : List Relation). joined (codes " and ") relation_text group) (λ (group : List Relation). record { 0 = group }) (λ group. refl) (unpacked_groups (relation ∷ relations))
+    ∙ joined-map (codes " or ") (λ (group : List Relation). joined (codes " and ") relation_text group) group_shown (map unpacked_relation) group_text-is (groups (relation ∷ relations))
+    ∙ shown_groups relations relation
+
+-- ---- one relation more is printed
+
+others_push : (relations : List PackedRelation) (relation : PackedRelation) → others_shown (relations ++ relation ∷ []) ≡ others_shown relations ++ (mark_text false relation.and_or ++ relation_shown relation.meaning)
+others_push [] relation = append-nil (mark_text false relation.and_or ++ relation_shown relation.meaning)
+others_push (first ∷ relations) relation =
+    ap (λ t. (mark_text false first.and_or ++ relation_shown first.meaning) ++ t) (others_push relations relation)
+    ∙ sym (append_assoc (mark_text false first.and_or ++ relation_shown first.meaning) (others_shown relations) (mark_text false relation.and_or ++ relation_shown relation.meaning))
+
+not_zero : (k : ℕ) → (suc k == 0) ≡ false
+not_zero k = ne_eqb (suc k) 0 (λ e. omega arith)
+
+pub shown_more : (relations : List PackedRelation) (k : ℕ) (relation : PackedRelation) → Some relation ≡ slice_get relations k → relations_shown (take k relations) ++ (mark_text (k == 0) relation.and_or ++ relation_shown relation.meaning) ≡ relations_shown (take (k + 1) relations)
+shown_more [] k relation e = cc
+shown_more (first ∷ relations) zero relation e =
+    let f : first ≡ relation = cc in
+    sym (append-nil (mark_text true relation.and_or ++ relation_shown relation.meaning)) ∙ ap (λ (r : PackedRelation). (mark_text true r.and_or ++ relation_shown r.meaning) ++ []) (sym f)
+shown_more (first ∷ relations) (suc k) relation e =
+    let one : suc k + 1 ≡ suc (k + 1) = omega arith in
+    let front = mark_text true first.and_or ++ relation_shown first.meaning in
+    ap (λ b. (front ++ others_shown (take k relations)) ++ (mark_text b relation.and_or ++ relation_shown relation.meaning)) (not_zero k)
+    ∙ append_assoc front (others_shown (take k relations)) (mark_text false relation.and_or ++ relation_shown relation.meaning)
+    ∙ ap (λ t. front ++ t) (sym (others_push (take k relations) relation) ∙ ap others_shown (sym (take_next relations k relation e)))
+    ∙ sym (ap (λ n. relations_shown (take n (first ∷ relations))) one)
+
+-- a range that is printed stands in the list
+pub range_at : (ranges : List (ℕ × ℕ)) (k : ℕ) → k < length ranges → (range : ℕ × ℕ) × (Some range ≡ slice_get ranges k)
+range_at [] k h = absurd (omega arith)
+range_at (range ∷ ranges) zero h = (range, refl)
+range_at (range ∷ ranges) (suc k) h = range_at ranges k (omega arith)

@@ -1,0 +1,15 @@
+pub mod PackedRelations
+pub mod RuleBytes
+pub mod RelationEquality
+pub mod RuleFaults
+pub mod PackedTruth
+pub mod NeededRanges
+pub mod PackedTree
+pub mod RuleKinds
+pub mod Packing
+pub mod RuleErrorTexts
+-- not definitions of the subject
+pub mod RuleReading
+pub mod RuleViews
+pub mod RuleWalk
+pub mod RuleText

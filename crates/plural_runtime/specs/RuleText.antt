@@ -1,0 +1,44 @@
+-- Not a definition of the subject: the printed text of packed relations, one after the other.
+use Rattle.std.specs.Prelude.{ℕ, List, [], ◌∷◌, ◌++◌, map, codes, Bool, true, false, if◌then◌else◌, ◌==◌}
+use Rattle.std.specs.Fmt.{decimal}
+use Rattle.plural_reference.specs.declared.ast.Operator.{Operator}
+use Rattle.plural_reference.specs.declared.ast.Operator.TheVariants.{Eq, NotEq}
+use Rattle.plural_reference.specs.Serializer.{joined, operand_text}
+use Rattle.plural_reference.specs.Truth.{RelationMeaning}
+use Rattle.plural_runtime.specs.declared.kinds.AndOr.{AndOr}
+use Rattle.plural_runtime.specs.declared.kinds.AndOr.TheVariants.{And, Or}
+use Rattle.plural_runtime.specs.declared.range.RangeOrValue.{RangeOrValue}
+use Rattle.plural_runtime.specs.declared.range.RangeOrValue.TheVariants.{Range, Value}
+use Rattle.plural_runtime.specs.PackedRelations.{PackedRelation}
+use Rattle.plural_runtime.specs.RuleKinds.{range_or_value}
+
+-- what stands before a relation, which may be the first
+abbrev pub mark_text : Bool → AndOr → List ℕ
+mark_text is_first Or = codes " or "
+mark_text is_first And = if is_first then [] else codes " and "
+
+abbrev pub modulus_text : ℕ → List ℕ
+modulus_text modulus = if modulus == 0 then [] else (codes " % " ++ decimal modulus)
+
+abbrev pub sign_text : Operator → List ℕ
+sign_text Eq = codes " = "
+sign_text NotEq = codes " != "
+
+abbrev pub range_shown : RangeOrValue → List ℕ
+range_shown (Range start end) = decimal start ++ (codes ".." ++ decimal end)
+range_shown (Value value) = decimal value
+
+abbrev pub ranges_shown : List (ℕ × ℕ) → List ℕ
+ranges_shown ranges = joined (codes ", ") (λ range. range_shown (range_or_value range)) ranges
+
+abbrev pub relation_shown : RelationMeaning → List ℕ
+relation_shown relation = (operand_text relation.operand ++ modulus_text relation.modulus) ++ (sign_text relation.operator ++ ranges_shown relation.ranges)
+
+-- the relations behind the first one
+abbrev pub others_shown : List PackedRelation → List ℕ
+others_shown [] = []
+others_shown (relation ∷ relations) = (mark_text false relation.and_or ++ relation_shown relation.meaning) ++ others_shown relations
+
+abbrev pub relations_shown : List PackedRelation → List ℕ
+relations_shown [] = []
+relations_shown (relation ∷ relations) = (mark_text true relation.and_or ++ relation_shown relation.meaning) ++ others_shown relations

@@ -1,0 +1,178 @@
+//! Prints a rule.
+
+ghost use Rattle.std.specs.Prelude.{◌≡◌, ◌++◌, [], Some, codes, if◌then◌else◌};
+ghost use Rattle.std.specs.Fmt.{DisplaysOnOk};
+ghost use Rattle.plural_reference.specs.Serializer.{operand_text};
+ghost use Rattle.plural_runtime.specs.PackedRelations.{PackedRelation};
+ghost use Rattle.plural_runtime.specs.RuleKinds.{operator_of, tree_operand_of};
+ghost use Rattle.plural_runtime.specs.RuleText.{mark_text, modulus_text, range_shown, ranges_shown, relation_shown, relations_shown, sign_text};
+ghost use Rattle.plural_runtime.specs.RuleViews.{lent_relation};
+
+use crate::kinds::{AndOr, Operand, Polarity};
+use crate::range::RangeOrValue;
+use crate::relation::Relation;
+use crate::rule::Rule;
+use std::fmt;
+
+/// The text of the rule's tree, as `n % 10 = 3..4, 9 and n % 100 != 10..19 or n = 0`. It takes no memory.
+///
+/// A rule without relations has the empty text; one whose first relation is marked Or begins with ` or `.
+impl<'data> fmt::Display for Rule<'data> {
+    ghost use Rattle.std.specs.Prelude.{Some};
+    ghost use Rattle.plural_reference.specs.Serializer.{condition_text};
+    ghost use Rattle.plural_runtime.specs.PackedTree.{unpacked};
+
+    ghost output = { λ rule. Some (condition_text (unpacked rule)) };
+
+    fn fmt<W: fmt::Write>(&self, f: &mut fmt::Formatter<W>) -> fmt::Result {
+        write_relations(self, f)
+    }
+}
+
+// Prints the relations, one after the other.
+fn write_relations<W: fmt::Write>(rule: &Rule<'_>, f: &mut fmt::Formatter<W>) -> fmt::Result
+    ensures { DisplaysOnOk W.write_str_gives f.old result (Some (relations_shown rule.now)) f.new }
+{
+    for index in 0..rule.len() {
+        let Some(item) = rule.get(index) else {
+            return Ok(());
+        };
+        write_next(index == 0, &item.as_relation(), f)?;
+    }
+    Ok(())
+}
+
+// Prints a relation, and before it what joins it to the one before.
+fn write_next<W: fmt::Write>(
+    is_first: bool,
+    relation: &Relation<'_>,
+    f: &mut fmt::Formatter<W>,
+) -> fmt::Result
+    ensures { DisplaysOnOk W.write_str_gives f.old result (Some (mark_text is_first (lent_relation relation.now).and_or ++ relation_shown (lent_relation relation.now).meaning)) f.new }
+{
+    f.write_str(mark(is_first, relation.and_or()))?;
+    write_relation(relation, f)
+}
+
+// What joins a relation to the one before.
+fn mark(is_first: bool, and_or: AndOr) -> &'static str
+    ensures { result.now ≡ mark_text is_first and_or }
+{
+    match and_or {
+        AndOr::Or => " or ",
+        AndOr::And => {
+            if is_first {
+                ""
+            } else {
+                " and "
+            }
+        }
+    }
+}
+
+// Prints a relation.
+fn write_relation<W: fmt::Write>(
+    relation: &Relation<'_>,
+    f: &mut fmt::Formatter<W>,
+) -> fmt::Result
+    ensures { DisplaysOnOk W.write_str_gives f.old result (Some (relation_shown (lent_relation relation.now).meaning)) f.new }
+{
+    write_expression(relation.operand(), relation.modulo(), f)?;
+    write_list(relation, f)
+}
+
+// Prints an operand, and a modulus where it isn't 0.
+fn write_expression<W: fmt::Write>(
+    operand: Operand,
+    modulo: u32,
+    f: &mut fmt::Formatter<W>,
+) -> fmt::Result
+    ensures { DisplaysOnOk W.write_str_gives f.old result (Some (operand_text (tree_operand_of operand) ++ modulus_text modulo)) f.new }
+{
+    f.write_str(letter(operand))?;
+    write_modulus(modulo, f)
+}
+
+// The letter of an operand.
+fn letter(operand: Operand) -> &'static str
+    ensures { result.now ≡ operand_text (tree_operand_of operand) }
+{
+    match operand {
+        Operand::N => "n",
+        Operand::I => "i",
+        Operand::V => "v",
+        Operand::W => "w",
+        Operand::F => "f",
+        Operand::T => "t",
+        Operand::C => "c",
+        Operand::E => "e",
+    }
+}
+
+// Prints a modulus where it isn't 0.
+fn write_modulus<W: fmt::Write>(modulo: u32, f: &mut fmt::Formatter<W>) -> fmt::Result
+    ensures { DisplaysOnOk W.write_str_gives f.old result (Some (modulus_text modulo)) f.new }
+{
+    if modulo == 0 {
+        Ok(())
+    } else {
+        write!(f, " % {modulo}")
+    }
+}
+
+// Prints the operator and the ranges of a relation.
+fn write_list<W: fmt::Write>(relation: &Relation<'_>, f: &mut fmt::Formatter<W>) -> fmt::Result
+    ensures { DisplaysOnOk W.write_str_gives f.old result (Some (sign_text (lent_relation relation.now).meaning.operator ++ ranges_shown (lent_relation relation.now).meaning.ranges)) f.new }
+{
+    f.write_str(sign(relation.polarity()))?;
+    write_ranges(relation, f)
+}
+
+// The operator of a polarity, with a space on each side.
+fn sign(polarity: Polarity) -> &'static str
+    ensures { result.now ≡ sign_text (operator_of polarity) }
+{
+    match polarity {
+        Polarity::Positive => " = ",
+        Polarity::Negative => " != ",
+    }
+}
+
+// Prints the ranges of a relation with a comma between each two.
+fn write_ranges<W: fmt::Write>(relation: &Relation<'_>, f: &mut fmt::Formatter<W>) -> fmt::Result
+    ensures { DisplaysOnOk W.write_str_gives f.old result (Some (ranges_shown (lent_relation relation.now).meaning.ranges)) f.new }
+{
+    for index in 0..relation.len() {
+        let Some(range) = relation.range(index) else {
+            return Ok(());
+        };
+        write_next_range(index == 0, range, f)?;
+    }
+    Ok(())
+}
+
+// Prints a range, and a comma before it if it isn't the first.
+fn write_next_range<W: fmt::Write>(
+    is_first: bool,
+    range: RangeOrValue,
+    f: &mut fmt::Formatter<W>,
+) -> fmt::Result
+    ensures { DisplaysOnOk W.write_str_gives f.old result (Some ((if is_first then [] else codes ", ") ++ range_shown range)) f.new }
+{
+    if is_first {
+        write_range(range, f)
+    } else {
+        f.write_str(", ")?;
+        write_range(range, f)
+    }
+}
+
+// Prints a range.
+fn write_range<W: fmt::Write>(range: RangeOrValue, f: &mut fmt::Formatter<W>) -> fmt::Result
+    ensures { DisplaysOnOk W.write_str_gives f.old result (Some (range_shown range)) f.new }
+{
+    match range {
+        RangeOrValue::Range(start, end) => write!(f, "{start}..{end}"),
+        RangeOrValue::Value(value) => write!(f, "{value}"),
+    }
+}

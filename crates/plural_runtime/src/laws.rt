@@ -1,0 +1,42 @@
+//! What is true of all packed rules.
+
+ghost use Rattle.std.specs.Prelude.{◌≡◌, ◌↔◌, ◌⊎◌, ◌≤◌, ℕ, List, IsTrue};
+ghost use Rattle.plural_reference.specs.Operands.{Operands};
+ghost use Rattle.plural_reference.specs.Resolver.{tree_truth};
+ghost use Rattle.plural_runtime.specs.PackedRelations.{PackedRelation};
+ghost use Rattle.plural_runtime.specs.RuleBytes.{RuleBytes};
+ghost use Rattle.plural_runtime.specs.RuleReading.{relations_in};
+ghost use Rattle.plural_runtime.specs.PackedTree.{packed, unpacked, has_no_negated_n};
+ghost use Rattle.plural_runtime.specs.PackedTruth.{packed_truth};
+ghost use Rattle.plural_runtime.specs.NeededRanges.{needed_ranges, all_ranges};
+
+use packed_list::laws::read_again;
+
+/// Rules are the same bytes exactly if they are the same relations.
+pub fn one_encoding()
+    ensures { (relations others : List PackedRelation) (a b : List ℕ) → RuleBytes relations a → RuleBytes others b → (a ≡ b) ↔ (relations ≡ others) }
+{
+    read_again();
+}
+
+/// What the reader of bytes gives is the rule that they are packed from.
+pub fn relations_read_again()
+    ensures { (relations : List PackedRelation) (bytes : List ℕ) → RuleBytes relations bytes → relations_in bytes ≡ relations }
+{
+    read_again();
+}
+
+/// The tree of relations packs to these relations.
+pub fn packs_again()
+    ensures { (relations : List PackedRelation) → packed (unpacked relations) ≡ relations }
+{}
+
+/// No more ranges are needed than there are.
+pub fn at_most_all()
+    ensures { (number : Operands) (relations : List PackedRelation) → needed_ranges number relations ≤ all_ranges relations }
+{}
+
+/// A rule is true exactly where its tree is, if the fraction is zero or no relation tests `n` with `!=`.
+pub fn truths_agree()
+    ensures { (number : Operands) (relations : List PackedRelation) → (number.w ≡ 0) ⊎ IsTrue (has_no_negated_n relations) → tree_truth number (unpacked relations) ≡ packed_truth number relations }
+{}

@@ -1,0 +1,32 @@
+//! Plural rules as packed bytes: their relations, their tree and their text, and when they are true.
+#![tactic(auto)]
+
+mod display;
+mod error;
+mod first_byte;
+mod from_text;
+mod item;
+mod kinds;
+pub mod laws;
+mod pack;
+mod parse;
+mod range;
+mod relation;
+mod relations;
+mod resolver;
+mod rule;
+mod steps;
+#[cfg(test)]
+mod tests;
+mod tree;
+mod tree_bytes;
+
+pub use error::{RuleBytesError, RuleError};
+pub use first_byte::AndOrPolarityOperand;
+pub use kinds::{AndOr, Operand, Polarity};
+pub use range::RangeOrValue;
+pub use relation::{Relation, RelationULE};
+pub use relations::Relations;
+pub use resolver::{test_rule, test_rule_counted};
+pub use rule::Rule;
+pub use steps::Steps;

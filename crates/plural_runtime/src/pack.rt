@@ -1,0 +1,127 @@
+//! Packs trees.
+
+ghost use Rattle.std.specs.Prelude.{◌≡◌, ◌⊎◌, map, vec_items, Err, IfOk, IsTrue, OnOk};
+ghost use Rattle.std.specs.List.{list_any};
+ghost use Rattle.packed_list.specs.ListBytes.{ListBytes, has_high_start, lent};
+ghost use Rattle.plural_runtime.specs.RuleBytes.{relation_bytes};
+ghost use Rattle.plural_runtime.specs.PackedTree.{packed, has_large_value, is_large, is_large_item, is_large_modulus, is_large_relation};
+ghost use Rattle.plural_runtime.specs.Packing.{Packs};
+
+use crate::error::RuleError;
+use crate::laws::relations_read_again;
+use crate::rule::Rule;
+use crate::tree_bytes::items_of;
+use packed_list::{PackError, PackedList};
+use plural_reference::{ParseError, ast};
+use std::alloc::{AllocError, Global};
+
+impl Rule<'static> {
+    /// Packs a tree. Its samples are left out.
+    ///
+    /// The first relation of each and-condition after the first place is marked Or, all others And. An empty
+    /// and-condition after the first place vanishes, and a modulus that isn't there is 0.
+    ///
+    /// Refused are a value above 4294967295 anywhere in the tree ([`RuleError::Parse`] of
+    /// `ParseError::ValueTooLarge`), else a relation that would start behind place 65535
+    /// ([`RuleError::StartLimit`]), as where there are more than 65535; want of memory is
+    /// [`RuleError::Memory`].
+    pub fn try_from(alloc: Global, rule: &ast::Rule) -> Result<Rule<'static>, RuleError>
+        ensures { Packs rule.now.condition result }
+    {
+        if has_large_value(&rule.condition) {
+            return Err(RuleError::Parse(ParseError::ValueTooLarge));
+        }
+        relations_read_again();
+        match encoded(alloc, &rule.condition) {
+            Ok(bytes) => Ok(Rule::owned(bytes)),
+            Err(PackError::Memory) => Err(RuleError::Memory),
+            Err(PackError::CountLimit) => Err(RuleError::StartLimit),
+            Err(PackError::StartLimit) => Err(RuleError::StartLimit),
+        }
+    }
+}
+
+// Whether some value of a tree is above what four bytes hold.
+#[tactic(auto, unfolding(crate::specs::PackedTree::has_large_value))]
+fn has_large_value(condition: &ast::Condition) -> bool
+    ensures { result ≡ has_large_value condition.now }
+{
+    condition
+        .0
+        .as_slice()
+        .iter()
+        .any(|group| has_large_relation(group))
+}
+
+// The same of an and-condition.
+fn has_large_relation(group: &ast::AndCondition) -> bool
+    ensures { result ≡ list_any is_large_relation group.now.0 }
+{
+    group
+        .0
+        .as_slice()
+        .iter()
+        .any(|relation| is_large_relation(relation))
+}
+
+// The same of a relation.
+fn is_large_relation(relation: &ast::Relation) -> bool
+    ensures { result ≡ is_large_relation relation.now }
+{
+    is_large_modulus(&relation.expression) || has_large_item(&relation.range_list)
+}
+
+// The same of an expression.
+fn is_large_modulus(expression: &ast::Expression) -> bool
+    ensures { result ≡ is_large_modulus expression.now.modulus }
+{
+    match &expression.modulus {
+        None => false,
+        Some(modulus) => is_large(modulus),
+    }
+}
+
+// The same of a list of ranges.
+fn has_large_item(list: &ast::RangeList) -> bool
+    ensures { result ≡ list_any is_large_item list.now.0 }
+{
+    list.0.as_slice().iter().any(|item| is_large_item(item))
+}
+
+// The same of a range.
+fn is_large_item(item: &ast::RangeListItem) -> bool
+    ensures { result ≡ is_large_item item.now }
+{
+    match item {
+        ast::RangeListItem::Range(start, end) => is_large(start) || is_large(end),
+        ast::RangeListItem::Value(value) => is_large(value),
+    }
+}
+
+// Whether a value is above what four bytes hold.
+fn is_large(value: &ast::Value) -> bool
+    ensures { result ≡ is_large value.now }
+{
+    value.0 > 4294967295
+}
+
+// The bytes of a tree. More than 65535 relations have a start above 65535 too.
+fn encoded(alloc: Global, condition: &ast::Condition) -> Result<Vec<u8>, PackError>
+    ensures ok { IfOk result (λ bytes. ListBytes (map relation_bytes (packed condition.now)) bytes.items) }
+    ensures limit { (result ≡ Err PackError.CountLimit) ⊎ (result ≡ Err PackError.StartLimit) → IsTrue (has_high_start (map relation_bytes (packed condition.now))) }
+{
+    let items = items_of(alloc, condition)?;
+    let slices = slices(alloc, &items)?;
+    PackedList::encode(alloc, &slices)
+}
+
+// The items, lent.
+fn slices<'a>(alloc: Global, items: &'a [Vec<u8>]) -> Result<Vec<&'a [u8]>, AllocError>
+    ensures { IfOk result (λ slices. lent slices.items ≡ map vec_items items.now) }
+{
+    let mut slices = Vec::with_capacity(alloc, items.len())?;
+    for item in items {
+        slices.push(item.as_slice())?;
+    }
+    Ok(slices)
+}

@@ -1,0 +1,65 @@
+//! Reads bytes as a rule.
+
+ghost use Rattle.std.specs.Prelude.{◌≡◌, ◌↔◌, List, ℕ, IfOk, MatchResult, Ok, Err, Some, None};
+ghost use Rattle.packed_list.specs.ListBytes.{ListBytes};
+ghost use Rattle.packed_list.specs.ListFaults.{HasFault};
+ghost use Rattle.plural_runtime.specs.PackedRelations.{PackedRelation};
+ghost use Rattle.plural_runtime.specs.RuleBytes.{RuleBytes};
+ghost use Rattle.plural_runtime.specs.RuleFaults.{item_fault, first_fault};
+
+use crate::error::RuleBytesError;
+use crate::rule::Rule;
+use packed_list::laws::{item_bytes, read_again};
+use packed_list::{ListError, PackedList};
+
+impl<'data> Rule<'data> {
+    /// Reads bytes as a rule. It takes no memory.
+    ///
+    /// Refused are bytes that are no packed list ([`RuleBytesError::List`]), else the first bad item: its
+    /// length isn't 5 and a multiple of 8 ([`RuleBytesError::ItemLength`]), or its first byte names no operand
+    /// ([`RuleBytesError::Operand`]).
+    pub fn parse_bytes(bytes: &'data [u8]) -> Result<Rule<'data>, RuleBytesError>
+        ensures ok { IfOk result (λ rule. RuleBytes rule bytes.now) }
+        ensures accepted { (relations : List PackedRelation) → RuleBytes relations bytes.now → result ≡ Ok relations }
+        ensures list_fault { (fault : ListError) → (result ≡ Err (RuleBytesError.List fault)) ↔ HasFault bytes.now fault }
+        ensures item_fault { (items : List (List ℕ)) → ListBytes items bytes.now → MatchResult result (λ _. first_fault 0 items ≡ None) (λ fault. first_fault 0 items ≡ Some fault) }
+    {
+        read_again();
+        item_bytes();
+        let list = match PackedList::parse_bytes(bytes) {
+            Ok(list) => list,
+            Err(fault) => return Err(RuleBytesError::List(fault)),
+        };
+        if let Some(fault) = first_fault_of(&list) {
+            return Err(fault);
+        }
+        Ok(Rule::lent(bytes))
+    }
+}
+
+// What is wrong with the first bad item.
+fn first_fault_of(list: &PackedList<'_>) -> Option<RuleBytesError>
+    ensures { result ≡ first_fault 0 list.now }
+{
+    for index in 0..list.len() {
+        let item = list.get(index)?;
+        let fault = fault_of(index, item);
+        if fault.is_some() {
+            return fault;
+        }
+    }
+    None
+}
+
+// What is wrong with the item at a place.
+fn fault_of(place: usize, item: &[u8]) -> Option<RuleBytesError>
+    ensures { result ≡ item_fault place item.now }
+{
+    if item.len() < 5 || (item.len() - 5) % 8 != 0 {
+        Some(RuleBytesError::ItemLength(place))
+    } else if item[0] % 64 > 7 {
+        Some(RuleBytesError::Operand(place))
+    } else {
+        None
+    }
+}

@@ -1,0 +1,84 @@
+//! The ranges of a packed relation.
+
+ghost use Rattle.std.specs.Prelude.{◌≡◌};
+ghost use Rattle.plural_runtime.specs.RuleBytes.{range_bytes};
+ghost use Rattle.plural_runtime.specs.RuleReading.{range_in};
+ghost use Rattle.plural_runtime.specs.RuleKinds.{ends, item_of, ItemGives, range_or_value};
+
+use plural_reference::{ParseError, ast};
+
+/// A range of values with both its ends, or one value. A range whose start is above its end holds nothing.
+#[derive(Clone, Copy, Debug, PartialEq, Eq)]
+pub enum RangeOrValue {
+    /// From the first value to the second one, both included.
+    Range(u32, u32),
+    /// This value alone.
+    Value(u32),
+}
+
+impl From<RangeOrValue> for ast::RangeListItem {
+    ghost from_gives = { λ range item. item ≡ item_of range };
+
+    fn from(range: RangeOrValue) -> ast::RangeListItem {
+        match range {
+            RangeOrValue::Range(start, end) => ast::RangeListItem::Range(
+                ast::Value(u64::from(start)),
+                ast::Value(u64::from(end)),
+            ),
+            RangeOrValue::Value(value) => ast::RangeListItem::Value(ast::Value(u64::from(value))),
+        }
+    }
+}
+
+/// Refused with `ParseError::ValueTooLarge` is an item with a value above 4294967295.
+impl<'a> TryFrom<&'a ast::RangeListItem> for RangeOrValue {
+    type Error = ParseError;
+
+    ghost try_from_gives = { λ item result. ItemGives item.now result };
+
+    fn try_from(item: &'a ast::RangeListItem) -> Result<RangeOrValue, ParseError> {
+        match item {
+            ast::RangeListItem::Range(start, end) => {
+                if start.0 > 4294967295 || end.0 > 4294967295 {
+                    return Err(ParseError::ValueTooLarge);
+                }
+                Ok(RangeOrValue::Range(start.0 as u32, end.0 as u32))
+            }
+            ast::RangeListItem::Value(value) => {
+                if value.0 > 4294967295 {
+                    return Err(ParseError::ValueTooLarge);
+                }
+                Ok(RangeOrValue::Value(value.0 as u32))
+            }
+        }
+    }
+}
+
+impl RangeOrValue {
+    /// Both ends as four bytes each, low byte first. Those of a value are equal.
+    pub fn to_unaligned(self) -> [u8; 8]
+        ensures { result ≡ range_bytes (ends self) }
+    {
+        let (start, end) = match self {
+            RangeOrValue::Range(start, end) => (start, end),
+            RangeOrValue::Value(value) => (value, value),
+        };
+        let [a, b, c, d] = start.to_le_bytes();
+        let [e, f, g, h] = end.to_le_bytes();
+        [a, b, c, d, e, f, g, h]
+    }
+
+    /// The range of two ends of four bytes each, low byte first, or the value where they are equal.
+    pub fn from_unaligned(bytes: [u8; 8]) -> RangeOrValue
+        ensures { result ≡ range_or_value (range_in bytes) }
+    {
+        let [a, b, c, d, e, f, g, h] = bytes;
+        let start = u32::from_le_bytes([a, b, c, d]);
+        let end = u32::from_le_bytes([e, f, g, h]);
+        if start == end {
+            RangeOrValue::Value(start)
+        } else {
+            RangeOrValue::Range(start, end)
+        }
+    }
+}

@@ -1,0 +1,200 @@
+//! One relation of a packed rule: its checked bytes, and what they say.
+
+ghost use Rattle.std.specs.Prelude.{◌≡◌, ◌↔◌, ◌*◌, ◌/◌, ◌<◌, drop, flat_map, IsTrue, length, ◌%◌, ◌==◌};
+ghost use Rattle.plural_runtime.specs.RuleBytes.{range_bytes, relation_bytes};
+ghost use Rattle.plural_runtime.specs.RuleFaults.{is_relation};
+ghost use Rattle.plural_runtime.specs.RuleReading.{range_in, ranges_in, relation_in};
+ghost use Rattle.plural_runtime.specs.RuleKinds.{range_or_value};
+
+use crate::first_byte::AndOrPolarityOperand;
+use crate::item::{and_or_at, modulo_at, operand_at, polarity_at, ranges_at};
+use crate::kinds::{AndOr, Operand, Polarity};
+use crate::range::RangeOrValue;
+
+/// A relation, as the checked bytes of an item of a rule.
+#[derive(Clone, Copy, Debug, PartialEq, Eq)]
+pub struct RelationULE<'a> {
+    bytes: &'a [u8],
+    ghost checked: { IsTrue (is_relation bytes.now) },
+}
+
+/// A relation, with its ranges lent from the bytes of an item. Relations are equal if their mark, polarity, operand,
+/// modulus and ranges are.
+#[derive(Clone, Copy, Debug)]
+pub struct Relation<'a> {
+    kind: AndOrPolarityOperand,
+    modulo: u32,
+    ranges: &'a [u8],
+    ghost whole: { IsTrue (length ranges.now % 8 == 0) },
+}
+
+impl<'a> RelationULE<'a> {
+    ghost use Rattle.std.specs.Prelude.{◌≡◌, IsTrue};
+    ghost use Rattle.plural_runtime.specs.RuleBytes.{relation_bytes};
+    ghost use Rattle.plural_runtime.specs.RuleFaults.{is_relation};
+    ghost use Rattle.plural_runtime.specs.RuleReading.{relation_in};
+    ghost use Rattle.plural_runtime.specs.RuleViews.{item_relation, lent_relation};
+
+    // The relation of an item that was checked.
+    #[inline]
+    pub(crate) fn from_checked(bytes: &'a [u8]) -> RelationULE<'a>
+        requires { IsTrue (is_relation bytes.now) }
+        ensures { item_relation result ≡ relation_in bytes.now }
+    {
+        RelationULE { bytes }
+    }
+
+    /// The bytes of the item: the first byte, the modulus and the ranges.
+    pub fn as_bytes(&self) -> &'a [u8]
+        ensures { result.now ≡ relation_bytes (item_relation self.now) }
+    {
+        spelled(self.bytes)
+    }
+
+    /// The relation that the bytes hold.
+    pub fn as_relation(&self) -> Relation<'a>
+        ensures { lent_relation result ≡ item_relation self.now }
+    {
+        let item = self.bytes;
+        Relation {
+            kind: AndOrPolarityOperand {
+                and_or: and_or_at(item),
+                polarity: polarity_at(item),
+                operand: operand_at(item),
+            },
+            modulo: modulo_at(item),
+            ranges: ranges_at(item),
+        }
+    }
+}
+
+impl<'a> Relation<'a> {
+    ghost use Rattle.std.specs.Prelude.{◌≡◌, length, option_map, slice_get};
+    ghost use Rattle.plural_runtime.specs.RuleKinds.{operator_of, range_or_value, tree_operand_of};
+    ghost use Rattle.plural_runtime.specs.RuleViews.{lent_relation};
+
+    /// How it is joined to the one before it.
+    pub fn and_or(&self) -> AndOr
+        ensures { result ≡ (lent_relation self.now).and_or }
+    {
+        self.kind.and_or
+    }
+
+    /// Whether the value is to be in the list.
+    pub fn polarity(&self) -> Polarity
+        ensures { operator_of result ≡ (lent_relation self.now).meaning.operator }
+    {
+        self.kind.polarity
+    }
+
+    /// What of a number it looks at.
+    pub fn operand(&self) -> Operand
+        ensures { tree_operand_of result ≡ (lent_relation self.now).meaning.operand }
+    {
+        self.kind.operand
+    }
+
+    /// The modulus, or 0 where there is none.
+    pub fn modulo(&self) -> u32
+        ensures { result ≡ (lent_relation self.now).meaning.modulus }
+    {
+        self.modulo
+    }
+
+    /// How many ranges it has.
+    pub fn len(&self) -> usize
+        ensures { result ≡ length (lent_relation self.now).meaning.ranges }
+    {
+        self.ranges.len() / 8
+    }
+
+    /// The range at a place. Equal ends are a value.
+    pub fn range(&self, index: usize) -> Option<RangeOrValue>
+        ensures { result ≡ option_map range_or_value (slice_get (lent_relation self.now).meaning.ranges index) }
+    {
+        if index < self.len() {
+            Some(range_at(self.ranges, index))
+        } else {
+            None
+        }
+    }
+}
+
+impl<'a> PartialEq for Relation<'a> {
+    ghost use Rattle.std.specs.Prelude.{◌≡◌, ◌↔◌, IsTrue};
+    ghost use Rattle.std.specs.Cmp.{on_per, partial_equiv_from_equiv};
+    ghost use Rattle.std.specs.Cmp.Lexicographic.{nat_list_eq_equiv};
+    ghost use Rattle.plural_runtime.specs.RelationEquality.{is_same_relation, relation_numbers};
+    ghost use Rattle.plural_runtime.specs.RuleViews.{lent_relation};
+
+    ghost eq = { λ relation other. is_same_relation (lent_relation relation) (lent_relation other) };
+
+    ghost laws = { on_per (λ relation. relation_numbers (lent_relation relation)) (partial_equiv_from_equiv nat_list_eq_equiv) };
+
+    fn eq(&self, other: &Self) -> bool
+        ensures same { result ≡ is_same_relation (lent_relation self.now) (lent_relation other.now) }
+        ensures equal { IsTrue result ↔ (lent_relation self.now ≡ lent_relation other.now) }
+    {
+        if !same_kind(self.kind, other.kind) {
+            return false;
+        }
+        if self.modulo != other.modulo {
+            return false;
+        }
+        same_ranges(self.ranges, other.ranges)
+    }
+}
+
+impl<'a> Eq for Relation<'a> {
+    ghost use Rattle.std.specs.Cmp.{on_equiv};
+    ghost use Rattle.std.specs.Cmp.Lexicographic.{nat_list_eq_equiv};
+    ghost use Rattle.plural_runtime.specs.RelationEquality.{relation_numbers};
+    ghost use Rattle.plural_runtime.specs.RuleViews.{lent_relation};
+
+    ghost laws = { on_equiv (λ relation. relation_numbers (lent_relation relation)) nat_list_eq_equiv };
+}
+
+// Whether mark, polarity and operand are the same.
+fn same_kind(kind: AndOrPolarityOperand, other: AndOrPolarityOperand) -> bool
+    ensures { IsTrue result ↔ (kind ≡ other) }
+{
+    kind == other
+}
+
+// Whether two lists of ranges are the same: they are if their bytes are.
+fn same_ranges(ranges: &[u8], others: &[u8]) -> bool
+    requires ranges { IsTrue (length ranges.now % 8 == 0) }
+    requires others { IsTrue (length others.now % 8 == 0) }
+    ensures { IsTrue result ↔ (ranges_in ranges.now ≡ ranges_in others.now) }
+{
+    spelled_ranges(ranges) == spelled_ranges(others)
+}
+
+// The bytes of ranges are those of the ranges that they hold.
+fn spelled_ranges(ranges: &[u8]) -> &[u8]
+    requires { IsTrue (length ranges.now % 8 == 0) }
+    ensures same { result.now ≡ ranges.now }
+    ensures spelled { flat_map range_bytes (ranges_in ranges.now) ≡ ranges.now }
+{
+    ranges
+}
+
+// The range at a place.
+fn range_at(ranges: &[u8], index: usize) -> RangeOrValue
+    requires { index < length ranges.now / 8 }
+    ensures { result ≡ range_or_value (range_in (drop (8 * index) ranges.now)) }
+{
+    let bytes = &ranges[8 * index..];
+    RangeOrValue::from_unaligned([
+        bytes[0], bytes[1], bytes[2], bytes[3], bytes[4], bytes[5], bytes[6], bytes[7],
+    ])
+}
+
+// The bytes of an item are those of its relation.
+fn spelled(item: &[u8]) -> &[u8]
+    requires { IsTrue (is_relation item.now) }
+    ensures same { result.now ≡ item.now }
+    ensures spelled { item.now ≡ relation_bytes (relation_in item.now) }
+{
+    item
+}

@@ -1,0 +1,56 @@
+//! The iterator over the relations of a rule.
+
+ghost use Rattle.std.specs.Prelude.{◌≡◌, map, IsTrue};
+ghost use Rattle.std.specs.List.{list_all};
+ghost use Rattle.std.specs.Iterator.{YieldsFirstBy, item_count};
+ghost use Rattle.plural_runtime.specs.RuleFaults.{is_relation};
+ghost use Rattle.plural_runtime.specs.RuleReading.{relation_in};
+ghost use Rattle.plural_runtime.specs.RuleViews.{item_relation};
+
+use crate::relation::RelationULE;
+use packed_list::Items;
+use std::marker::Model;
+
+/// The relations of a rule that are left.
+#[derive(Debug, Drop)]
+pub struct Relations<'a> {
+    items: Items<'a>,
+}
+
+impl<'a> Model for Relations<'a> {
+    ghost use Rattle.std.specs.Prelude.{List, map, IsTrue};
+    ghost use Rattle.std.specs.List.{list_all};
+    ghost use Rattle.plural_runtime.specs.PackedRelations.{PackedRelation};
+
+    ghost Value = { List PackedRelation };
+
+    ghost use Rattle.plural_runtime.specs.RuleFaults.{is_relation};
+    ghost use Rattle.plural_runtime.specs.RuleReading.{relation_in};
+
+    ghost view = { λ relations. map relation_in relations.items };
+
+    ghost invariant = { λ relations. IsTrue (list_all is_relation relations.items) };
+}
+
+impl<'a> Relations<'a> {
+    // The relations of items that were checked.
+    pub(crate) fn of(items: Items<'a>) -> Relations<'a>
+        requires { IsTrue (list_all is_relation items) }
+        ensures { result ≡ map relation_in items.entry }
+    {
+        Relations { items }
+    }
+}
+
+impl<'a> Iterator for Relations<'a> {
+    type Item = RelationULE<'a>;
+
+    ghost next_gives = { YieldsFirstBy item_relation (λ relations. relations) };
+
+    ghost remaining = { item_count (λ relations. relations) };
+
+    fn next(&mut self) -> Option<RelationULE<'a>> {
+        let item = self.items.next()?;
+        Some(RelationULE::from_checked(item))
+    }
+}

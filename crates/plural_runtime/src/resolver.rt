@@ -1,0 +1,180 @@
+//! Tells whether a rule is true, by its bytes alone.
+
+ghost use Rattle.std.specs.Prelude.{◌≡◌, ◌≤◌, ◌+◌, ◌<◌, min, length, option_map, IsTrue};
+ghost use Rattle.std.specs.Fn.{iterate};
+ghost use Rattle.plural_reference.specs.Truth.{holds_value, is_in_ranges, operand_value, range_holds, remainder};
+ghost use Rattle.plural_runtime.specs.RuleFaults.{is_relation};
+ghost use Rattle.plural_runtime.specs.RuleReading.{relation_in, range_in, ranges_in};
+ghost use Rattle.plural_runtime.specs.RuleWalk.{ends_true, holds_after, needed_here};
+ghost use Rattle.plural_runtime.specs.PackedTruth.{packed_truth, is_true_at};
+ghost use Rattle.plural_runtime.specs.NeededRanges.{needed_ranges, all_ranges, needed_of_relation, needed_of_list};
+
+use crate::item::{and_or_at, modulo_at, polarity_at, ranges_at};
+use crate::kinds::{AndOr, Polarity};
+use crate::laws::at_most_all;
+use crate::rule::Rule;
+use crate::steps::{Counter, Steps, Uncounted};
+use plural_reference::{PluralOperands, RawPluralOperands};
+
+/// Whether the rule is true of the operands: all relations of one of its groups are (UTS 35 Part 3, Plural Rules
+/// Syntax). A rule without relations is true, and so is one whose first relation is marked Or.
+///
+/// A relation on `n` where the fraction isn't zero is in no list: false under `=`, true under `!=`. A modulus 0 is
+/// none. It takes no memory.
+pub fn test_rule(rule: &Rule<'_>, operands: &PluralOperands) -> bool
+    ensures { result ≡ packed_truth operands.now rule.now }
+{
+    is_true(rule, operands, &mut Uncounted)
+}
+
+/// The same, with one step for each range that is needed to tell, and no other.
+///
+/// A range is needed if no earlier group is true, all earlier relations of its group are, its operand isn't `n`
+/// where the fraction isn't zero, and no earlier range of its list holds the value.
+pub fn test_rule_counted(rule: &Rule<'_>, operands: &PluralOperands, steps: &mut Steps) -> bool
+    ensures answer { result ≡ packed_truth operands.now rule.now }
+    ensures count { steps.new ≡ min (steps.old + needed_ranges operands.now rule.now) 18446744073709551615 }
+    ensures at_most { steps.new ≤ steps.old + all_ranges rule.now }
+{
+    let _before = steps.count();
+    at_most_all();
+    is_true(rule, operands, steps)
+}
+
+// Whether the rule is true. Each range that is needed is counted.
+#[inline]
+fn is_true<C: Counter>(rule: &Rule<'_>, operands: &PluralOperands, counter: &mut C) -> bool
+    ensures answer { result ≡ packed_truth operands.now rule.now }
+    ensures count { counter.new ≡ iterate C.after_one (needed_ranges operands.now rule.now) counter.old }
+{
+    let list = rule.list();
+    let mut holds = true;
+    for index in 0..list.len() {
+        let Some(item) = list.get(index) else {
+            return holds;
+        };
+        if group_ends(holds, item) {
+            return true;
+        }
+        holds = group_holds(holds, item, operands, counter);
+    }
+    holds
+}
+
+// Whether a group that is true or not ends before the relation of an item, and is true.
+#[inline]
+fn group_ends(holds: bool, item: &[u8]) -> bool
+    requires { IsTrue (is_relation item.now) }
+    ensures { result ≡ ends_true (relation_in item.now).and_or holds }
+{
+    holds && and_or_at(item) == AndOr::Or
+}
+
+// Whether a group is true up to the relation of an item, if it is so far or not. At Or a new group begins.
+#[inline]
+fn group_holds<C: Counter>(holds: bool, item: &[u8], operands: &PluralOperands, counter: &mut C) -> bool
+    requires { IsTrue (is_relation item.now) }
+    ensures answer { result ≡ holds_after (relation_in item.now).and_or holds (is_true_at operands.now (relation_in item.now)) }
+    ensures count { counter.new ≡ iterate C.after_one (needed_here operands.now holds (relation_in item.now)) counter.old }
+{
+    if holds || and_or_at(item) == AndOr::Or {
+        relation_holds(item, operands, counter)
+    } else {
+        false
+    }
+}
+
+// Whether the relation of an item is true.
+#[inline]
+fn relation_holds<C: Counter>(item: &[u8], operands: &PluralOperands, counter: &mut C) -> bool
+    requires { IsTrue (is_relation item.now) }
+    ensures answer { result ≡ is_true_at operands.now (relation_in item.now) }
+    ensures count { counter.new ≡ iterate C.after_one (needed_of_relation operands.now (relation_in item.now).meaning) counter.old }
+{
+    let is_in = is_in_list(item, operands, counter);
+    match polarity_at(item) {
+        Polarity::Positive => is_in,
+        Polarity::Negative => !is_in,
+    }
+}
+
+// Whether the value of an item's operand is in the item's list.
+#[inline]
+fn is_in_list<C: Counter>(item: &[u8], operands: &PluralOperands, counter: &mut C) -> bool
+    requires { IsTrue (is_relation item.now) }
+    ensures answer { let relation = (relation_in item.now).meaning in
+        result ≡ holds_value relation.ranges (option_map (remainder relation.modulus) (operand_value relation.operand operands.now)) }
+    ensures count { counter.new ≡ iterate C.after_one (needed_of_relation operands.now (relation_in item.now).meaning) counter.old }
+{
+    match value_at(item, operands) {
+        None => false,
+        Some(value) => any_holds(reduced(modulo_at(item), value), ranges_at(item), counter),
+    }
+}
+
+// The value of an item's operand: none of n where the fraction isn't zero.
+#[inline]
+#[tactic(auto, unfolding(crate::specs::RuleReading::relation_in))]
+fn value_at(item: &[u8], operands: &PluralOperands) -> Option<u64>
+    requires { IsTrue (is_relation item.now) }
+    ensures { result ≡ operand_value (relation_in item.now).meaning.operand operands.now }
+{
+    let operands = RawPluralOperands::from(*operands);
+    match item[0] % 64 {
+        0 => {
+            if operands.w == 0 {
+                Some(operands.i)
+            } else {
+                None
+            }
+        }
+        1 => Some(operands.i),
+        2 => Some(operands.v as u64),
+        3 => Some(operands.w as u64),
+        4 => Some(operands.f),
+        5 => Some(operands.t),
+        _ => Some(operands.c as u64),
+    }
+}
+
+// What a modulus leaves of a value.
+#[inline]
+fn reduced(modulo: u32, value: u64) -> u64
+    ensures { result ≡ remainder modulo value }
+{
+    if modulo == 0 {
+        value
+    } else {
+        value % u64::from(modulo)
+    }
+}
+
+// Whether some range holds the value. None is read behind the first that does.
+#[inline]
+fn any_holds<C: Counter>(value: u64, ranges: &[u8], counter: &mut C) -> bool
+    ensures answer { result ≡ is_in_ranges (ranges_in ranges.now) value }
+    ensures count { counter.new ≡ iterate C.after_one (needed_of_list (ranges_in ranges.now) value) counter.old }
+{
+    let mut rest = ranges;
+    while rest.len() >= 8 {
+        let (range, others) = rest.split_at(8);
+        if holds(value, range, counter) {
+            return true;
+        }
+        rest = others;
+    }
+    false
+}
+
+// Reads the ends of a range and counts it: whether it holds the value.
+#[inline]
+fn holds<C: Counter>(value: u64, range: &[u8], counter: &mut C) -> bool
+    requires { length range.now ≡ 8 }
+    ensures answer { result ≡ range_holds value (range_in range.now) }
+    ensures count { counter.new ≡ C.after_one counter.old }
+{
+    counter.step();
+    let start = u32::from_le_bytes([range[0], range[1], range[2], range[3]]);
+    let end = u32::from_le_bytes([range[4], range[5], range[6], range[7]]);
+    u64::from(start) <= value && value <= u64::from(end)
+}

@@ -1,0 +1,137 @@
+//! A plural rule as checked bytes.
+
+ghost use Rattle.std.specs.Prelude.{◌≡◌, List, map, length, slice_get, option_map, IfOk, IsTrue};
+ghost use Rattle.std.specs.List.{list_all};
+ghost use Rattle.plural_runtime.specs.RuleBytes.{RuleBytes, relation_bytes};
+ghost use Rattle.plural_runtime.specs.RuleFaults.{is_relation};
+ghost use Rattle.plural_runtime.specs.RuleReading.{IsRule, relation_in};
+ghost use Rattle.plural_runtime.specs.RuleViews.{item_relation};
+
+use crate::relation::RelationULE;
+use crate::relations::Relations;
+use packed_list::PackedList;
+use packed_list::laws::read_again;
+use std::alloc::AllocError;
+use std::borrow::CowSlice;
+use std::marker::Model;
+
+/// A plural rule, as checked bytes that are lent or owned.
+///
+/// The bytes are a packed list, each item of which is a relation: its first byte, its modulus (0 for none) and
+/// both ends of its ranges, each number in four bytes with the low byte first.
+#[derive(Debug, Drop)]
+pub struct Rule<'data> {
+    bytes: CowSlice<'data, u8>,
+}
+
+impl<'data> Model for Rule<'data> {
+    ghost use Rattle.std.specs.Prelude.{List};
+    ghost use Rattle.std.specs.Cow.{cow_slice_items};
+    ghost use Rattle.plural_runtime.specs.PackedRelations.{PackedRelation};
+
+    ghost Value = { List PackedRelation };
+
+    ghost use Rattle.plural_runtime.specs.RuleReading.{relations_in, IsRule};
+
+    ghost view = { λ rule. relations_in (cow_slice_items rule.bytes) };
+
+    ghost invariant = { λ rule. IsRule (cow_slice_items rule.bytes) };
+}
+
+impl<'data> Rule<'data> {
+    // The rule in bytes that are known to be one.
+    pub(crate) fn lent(bytes: &'data [u8]) -> Rule<'data>
+        requires { IsRule bytes.now }
+        ensures { RuleBytes result bytes.now }
+    {
+        Rule {
+            bytes: CowSlice::Borrowed(bytes),
+        }
+    }
+
+    // The same of owned bytes.
+    pub(crate) fn owned(bytes: Vec<u8>) -> Rule<'data>
+        requires { IsRule bytes.items }
+        ensures { RuleBytes result bytes.items }
+    {
+        Rule {
+            bytes: CowSlice::Owned(bytes),
+        }
+    }
+
+    /// The bytes of the rule.
+    #[inline]
+    pub fn as_bytes(&self) -> &[u8]
+        ensures { RuleBytes self.now result.now }
+    {
+        self.bytes.as_slice()
+    }
+
+    /// How many relations it has.
+    pub fn len(&self) -> usize
+        ensures { result ≡ length self.now }
+    {
+        self.list().len()
+    }
+
+    /// The relation at a place.
+    pub fn get(&self, index: usize) -> Option<RelationULE<'_>>
+        ensures { option_map item_relation result ≡ slice_get self.now index }
+    {
+        let list = self.list();
+        let item = list.get(index)?;
+        Some(RelationULE::from_checked(item))
+    }
+
+    /// The relations, from the first one on.
+    pub fn iter(&self) -> Relations<'_>
+        ensures { result ≡ self.now }
+    {
+        Relations::of(self.list().iter())
+    }
+
+    /// The same rule, lent from this one.
+    pub fn as_borrowed(&self) -> Rule<'_>
+        ensures { result ≡ self.now }
+    {
+        Rule {
+            bytes: CowSlice::Borrowed(self.bytes.as_slice()),
+        }
+    }
+
+    /// A rule of the same bytes: lent where this one is lent, else a copy. Its only fault is want of memory.
+    pub fn try_clone(&self) -> Result<Rule<'data>, AllocError>
+        ensures { IfOk result (λ rule. rule ≡ self.now) }
+    {
+        Ok(Rule {
+            bytes: self.bytes.clone()?,
+        })
+    }
+
+    // The items that the relations are packed in.
+    #[inline]
+    #[tactic(auto, unfolding(crate::specs::RuleReading::relations_in))]
+    pub(crate) fn list(&self) -> PackedList<'_>
+        ensures relations { map relation_in result ≡ self.now }
+        ensures items { IsTrue (list_all is_relation result) }
+        ensures packed { map relation_bytes self.now ≡ result }
+    {
+        read_again();
+        PackedList::from_checked(self.bytes.as_slice())
+    }
+}
+
+impl<'data> PartialEq for Rule<'data> {
+    ghost use Rattle.std.specs.Prelude.{nat_eq};
+    ghost use Rattle.std.specs.Cmp.{on_per, partial_equiv_from_equiv};
+    ghost use Rattle.std.specs.Cmp.Lexicographic.{pointwise, nat_list_eq_equiv};
+    ghost use Rattle.plural_runtime.specs.RuleBytes.{packed_bytes};
+
+    ghost eq = { λ rule other. pointwise nat_eq (packed_bytes rule) (packed_bytes other) };
+
+    ghost laws = { on_per packed_bytes (partial_equiv_from_equiv nat_list_eq_equiv) };
+
+    fn eq(&self, other: &Self) -> bool {
+        self.as_bytes() == other.as_bytes()
+    }
+}

@@ -1,0 +1,114 @@
+use crate::{Rule, RuleBytesError, test_rule};
+use packed_list::ListError;
+use plural_reference::{PluralOperands, RawPluralOperands};
+use std::test::Fail;
+
+// The operands of 1.5.
+fn one_and_a_half() -> PluralOperands {
+    PluralOperands::from(RawPluralOperands {
+        i: 1,
+        v: 1,
+        w: 1,
+        f: 5,
+        t: 5,
+        c: 0,
+    })
+}
+
+// What a rule answers at 0, 1, 2 and 1.5.
+fn answers(rule: &Rule<'_>) -> [bool; 4] {
+    [
+        test_rule(rule, &PluralOperands::from(0u8)),
+        test_rule(rule, &PluralOperands::from(1u8)),
+        test_rule(rule, &PluralOperands::from(2u8)),
+        test_rule(rule, &one_and_a_half()),
+    ]
+}
+
+#[test]
+fn refuses_hostile_bytes(rt: HostRuntime) {
+    let rows: [(&[u8], RuleBytesError); 9] = [
+        (b"\x01", RuleBytesError::List(ListError::Header)),
+        (b"\x02\0", RuleBytesError::List(ListError::Header)),
+        (b"\xff\xff", RuleBytesError::List(ListError::Header)),
+        (b"\0\0", RuleBytesError::List(ListError::ZeroCount)),
+        (b"\x02\0\x05\0\x01", RuleBytesError::List(ListError::Start)),
+        (b"\x01\0", RuleBytesError::ItemLength(0)),
+        (b"\x03\0\x02\0\x02\0abcd", RuleBytesError::ItemLength(0)),
+        (b"\x01\0\xc8\0\0\0\0", RuleBytesError::Operand(0)),
+        (b"\x02\0\x05\0\xc8\0\0\0\0", RuleBytesError::Operand(0)),
+    ];
+    for (bytes, fault) in rows {
+        let refused = Rule::parse_bytes(bytes);
+        assert!(rt; matches!(refused, Err(found) if found == fault), "{bytes:?}");
+    }
+}
+
+// What the first bytes of a rule are: refused with a fault, or a rule with its answers.
+enum Cut {
+    Refused(RuleBytesError),
+    Rule([bool; 4]),
+}
+
+#[test]
+fn answers_at_every_beginning(rt: HostRuntime) {
+    let header = RuleBytesError::List(ListError::Header);
+    let start = RuleBytesError::List(ListError::Start);
+    let always = [true; 4];
+    let two: &[u8] = b"\x02\0\x0d\0\xc1\0\0\0\0\x01\0\0\0\x01\0\0\0\x42\0\0\0\0\0\0\0\0\0\0\0\0";
+    let one: &[u8] = b"\x01\0\xc0\0\0\0\0\x01\0\0\0\x01\0\0\0";
+    let marked: &[u8] = b"\x01\0\x41\0\0\0\0";
+    let negative: &[u8] = b"\x01\0\x81\0\0\0\0";
+    // From the first place up to the second one, both included.
+    let rows = [
+        (one, 0, 0, Cut::Rule(always)),
+        (one, 1, 1, Cut::Refused(header)),
+        (one, 2, 6, Cut::Refused(RuleBytesError::ItemLength(0))),
+        (one, 7, 7, Cut::Rule([false; 4])),
+        (one, 8, 14, Cut::Refused(RuleBytesError::ItemLength(0))),
+        (one, 15, 15, Cut::Rule([false, true, false, false])),
+        (two, 0, 0, Cut::Rule(always)),
+        (two, 1, 3, Cut::Refused(header)),
+        (two, 4, 16, Cut::Refused(start)),
+        (two, 17, 21, Cut::Refused(RuleBytesError::ItemLength(1))),
+        (two, 22, 22, Cut::Rule([false, true, false, true])),
+        (two, 23, 29, Cut::Refused(RuleBytesError::ItemLength(1))),
+        (two, 30, 30, Cut::Rule(always)),
+        (marked, 1, 1, Cut::Refused(header)),
+        (marked, 2, 6, Cut::Refused(RuleBytesError::ItemLength(0))),
+        (marked, 7, 7, Cut::Rule(always)),
+        (negative, 7, 7, Cut::Rule(always)),
+    ];
+    for (bytes, first, last, expected) in rows {
+        for end in first..=last {
+            match (Rule::parse_bytes(&bytes[..end]), &expected) {
+                (Ok(rule), Cut::Rule(wanted)) => {
+                    assert_eq!(rt; answers(&rule), *wanted, "first {end} of {bytes:?}");
+                }
+                (Err(fault), Cut::Refused(wanted)) => {
+                    assert_eq!(rt; fault, *wanted, "first {end} of {bytes:?}");
+                }
+                _ => assert!(rt; false, "first {end} of {bytes:?}"),
+            }
+        }
+    }
+}
+
+#[test]
+fn prints_what_no_text_packs_to(rt: HostRuntime) -> Result<(), Fail> {
+    let alloc = rt.alloc();
+    let rows: [(&[u8], &str); 4] = [
+        (b"\x01\0\x41\0\0\0\0", " or i = "),
+        (b"\x01\0\x81\0\0\0\0", "i != "),
+        (b"\x02\0\x0d\0\xc1\0\0\0\0\x01\0\0\0\x01\0\0\0\x42\0\0\0\0", "i = 1 or v = "),
+        (b"\x01\0\xc1\x0a\0\0\0\x03\0\0\0\x01\0\0\0", "i % 10 = 3..1"),
+    ];
+    for (bytes, text) in rows {
+        let rule = Rule::parse_bytes(bytes).expect(&rt, "a rule");
+        assert_eq!(rt; format!(in alloc; "{rule}")?.as_str(), text);
+        let tree = rule.to_ast(alloc)?;
+        let again = Rule::try_from(alloc, &tree).expect(&rt, "the tree packs");
+        assert_eq!(rt; again.as_bytes(), bytes, "{text}");
+    }
+    Ok(())
+}

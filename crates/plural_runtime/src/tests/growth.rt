@@ -1,0 +1,68 @@
+use crate::{Rule, RuleError};
+use std::alloc::Global;
+use std::test::Fail;
+
+// Whether a text packs to bytes, or there was no memory.
+fn packs(alloc: Global, text: &str, bytes: &[u8]) -> Option<bool> {
+    match Rule::from_str(alloc, text) {
+        Ok(rule) => Some(rule.as_bytes() == bytes),
+        Err(RuleError::Memory) => None,
+        Err(_) => Some(false),
+    }
+}
+
+#[test]
+fn packs_again_after_want_of_memory(rt: HostRuntime) {
+    let rows: [(&str, &[u8]); 2] = [
+        ("i % 0 = 5", b"\x01\0\xc1\0\0\0\0\x05\0\0\0\x05\0\0\0"),
+        (
+            "i = 1 or v = 0",
+            b"\x02\0\x0d\0\xc1\0\0\0\0\x01\0\0\0\x01\0\0\0\x42\0\0\0\0\0\0\0\0\0\0\0\0",
+        ),
+    ];
+    for (text, bytes) in rows {
+        let first = packs(rt.alloc(), text, bytes);
+        let second = packs(rt.alloc(), text, bytes);
+        assert!(rt; first == None || first == Some(true), "{text}");
+        assert!(rt; second == None || second == Some(true), "{text}");
+        assert!(rt; first == Some(true) || second == Some(true), "{text}");
+    }
+}
+
+// Whether the tree of a rule packs to it again, or there was no memory.
+fn tree_packs(alloc: Global, rule: &Rule<'_>) -> Option<bool> {
+    let Ok(tree) = rule.to_ast(alloc) else {
+        return None;
+    };
+    match Rule::try_from(alloc, &tree) {
+        Ok(again) => Some(again == *rule),
+        Err(RuleError::Memory) => None,
+        Err(_) => Some(false),
+    }
+}
+
+#[test]
+fn trees_are_made_again_after_want_of_memory(rt: HostRuntime) {
+    let bytes = b"\x02\0\x0d\0\xc1\0\0\0\0\x01\0\0\0\x01\0\0\0\x42\0\0\0\0\0\0\0\0\0\0\0\0";
+    let rule = Rule::parse_bytes(bytes).expect(&rt, "a rule");
+    let first = tree_packs(rt.alloc(), &rule);
+    let second = tree_packs(rt.alloc(), &rule);
+    assert!(rt; first == None || first == Some(true));
+    assert!(rt; second == None || second == Some(true));
+    assert!(rt; first == Some(true) || second == Some(true));
+}
+
+#[test]
+fn clones_have_the_same_bytes(rt: HostRuntime) -> Result<(), Fail> {
+    let bytes = b"\x01\0\xc0\0\0\0\0\x01\0\0\0\x01\0\0\0";
+    let lent = Rule::parse_bytes(bytes).expect(&rt, "a rule");
+    assert!(rt; lent.try_clone()? == lent);
+    assert!(rt; lent.as_borrowed() == lent);
+    let tree = lent.to_ast(rt.alloc())?;
+    let Ok(owned) = Rule::try_from(rt.alloc(), &tree) else {
+        return Ok(());
+    };
+    let copy = owned.try_clone()?;
+    assert!(rt; copy == owned && copy == lent);
+    Ok(())
+}

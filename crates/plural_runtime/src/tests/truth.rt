@@ -1,0 +1,59 @@
+use crate::{Rule, Steps, test_rule, test_rule_counted};
+use plural_reference::{PluralOperands, RawPluralOperands, parse_condition, test_condition};
+
+// The operands of a number with one fraction digit.
+fn with_fraction(i: u64, digit: u64) -> PluralOperands {
+    PluralOperands::from(RawPluralOperands {
+        i,
+        v: 1,
+        w: 1,
+        f: digit,
+        t: digit,
+        c: 0,
+    })
+}
+
+#[test]
+fn counts_the_ranges_that_are_needed(rt: HostRuntime) {
+    let text = "n % 10 = 3..4, 9 and n % 100 != 10..19, 70..79, 90..99 or n = 0";
+    let rule = Rule::from_str(rt.alloc(), text).expect(&rt, "a rule");
+    let marked = Rule::parse_bytes(b"\x01\0\x41\0\0\0\0").expect(&rt, "a rule");
+    let rows = [
+        (&rule, PluralOperands::from(0u8), true, 3),
+        (&rule, PluralOperands::from(13u8), false, 3),
+        (&rule, PluralOperands::from(103u8), true, 4),
+        (&rule, PluralOperands::from(113u8), false, 3),
+        (&rule, PluralOperands::from(178u8), false, 3),
+        (&rule, with_fraction(3, 5), false, 0),
+        (&marked, PluralOperands::from(5u8), true, 0),
+    ];
+    for (rule, operands, answer, count) in rows {
+        let mut steps = Steps::new();
+        assert_eq!(rt; test_rule_counted(rule, &operands, &mut steps), answer);
+        assert_eq!(rt; steps.count(), count);
+        assert_eq!(rt; test_rule(rule, &operands), answer);
+        // A second walk goes on from the first one's count.
+        assert_eq!(rt; test_rule_counted(rule, &operands, &mut steps), answer);
+        assert_eq!(rt; steps.count(), 2 * count);
+    }
+}
+
+#[test]
+fn differs_from_the_tree_where_it_is_said(rt: HostRuntime) {
+    let rows = [
+        ("n != 1", with_fraction(1, 5), true, false),
+        ("n = 1", with_fraction(1, 5), false, false),
+        ("i % 0 = 5", PluralOperands::from(5u8), true, false),
+        ("i % 0 != 5", PluralOperands::from(4u8), true, false),
+        ("i = 3..1", PluralOperands::from(2u8), false, false),
+        ("i != 3..1", PluralOperands::from(2u8), true, true),
+        ("", PluralOperands::from(7u8), true, true),
+        ("w = 1 and t = 5 and f = 5 and v = 1 and c = 0 and e = 0", with_fraction(1, 5), true, true),
+    ];
+    for (text, operands, packed, tree) in rows {
+        let rule = Rule::from_str(rt.alloc(), text).expect(&rt, "a rule");
+        assert_eq!(rt; test_rule(&rule, &operands), packed, "packed {text}");
+        let condition = parse_condition(rt.alloc(), text.as_bytes()).expect(&rt, "a condition");
+        assert_eq!(rt; test_condition(&condition, &operands), tree, "tree of {text}");
+    }
+}

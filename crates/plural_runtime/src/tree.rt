@@ -1,0 +1,95 @@
+//! Makes the tree of packed relations.
+
+ghost use Rattle.std.specs.Prelude.{◌≡◌, map, IfOk, OnOk, None};
+ghost use Rattle.plural_runtime.specs.PackedTree.{unpacked_relation, unpacked_range, unpacked};
+ghost use Rattle.plural_runtime.specs.RuleViews.{lent_relation};
+ghost use Rattle.plural_runtime.specs.RuleWalk.{done_before, open_before};
+
+use crate::kinds::AndOr;
+use crate::relation::Relation;
+use crate::rule::Rule;
+use plural_reference::{Sequence, ast};
+use std::alloc::{AllocError, Global};
+use std::mem;
+
+impl<'data> Rule<'data> {
+    /// The tree of the rule, without samples. Its only fault is want of memory.
+    ///
+    /// Each relation marked Or begins a new and-condition. Equal ends come back as a value, a modulus 0 as none.
+    pub fn to_ast(&self, alloc: Global) -> Result<ast::Rule, AllocError>
+        ensures condition { IfOk result (λ tree. tree.condition ≡ unpacked self.now) }
+        ensures samples { IfOk result (λ tree. tree.samples ≡ None) }
+    {
+        Ok(ast::Rule {
+            condition: condition_of(alloc, self)?,
+            samples: None,
+        })
+    }
+}
+
+// The condition of a rule.
+fn condition_of(alloc: Global, rule: &Rule<'_>) -> Result<ast::Condition, AllocError>
+    ensures { IfOk result (λ condition. condition ≡ unpacked rule.now) }
+{
+    let mut groups = Vec::new(alloc);
+    let count = rule.len();
+    if count == 0 {
+        return Ok(ast::Condition(Sequence(groups)));
+    }
+    let mut group = Vec::new(alloc);
+    for index in 0..count {
+        let Some(item) = rule.get(index) else {
+            return Err(AllocError);
+        };
+        let relation = item.as_relation();
+        close_group(alloc, relation.and_or(), &mut groups, &mut group)?;
+        group.push(relation_of(alloc, &relation)?)?;
+    }
+    groups.push(ast::AndCondition(Sequence(group)))?;
+    Ok(ast::Condition(Sequence(groups)))
+}
+
+// At Or the open group is done.
+fn close_group(
+    alloc: Global,
+    and_or: AndOr,
+    groups: &mut Vec<ast::AndCondition>,
+    group: &mut Vec<ast::Relation>,
+) -> Result<(), AllocError>
+    ensures groups { OnOk result (map (λ group. group.0) groups.new.items ≡ done_before and_or (map (λ group. group.0) groups.old.items) group.old.items) }
+    ensures group { OnOk result (group.new.items ≡ open_before and_or group.old.items) }
+{
+    match and_or {
+        AndOr::And => Ok(()),
+        AndOr::Or => {
+            let whole = mem::replace(group, Vec::new(alloc));
+            groups.push(ast::AndCondition(Sequence(whole)))?;
+            Ok(())
+        }
+    }
+}
+
+// The tree of a relation.
+fn relation_of(alloc: Global, relation: &Relation<'_>) -> Result<ast::Relation, AllocError>
+    ensures { IfOk result (λ tree. tree ≡ unpacked_relation (lent_relation relation.now)) }
+{
+    Ok(ast::Relation {
+        expression: relation.operand().with_modulo(relation.modulo()),
+        operator: ast::Operator::from(relation.polarity()),
+        range_list: ranges_of(alloc, relation)?,
+    })
+}
+
+// The ranges of a relation.
+fn ranges_of(alloc: Global, relation: &Relation<'_>) -> Result<ast::RangeList, AllocError>
+    ensures { IfOk result (λ list. list.0 ≡ map unpacked_range (lent_relation relation.now).meaning.ranges) }
+{
+    let mut items = Vec::new(alloc);
+    for index in 0..relation.len() {
+        let Some(range) = relation.range(index) else {
+            return Err(AllocError);
+        };
+        items.push(ast::RangeListItem::from(range))?;
+    }
+    Ok(ast::RangeList(Sequence(items)))
+}
