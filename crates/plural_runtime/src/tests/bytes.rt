@@ -45,6 +45,7 @@ fn refuses_hostile_bytes(rt: HostRuntime) {
 }
 
 // What the first bytes of a rule are: refused with a fault, or a rule with its answers.
+#[derive(Clone, Copy)]
 enum Cut {
     Refused(RuleBytesError),
     Rule([bool; 4]),
