@@ -63,12 +63,21 @@ fn differs_from_the_tree_where_it_is_said(rt: HostRuntime) {
         ("i = 3..1", PluralOperands::from(2u8), false, false),
         ("i != 3..1", PluralOperands::from(2u8), true, true),
         ("", PluralOperands::from(7u8), true, true),
-        ("w = 1 and t = 5 and f = 5 and v = 1 and c = 0 and e = 0", with_fraction(1, 5), true, true),
+        (
+            "w = 1 and t = 5 and f = 5 and v = 1 and c = 0 and e = 0",
+            with_fraction(1, 5),
+            true,
+            true,
+        ),
     ];
     for (text, operands, packed, tree) in rows {
         let rule = Rule::from_str(rt.alloc(), text).expect(&rt, "a rule");
         assert_eq!(rt; test_rule(&rule, &operands), packed, "packed {text}");
         let condition = parse_condition(rt.alloc(), text.as_bytes()).expect(&rt, "a condition");
-        assert_eq!(rt; test_condition(&condition, &operands), tree, "tree of {text}");
+        assert_eq!(rt;
+            test_condition(&condition, &operands),
+            tree,
+            "tree of {text}"
+        );
     }
 }

@@ -1,0 +1,39 @@
+-- the written numbers
+pub use Rattle.fixed_decimal.specs.Digits
+pub use Rattle.fixed_decimal.specs.Places
+pub use Rattle.fixed_decimal.specs.Compact
+pub use Rattle.fixed_decimal.specs.Written
+-- packed lists
+pub use Rattle.packed_list.specs.ListBytes
+pub use Rattle.packed_list.specs.ListFaults
+-- operands, texts and trees
+pub use Rattle.plural_reference.specs.Operands
+pub use Rattle.plural_reference.specs.DecimalOperands
+pub use Rattle.plural_reference.specs.OperandText
+pub use Rattle.plural_reference.specs.Lexer
+pub use Rattle.plural_reference.specs.Parser
+pub use Rattle.plural_reference.specs.Samples
+pub use Rattle.plural_reference.specs.Reading
+pub use Rattle.plural_reference.specs.Serializer
+pub use Rattle.plural_reference.specs.FaultTexts
+pub use Rattle.plural_reference.specs.Truth
+pub use Rattle.plural_reference.specs.Resolver
+pub use Rattle.plural_reference.specs.ExactTruth
+pub use Rattle.plural_reference.specs.Exactness
+-- packed rules
+pub use Rattle.plural_runtime.specs.PackedRelations
+pub use Rattle.plural_runtime.specs.RuleBytes
+pub use Rattle.plural_runtime.specs.RuleFaults
+pub use Rattle.plural_runtime.specs.PackedTruth
+pub use Rattle.plural_runtime.specs.NeededRanges
+pub use Rattle.plural_runtime.specs.PackedTree
+pub use Rattle.plural_runtime.specs.Packing
+pub use Rattle.plural_runtime.specs.RuleErrorTexts
+-- categories
+pub use Rattle.plural_base.specs.CategoryNames
+pub use Rattle.plural_base.specs.FiveRules
+pub use Rattle.plural_base.specs.RulesData
+pub use Rattle.plural_base.specs.RuleTexts
+pub use Rattle.plural_base.specs.TextAnswers
+pub use Rattle.plural_base.specs.RuleModuli
+pub use Rattle.plural_base.specs.DecimalChoice

@@ -1,0 +1,18 @@
+//! Plural rules of languages: the category that a number has, and when it is exact.
+//!
+//! The crates below are found here under the paths of the original: the rules' data in [`provider`],
+//! their text and tree in [`provider::rules::reference`], their packed form in
+//! [`provider::rules::runtime`], and all else at the root.
+#![tactic(auto)]
+
+pub mod provider;
+#[cfg(test)]
+mod tests;
+
+pub use fixed_decimal::{CompactDecimal, Decimal, DecimalError, Sign, UnsignedDecimal};
+pub use packed_list::{Items, ListError, PackError, PackedList};
+pub use plural_base::{
+    AllCategories, Categories, PluralCategory, PluralRuleType, PluralRules, PluralRulesOptions,
+    RulesTextError,
+};
+pub use plural_reference::{OperandsError, PluralOperands, RawPluralOperands, Sequence};

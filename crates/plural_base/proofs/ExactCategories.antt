@@ -1,0 +1,85 @@
+-- Within the bound the category is the one that the exact number has.
+use Rattle.std.proofs.Common.{◌≡◌, ℕ, ◌+◌, ◌^◌, ◌<◌, List, [], ◌∷◌, ◌++◌, flat_map, Bool, true, false, refl, sym, ap, subst, ◌∙◌, inl, inr, Option, Some, None, Result, Ok, Err}
+use Rattle.std.specs.Prelude.{if◌then◌else◌, Contains}
+use Rattle.std.proofs.lemmas.List.Elements.{Contains-append_left, Contains-append_right}
+use Rattle.fixed_decimal.specs.Places.{Places}
+use Rattle.plural_reference.specs.declared.ast.Condition.{Condition}
+use Rattle.plural_reference.specs.declared.error.ParseError.TheVariants.{ValueTooLarge}
+use Rattle.plural_reference.specs.ExactTruth.{exact_truth}
+use Rattle.plural_reference.specs.ExactnessLaws.{ConditionsAgree, IsKept}
+use Rattle.plural_reference.specs.Operands.{Operands}
+use Rattle.plural_reference.specs.Truth.{groups_of}
+use Rattle.plural_runtime.specs.declared.error.RuleError.{RuleError}
+use Rattle.plural_runtime.specs.declared.error.RuleError.TheVariants.{Parse, StartLimit}
+use Rattle.plural_runtime.specs.PackedRelations.{PackedRelation}
+use Rattle.plural_runtime.specs.PackedTree.{packed, has_large_value}
+use Rattle.plural_runtime.specs.PackedTruth.{packed_truth}
+use Rattle.plural_runtime.specs.Packing.{packing}
+use Rattle.plural_base.specs.FiveRules.{Five, FiveRules, passes, first_category}
+use Rattle.plural_base.specs.RuleModuli.{moduli_of_relation, moduli_of_rule, moduli_of}
+use Rattle.plural_base.specs.RuleTexts.{ReadsAs, IsReadFrom, AreReadFrom}
+use Rattle.plural_base.proofs.Choice.{same_choice}
+use Rattle.plural_base.proofs.ConditionsAdmitted.{Covers, condition_admitted}
+use Rattle.plural_base.proofs.PackedConditions.{AreLaterFilled, packed_truth-packed, read_is_filled}
+
+-- ---- What is packed
+
+packs : (large high : Bool) (relations rule : List PackedRelation)
+    → (if large then Err (Parse ValueTooLarge) else (if high then Err StartLimit else Ok relations)) ≡ Ok rule → (rule ≡ relations) × (large ≡ false)
+packs true high relations rule h = cc
+packs false true relations rule h = cc
+packs false false relations rule h = (cc, refl)
+
+-- a condition that packs gives its relations, and has no value above 32 bits
+pub packing-ok : (condition : Condition) (rule : List PackedRelation) → packing condition ≡ Ok rule → (rule ≡ packed condition) × (has_large_value condition ≡ false)
+unfolding packing
+packing-ok condition rule h = packs (has_large_value condition) _ (packed condition) rule h
+
+-- ---- One rule
+
+reads_filled : (text : List ℕ) (condition : Condition) → ReadsAs text condition → AreLaterFilled (groups_of condition)
+reads_filled text condition reads =
+    let rule = reads.2.0 in
+    let spelled = reads.2.1 in
+    let P : Condition → Type 0 = λ c. AreLaterFilled (groups_of c) in
+    subst P reads.2.2 (read_is_filled reads.0 rule.condition spelled.0 spelled.1)
+
+rule_alike : ConditionsAgree → (x : Places) (e : ℕ) (moduli : List ℕ) (cut exact : Operands) → IsKept x e moduli cut exact
+    → (text : Option (List ℕ)) (condition : Option Condition) (rule : Option (List PackedRelation)) → IsReadFrom text condition rule → Covers moduli (moduli_of_rule rule)
+    → passes (packed_truth cut) rule ≡ passes (exact_truth exact) condition
+rule_alike agree x e moduli cut exact kept None None None read covers = refl
+rule_alike agree x e moduli cut exact kept (Some text) (Some condition) (Some rule) read covers =
+    let packs = packing-ok condition rule read.1 in
+    let covered : Covers moduli (flat_map moduli_of_relation (packed condition)) = let P : List PackedRelation → Type 0 = λ r. Covers moduli (flat_map moduli_of_relation r) in subst P packs.0 covers in
+    ap (packed_truth cut) packs.0
+    ∙ packed_truth-packed cut condition (reads_filled text condition read.0)
+    ∙ agree x e moduli cut exact condition kept (condition_admitted moduli condition packs.1 covered)
+rule_alike agree x e moduli cut exact kept None None (Some rule) read covers = absurd read
+rule_alike agree x e moduli cut exact kept None (Some condition) rule read covers = absurd read
+rule_alike agree x e moduli cut exact kept (Some text) None rule read covers = absurd read
+rule_alike agree x e moduli cut exact kept (Some text) (Some condition) None read covers = absurd read
+
+-- ---- Five rules
+
+-- rules that are read from texts choose the category that the exact number has by their conditions
+pub first_category-exact : ConditionsAgree → (x : Places) (e : ℕ) (cut exact : Operands)
+    → (texts : Five (Option (List ℕ))) (conditions : Five (Option Condition)) (rules : FiveRules)
+    → IsKept x e (moduli_of rules) cut exact → AreReadFrom texts conditions rules
+    → first_category (packed_truth cut) rules ≡ first_category (exact_truth exact) conditions
+first_category-exact agree x e cut exact texts conditions rules kept read =
+    let a = moduli_of_rule rules.zero in
+    let b = moduli_of_rule rules.one in
+    let c = moduli_of_rule rules.two in
+    let d = moduli_of_rule rules.few in
+    let f = moduli_of_rule rules.many in
+    let alike = rule_alike agree x e (moduli_of rules) cut exact kept in
+    same_choice
+    (alike texts.zero conditions.zero rules.zero read.zero
+    (λ m h. Contains-append_left (a ++ b ++ c ++ d) f m (Contains-append_left (a ++ b ++ c) d m (Contains-append_left (a ++ b) c m (Contains-append_left a b m h)))))
+    (alike texts.one conditions.one rules.one read.one
+    (λ m h. Contains-append_left (a ++ b ++ c ++ d) f m (Contains-append_left (a ++ b ++ c) d m (Contains-append_left (a ++ b) c m (Contains-append_right a b m h)))))
+    (alike texts.two conditions.two rules.two read.two
+    (λ m h. Contains-append_left (a ++ b ++ c ++ d) f m (Contains-append_left (a ++ b ++ c) d m (Contains-append_right (a ++ b) c m h))))
+    (alike texts.few conditions.few rules.few read.few
+    (λ m h. Contains-append_left (a ++ b ++ c ++ d) f m (Contains-append_right (a ++ b ++ c) d m h)))
+    (alike texts.many conditions.many rules.many read.many (λ m h. Contains-append_right (a ++ b ++ c ++ d) f m h))

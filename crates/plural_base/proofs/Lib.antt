@@ -1,0 +1,7 @@
+pub mod Choice
+pub mod Members
+pub mod Moduli
+pub mod PackedConditions
+pub mod ConditionsAdmitted
+pub mod ExactCategories
+pub mod Answered

@@ -1,0 +1,14 @@
+use Rattle.std.proofs.Common.{◌∙◌}
+use Rattle.plural_reference.specs.ExactnessLaws.{IsKept}
+use Rattle.plural_base.specs.RuleModuli.{moduli_of}
+use Rattle.plural_base.proofs.ExactCategories.{first_category-exact}
+use Rattle.plural_base.proofs.rules.PluralRules.category_for_decimal.Goals as goal
+
+pub returns-clause-exact : goal.returns-clause-exact
+returns-clause-exact c = λ texts conditions exact read no_zero within are_exact.
+    let digits = c.args.number.now.absolute in
+    let rules = c.args.self.now in
+    let kept : IsKept digits 0 (moduli_of rules) c.from.result exact =
+    record { written = c.from.ensures.1; within = within; are_cut = c.from.ensures.0; are_exact = are_exact } in
+    c.category_for.ensures.first
+    ∙ first_category-exact c.kept_operands_agree.ensures.conditions digits 0 c.from.result exact texts conditions rules kept read

@@ -1,0 +1,37 @@
+-- The six plural categories (UTS 35 Part 3, Language Plural Rules): their names and their orders.
+use Rattle.std.specs.Prelude.{ℕ, List, [], ◌∷◌, codes}
+use Rattle.plural_base.specs.declared.category.PluralCategory.{PluralCategory}
+use Rattle.plural_base.specs.declared.category.PluralCategory.TheVariants.{Zero, One, Two, Few, Many, Other}
+use Rattle.plural_base.specs.declared.raw_category.RawPluralCategory.{RawPluralCategory}
+use Rattle.plural_base.specs.declared.raw_category.RawPluralCategory.TheVariants as raw
+
+-- the name in lower case
+abbrev pub name_of : PluralCategory → List ℕ
+name_of Zero = codes "zero"
+name_of One = codes "one"
+name_of Two = codes "two"
+name_of Few = codes "few"
+name_of Many = codes "many"
+name_of Other = codes "other"
+
+-- all six, in the order of their names
+abbrev pub all_categories : List PluralCategory
+all_categories = Few ∷ Many ∷ One ∷ Other ∷ Two ∷ Zero ∷ []
+
+-- the category of the same name
+abbrev pub category_of : RawPluralCategory → PluralCategory
+category_of raw.Other = Other
+category_of raw.Zero = Zero
+category_of raw.One = One
+category_of raw.Two = Two
+category_of raw.Few = Few
+category_of raw.Many = Many
+
+-- the numbered one of the same name
+abbrev pub raw_category_of : PluralCategory → RawPluralCategory
+raw_category_of Zero = raw.Zero
+raw_category_of One = raw.One
+raw_category_of Two = raw.Two
+raw_category_of Few = raw.Few
+raw_category_of Many = raw.Many
+raw_category_of Other = raw.Other

@@ -1,0 +1,30 @@
+-- Which category a written number has under five rules (UTS 35 Part 3, Language Plural Rules).
+--     IsExactChoice      within the bound: the one that the number itself has, whatever its length
+--     IsKeptChoice      within the bound or not: the one of the operands that are kept of it
+use Rattle.std.specs.Prelude.{◌≡◌, ℕ, List, Option}
+use Rattle.fixed_decimal.specs.Places.{Places}
+use Rattle.plural_reference.specs.declared.ast.Condition.{Condition}
+use Rattle.plural_reference.specs.DecimalOperands.{AreCut, AreExact}
+use Rattle.plural_reference.specs.Exactness.{IsWithinBound}
+use Rattle.plural_reference.specs.ExactTruth.{exact_truth}
+use Rattle.plural_reference.specs.Operands.{Operands}
+use Rattle.plural_runtime.specs.PackedTruth.{packed_truth}
+use Rattle.plural_base.specs.declared.category.PluralCategory.{PluralCategory}
+use Rattle.plural_base.specs.FiveRules.{Five, FiveRules, first_category}
+use Rattle.plural_base.specs.RuleModuli.{moduli_of}
+use Rattle.plural_base.specs.RuleTexts.{AreReadFrom, HaveNoZeroModulus}
+
+-- Whatever five texts the rules are read from: if no modulus in them is 0 and the number, with its compact exponent,
+-- is within the bound, the category is the first of zero, one, two, few, many whose condition is there and true of
+-- the exact number, else other.
+abbrev pub IsExactChoice : FiveRules → Places → ℕ → PluralCategory → Type 0
+IsExactChoice rules number exponent category =
+    (texts : Five (Option (List ℕ))) (conditions : Five (Option Condition)) (exact : Operands)
+    → AreReadFrom texts conditions rules → HaveNoZeroModulus conditions
+    → IsWithinBound number exponent (moduli_of rules) → AreExact number exponent exact
+    → category ≡ first_category (exact_truth exact) conditions
+
+-- The category is the first whose rule is there and true of the operands that are kept of the number, else other.
+abbrev pub IsKeptChoice : FiveRules → Places → ℕ → PluralCategory → Type 0
+IsKeptChoice rules number exponent category =
+    (kept : Operands) × AreCut number exponent kept × (category ≡ first_category (packed_truth kept) rules)

@@ -1,0 +1,44 @@
+-- Five rules, one for each category but other, and the category that they choose (UTS 35 Part 3, Language Plural Rules).
+--     Five A      a thing for each of zero, one, two, few and many
+--     first_category test things      the first of zero, one, two, few, many whose thing is there and passes, else other
+--     categories_of things      those whose thing is there, in this order, then other
+use Rattle.std.specs.Prelude.{List, [], ◌∷◌, ◌++◌, Bool, false, Option, Some, None, is_some, if◌then◌else◌}
+use Rattle.plural_base.specs.declared.category.PluralCategory.{PluralCategory}
+use Rattle.plural_base.specs.declared.category.PluralCategory.TheVariants.{Zero, One, Two, Few, Many, Other}
+use Rattle.plural_runtime.specs.PackedRelations.{PackedRelation}
+
+pub record Five (A : Type 0) : Type 0 where
+  pub zero : A
+  pub one : A
+  pub two : A
+  pub few : A
+  pub many : A
+
+-- the five by name
+abbrev pub five : {A : Type 0} → A → A → A → A → A → Five A
+five zero one two few many = record { zero = zero; one = one; two = two; few = few; many = many }
+
+-- a rule for each category that has one
+abbrev pub FiveRules : Type 0
+FiveRules = Five (Option (List PackedRelation))
+
+-- it is there and passes
+abbrev pub passes : {A : Type 0} → (A → Bool) → Option A → Bool
+passes test None = false
+passes test (Some x) = test x
+
+abbrev pub first_category : {A : Type 0} → (A → Bool) → Five (Option A) → PluralCategory
+first_category test things =
+    if passes test things.zero then Zero
+    else (if passes test things.one then One
+    else (if passes test things.two then Two
+    else (if passes test things.few then Few
+    else (if passes test things.many then Many else Other))))
+
+-- the category, where its thing is there
+abbrev pub listed : {A : Type 0} → PluralCategory → Option A → List PluralCategory
+listed category thing = if is_some thing then category ∷ [] else []
+
+abbrev pub categories_of : {A : Type 0} → Five (Option A) → List PluralCategory
+categories_of things =
+    listed Zero things.zero ++ listed One things.one ++ listed Two things.two ++ listed Few things.few ++ listed Many things.many ++ Other ∷ []

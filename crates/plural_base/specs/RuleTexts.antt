@@ -1,0 +1,67 @@
+-- Five rules and the texts that they come from.
+--     ReadsAs text condition      the text is read as a rule with this condition
+--     AreReadFrom texts conditions rules      each rule is the packing of the condition that its text is read as
+--     AreRulesOf texts rules      the same of some conditions
+--     HaveNoZeroModulus conditions      no relation has the modulus 0
+--     texts_of zero one two few many      the texts behind references
+use Rattle.std.specs.Prelude.{◌≡◌, ◌≢◌, ℕ, List, Option, Some, None, Ok}
+use Rattle.std.specs.Borrow.{Bor}
+use Rattle.std.specs.List.{AllByRecursion}
+use Rattle.std.specs.Option.{option_copied}
+use Rattle.plural_reference.specs.declared.ast.Condition.{Condition}
+use Rattle.plural_reference.specs.declared.ast.Rule.{Rule}
+use Rattle.plural_reference.specs.declared.ast.Value.{Value}
+use Rattle.plural_reference.specs.declared.token.Token.{Token}
+use Rattle.plural_reference.specs.Lexer.{AreTokensOf}
+use Rattle.plural_reference.specs.Samples.{ReadsRule}
+use Rattle.plural_reference.specs.Truth.{groups_of}
+use Rattle.plural_runtime.specs.PackedRelations.{PackedRelation}
+use Rattle.plural_runtime.specs.Packing.{packing}
+use Rattle.plural_base.specs.FiveRules.{Five, five, FiveRules}
+
+-- the tokens of the text are read as a rule with this condition
+abbrev pub ReadsAs : List ℕ → Condition → Type 0
+ReadsAs text condition = (tokens : List Token) × AreTokensOf text tokens × ((rule : Rule) × ReadsRule tokens rule × (rule.condition ≡ condition))
+
+-- all three are absent, or the text is read as the condition, and the rule is what the condition is packed to
+abbrev pub IsReadFrom : Option (List ℕ) → Option Condition → Option (List PackedRelation) → Type 0
+IsReadFrom None None None = Unit {0}
+IsReadFrom (Some text) (Some condition) (Some rule) = ReadsAs text condition × (packing condition ≡ Ok rule)
+IsReadFrom _ _ _ = ⊥
+
+-- the same of each of five
+pub record AreReadFrom (texts : Five (Option (List ℕ))) (conditions : Five (Option Condition)) (rules : FiveRules) : Type 0 where
+  pub zero : IsReadFrom texts.zero conditions.zero rules.zero
+  pub one : IsReadFrom texts.one conditions.one rules.one
+  pub two : IsReadFrom texts.two conditions.two rules.two
+  pub few : IsReadFrom texts.few conditions.few rules.few
+  pub many : IsReadFrom texts.many conditions.many rules.many
+
+-- the rules are those of the texts
+abbrev pub AreRulesOf : Five (Option (List ℕ)) → FiveRules → Type 0
+AreRulesOf texts rules = (conditions : Five (Option Condition)) × AreReadFrom texts conditions rules
+
+-- the texts behind five references
+abbrev pub texts_of : {A : Type 0} → Option (Bor A) → Option (Bor A) → Option (Bor A) → Option (Bor A) → Option (Bor A) → Five (Option A)
+texts_of zero one two few many =
+    five (option_copied zero) (option_copied one) (option_copied two) (option_copied few) (option_copied many)
+
+-- ---- Without a zero modulus
+
+-- a modulus that is written isn't 0
+abbrev pub IsNoZero : Option Value → Type 0
+IsNoZero None = Unit {0}
+IsNoZero (Some modulus) = modulus.0 ≢ 0
+
+-- no relation of the condition, if it is there, has the modulus 0
+abbrev pub HasNoZeroModulus : Option Condition → Type 0
+HasNoZeroModulus None = Unit {0}
+HasNoZeroModulus (Some condition) = AllByRecursion (AllByRecursion (λ relation. IsNoZero relation.expression.modulus)) (groups_of condition)
+
+-- nor has one of five conditions
+pub record HaveNoZeroModulus (conditions : Five (Option Condition)) : Type 0 where
+  pub zero : HasNoZeroModulus conditions.zero
+  pub one : HasNoZeroModulus conditions.one
+  pub two : HasNoZeroModulus conditions.two
+  pub few : HasNoZeroModulus conditions.few
+  pub many : HasNoZeroModulus conditions.many

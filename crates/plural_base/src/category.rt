@@ -1,0 +1,104 @@
+//! The plural categories.
+
+ghost use Rattle.std.specs.Prelude.{◌≡◌, ◌↔◌, length, Some};
+ghost use Rattle.std.specs.Iterator.{YieldsFirst, item_count};
+ghost use Rattle.plural_base.specs.CategoryNames.{name_of, all_categories};
+
+use std::marker::Model;
+
+/// A plural category (UTS 35 Part 3, Language Plural Rules). What a category stands for differs from
+/// language to language: `Two` may hold of 2 alone, of 2 and 102, or of no number.
+///
+/// The order is that of the variants.
+#[derive(Clone, Copy, Debug, PartialEq, Eq, PartialOrd, Ord, Hash)]
+pub enum PluralCategory {
+    /// `zero`.
+    Zero,
+    /// `one`.
+    One,
+    /// `two`.
+    Two,
+    /// `few`.
+    Few,
+    /// `many`.
+    Many,
+    /// `other`, which every language has and which needs no rule.
+    Other,
+}
+
+const ALL: &[PluralCategory] = &[
+    PluralCategory::Few,
+    PluralCategory::Many,
+    PluralCategory::One,
+    PluralCategory::Other,
+    PluralCategory::Two,
+    PluralCategory::Zero,
+];
+
+impl PluralCategory {
+    /// All six, in the order of their names: few, many, one, other, two, zero.
+    pub fn all() -> AllCategories
+        ensures { result ≡ all_categories }
+    {
+        AllCategories { left: ALL }
+    }
+
+    /// The category of a name in lower case, as CLDR writes it; `None` for any other text.
+    pub fn get_for_cldr_string(name: &str) -> Option<PluralCategory>
+        ensures { (category : PluralCategory) → (result ≡ Some category) ↔ (name.now ≡ name_of category) }
+    {
+        PluralCategory::get_for_cldr_bytes(name.as_bytes())
+    }
+
+    /// The same of a name's bytes.
+    pub fn get_for_cldr_bytes(name: &[u8]) -> Option<PluralCategory>
+        ensures { (category : PluralCategory) → (result ≡ Some category) ↔ (name.now ≡ name_of category) }
+    {
+        match name {
+            b"zero" => Some(PluralCategory::Zero),
+            b"one" => Some(PluralCategory::One),
+            b"two" => Some(PluralCategory::Two),
+            b"few" => Some(PluralCategory::Few),
+            b"many" => Some(PluralCategory::Many),
+            b"other" => Some(PluralCategory::Other),
+            _ => None,
+        }
+    }
+}
+
+/// The categories of [`PluralCategory::all`] that are left.
+#[derive(Debug, Drop)]
+pub struct AllCategories {
+    left: &'static [PluralCategory],
+}
+
+impl Model for AllCategories {
+    ghost use Rattle.std.specs.Prelude.{List};
+    ghost use Rattle.plural_base.specs.declared.category.PluralCategory.{PluralCategory};
+
+    ghost Value = { List PluralCategory };
+
+    ghost view = { λ categories. categories.left.now };
+}
+
+impl Iterator for AllCategories {
+    type Item = PluralCategory;
+
+    ghost next_gives = { YieldsFirst (λ categories. categories) };
+
+    ghost remaining = { item_count (λ categories. categories) };
+
+    fn next(&mut self) -> Option<PluralCategory> {
+        let (first, left) = self.left.split_first()?;
+        self.left = left;
+        Some(*first)
+    }
+}
+
+impl ExactSizeIterator for AllCategories {
+    fn len(&self) -> usize
+        ensures { result ≡ length self.now }
+    {
+        self.left.len()
+    }
+}

@@ -1,0 +1,164 @@
+//! The categories of decimals, and when they are exact.
+
+ghost use Rattle.std.specs.Prelude.{◌≡◌, ◌↔◌, ◌^◌, ◌≤◌, pos, ◌-ℤ◌, length, IsTrue};
+ghost use Rattle.std.specs.List.{list_all};
+ghost use Rattle.fixed_decimal.specs.Digits.{value_of};
+ghost use Rattle.fixed_decimal.specs.Places.{IsWritten, shift_right};
+ghost use Rattle.plural_reference.specs.Exactness.{IsWithinBound};
+ghost use Rattle.plural_runtime.specs.RuleViews.{lent_relation};
+ghost use Rattle.plural_base.specs.DecimalChoice.{IsExactChoice, IsKeptChoice};
+ghost use Rattle.plural_base.specs.ModulusTests.{divides_limit, is_admitted, is_rule_admitted, are_all_admitted};
+ghost use Rattle.plural_base.specs.RuleModuli.{moduli_of};
+
+use crate::category::PluralCategory;
+use crate::rules::PluralRules;
+use fixed_decimal::{CompactDecimal, Decimal, UnsignedDecimal};
+use plural_reference::PluralOperands;
+use plural_reference::laws::exactness::{bound_before_the_shift, kept_operands_agree};
+use plural_runtime::{Operand, Relation, Rule};
+
+// So many places are kept of a decimal on each side of the point.
+const KEPT: usize = 18;
+
+// What is cut from an integer part is a multiple of this, 10 to the power 18.
+const LIMIT: u64 = 1_000_000_000_000_000_000;
+
+impl<'data> PluralRules<'data> {
+    /// The category of a decimal by the operands that are kept of it. Where
+    /// [`PluralRules::is_exact_for_decimal`] holds and the rules come from texts without a modulus
+    /// 0, it is the category of the number itself, whatever its length. It takes no memory.
+    pub fn category_for_decimal(&self, number: &Decimal) -> PluralCategory
+        ensures kept { IsKeptChoice self.now number.now.absolute 0 result }
+        ensures exact { IsExactChoice self.now number.now.absolute 0 result }
+    {
+        kept_operands_agree();
+        self.category_for(PluralOperands::from(number))
+    }
+
+    /// The category of a compact decimal by the operands that are kept of it, after the point has
+    /// moved by the exponent. Where [`PluralRules::is_exact_for`] holds and the rules come from texts
+    /// without a modulus 0, it is the category of the number itself, whatever its length. It takes no
+    /// memory.
+    pub fn category_for_compact(&self, number: &CompactDecimal) -> PluralCategory
+        ensures kept { IsKeptChoice self.now number.now.significand.absolute number.now.exponent result }
+        ensures exact { IsExactChoice self.now number.now.significand.absolute number.now.exponent result }
+    {
+        kept_operands_agree();
+        let operands = PluralOperands::from(number);
+        self.category_for(operands)
+    }
+
+    /// Whether the rules choose this number's category as the number itself does, and not only as
+    /// what is kept of it does.
+    ///
+    /// It holds where, after the point has moved by the exponent, the number has at most 18 fraction
+    /// places; and either at most 18 integer places, or an integer part of at least `10^18` under
+    /// rules whose moduli on `n` and `i` all divide `10^18`. Places count as they are written, with
+    /// leading and trailing zeros. It takes no memory.
+    pub fn is_exact_for(&self, number: &CompactDecimal) -> bool
+        ensures { let digits = number.now.significand.absolute in
+            IsTrue result ↔ IsWithinBound digits number.now.exponent (moduli_of self.now) }
+    {
+        self.is_within_bound(&number.significand().absolute, number.exponent())
+    }
+
+    /// As [`PluralRules::is_exact_for`] of a number without an exponent.
+    pub fn is_exact_for_decimal(&self, number: &Decimal) -> bool
+        ensures { IsTrue result ↔ IsWithinBound number.now.absolute 0 (moduli_of self.now) }
+    {
+        self.is_within_bound(&number.absolute, 0)
+    }
+
+    // Whether the digits, moved by the exponent, are within the bound of the rules.
+    fn is_within_bound(&self, digits: &UnsignedDecimal, exponent: u8) -> bool
+        ensures { IsTrue result ↔ IsWithinBound digits.now exponent (moduli_of self.now) }
+    {
+        let (whole, fraction) = places_after(digits, exponent);
+        if fraction > KEPT {
+            return false;
+        }
+        if whole <= KEPT {
+            return true;
+        }
+        is_long_after(digits, exponent) && self.have_admitted_moduli()
+    }
+
+    // Whether each modulus on n and i in the five rules divides 10 to the power 18.
+    fn have_admitted_moduli(&self) -> bool
+        ensures { result ≡ are_all_admitted self.now }
+    {
+        has_admitted_moduli(&self.data.zero)
+            && has_admitted_moduli(&self.data.one)
+            && has_admitted_moduli(&self.data.two)
+            && has_admitted_moduli(&self.data.few)
+            && has_admitted_moduli(&self.data.many)
+    }
+}
+
+// How many integer places and fraction places digits have once the point has moved by the exponent.
+fn places_after(digits: &UnsignedDecimal, exponent: u8) -> (usize, usize)
+    ensures whole { result.0 ≡ length (shift_right exponent digits.now).whole }
+    ensures fraction { result.1 ≡ length (shift_right exponent digits.now).fraction }
+    ensures written { IsWritten digits.now }
+{
+    bound_before_the_shift();
+    let (lowest, highest) = digits.magnitude_range();
+    let whole = highest.unsigned_abs() as usize + 1 + exponent as usize;
+    let fraction = (lowest.unsigned_abs() as usize).saturating_sub(exponent as usize);
+    (whole, fraction)
+}
+
+// Whether the integer part is at least 10 to the power 18 once the point has moved.
+fn is_long_after(digits: &UnsignedDecimal, exponent: u8) -> bool
+    requires { IsWritten digits.now }
+    ensures { IsTrue result ↔ (10 ^ 18 ≤ value_of (shift_right exponent digits.now).whole) }
+{
+    bound_before_the_shift();
+    digits.has_digit_from(first_place_above(exponent))
+}
+
+// The power of ten that the point's move turns into 10 to the power 18.
+fn first_place_above(exponent: u8) -> i16
+    ensures { result ≡ pos 18 -ℤ pos exponent }
+{
+    18 - i16::from(exponent)
+}
+
+// Whether each modulus on n and i in a rule, if it is there, divides 10 to the power 18.
+fn has_admitted_moduli(rule: &Option<Rule<'_>>) -> bool
+    ensures { result ≡ is_rule_admitted rule.now }
+{
+    match rule {
+        Some(rule) => are_admitted(rule),
+        None => true,
+    }
+}
+
+// The same of a rule that is there.
+fn are_admitted(rule: &Rule<'_>) -> bool
+    ensures { result ≡ list_all is_admitted rule.now }
+{
+    for item in rule.iter() {
+        if !has_admitted_modulus(item.as_relation()) {
+            return false;
+        }
+    }
+    true
+}
+
+// Whether a relation's modulus, if it is on n or i, divides 10 to the power 18.
+fn has_admitted_modulus(relation: Relation<'_>) -> bool
+    ensures { result ≡ is_admitted (lent_relation relation.entry) }
+{
+    match relation.operand() {
+        Operand::N | Operand::I => divides_limit(relation.modulo()),
+        Operand::V | Operand::W | Operand::F | Operand::T | Operand::C | Operand::E => true,
+    }
+}
+
+// Whether a modulus is none, or divides 10 to the power 18.
+fn divides_limit(modulus: u32) -> bool
+    ensures { result ≡ divides_limit modulus }
+{
+    modulus == 0 || LIMIT % u64::from(modulus) == 0
+}

@@ -1,0 +1,73 @@
+//! Plural categories by their numbers.
+
+ghost use Rattle.std.specs.Prelude.{◌≡◌};
+ghost use Rattle.plural_base.specs.CategoryNames.{name_of, category_of, raw_category_of};
+
+use crate::category::PluralCategory;
+
+/// A plural category by its number, as data writes it.
+///
+/// The order is that of the numbers.
+#[derive(Clone, Copy, Debug, PartialEq, Eq, PartialOrd, Ord, Hash)]
+pub enum RawPluralCategory {
+    /// `other`.
+    Other = 0,
+    /// `zero`.
+    Zero = 1,
+    /// `one`.
+    One = 2,
+    /// `two`.
+    Two = 3,
+    /// `few`.
+    Few = 4,
+    /// `many`.
+    Many = 5,
+}
+
+impl RawPluralCategory {
+    /// The name in lower case, as CLDR writes it.
+    pub fn as_str(self) -> &'static str
+        ensures { result.now ≡ name_of (category_of self) }
+    {
+        match self {
+            RawPluralCategory::Other => "other",
+            RawPluralCategory::Zero => "zero",
+            RawPluralCategory::One => "one",
+            RawPluralCategory::Two => "two",
+            RawPluralCategory::Few => "few",
+            RawPluralCategory::Many => "many",
+        }
+    }
+}
+
+/// The category of the same name.
+impl From<RawPluralCategory> for PluralCategory {
+    ghost from_gives = { λ raw category. category ≡ category_of raw };
+
+    fn from(raw: RawPluralCategory) -> PluralCategory {
+        match raw {
+            RawPluralCategory::Other => PluralCategory::Other,
+            RawPluralCategory::Zero => PluralCategory::Zero,
+            RawPluralCategory::One => PluralCategory::One,
+            RawPluralCategory::Two => PluralCategory::Two,
+            RawPluralCategory::Few => PluralCategory::Few,
+            RawPluralCategory::Many => PluralCategory::Many,
+        }
+    }
+}
+
+/// The numbered category of the same name.
+impl From<PluralCategory> for RawPluralCategory {
+    ghost from_gives = { λ category raw. raw ≡ raw_category_of category };
+
+    fn from(category: PluralCategory) -> RawPluralCategory {
+        match category {
+            PluralCategory::Zero => RawPluralCategory::Zero,
+            PluralCategory::One => RawPluralCategory::One,
+            PluralCategory::Two => RawPluralCategory::Two,
+            PluralCategory::Few => RawPluralCategory::Few,
+            PluralCategory::Many => RawPluralCategory::Many,
+            PluralCategory::Other => RawPluralCategory::Other,
+        }
+    }
+}

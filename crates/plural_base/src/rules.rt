@@ -1,0 +1,96 @@
+//! The rules of one language, and the categories that they choose.
+
+ghost use Rattle.std.specs.Prelude.{◌≡◌, ◌++◌, [], ◌∷◌, List, Contains};
+ghost use Rattle.plural_runtime.specs.PackedTruth.{packed_truth};
+ghost use Rattle.plural_base.specs.FiveRules.{first_category, passes, categories_of};
+ghost use Rattle.plural_base.specs.declared.category.PluralCategory.TheVariants.{Other};
+
+use crate::categories::Categories;
+use crate::category::PluralCategory;
+use crate::rules_data::PluralRulesData;
+use plural_reference::PluralOperands;
+use plural_runtime::{Rule, test_rule};
+use std::marker::Model;
+
+/// The rules of one language and type (UTS 35 Part 3, Language Plural Rules), which choose a number's
+/// category: the first of zero, one, two, few and many whose rule is there and true, else other.
+#[derive(Debug, Drop)]
+pub struct PluralRules<'data> {
+    pub(crate) data: PluralRulesData<'data>,
+}
+
+impl<'data> Model for PluralRules<'data> {
+    ghost use Rattle.plural_base.specs.FiveRules.{FiveRules};
+
+    ghost Value = { FiveRules };
+
+    ghost use Rattle.plural_base.specs.RulesData.{rules_of};
+
+    ghost view = { λ rules. rules_of rules.data };
+}
+
+impl<'data> PluralRules<'data> {
+    ghost use Rattle.plural_base.specs.RulesData.{rules_of};
+
+    /// Rules that were handed in.
+    pub fn from_data(rules: PluralRulesData<'data>) -> PluralRules<'data>
+        ensures { result ≡ rules_of rules.entry }
+    {
+        PluralRules { data: rules }
+    }
+
+    /// The category of a number by its operands. It takes no memory.
+    #[inline]
+    pub fn category_for(&self, operands: PluralOperands) -> PluralCategory
+        ensures first { result ≡ first_category (packed_truth operands) self.now }
+        ensures member { Contains (categories_of self.now) result }
+    {
+        self.first_true(&operands)
+    }
+
+    // The first category whose rule is there and true, else other.
+    #[inline]
+    fn first_true(&self, operands: &PluralOperands) -> PluralCategory
+        ensures { result ≡ first_category (packed_truth operands.now) self.now }
+    {
+        if is_true_of(&self.data.zero, operands) {
+            PluralCategory::Zero
+        } else if is_true_of(&self.data.one, operands) {
+            PluralCategory::One
+        } else if is_true_of(&self.data.two, operands) {
+            PluralCategory::Two
+        } else if is_true_of(&self.data.few, operands) {
+            PluralCategory::Few
+        } else if is_true_of(&self.data.many, operands) {
+            PluralCategory::Many
+        } else {
+            PluralCategory::Other
+        }
+    }
+
+    /// The categories that a number may have: those whose rule is there, from zero to many, then
+    /// other.
+    pub fn categories(&self) -> Categories
+        ensures there { result ≡ categories_of self.now }
+        ensures last { (front : List PluralCategory) × (result ≡ front ++ Other ∷ []) }
+    {
+        Categories::new(
+            self.data.zero.is_some(),
+            self.data.one.is_some(),
+            self.data.two.is_some(),
+            self.data.few.is_some(),
+            self.data.many.is_some(),
+        )
+    }
+}
+
+// Whether a rule is there and true.
+#[inline]
+fn is_true_of(rule: &Option<Rule<'_>>, operands: &PluralOperands) -> bool
+    ensures { result ≡ passes (packed_truth operands.now) rule.now }
+{
+    match rule {
+        Some(rule) => test_rule(rule, operands),
+        None => false,
+    }
+}

@@ -1,0 +1,3 @@
+mod categories;
+mod exact;
+mod texts;
