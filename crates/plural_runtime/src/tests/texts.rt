@@ -104,7 +104,7 @@ fn packs_up_to_the_last_start(rt: HostRuntime) -> Result<(), Fail> {
     let mut tree = Rule::from_str(alloc, &most)
         .expect(&rt, "a rule")
         .to_ast(alloc)?;
-    let group = &mut tree.condition.0.0[0];
+    let mut group = tree.condition.0.0.pop().expect(&rt, "an and-condition");
     let relation = ast::Relation {
         expression: ast::Expression {
             operand: ast::Operand::I,
@@ -114,6 +114,7 @@ fn packs_up_to_the_last_start(rt: HostRuntime) -> Result<(), Fail> {
         range_list: ast::RangeList(plural_reference::Sequence(Vec::new(alloc))),
     };
     group.0.0.push(relation)?;
+    tree.condition.0.0.push(group)?;
     let refused = Rule::try_from(alloc, &tree);
     assert!(rt; matches!(refused, Err(RuleError::Parse(ParseError::ValueTooLarge))));
     Ok(())
