@@ -1,16 +1,16 @@
 -- No text has the fault that only trees made by hand have.
-use Rattle.std.proofs.Common.{◌≡◌, ◌≢◌, List, Bool, true, false, Option, Some, None, inl, inr, sym, ap, ◌∙◌, refl}
-use Rattle.std.specs.Prelude.{if◌then◌else◌, is_some, map, Ok, Err}
+use Rattle.std.proofs.Common.{◌≡◌, ◌≢◌, List, Bool, true, false, Option, Some, None, inl, inr, refl}
+use Rattle.std.specs.Prelude.{if◌then◌else◌, is_some, map, Err}
 use Rattle.packed_list.specs.ListBytes.{has_high_start}
 use Rattle.plural_reference.specs.declared.ast.Condition.{Condition}
 use Rattle.plural_reference.specs.declared.ast.Operand.TheVariants.{C}
 use Rattle.plural_reference.specs.declared.error.ParseError.{ParseError}
-use Rattle.plural_reference.specs.declared.error.ParseError.TheVariants.{ExpectedAndCondition, ExpectedRelation, ExpectedOperand, ExpectedOperator, ExpectedValue, ExpectedSampleType, ValueTooLarge}
+use Rattle.plural_reference.specs.declared.error.ParseError.TheVariants.{ExpectedAndCondition, ExpectedRelation, ExpectedOperand, ExpectedValue, ValueTooLarge}
 use Rattle.plural_reference.specs.declared.token.Token.{Token}
-use Rattle.plural_reference.specs.declared.token.Token.TheVariants.{Operator, Operand, Number, Zero, Dot, Comma, At, Decimal, Integer, Ellipsis, E, Modulo}
+use Rattle.plural_reference.specs.declared.token.Token.TheVariants.{Operator, Operand, Number, Zero, Dot, At, Decimal, Integer, Ellipsis, E, Modulo}
 use Rattle.plural_reference.specs.Parser.{Place, start, after_or, after_and, after_operand, after_modulo, after_modulus, before_value, operand_of, value_of, operand_fault, operator_fault, value_fault, fault, first}
 use Rattle.plural_reference.specs.Samples.{SamplePlace, after_at, before_sample, after_comma, after_mark, type_fault, digits_fault, sample_fault, fault_in_samples, FaultyRule}
-use Rattle.plural_runtime.specs.declared.error.RuleError.TheVariants.{Parse, StartLimit}
+use Rattle.plural_runtime.specs.declared.error.RuleError.TheVariants.{Parse}
 use Rattle.plural_runtime.specs.RuleBytes.{relation_bytes}
 use Rattle.plural_runtime.specs.PackedTree.{packed, has_large_value}
 use Rattle.plural_runtime.specs.Packing.{packing}

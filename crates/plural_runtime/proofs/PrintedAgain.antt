@@ -1,6 +1,6 @@
 -- Rules that are packed from texts, printed and packed again.
-use Rattle.std.proofs.Common.{◌≡◌, List, map, refl, sym, ap, ◌∙◌, subst, Bool, true, false, arith}
-use Rattle.std.specs.Prelude.{Ok, Err}
+use Rattle.std.proofs.Common.{◌≡◌, List, map, refl, sym, ap, ◌∙◌, subst, Bool, true, false}
+use Rattle.std.specs.Prelude.{Ok}
 use Rattle.packed_list.specs.ListBytes.{has_high_start}
 use Rattle.plural_reference.specs.declared.ast.Condition.{Condition}
 use Rattle.plural_reference.specs.PrintingLaws.{IsSpellable, ConditionsOfTextsAreSpellable, SpellableConditionsPrintBack}
@@ -9,7 +9,7 @@ use Rattle.plural_runtime.specs.RuleBytes.{relation_bytes}
 use Rattle.plural_runtime.specs.PackedTree.{packed, unpacked, has_large_value}
 use Rattle.plural_runtime.specs.Packing.{packing}
 use Rattle.plural_runtime.specs.RuleLaws.{PrintedRulesPackAgain}
-use Rattle.plural_runtime.proofs.PackedTrees.{packing-large, packing-high, packing-ok}
+use Rattle.plural_runtime.proofs.PackedTrees.{packing-high, packing-ok}
 use Rattle.plural_runtime.proofs.SpellableTrees.{spellable_is_small, spellable_again}
 use Rattle.plural_runtime.proofs.TreeGroups.{packed-unpacked}
 

@@ -1,10 +1,9 @@
 -- What a text says is packed without a fault of its values, and its tree is what a text says.
-use Rattle.std.proofs.Common.{◌≡◌, ◌≢◌, ℕ, ◌≤◌, List, [], ◌∷◌, ◌++◌, map, refl, sym, ap, ◌∙◌, subst, append-nil, Bool, true, false, Option, Some, None, arith}
-use Rattle.std.specs.Prelude.{◌||◌, ◌==◌, flat_map, nat_lt, IfSome, Ok, Err}
+use Rattle.std.proofs.Common.{◌≡◌, ◌≢◌, ℕ, List, [], ◌∷◌, ◌++◌, map, refl, sym, ap, ◌∙◌, subst, append-nil, Bool, true, false, Option, Some, None}
+use Rattle.std.specs.Prelude.{◌||◌, ◌==◌, flat_map, IfSome}
 use Rattle.std.specs.List.{list_any, AllByRecursion}
 use Rattle.std.proofs.lemmas.Bool.{le-ltb}
 use Rattle.std.proofs.lemmas.List.Elements.{All-from_recursion, recursion_from_All}
-use Rattle.packed_list.specs.ListBytes.{has_high_start}
 use Rattle.plural_reference.specs.declared.ast.AndCondition.{AndCondition}
 use Rattle.plural_reference.specs.declared.ast.Condition.{Condition}
 use Rattle.plural_reference.specs.declared.ast.RangeListItem.{RangeListItem}
@@ -15,10 +14,8 @@ use Rattle.plural_reference.specs.PrintingLaws.{FitsToken, IsSpellableItem, IsSp
 use Rattle.plural_reference.specs.Truth.{ends_of, modulus_of, meaning_of, groups_of}
 use Rattle.plural_runtime.specs.declared.kinds.AndOr.{AndOr}
 use Rattle.plural_runtime.specs.declared.kinds.AndOr.TheVariants.{And, Or}
-use Rattle.plural_runtime.specs.PackedRelations.{PackedRelation, groups, at_front, cut_before}
-use Rattle.plural_runtime.specs.RuleBytes.{relation_bytes}
+use Rattle.plural_runtime.specs.PackedRelations.{PackedRelation, groups, at_front}
 use Rattle.plural_runtime.specs.PackedTree.{packed, packed_groups, packed_and_condition, packed_relation, unpacked, unpacked_groups, unpacked_meaning, unpacked_modulus, unpacked_range, unpacked_relation, condition_of, has_large_value, is_large, is_large_item, is_large_modulus, is_large_relation}
-use Rattle.plural_runtime.specs.Packing.{packing}
 use Rattle.plural_runtime.proofs.Walks.{first_group}
 
 -- ---- no value is large

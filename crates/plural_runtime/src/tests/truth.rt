@@ -40,7 +40,10 @@ fn counts_the_ranges_that_are_needed(rt: HostRuntime) {
         assert_eq!(rt; counted(&rule, &operands), Some((answer, count)));
     }
     let marked = Rule::parse_bytes(b"\x01\0\x41\0\0\0\0").expect(&rt, "a rule");
-    assert_eq!(rt; counted(&marked, &PluralOperands::from(5u8)), Some((true, 0)));
+    assert_eq!(rt;
+        counted(&marked, &PluralOperands::from(5u8)),
+        Some((true, 0))
+    );
 }
 
 #[test]

@@ -1,5 +1,6 @@
-use Rattle.std.proofs.Common.{◌≡◌, ◌∙◌, subst, sym, inl, inr}
+use Rattle.std.proofs.Common.{◌≡◌, ◌∙◌, ap, subst, sym, inl, inr, Err}
 use Rattle.plural_reference.specs.Lexer.{AreTokensOf}
+use Rattle.plural_reference.specs.declared.error.ParseError.TheVariants.{ValueTooLarge}
 use Rattle.plural_reference.specs.Reading.{IsAnswer}
 use Rattle.plural_reference.specs.Samples.{ReadsRule, FaultyRule}
 use Rattle.plural_runtime.specs.Packing.{Packs}
@@ -41,4 +42,10 @@ returns-in-Ok-clause-fits c = λ h.
     elim c.try_from.ensures [ inl e ↦ packing_not_large condition small (sym e ∙ h) | inr memory ↦ cc ]
 
 pub returns-in-Err-Parse-clause-fits : goal.returns-in-Err-Parse-clause-fits
-returns-in-Err-Parse-clause-fits c = ?
+returns-in-Err-Parse-clause-fits c = λ h.
+    let law = c.one_list_of_tokens.ensures c.as_bytes.result.now in
+    let tokens = law.0 in
+    let found = c.in-Err-Parse.is ∙ ap Err c.in-Err-Parse.field-0-is in
+    let faulty : FaultyRule tokens c.in-Err-Parse.fault = subst (λ r. IsAnswer (ReadsRule tokens) (FaultyRule tokens) r) found (c.parse.ensures.only tokens law.1) in
+    let same : c.in-Err-Parse.fault ≡ ValueTooLarge = cc in
+    never_too_large tokens (subst (λ kind. FaultyRule tokens kind) same faulty)
