@@ -1,5 +1,5 @@
 -- The highest digit that isn't zero: the kept span begins with it.
-use Rattle.std.proofs.Common.{◌≡◌, ◌≢◌, ℕ, zero, suc, ◌+◌, ◌-◌, ◌<◌, ◌≤◌, ◌≤ℤ◌, inl, inr, List, ◌++◌, refl, sym, ◌∙◌, ap, subst, length, arith, get_or, reverse, pos, negsuc, ℤ, int_lt, nat_abs, true, false, ◌↔◌}
+use Rattle.std.proofs.Common.{◌≡◌, ◌≢◌, ℕ, suc, ◌+◌, ◌-◌, ◌<◌, ◌≤◌, ◌≤ℤ◌, inl, inr, refl, sym, ◌∙◌, ap, subst, length, arith, get_or, reverse, pos, negsuc, ℤ, int_lt, nat_abs, true, false, ◌↔◌}
 use Rattle.std.proofs.lemmas.Int.{ints}
 use Rattle.std.proofs.lemmas.Bool.{cases_lt}
 use Rattle.std.proofs.lemmas.List.{length-reverse}

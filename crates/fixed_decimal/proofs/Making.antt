@@ -1,10 +1,10 @@
 -- The span that is cut out of all written digits: without the zeros at both ends, it gives them back.
-use Rattle.std.proofs.Common.{◌≡◌, ◌≢◌, ℕ, zero, suc, ◌+◌, ◌-◌, ◌<◌, ◌≤◌, max, List, [], ◌∷◌, ◌++◌, refl, sym, ◌∙◌, ap, length, take, drop, arith, get_or, replicate, length-append, length-drop, append_assoc}
-use Rattle.std.proofs.lemmas.List.{length-take-le, get_or-take, get_or-drop, take-append-drop, take_all, take_at, drop_at, drop-take, take-take}
+use Rattle.std.proofs.Common.{◌≡◌, ◌≢◌, ℕ, zero, suc, ◌+◌, ◌-◌, ◌<◌, ◌≤◌, max, List, [], ◌∷◌, ◌++◌, refl, sym, ◌∙◌, ap, length, take, drop, arith, get_or, replicate, length-append, length-drop}
+use Rattle.std.proofs.lemmas.List.{length-take-le, get_or-take, get_or-drop, take-append-drop, take_all, take_at, drop_at, take-take}
 use Rattle.fixed_decimal.specs.Digits.{AreDigits}
-use Rattle.fixed_decimal.specs.Places.{Places, or_zero}
+use Rattle.fixed_decimal.specs.Places.{or_zero}
 use Rattle.fixed_decimal.specs.Span.{digits_of, places_of, IsSpan}
-use Rattle.fixed_decimal.specs.Points.{AllDigitBytes, digits_in, number_of, written_digits, AreZeros}
+use Rattle.fixed_decimal.specs.Points.{AllDigitBytes, digits_in, written_digits, AreZeros}
 use Rattle.fixed_decimal.specs.declared.unsigned.UnsignedDecimal.TheInside.{Inside}
 use Rattle.fixed_decimal.proofs.Spans.{AreDigits-append, AreDigits-take, AreDigits-drop, same_places}
 use Rattle.fixed_decimal.proofs.Points.{digits_back, length-digits_in, or_zero-digits, length-or_zero}

@@ -1,5 +1,5 @@
 -- Decimals' texts by the sign at their front.
-use Rattle.std.proofs.Common.{◌≡◌, ◌≢◌, ℕ, zero, suc, ◌+◌, ◌<◌, ◌≤◌, List, [], ◌∷◌, ◌++◌, refl, sym, ◌∙◌, ap, subst, length, arith, get_or}
+use Rattle.std.proofs.Common.{◌≡◌, ◌≢◌, ℕ, zero, suc, ◌<◌, List, ◌++◌, refl, sym, ◌∙◌, ap, subst, length, arith, get_or}
 use Rattle.fixed_decimal.specs.Places.{Places, IsOverLimit}
 use Rattle.fixed_decimal.specs.Written.{WritesUnsigned, WritesDecimal, sign_text}
 use Rattle.fixed_decimal.specs.Points.{HasNoSign}

@@ -1,8 +1,8 @@
 -- What an unsigned decimal's text says of its number: there is one, and its bytes are digits and a point.
-use Rattle.std.proofs.Common.{◌≡◌, ◌≢◌, ℕ, zero, suc, ◌+◌, ◌-◌, ◌<◌, ◌≤◌, inl, inr, List, [], ◌∷◌, ◌++◌, refl, sym, ◌∙◌, ap, subst, length, take, drop, arith, get_or, length-append, append_assoc}
+use Rattle.std.proofs.Common.{◌≡◌, ◌≢◌, ℕ, ◌+◌, ◌-◌, ◌<◌, ◌≤◌, inl, inr, List, [], ◌∷◌, ◌++◌, refl, sym, ◌∙◌, ap, subst, length, take, drop, arith, get_or, length-append, append_assoc}
 use Rattle.std.proofs.lemmas.Bool.{cases_lt}
-use Rattle.std.proofs.lemmas.List.{take_at, drop_at, take_all, drop_all, nil_from_length}
-use Rattle.fixed_decimal.specs.Digits.{AreDigits, text_of}
+use Rattle.std.proofs.lemmas.List.{take_at, drop_at, take_all, drop_all}
+use Rattle.fixed_decimal.specs.Digits.{text_of}
 use Rattle.fixed_decimal.specs.Places.{Places, or_zero}
 use Rattle.fixed_decimal.specs.Written.{WritesUnsigned}
 use Rattle.fixed_decimal.specs.Points.{IsDigitByte, HasPointAt, HasNoSign, digits_in, number_at}

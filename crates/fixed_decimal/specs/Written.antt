@@ -1,5 +1,6 @@
 -- Texts and the numbers that they write. A text is a list of bytes.
---     WritesUnsigned text x      digits, digits `.` digits, or `.` digits; without integer digits the integer digit is 0
+--     WritesUnsigned text x      digits, digits `.` digits, or `.` digits; with no digit before the point, the
+--                                integer digit is 0
 --     WritesDecimal text x      an unsigned decimal, behind a sign or not
 --     WritesCompact text x      a decimal, then nothing, or `c` and one to three digits
 use Rattle.std.specs.Prelude.{◌≡◌, ℕ, ◌<◌, ◌≤◌, ◌⊎◌, List, [], ◌∷◌, ◌++◌, length, codes}

@@ -11,7 +11,8 @@ use crate::{Decimal, DecimalError, UnsignedDecimal};
 use std::alloc::Global;
 use std::marker::Model;
 
-/// A decimal and the power of ten that its text names behind a `c` (UTS 35 Part 3, operands c and e).
+/// A decimal and the power of ten that its text names behind a `c` (UTS 35 Part 3, Language Plural
+/// Rules, operands c and e).
 #[derive(Debug, Drop)]
 pub struct CompactDecimal {
     significand: Decimal,
@@ -25,14 +26,18 @@ impl Model for CompactDecimal {
 }
 
 impl CompactDecimal {
-    /// The number that a text writes: a decimal, then nothing, or `c` and one to three digits. All of
-    /// the text is judged before memory is taken: `Syntax` where it isn't of this form, `Limit`
+    /// The number that a text writes: a decimal, then nothing, or `c` and one to three digits. All
+    /// of the text is judged before memory is taken: `Syntax` where it isn't of this form, `Limit`
     /// where it has more than 32767 places on a side or an exponent above 255, and `Memory` where
     /// there is none for the digits.
     pub fn from_str(alloc: Global, text: &str) -> Result<CompactDecimal, DecimalError>
-        ensures number { IfOk result (λ x. WritesCompact text.now x × IsWithinLimit x.significand.absolute × (x.exponent ≤ 255)) }
-        ensures syntax { (result ≡ Err DecimalError.Syntax) ↔ ((x : CompactNumber) → ¬ (WritesCompact text.now x)) }
-        ensures limit { (result ≡ Err DecimalError.Limit) ↔ ((x : CompactNumber) × WritesCompact text.now x × IsCompactOverLimit x) }
+        ensures number { IfOk result (λ x.
+            WritesCompact text.now x
+            × IsWithinLimit x.significand.absolute × (x.exponent ≤ 255)) }
+        ensures syntax { (result ≡ Err DecimalError.Syntax)
+            ↔ ((x : CompactNumber) → ¬ (WritesCompact text.now x)) }
+        ensures limit { (result ≡ Err DecimalError.Limit)
+            ↔ ((x : CompactNumber) × WritesCompact text.now x × IsCompactOverLimit x) }
     {
         let Some((front, exponent)) = split_exponent(text.as_bytes()) else {
             return Err(DecimalError::Syntax);

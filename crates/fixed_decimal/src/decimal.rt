@@ -27,8 +27,10 @@ impl Decimal {
     /// are those of [`UnsignedDecimal::from_str`].
     pub fn from_str(alloc: Global, text: &str) -> Result<Decimal, DecimalError>
         ensures number { IfOk result (λ x. WritesDecimal text.now x × IsWithinLimit x.absolute) }
-        ensures syntax { (result ≡ Err DecimalError.Syntax) ↔ ((x : SignedNumber) → ¬ (WritesDecimal text.now x)) }
-        ensures limit { (result ≡ Err DecimalError.Limit) ↔ ((x : SignedNumber) × WritesDecimal text.now x × IsOverLimit x.absolute) }
+        ensures syntax { (result ≡ Err DecimalError.Syntax)
+            ↔ ((x : SignedNumber) → ¬ (WritesDecimal text.now x)) }
+        ensures limit { (result ≡ Err DecimalError.Limit)
+            ↔ ((x : SignedNumber) × WritesDecimal text.now x × IsOverLimit x.absolute) }
     {
         let (sign, digits, point) = parts_within(text.as_bytes())?;
         Ok(Decimal {
@@ -40,8 +42,10 @@ impl Decimal {
     /// The number without leading zeros, and 0 as one digit, without a fraction; its sign is
     /// `Negative` below 0, else `None`. `Memory` where there is none for the digits.
     pub fn from_i128(alloc: Global, number: i128) -> Result<Decimal, DecimalError>
-        ensures digits { IfOk result (λ x. IsNumeral x.absolute.whole (nat_abs number) × (x.absolute.fraction ≡ [])) }
-        ensures sign { IfOk result (λ x. x.sign ≡ (if int_lt number (pos 0) then sign.Negative else sign.None)) }
+        ensures digits { IfOk result (λ x.
+            IsNumeral x.absolute.whole (nat_abs number) × (x.absolute.fraction ≡ [])) }
+        ensures sign { IfOk result (λ x.
+            x.sign ≡ (if int_lt number (pos 0) then sign.Negative else sign.None)) }
         ensures only_memory { IfErr result (λ e. e ≡ DecimalError.Memory) }
     {
         let sign = if number < 0 {
@@ -66,11 +70,14 @@ impl Decimal {
     }
 }
 
-// The sign of a decimal's text within the limit, the digits behind it, and where their point stands.
+// The sign of a decimal's text within the limit, the digits behind it, and the place of the point.
 pub(crate) fn parts_within(text: &[u8]) -> Result<(Sign, &[u8], usize), DecimalError>
-    ensures parts { IfOk result (λ p. (text.now ≡ sign_text p.0 ++ p.1.now) × HasPointWithin p.1.now p.2) }
-    ensures syntax { (result ≡ Err DecimalError.Syntax) ↔ ((x : SignedNumber) → ¬ (WritesDecimal text.now x)) }
-    ensures limit { (result ≡ Err DecimalError.Limit) ↔ ((x : SignedNumber) × WritesDecimal text.now x × IsOverLimit x.absolute) }
+    ensures parts { IfOk result (λ p.
+        (text.now ≡ sign_text p.0 ++ p.1.now) × HasPointWithin p.1.now p.2) }
+    ensures syntax { (result ≡ Err DecimalError.Syntax)
+        ↔ ((x : SignedNumber) → ¬ (WritesDecimal text.now x)) }
+    ensures limit { (result ≡ Err DecimalError.Limit)
+        ↔ ((x : SignedNumber) × WritesDecimal text.now x × IsOverLimit x.absolute) }
     ensures no_memory { result ≢ Err DecimalError.Memory }
 {
     let (sign, digits) = split_sign(text);

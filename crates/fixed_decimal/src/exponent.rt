@@ -12,8 +12,11 @@ const MOST_DIGITS: usize = 3;
 
 // The text before the exponent, and the exponent: 0 where none is written.
 pub(crate) fn split_exponent(text: &[u8]) -> Option<(&[u8], u16)>
-    ensures found { IfSome result (λ p. (rest : List ℕ) × HasExponent rest p.1 × (text.now ≡ p.0.now ++ rest)) }
-    ensures only { (front rest : List ℕ) (x : SignedNumber) (e : ℕ) → WritesDecimal front x → HasExponent rest e → text.now ≡ front ++ rest → IsSomeAnd result (λ p. (p.0.now ≡ front) × (p.1 ≡ e)) }
+    ensures found { IfSome result (λ p.
+        (rest : List ℕ) × HasExponent rest p.1 × (text.now ≡ p.0.now ++ rest)) }
+    ensures only { (front rest : List ℕ) (x : SignedNumber) (e : ℕ)
+        → WritesDecimal front x → HasExponent rest e → text.now ≡ front ++ rest
+        → IsSomeAnd result (λ p. (p.0.now ≡ front) × (p.1 ≡ e)) }
 {
     let (front, rest) = text.split_at(exponent_start(text));
     Some((front, exponent_of(rest)?))
@@ -22,7 +25,8 @@ pub(crate) fn split_exponent(text: &[u8]) -> Option<(&[u8], u16)>
 // Where an exponent begins that is no longer than it may be: at the first `c` of the last bytes.
 fn exponent_start(text: &[u8]) -> usize
     ensures most { result ≤ length text.now }
-    ensures before { (k : ℕ) → length text.now - (MOST_DIGITS + 1) ≤ k → k < result → slice_index text.now k ≢ 99 }
+    ensures before { (k : ℕ)
+        → length text.now - (MOST_DIGITS + 1) ≤ k → k < result → slice_index text.now k ≢ 99 }
     ensures found { result < length text.now → slice_index text.now result ≡ 99 }
 {
     let mut at = text.len().saturating_sub(MOST_DIGITS + 1);

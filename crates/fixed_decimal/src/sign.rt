@@ -18,7 +18,9 @@ pub enum Sign {
 // The sign that a text begins with, and what stands behind it.
 pub(crate) fn split_sign(text: &[u8]) -> (Sign, &[u8])
     ensures form { text.now ≡ sign_text result.0 ++ result.1.now }
-    ensures only { (s : Sign) (digits : List ℕ) → HasNoSign digits → text.now ≡ sign_text s ++ digits → (s ≡ result.0) × (digits ≡ result.1.now) }
+    ensures only { (s : Sign) (digits : List ℕ)
+        → HasNoSign digits → text.now ≡ sign_text s ++ digits
+        → (s ≡ result.0) × (digits ≡ result.1.now) }
 {
     match text {
         [b'+', digits @ ..] => (Sign::Positive, digits),

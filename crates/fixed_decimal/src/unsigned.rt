@@ -38,21 +38,24 @@ impl Model for UnsignedDecimal {
 }
 
 impl UnsignedDecimal {
-    /// The number that a text without a sign writes: digits, digits `.` digits, or `.` digits. All of
-    /// the text is judged before memory is taken: `Syntax` where it isn't of this form, `Limit`
-    /// where it has more than 32767 places on a side, and `Memory` where there is none for the digits.
+    /// The number that a text without a sign writes: digits, digits `.` digits, or `.` digits. All
+    /// of the text is judged before memory is taken: `Syntax` where it isn't of this form, `Limit`
+    /// where it has more than 32767 places on a side, and `Memory` where there is none for the
+    /// digits.
     pub fn from_str(alloc: Global, text: &str) -> Result<UnsignedDecimal, DecimalError>
         ensures number { IfOk result (λ x. WritesUnsigned text.now x × IsWithinLimit x) }
-        ensures syntax { (result ≡ Err DecimalError.Syntax) ↔ ((x : Places) → ¬ (WritesUnsigned text.now x)) }
-        ensures limit { (result ≡ Err DecimalError.Limit) ↔ ((x : Places) × WritesUnsigned text.now x × IsOverLimit x) }
+        ensures syntax { (result ≡ Err DecimalError.Syntax)
+            ↔ ((x : Places) → ¬ (WritesUnsigned text.now x)) }
+        ensures limit { (result ≡ Err DecimalError.Limit)
+            ↔ ((x : Places) × WritesUnsigned text.now x × IsOverLimit x) }
     {
         let digits = text.as_bytes();
         let point = point_within(digits)?;
         Ok(UnsignedDecimal::from_point(alloc, digits, point)?)
     }
 
-    /// The number without leading zeros, and 0 as one digit; it has no fraction. `Memory` where there
-    /// is none for the digits.
+    /// The number without leading zeros, and 0 as one digit; it has no fraction. `Memory` where
+    /// there is none for the digits.
     pub fn from_u128(alloc: Global, number: u128) -> Result<UnsignedDecimal, DecimalError>
         ensures digits { IfOk result (λ x. IsNumeral x.whole number × (x.fraction ≡ [])) }
         ensures only_memory { IfErr result (λ e. e ≡ DecimalError.Memory) }

@@ -79,20 +79,21 @@ fn answers_at_every_beginning(rt: HostRuntime) {
 }
 
 #[test]
-fn packs_up_to_its_limits(rt: HostRuntime) -> Result<(), Fail> {
-    let alloc = rt.alloc();
-    let most = vec![in alloc; 7u8; 70000]?;
-    let long = most.as_slice();
-    let empty: &[u8] = &[];
-    // One item alone; an item and then an empty one.
-    let alone = PackedList::encode(alloc, &[long]).expect(&rt, "one long item");
-    assert_eq!(rt; alone.len(), 70002);
-    let at_limit = PackedList::encode(alloc, &[&long[..65535], empty]).expect(&rt, "start 65535");
-    assert_eq!(rt; at_limit.len(), 65539);
-    assert_eq!(rt; &at_limit[..4], b"\x02\x00\xff\xff".as_slice());
-    let list = PackedList::parse_bytes(&at_limit).expect(&rt, "a list");
-    assert_eq!(rt; list.get(1).ok_or("item 1")?.len(), 0);
-    let behind = PackedList::encode(alloc, &[&long[..65536], empty]);
+fn the_last_item_is_of_any_length(rt: HostRuntime) -> Result<(), Fail> {
+    let item = vec![in rt.alloc(); 7u8; 70000]?;
+    let bytes = PackedList::encode(rt.alloc(), &[item.as_slice()]).expect(&rt, "one long item");
+    assert_eq!(rt; bytes.len(), 70002);
+    Ok(())
+}
+
+#[test]
+fn an_item_starts_at_65535_at_most(rt: HostRuntime) -> Result<(), Fail> {
+    let item = vec![in rt.alloc(); 7u8; 65535]?;
+    let bytes = PackedList::encode(rt.alloc(), &[item.as_slice(), b""]).expect(&rt, "start 65535");
+    assert_eq!(rt; bytes.len(), 65539);
+    assert!(rt; bytes.as_slice().starts_with(b"\x02\x00\xff\xff"));
+    let item = vec![in rt.alloc(); 7u8; 65536]?;
+    let behind = PackedList::encode(rt.alloc(), &[item.as_slice(), b""]);
     assert!(rt; matches!(behind, Err(PackError::StartLimit)));
     Ok(())
 }

@@ -1,16 +1,16 @@
 -- Within the bound the kept operands decide a relation as the exact number does.
-use Rattle.std.proofs.Common.{◌≡◌, ℕ, zero, suc, ◌+◌, ◌-◌, ◌*◌, ◌/◌, ◌%◌, ◌^◌, ◌<◌, ◌≤◌, ◌↔◌, ◌⊎◌, inl, inr, List, [], ◌∷◌, refl, sym, ◌∙◌, ap, subst, length, drop, arith, cond, Bool, true, false, eqb, leb, Option, Some, None, option_map, Contains, ◌&&◌, ◌||◌}
+use Rattle.std.proofs.Common.{◌≡◌, ℕ, zero, suc, ◌+◌, ◌-◌, ◌*◌, ◌/◌, ◌%◌, ◌^◌, ◌<◌, ◌≤◌, ◌↔◌, ◌⊎◌, inl, inr, List, [], ◌∷◌, refl, sym, ◌∙◌, ap, subst, length, drop, arith, cond, Bool, true, false, eqb, leb, Some, None, option_map, Contains}
 use Rattle.std.specs.List.{AllByRecursion, list_any}
-use Rattle.std.proofs.lemmas.Bool.{cases_lt, cases_eq, cases_Bool, le-leb, lt-leb, leb-true, eqb-true, eq-eqb, ne_eqb, and_parts, or_from, and_right, cond-true, cond-false, false_from_ne_true}
+use Rattle.std.proofs.lemmas.Bool.{cases_lt, cases_eq, le-leb, lt-leb, eq-eqb, ne_eqb, or_from, and_right, cond-true, cond-false}
 use Rattle.std.proofs.lemmas.Nat.{mod-mul-add, mul-add-lt, div-mul-add, div-add-mod', mod_below}
 use Rattle.std.proofs.Math.Nat.{mod-mod_of_dvd, add-mod_right}
 use Rattle.std.specs.Int.{◌∣◌}
 use Rattle.fixed_decimal.specs.Digits.{value_of, AreDigits}
-use Rattle.fixed_decimal.specs.Places.{Places, IsWritten, shift_right}
+use Rattle.fixed_decimal.specs.Places.{Places, IsWritten}
 use Rattle.plural_reference.specs.Operands.{Operands}
-use Rattle.plural_reference.specs.DecimalOperands.{IsCutAt, IsExactAt, number_of, cut_whole}
+use Rattle.plural_reference.specs.DecimalOperands.{IsCutAt, IsExactAt, cut_whole}
 use Rattle.plural_reference.specs.Truth.{RelationMeaning, range_holds, is_in_ranges, holds_value, operand_value, remainder, under, relation_truth}
-use Rattle.plural_reference.specs.ExactTruth.{parts, whole_of, exact_value, exact_relation_truth}
+use Rattle.plural_reference.specs.ExactTruth.{whole_of, exact_value, exact_relation_truth}
 use Rattle.plural_reference.specs.Exactness.{IsBoundedAt, AllDivide, IsAdmitted, IsListed}
 use Rattle.plural_reference.specs.declared.ast.Operand.{Operand}
 use Rattle.plural_reference.specs.declared.ast.Operand.TheVariants.{N, I, V, W, F, T as TOperand, C, E}

@@ -3,7 +3,7 @@ use Rattle.std.proofs.Common.{◌≡◌, ℕ, zero, suc, ◌+◌, ◌-◌, ◌*�
 use Rattle.std.proofs.lemmas.Bool.{cases_lt, le-leb, lt-leb}
 use Rattle.std.proofs.lemmas.Nat.{pow-add, div-add-mod'}
 use Rattle.std.proofs.lemmas.Nat.Gcd.{mod-eq-zero_of_dvd, dvd_trans}
-use Rattle.std.proofs.Math.Nat.{pow-suc, one-le-pow, dvd-mul_right, dvd_of_mul-dvd-mul_right, mul-div_cancel, pow-le-pow_right}
+use Rattle.std.proofs.Math.Nat.{pow-suc, dvd-mul_right, dvd_of_mul-dvd-mul_right, mul-div_cancel, pow-le-pow_right}
 use Rattle.std.proofs.lemmas.List.{get_or-reverse, length-reverse, get_or-append-add, get_or-append_right, get_or-drop, append-nil, take-append-le, take_all, drop-append-le}
 use Rattle.std.proofs.lemmas.Int.{ints}
 use Rattle.std.proofs.Math.Seq.{take-suc, drop-append_seam}

@@ -1,16 +1,15 @@
 -- Laws on the bound, and on relations of exact numbers.
-use Rattle.std.proofs.Common.{◌≡◌, ℕ, zero, suc, ◌+◌, ◌-◌, ◌*◌, ◌/◌, ◌%◌, ◌^◌, ◌<◌, ◌≤◌, ◌≤ℤ◌, ◌↔◌, inl, inr, List, [], ◌∷◌, ◌++◌, refl, sym, ◌∙◌, ap, subst, length, arith, lit<, ℤ, pos, negsuc, ◌-ℤ◌, get_or, reverse, Bool, true, false, eqb, cond, Some, None, ◌||◌, ◌&&◌}
+use Rattle.std.proofs.Common.{◌≡◌, ℕ, zero, suc, ◌+◌, ◌-◌, ◌*◌, ◌/◌, ◌%◌, ◌^◌, ◌<◌, ◌≤◌, ◌≤ℤ◌, inl, inr, List, [], ◌∷◌, refl, sym, ◌∙◌, ap, subst, length, arith, lit<, ℤ, pos, negsuc, ◌-ℤ◌, get_or, reverse, Bool, true, false, eqb, cond, Some, None}
 use Rattle.std.specs.Prelude.{IsTrue}
-use Rattle.std.proofs.lemmas.Bool.{cases_lt, cases_eq, cases_Bool, le-leb, lt-leb, leb-true, eqb-true, eq-eqb, ne_eqb, and_parts, and_from, or_left, or_cases, cond-true, cond-false, false_from_ne_true, false≢true}
+use Rattle.std.proofs.lemmas.Bool.{cases_lt, le-leb, leb-true, eqb-true, eq-eqb, and_parts, and_from, or_left, or_cases, cond-true, false_from_ne_true, false≢true}
 use Rattle.std.proofs.lemmas.Int.{ints}
-use Rattle.std.proofs.lemmas.List.{get_or-append_right, get_or-reverse, length-reverse}
+use Rattle.std.proofs.lemmas.List.{length-reverse}
 use Rattle.std.proofs.lemmas.Nat.{div-add-mod', div-mul-add, mod-mul-add}
 use Rattle.std.proofs.Math.ListN.{get_or-eq_default, get_or-append}
-use Rattle.std.proofs.Math.Nat.{dvd-mul_left, dvd-add_iff_right, pow-le-pow_right, mul-mod_left, mul-div_cancel}
+use Rattle.std.proofs.Math.Nat.{dvd-mul_left, dvd-add_iff_right, pow-le-pow_right}
 use Rattle.std.specs.Int.{◌∣◌}
 use Rattle.fixed_decimal.specs.Digits.{value_of, AreDigits}
-use Rattle.fixed_decimal.specs.Places.{Places, IsWritten, HasDigitFrom, digit_at, shift_right}
-use Rattle.plural_reference.specs.Operands.{Operands}
+use Rattle.fixed_decimal.specs.Places.{Places, IsWritten, digit_at, shift_right}
 use Rattle.plural_reference.specs.DecimalOperands.{cut_whole}
 use Rattle.plural_reference.specs.Truth.{is_in_ranges, holds_value, range_holds, remainder}
 use Rattle.plural_reference.specs.ExactTruth.{whole_of, parts}

@@ -1,8 +1,8 @@
 -- Within the bound a condition is true of the kept operands just where it is true of the exact number.
-use Rattle.std.proofs.Common.{◌≡◌, List, [], ◌∷◌, refl, ◌∙◌, ap, Bool, true, false, ◌&&◌, ◌||◌}
+use Rattle.std.proofs.Common.{◌≡◌, List, [], ◌∷◌, refl, ◌∙◌, ap, Bool, ◌&&◌, ◌||◌}
 use Rattle.std.specs.List.{AllByRecursion, list_all}
 use Rattle.fixed_decimal.specs.Places.{shift_right}
-use Rattle.plural_reference.specs.Truth.{RelationMeaning, some_group, is_true_of, relation_truth, meaning_of, groups_of}
+use Rattle.plural_reference.specs.Truth.{some_group, is_true_of, relation_truth, meaning_of, groups_of}
 use Rattle.plural_reference.specs.ExactTruth.{exact_relation_truth}
 use Rattle.plural_reference.specs.Exactness.{IsAdmitted}
 use Rattle.plural_reference.specs.ExactnessLaws.{RelationsAgree, GroupsAgree, ConditionsAgree}

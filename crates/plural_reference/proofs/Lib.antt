@@ -5,6 +5,7 @@ pub mod GroupsAgree
 pub mod Conversion
 pub mod OperandLawsProved
 pub mod OperandTexts
+mod OperandRows
 pub mod ExactnessLawsProved
 pub mod Folds
 pub mod ReaderComplete
@@ -29,6 +30,7 @@ pub mod TokensFit
 pub mod PrintedTokens
 pub mod SpellableConditions
 pub mod PrintedConditions
+pub mod PrintedDigits
 pub mod PrintedSamples
 pub mod PrintedRules
 pub mod PrintedBack

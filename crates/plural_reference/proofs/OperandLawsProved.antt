@@ -1,5 +1,5 @@
 -- Laws on the operands of every number.
-use Rattle.std.proofs.Common.{◌≡◌, ℕ, zero, suc, ◌+◌, ◌-◌, ◌*◌, ◌/◌, ◌%◌, ◌^◌, ◌<◌, ◌≤◌, ◌↔◌, inl, inr, List, refl, sym, ◌∙◌, ap, subst, length, take, arith, ltb}
+use Rattle.std.proofs.Common.{◌≡◌, ℕ, zero, suc, ◌+◌, ◌-◌, ◌*◌, ◌/◌, ◌%◌, ◌^◌, ◌≤◌, ◌↔◌, inl, inr, List, refl, sym, ◌∙◌, ap, subst, length, take, arith, ltb}
 use Rattle.std.proofs.lemmas.Bool.{lt-ltb, le-ltb, cond-true, cond-false, cases_eq}
 use Rattle.std.proofs.lemmas.List.{take_all}
 use Rattle.std.proofs.lemmas.Nat.{div-add-mod'}
@@ -9,7 +9,6 @@ use Rattle.fixed_decimal.specs.Digits.{value_of}
 use Rattle.fixed_decimal.specs.Places.{Places, IsWritten, shift_right}
 use Rattle.plural_reference.specs.Operands.{Operands, of_whole, of_wide}
 use Rattle.plural_reference.specs.DecimalOperands.{HasFraction, IsCutAt, IsExactAt, number_of, cut_whole}
-use Rattle.plural_reference.specs.ExactTruth.{parts}
 use Rattle.plural_reference.specs.OperandLaws.{SameBelowLimit, CongruentFromLimit, NothingIsCut, OneCut, OneExact, TellTheNumber}
 use Rattle.plural_reference.proofs.Numbers.{value_of-append-div, value_of-append-mod}
 use Rattle.plural_reference.proofs.Fractions.{SameFraction, one_fraction, exact_whole, exact_fraction, cut_fraction, IsWritten-shift_right}

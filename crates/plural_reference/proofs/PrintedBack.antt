@@ -13,7 +13,7 @@ use Rattle.plural_reference.specs.Scan.{tokens_of, tokens_from}
 use Rattle.plural_reference.specs.Serializer.{condition_text, samples_text, rule_text}
 use Rattle.plural_reference.proofs.PrintedConditions.{condition_reads_back}
 use Rattle.plural_reference.proofs.PrintedRules.{AreReadSamples, samples_are_read, SamplesReadBack, samples_read_back}
-use Rattle.plural_reference.proofs.PrintedSamples.{EndsSample, sample_ends_run}
+use Rattle.plural_reference.proofs.PrintedDigits.{EndsSample, sample_ends_run}
 use Rattle.plural_reference.proofs.PrintedTokens.{Scans, scans_then, EndsRun}
 use Rattle.plural_reference.proofs.ScanSound.{has_tokens}
 use Rattle.plural_reference.proofs.SpellableConditions.{conditions_of_texts_are_spellable, read_spellable}

@@ -1,8 +1,7 @@
 -- The tokens of a printed condition spell it.
-use Rattle.std.proofs.Common.{◌≡◌, ◌≢◌, ◌≤◌, ℕ, List, [], ◌∷◌, ◌++◌, Option, Some, None, refl, sym, ap, ◌∙◌, append_assoc, inl, inr, arith}
+use Rattle.std.proofs.Common.{◌≡◌, ◌≢◌, ℕ, List, [], ◌∷◌, ◌++◌, Option, Some, None, refl, sym, ap, ◌∙◌, append_assoc, inl, inr, arith}
 use Rattle.std.proofs.lemmas.Bool.{eqb-false}
 use Rattle.std.proofs.lemmas.List.Elements.{All-weaker, recursion_from_All}
-use Rattle.std.specs.Char.{IsAsciiDigit}
 use Rattle.std.specs.Prelude.{IfSome, codes}
 use Rattle.plural_reference.specs.declared.ast.AndCondition.{AndCondition}
 use Rattle.plural_reference.specs.declared.ast.Condition.{Condition}
@@ -22,10 +21,7 @@ use Rattle.plural_reference.specs.PrintingLaws.{FitsToken, IsSpellableItem, IsSp
 use Rattle.plural_reference.specs.Scan.{tokens_of, tokens_from}
 use Rattle.plural_reference.specs.Serializer.{joined, prefixed, value_text, operand_text, operator_text, expression_text, item_text, relation_text, and_condition_text, condition_text}
 use Rattle.plural_reference.proofs.Alone.{i_alone}
-use Rattle.plural_reference.proofs.PrintedTokens.{Scans, scans_then, Spells, joined_spells, EndsRun, number_spells}
-
-no_digit : (b : ℕ) → b ≤ 47 → IsAsciiDigit b → ⊥
-no_digit b h d = omega (arith, d.0)
+use Rattle.plural_reference.proofs.PrintedTokens.{below_digits, Scans, scans_then, Spells, joined_spells, EndsRun, number_spells}
 
 some_apart : (x y : ℕ) (o : Option ℕ) → x ≢ y → o ≡ Some x → o ≡ Some y → ⊥
 some_apart x y o h e f = let same : x ≡ y = cc in h same
@@ -45,7 +41,7 @@ item_spells (items.Range a b) h =
       scans = record {
         gives = λ rest f.
             ap tokens_of (append_assoc (value_text a ++ codes "..") (value_text b) rest ∙ append_assoc (value_text a) (codes "..") (value_text b ++ rest))
-            ∙ low.scans.gives _ (no_digit 46 (omega arith))
+            ∙ low.scans.gives _ (below_digits 46 (omega arith))
             ∙ ap (λ ts. low.tokens ++ DotDot ∷ ts) (high.scans.gives rest f)
             ∙ sym (append_assoc (low.tokens ++ DotDot ∷ []) high.tokens (tokens_of rest) ∙ append_assoc low.tokens (DotDot ∷ []) (high.tokens ++ tokens_of rest));
       };
@@ -57,7 +53,7 @@ abbrev BeginsWithSpace : List ℕ → Type 0
 BeginsWithSpace rest = first rest ≡ Some 32
 
 space_ends : (rest : List ℕ) → BeginsWithSpace rest → EndsRun rest
-space_ends rest h = rw h (no_digit 32 (omega arith))
+space_ends rest h = rw h (below_digits 32 (omega arith))
 
 operand_spells : (o : operand.Operand) → (t : Token) × (operand_of t ≡ Some o) × Scans BeginsWithSpace (operand_text o) (t ∷ [])
 unfolding tokens_from
@@ -109,7 +105,7 @@ relation_spells : (r : Relation) → IsSpellableRelation r → Spells EndsRun Is
 unfolding tokens_from
 relation_spells r h =
     let left : Spells BeginsWithSpace IsExpression (expression_text r.expression) r.expression = expression_spells r.expression h.0 in
-    let right = joined_spells EndsRun IsItem item_text (codes ", ") Comma (λ rest. refl) (λ rest. no_digit 44 (omega arith)) r.range_list.0 h.1 (recursion_from_All (λ x. Spells EndsRun IsItem (item_text x) x) r.range_list.0 (All-weaker IsSpellableItem (λ x. Spells EndsRun IsItem (item_text x) x) item_spells r.range_list.0 h.2)) in
+    let right = joined_spells EndsRun IsItem item_text (codes ", ") Comma (λ rest. refl) (λ rest. below_digits 44 (omega arith)) r.range_list.0 h.1 (recursion_from_All (λ x. Spells EndsRun IsItem (item_text x) x) r.range_list.0 (All-weaker IsSpellableItem (λ x. Spells EndsRun IsItem (item_text x) x) item_spells r.range_list.0 h.2)) in
     record {
       tokens = left.tokens ++ Operator r.operator ∷ right.tokens;
       part = (left.tokens, right.tokens, refl, left.part, right.part);
@@ -127,13 +123,13 @@ relation_spells r h =
 group_spells : (g : AndCondition) → IsSpellableGroup g → Spells EndsRun IsAndCondition (and_condition_text g) g
 unfolding tokens_from
 group_spells g h =
-    let all = joined_spells EndsRun IsRelation relation_text (codes " and ") And (λ rest. refl) (λ rest. no_digit 32 (omega arith)) g.0 h.0 (recursion_from_All (λ r. Spells EndsRun IsRelation (relation_text r) r) g.0 (All-weaker IsSpellableRelation (λ r. Spells EndsRun IsRelation (relation_text r) r) relation_spells g.0 h.1)) in
+    let all = joined_spells EndsRun IsRelation relation_text (codes " and ") And (λ rest. refl) (λ rest. below_digits 32 (omega arith)) g.0 h.0 (recursion_from_All (λ r. Spells EndsRun IsRelation (relation_text r) r) g.0 (All-weaker IsSpellableRelation (λ r. Spells EndsRun IsRelation (relation_text r) r) relation_spells g.0 h.1)) in
     record { tokens = all.tokens; part = all.part; scans = all.scans }
 
 condition_spells : (c : Condition) → c.0 ≢ [] → IsSpellable c → Spells EndsRun IsCondition (condition_text c) c
 unfolding tokens_from
 condition_spells c some h =
-    let all = joined_spells EndsRun IsAndCondition and_condition_text (codes " or ") Or (λ rest. refl) (λ rest. no_digit 32 (omega arith)) c.0 some (recursion_from_All (λ g. Spells EndsRun IsAndCondition (and_condition_text g) g) c.0 (All-weaker IsSpellableGroup (λ g. Spells EndsRun IsAndCondition (and_condition_text g) g) group_spells c.0 h)) in
+    let all = joined_spells EndsRun IsAndCondition and_condition_text (codes " or ") Or (λ rest. refl) (λ rest. below_digits 32 (omega arith)) c.0 some (recursion_from_All (λ g. Spells EndsRun IsAndCondition (and_condition_text g) g) c.0 (All-weaker IsSpellableGroup (λ g. Spells EndsRun IsAndCondition (and_condition_text g) g) group_spells c.0 h)) in
     record { tokens = all.tokens; part = all.part; scans = all.scans }
 
 -- no condition goes on with At

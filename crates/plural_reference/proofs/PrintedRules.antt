@@ -12,7 +12,8 @@ use Rattle.plural_reference.specs.PrintingLaws.{ListHasSmallRuns}
 use Rattle.plural_reference.specs.Samples.{IsSampleType, IsSampleList, Section, AreSections, with_list, samples_of, ReadsSamples}
 use Rattle.plural_reference.specs.Scan.{tokens_of, tokens_from}
 use Rattle.plural_reference.specs.Serializer.{prefixed, sample_list_text, samples_text}
-use Rattle.plural_reference.proofs.PrintedSamples.{EndsSample, space_breaks, IsSpelled, list_spells}
+use Rattle.plural_reference.proofs.PrintedDigits.{EndsSample, space_breaks}
+use Rattle.plural_reference.proofs.PrintedSamples.{IsSpelled, list_spells}
 use Rattle.plural_reference.proofs.PrintedTokens.{Scans, scans_then, Spells}
 use Rattle.plural_reference.proofs.TokensFit.{AllFit, fit_left, fit_right}
 

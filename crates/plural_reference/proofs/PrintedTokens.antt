@@ -58,6 +58,12 @@ module _ {A : Type 0} (Follows : List ℕ → Type 0) (Part : List Token → A �
 
 -- ---- numbers
 
+pub below_digits : (b : ℕ) → b < 48 → IsAsciiDigit b → ⊥
+below_digits b h d = omega (arith, d.0)
+
+pub above_digits : (b : ℕ) → 57 < b → IsAsciiDigit b → ⊥
+above_digits b h d = omega (arith, d.1)
+
 -- what may follow a number: the end, or no digit
 abbrev pub EndsRun : List ℕ → Type 0
 EndsRun rest = IfSome (first rest) (λ b. ¬ (IsAsciiDigit b))

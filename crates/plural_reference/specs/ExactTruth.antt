@@ -1,11 +1,10 @@
 -- When a condition is true of an exact number (UTS 35 Part 3, Plural Rules Syntax: relations), whatever its length.
-use Rattle.std.specs.Prelude.{ℕ, ◌+◌, ◌*◌, ◌/◌, ◌%◌, ◌^◌, ◌==◌, Bool, if◌then◌else◌, Option, Some, None, option_map, map}
+use Rattle.std.specs.Prelude.{ℕ, ◌+◌, ◌*◌, ◌/◌, ◌%◌, ◌^◌, ◌==◌, Bool, if◌then◌else◌, Option, Some, None}
 use Rattle.plural_reference.specs.declared.ast.Condition.{Condition}
 use Rattle.plural_reference.specs.declared.ast.Operand.{Operand}
 use Rattle.plural_reference.specs.declared.ast.Operand.TheVariants.{N, I, V, W, F, T, C, E}
-use Rattle.plural_reference.specs.declared.ast.Relation.{Relation}
 use Rattle.plural_reference.specs.Operands.{Operands}
-use Rattle.plural_reference.specs.Truth.{RelationMeaning, operand_value, remainder, holds_value, under, is_true_of, meaning_of, groups_of}
+use Rattle.plural_reference.specs.Truth.{RelationMeaning, remainder, holds_value, under, is_true_of, meaning_of, groups_of}
 
 -- the number is so many parts of 10 ^ v
 abbrev pub parts : Operands → ℕ

@@ -97,15 +97,18 @@ ReadsWholeGroup old c new = ReadsGroup old c new × (first new ≢ Some And)
 abbrev pub ReadsRelation : List Token → Relation → List Token → Type 0
 ReadsRelation old r new = (b : Before) → Completes (before_operand b) old (with_relation b r) new
 
--- the reader stops with this fault wherever an item is awaited, the first item of a list, an operand, or a group
+-- the reader stops with this fault wherever an item is awaited
 abbrev pub FailsAtItem : List Token → ParseError → Type 0
 FailsAtItem old e = (o : Opened) (xs : List RangeListItem) → run (before_item o xs) old ≡ Err e
 
+-- the same wherever a list of items is awaited
 abbrev pub FailsAtItems : List Token → ParseError → Type 0
 FailsAtItems old e = (o : Opened) → run (before_item o []) old ≡ Err e
 
+-- the same wherever an operand is awaited
 abbrev pub FailsAtOperand : List Token → ParseError → Type 0
 FailsAtOperand old e = (b : Before) → run (before_operand b) old ≡ Err e
 
+-- the same wherever a group is awaited
 abbrev pub FailsAtGroup : List Token → ParseError → Type 0
 FailsAtGroup old e = (groups : List AndCondition) → run (before_group groups) old ≡ Err e

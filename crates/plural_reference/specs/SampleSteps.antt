@@ -113,16 +113,19 @@ pub record ReadsAllSamples (old : List Token) (samples : Option samples.Samples)
   pub run_is : run_samples (after_sections []) old ≡ Ok (sections, new)
   pub samples_are : samples ≡ samples_of sections
 
--- the reader stops with this fault wherever a sample with this text so far goes on, a sample is awaited, a range, or a list
+-- the reader stops with this fault wherever a sample with this text so far goes on
 abbrev pub FailsInSample : DecimalValue → List Token → ParseError → Type 0
 FailsInSample before old e = (p : Partial) → run_samples (sample_at p before) old ≡ Err e
 
+-- the same wherever a sample is awaited
 abbrev pub FailsAtSample : List Token → ParseError → Type 0
 FailsAtSample old e = (p : Partial) → run_samples (awaits_sample p) old ≡ Err e
 
+-- the same wherever a range is awaited
 abbrev pub FailsAtRange : List Token → ParseError → Type 0
 FailsAtRange old e = (p : Partial) → p.lower ≡ None → run_samples (awaits_sample p) old ≡ Err e
 
+-- the same wherever a list is awaited
 abbrev pub FailsAtList : List Token → ParseError → Type 0
 FailsAtList old e = (sections : List Section) (type : Token) → run_samples (awaits_sample (begin_list sections type)) old ≡ Err e
 

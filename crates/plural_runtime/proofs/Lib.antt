@@ -15,3 +15,6 @@ mod JoinedTexts
 mod RuleTexts
 mod SameRelations
 mod WorkedRules
+mod SpellableTrees
+mod PrintedAgain
+mod FaultKinds

@@ -1,5 +1,5 @@
 -- The items of a rule, and what is wrong with the first bad one.
-use Rattle.std.proofs.Common.{◌≡◌, ℕ, zero, suc, ◌+◌, ◌-◌, ◌%◌, ◌<◌, List, [], ◌∷◌, length, drop, get_or, map, refl, sym, ap, ◌∙◌, subst, Bool, true, false, Some, None, inl, inr, ◌⊎◌}
+use Rattle.std.proofs.Common.{◌≡◌, ℕ, zero, suc, ◌+◌, ◌%◌, ◌<◌, List, [], ◌∷◌, length, drop, get_or, map, refl, sym, ap, ◌∙◌, subst, Bool, true, false, Some, None, inl, inr, ◌⊎◌}
 use Rattle.std.specs.Prelude.{Option, nat_le, nat_lt, if◌then◌else◌, not, slice_get, is_some}
 use Rattle.std.proofs.lemmas.Option.{slice_get-get_or}
 use Rattle.std.specs.List.{AllByRecursion, list_all}
@@ -9,7 +9,6 @@ use Rattle.std.proofs.lemmas.Bool.{le-ltb, le-leb, leb-true, ltb-false}
 use Rattle.packed_list.specs.declared.error.ListError.{ListError}
 use Rattle.packed_list.specs.ListReading.{AreBytes, items_in, IsList}
 use Rattle.packed_list.specs.ListBytes.{ListBytes}
-use Rattle.plural_reference.specs.declared.ast.Operand.{Operand}
 use Rattle.plural_runtime.specs.PackedRelations.{PackedRelation, FitsBytes}
 use Rattle.plural_runtime.specs.RuleBytes.{relation_bytes, RuleBytes}
 use Rattle.plural_runtime.specs.RuleReading.{relation_in, relations_in, IsRule}

@@ -1,13 +1,12 @@
 -- The printed text of a rule is that of its tree.
 use Rattle.std.proofs.Common.{◌≡◌, ℕ, zero, suc, ◌+◌, ◌<◌, List, [], ◌∷◌, ◌++◌, length, take, map, refl, sym, ap, ◌∙◌, append_assoc, append-nil, Bool, true, false, Some, arith}
-use Rattle.std.specs.Prelude.{◌==◌, if◌then◌else◌, slice_get, flat_map, codes, Option}
+use Rattle.std.specs.Prelude.{◌==◌, slice_get, flat_map, codes}
 use Rattle.std.specs.Fmt.{decimal}
 use Rattle.std.proofs.lemmas.Bool.{ne_eqb}
-use Rattle.plural_reference.specs.declared.ast.AndCondition.{AndCondition}
 use Rattle.plural_reference.specs.declared.ast.Operator.{Operator}
 use Rattle.plural_reference.specs.declared.ast.Operator.TheVariants.{Eq, NotEq}
 use Rattle.plural_reference.specs.declared.ast.Relation.{Relation}
-use Rattle.plural_reference.specs.Serializer.{joined, prefixed, value_text, operand_text, operator_text, expression_text, item_text, range_list_text, relation_text, and_condition_text, condition_text}
+use Rattle.plural_reference.specs.Serializer.{joined, prefixed, value_text, operand_text, operator_text, expression_text, item_text, relation_text, and_condition_text, condition_text}
 use Rattle.plural_reference.specs.Truth.{RelationMeaning}
 use Rattle.plural_runtime.specs.declared.kinds.AndOr.{AndOr}
 use Rattle.plural_runtime.specs.declared.kinds.AndOr.TheVariants.{And, Or}

@@ -1,6 +1,6 @@
 -- Packed relations are the same exactly if their numbers are.
-use Rattle.std.proofs.Common.{◌≡◌, ℕ, List, [], ◌∷◌, Some, refl, sym, ap, ◌∙◌}
-use Rattle.std.specs.Prelude.{flat_map, Option}
+use Rattle.std.proofs.Common.{◌≡◌, ℕ, List, [], ◌∷◌, refl, sym, ap, ◌∙◌}
+use Rattle.std.specs.Prelude.{flat_map}
 use Rattle.std.specs.Bool.{Decides}
 use Rattle.std.proofs.lemmas.Slice.Eq.{bytes_eq-Decides}
 use Rattle.plural_reference.specs.declared.ast.Operand.{Operand}
@@ -62,8 +62,7 @@ numbers_again relation other =
 
 pub is_same_relation-Decides : (relation other : PackedRelation) → Decides (is_same_relation relation other) (relation ≡ other)
 is_same_relation-Decides relation other =
-    let same = bytes_eq-Decides (relation_numbers relation) (relation_numbers other) in
-    (
+    let same = bytes_eq-Decides (relation_numbers relation) (relation_numbers other) in (
       (λ h. sym (numbers_again relation other) ∙ ap (λ ns. of_numbers ns other) (same.0 h) ∙ numbers_again other other),
       (λ h. same.1 (ap relation_numbers h)),
     )

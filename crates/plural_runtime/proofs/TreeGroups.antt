@@ -1,18 +1,16 @@
 -- The groups of a rule and of its tree.
 use Rattle.std.proofs.Common.{◌≡◌, ℕ, ◌+◌, ◌<◌, List, [], ◌∷◌, ◌++◌, length, take, drop, get_or, map, refl, sym, ap, ◌∙◌, Some, arith, append_assoc, append-nil}
-use Rattle.std.specs.Prelude.{slice_get, option_map, flat_map, ◌==◌, Bool, true, false}
+use Rattle.std.specs.Prelude.{slice_get, option_map, ◌==◌, Bool, true, false}
 use Rattle.std.proofs.lemmas.List.{take_more, drop_more, map-append}
 use Rattle.std.proofs.lemmas.Option.{slice_get-get_or}
 use Rattle.plural_reference.specs.declared.ast.AndCondition.{AndCondition}
-use Rattle.plural_reference.specs.declared.ast.Condition.{Condition}
 use Rattle.plural_reference.specs.declared.ast.Relation.{Relation}
-use Rattle.plural_reference.specs.Truth.{groups_of}
 use Rattle.plural_runtime.specs.declared.kinds.AndOr.{AndOr}
 use Rattle.plural_runtime.specs.declared.kinds.AndOr.TheVariants.{And, Or}
 use Rattle.plural_runtime.specs.declared.range.RangeOrValue.{RangeOrValue}
 use Rattle.plural_runtime.specs.RuleKinds.{item_of, range_or_value}
 use Rattle.plural_runtime.specs.PackedRelations.{PackedRelation, groups, at_front, cut_before}
-use Rattle.plural_runtime.specs.PackedTree.{packed_relation, packed_and_condition, packed_groups, packed, unpacked_range, unpacked_relation, unpacked_groups, unpacked, condition_of}
+use Rattle.plural_runtime.specs.PackedTree.{packed_relation, packed_and_condition, packed_groups, packed, unpacked_range, unpacked_relation, unpacked_groups, unpacked}
 use Rattle.plural_runtime.specs.RuleWalk.{done_before, open_before}
 use Rattle.plural_runtime.proofs.Meanings.{meaning_again}
 use Rattle.plural_runtime.proofs.Walks.{first_group}

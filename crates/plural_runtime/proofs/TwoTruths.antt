@@ -1,22 +1,21 @@
 -- The truth of packed relations and of their tree.
 use Rattle.std.proofs.Common.{◌≡◌, ℕ, List, [], ◌∷◌, map, refl, sym, ap, ◌∙◌, Bool, true, false, Some, None, inl, inr, ◌⊎◌}
 use Rattle.std.specs.Prelude.{◌&&◌, ◌||◌, not, ◌==◌, Option, option_map, IsTrue}
-use Rattle.std.specs.List.{list_any, list_all, AllByRecursion}
+use Rattle.std.specs.List.{list_all, AllByRecursion}
 use Rattle.std.specs.Cmp.{first_so, second_so}
 use Rattle.std.proofs.lemmas.Bool.{eq-eqb}
 use Rattle.plural_reference.specs.Operands.{Operands}
-use Rattle.plural_reference.specs.declared.ast.Relation.{Relation}
 use Rattle.plural_reference.specs.declared.ast.Operator.{Operator}
 use Rattle.plural_reference.specs.declared.ast.Operator.TheVariants.{Eq, NotEq}
 use Rattle.plural_reference.specs.declared.ast.Operand.{Operand}
 use Rattle.plural_reference.specs.declared.ast.Operand.TheVariants.{N, I, V, W, F, T, C, E}
-use Rattle.plural_reference.specs.Truth.{operand_value, remainder, holds_value, is_in_ranges, under, ranges_of, modulus_of, RelationMeaning, relation_truth, some_group, is_true_of, groups_of}
-use Rattle.plural_reference.specs.Resolver.{is_zero_modulus, tree_value, holds_by, tree_relation_truth, tree_truth}
+use Rattle.plural_reference.specs.Truth.{operand_value, remainder, holds_value, is_in_ranges, under, RelationMeaning, some_group, is_true_of}
+use Rattle.plural_reference.specs.Resolver.{tree_value, holds_by, tree_relation_truth, tree_truth}
 use Rattle.plural_runtime.specs.declared.kinds.AndOr.{AndOr}
 use Rattle.plural_runtime.specs.declared.kinds.AndOr.TheVariants.{And, Or}
 use Rattle.plural_runtime.specs.PackedRelations.{PackedRelation, groups, at_front, cut_before}
 use Rattle.plural_runtime.specs.PackedTruth.{is_true_at, group_truth, packed_truth}
-use Rattle.plural_runtime.specs.PackedTree.{unpacked_range, unpacked_modulus, unpacked_meaning, unpacked_relation, unpacked_groups, unpacked, is_negated_n, has_no_negated_n}
+use Rattle.plural_runtime.specs.PackedTree.{unpacked_meaning, unpacked_relation, unpacked_groups, unpacked, is_negated_n, has_no_negated_n}
 use Rattle.plural_runtime.proofs.Meanings.{ranges_again, modulus_again, modulus_not_zero}
 use Rattle.plural_runtime.proofs.TreeGroups.{wrapped}
 use Rattle.plural_runtime.proofs.Walks.{first_group}

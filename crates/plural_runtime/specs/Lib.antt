@@ -8,6 +8,7 @@ pub mod PackedTree
 pub mod RuleKinds
 pub mod Packing
 pub mod RuleErrorTexts
+pub mod RuleLaws
 -- not definitions of the subject
 pub mod RuleReading
 pub mod RuleViews

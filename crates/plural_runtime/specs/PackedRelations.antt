@@ -1,5 +1,5 @@
 -- The relations of a packed rule, and its groups (UTS 35 Part 3, Plural Rules Syntax: and-conditions joined by `or`).
-use Rattle.std.specs.Prelude.{ℕ, ◌<◌, ◌^◌, List, [], ◌∷◌}
+use Rattle.std.specs.Prelude.{◌<◌, ◌^◌, List, [], ◌∷◌}
 use Rattle.std.specs.List.{AllByRecursion}
 use Rattle.plural_reference.specs.Truth.{RelationMeaning}
 use Rattle.plural_runtime.specs.declared.kinds.AndOr.{AndOr}

@@ -60,21 +60,12 @@ fn mark(is_first: bool, and_or: AndOr) -> &'static str
 {
     match and_or {
         AndOr::Or => " or ",
-        AndOr::And => {
-            if is_first {
-                ""
-            } else {
-                " and "
-            }
-        }
+        AndOr::And => { if is_first { "" } else { " and " } }
     }
 }
 
 // Prints a relation.
-fn write_relation<W: fmt::Write>(
-    relation: &Relation<'_>,
-    f: &mut fmt::Formatter<W>,
-) -> fmt::Result
+fn write_relation<W: fmt::Write>(relation: &Relation<'_>, f: &mut fmt::Formatter<W>) -> fmt::Result
     ensures { DisplaysOnOk W.write_str_gives f.old result (Some (relation_shown (lent_relation relation.now).meaning)) f.new }
 {
     write_expression(relation.operand(), relation.modulo(), f)?;

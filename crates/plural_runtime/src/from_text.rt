@@ -1,6 +1,6 @@
 //! Reads texts as rules.
 
-ghost use Rattle.std.specs.Prelude.{◌≡◌, ◌⊎◌, List, Err};
+ghost use Rattle.std.specs.Prelude.{◌≡◌, ◌≢◌, ◌⊎◌, List, Err};
 ghost use Rattle.plural_reference.specs.declared.ast.Rule.{Rule as TreeRule};
 ghost use Rattle.plural_reference.specs.declared.token.Token.{Token};
 ghost use Rattle.plural_reference.specs.Lexer.{AreTokensOf};
@@ -9,6 +9,8 @@ ghost use Rattle.plural_runtime.specs.Packing.{Packs};
 
 use crate::error::RuleError;
 use crate::rule::Rule;
+use plural_reference::laws::printing::conditions_of_texts_are_spellable;
+use plural_reference::laws::reading::one_list_of_tokens;
 use plural_reference::{ParseError, ReadError, parse};
 use std::alloc::Global;
 
@@ -22,7 +24,11 @@ impl Rule<'static> {
         ensures read { (tokens : List Token) (rule : TreeRule) → AreTokensOf text.now tokens → ReadsRule tokens rule → Packs rule.condition result }
         ensures fault { (tokens : List Token) (fault : ParseError) → AreTokensOf text.now tokens → FaultyRule tokens fault
             → (result ≡ Err (RuleError.Parse fault)) ⊎ (result ≡ Err RuleError.Memory) }
+        // The values of a text fit: this fault is one of trees made by hand.
+        ensures fits { result ≢ Err (RuleError.Parse ParseError.ValueTooLarge) }
     {
+        one_list_of_tokens();
+        conditions_of_texts_are_spellable();
         match parse(alloc, text.as_bytes()) {
             Ok(rule) => Rule::try_from(alloc, &rule),
             Err(ReadError::Parse(fault)) => Err(RuleError::Parse(fault)),

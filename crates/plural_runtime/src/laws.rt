@@ -9,8 +9,12 @@ ghost use Rattle.plural_runtime.specs.RuleReading.{relations_in};
 ghost use Rattle.plural_runtime.specs.PackedTree.{packed, unpacked, has_no_negated_n};
 ghost use Rattle.plural_runtime.specs.PackedTruth.{packed_truth};
 ghost use Rattle.plural_runtime.specs.NeededRanges.{needed_ranges, all_ranges};
+ghost use Rattle.plural_runtime.specs.RuleLaws.{PrintedRulesPackAgain};
 
 use packed_list::laws::read_again;
+use plural_reference::laws::printing::{
+    conditions_of_texts_are_spellable, spellable_conditions_print_back,
+};
 
 /// Rules are the same bytes exactly if they are the same relations.
 pub fn one_encoding()
@@ -40,3 +44,12 @@ pub fn at_most_all()
 pub fn truths_agree()
     ensures { (number : Operands) (relations : List PackedRelation) → (number.w ≡ 0) ⊎ IsTrue (has_no_negated_n relations) → tree_truth number (unpacked relations) ≡ packed_truth number relations }
 {}
+
+/// A rule that is packed from a text, printed, read and packed again is the same: the text that is printed is read as the
+/// tree of the rule, and that tree packs to its relations. Equal relations are equal bytes ([`one_encoding`]).
+pub fn printed_rules_pack_again()
+    ensures { PrintedRulesPackAgain }
+{
+    conditions_of_texts_are_spellable();
+    spellable_conditions_print_back();
+}

@@ -72,7 +72,12 @@ fn group_ends(holds: bool, item: &[u8]) -> bool
 
 // Whether a group is true up to the relation of an item, if it is so far or not. At Or a new group begins.
 #[inline]
-fn group_holds<C: Counter>(holds: bool, item: &[u8], operands: &PluralOperands, counter: &mut C) -> bool
+fn group_holds<C: Counter>(
+    holds: bool,
+    item: &[u8],
+    operands: &PluralOperands,
+    counter: &mut C,
+) -> bool
     requires { IsTrue (is_relation item.now) }
     ensures answer { result ≡ holds_after (relation_in item.now).and_or holds (is_true_at operands.now (relation_in item.now)) }
     ensures count { counter.new ≡ iterate C.after_one (needed_here operands.now holds (relation_in item.now)) counter.old }

@@ -18,10 +18,8 @@ pub fn signed_as_absolute(number: i64) -> (PluralOperands, PluralOperands)
     ensures same { result.0 ≡ result.1 }
     ensures signed { result.0 ≡ of_whole (nat_abs number) }
 {
-    (
-        PluralOperands::from(number),
-        PluralOperands::from(number.unsigned_abs()),
-    )
+    let absolute: u64 = number.unsigned_abs();
+    (PluralOperands::from(number), PluralOperands::from(absolute))
 }
 
 /// The same at 128 bits.
@@ -29,10 +27,8 @@ pub fn wide_signed_as_absolute(number: i128) -> (PluralOperands, PluralOperands)
     ensures same { result.0 ≡ result.1 }
     ensures signed { result.0 ≡ of_wide (nat_abs number) }
 {
-    (
-        PluralOperands::from(number),
-        PluralOperands::from(number.unsigned_abs()),
-    )
+    let absolute: u128 = number.unsigned_abs();
+    (PluralOperands::from(number), PluralOperands::from(absolute))
 }
 
 /// With at most 18 places on each side of the point nothing is cut: the operands are the exact ones.

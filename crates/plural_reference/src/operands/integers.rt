@@ -5,7 +5,7 @@ ghost use Rattle.plural_reference.specs.Operands.{of_whole, of_wide};
 
 use crate::operands::PluralOperands;
 
-// From here on the 18 last digits of an integer are kept, with this added.
+// From here on the last 18 digits of a number are kept, with this added.
 pub(crate) const LIMIT: u64 = 1_000_000_000_000_000_000;
 
 impl From<u8> for PluralOperands {
@@ -60,6 +60,7 @@ impl From<usize> for PluralOperands {
     }
 }
 
+/// Those of the number below `10^18`; from there on `i` is its last 18 digits plus `10^18`.
 impl From<u128> for PluralOperands {
     ghost from_gives = { λ n o. o ≡ of_wide n };
 
@@ -74,6 +75,7 @@ impl From<u128> for PluralOperands {
     }
 }
 
+/// Those of the absolute value.
 impl From<i8> for PluralOperands {
     ghost from_gives = { λ z o. o ≡ of_whole (nat_abs z) };
 
@@ -83,6 +85,7 @@ impl From<i8> for PluralOperands {
     }
 }
 
+/// Those of the absolute value.
 impl From<i16> for PluralOperands {
     ghost from_gives = { λ z o. o ≡ of_whole (nat_abs z) };
 
@@ -92,6 +95,7 @@ impl From<i16> for PluralOperands {
     }
 }
 
+/// Those of the absolute value.
 impl From<i32> for PluralOperands {
     ghost from_gives = { λ z o. o ≡ of_whole (nat_abs z) };
 
@@ -101,6 +105,7 @@ impl From<i32> for PluralOperands {
     }
 }
 
+/// Those of the absolute value.
 impl From<i64> for PluralOperands {
     ghost from_gives = { λ z o. o ≡ of_whole (nat_abs z) };
 
@@ -110,6 +115,7 @@ impl From<i64> for PluralOperands {
     }
 }
 
+/// Those of the absolute value.
 impl From<isize> for PluralOperands {
     ghost from_gives = { λ z o. o ≡ of_whole (nat_abs z) };
 
@@ -119,6 +125,7 @@ impl From<isize> for PluralOperands {
     }
 }
 
+/// Those of the absolute value, as a `u128`.
 impl From<i128> for PluralOperands {
     ghost from_gives = { λ z o. o ≡ of_wide (nat_abs z) };
 

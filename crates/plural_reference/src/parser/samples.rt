@@ -26,7 +26,7 @@ enum SampleType {
 
 impl<'p> Parser<'p> {
     // samples = (At (Integer | Decimal) list)*
-    pub fn samples(&mut self, alloc: Global) -> Result<Option<Samples>, ReadError>
+    pub(super) fn samples(&mut self, alloc: Global) -> Result<Option<Samples>, ReadError>
         ensures { IsAnswer
             (λ samples. ReadsAllSamples self.old samples self.new)
             (λ e. run_samples (after_sections []) self.old ≡ Err e)

@@ -40,11 +40,15 @@ fn refuses_hostile_bytes(rt: HostRuntime) {
     ];
     for (bytes, fault) in rows {
         let refused = Rule::parse_bytes(bytes);
-        assert!(rt; matches!(refused, Err(found) if found == fault), "{bytes:?}");
+        assert!(rt;
+            matches!(refused, Err(found) if found == fault),
+            "{bytes:?}"
+        );
     }
 }
 
 // What the first bytes of a rule are: refused with a fault, or a rule with its answers.
+#[derive(Clone, Copy)]
 enum Cut {
     Refused(RuleBytesError),
     Rule([bool; 4]),
@@ -100,7 +104,10 @@ fn prints_what_no_text_packs_to(rt: HostRuntime) -> Result<(), Fail> {
     let rows: [(&[u8], &str); 4] = [
         (b"\x01\0\x41\0\0\0\0", " or i = "),
         (b"\x01\0\x81\0\0\0\0", "i != "),
-        (b"\x02\0\x0d\0\xc1\0\0\0\0\x01\0\0\0\x01\0\0\0\x42\0\0\0\0", "i = 1 or v = "),
+        (
+            b"\x02\0\x0d\0\xc1\0\0\0\0\x01\0\0\0\x01\0\0\0\x42\0\0\0\0",
+            "i = 1 or v = ",
+        ),
         (b"\x01\0\xc1\x0a\0\0\0\x03\0\0\0\x01\0\0\0", "i % 10 = 3..1"),
     ];
     for (bytes, text) in rows {

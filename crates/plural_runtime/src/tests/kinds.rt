@@ -1,6 +1,4 @@
-use crate::{
-    AndOr, AndOrPolarityOperand, Operand, Polarity, RangeOrValue, Rule, test_rule,
-};
+use crate::{AndOr, AndOrPolarityOperand, Operand, Polarity, RangeOrValue, Rule, test_rule};
 use plural_reference::{ParseError, PluralOperands, Sequence, ast};
 use std::test::Fail;
 
@@ -9,7 +7,10 @@ fn a_simple_rule_is_one_relation(rt: HostRuntime) {
     let rule = Rule::from_str(rt.alloc(), "i = 1").expect(&rt, "a rule");
     assert_eq!(rt; rule.len(), 1);
     let item = rule.get(0).expect(&rt, "a relation");
-    assert_eq!(rt; item.as_bytes(), b"\xc1\0\0\0\0\x01\0\0\0\x01\0\0\0".as_slice());
+    assert_eq!(rt;
+        item.as_bytes(),
+        b"\xc1\0\0\0\0\x01\0\0\0\x01\0\0\0".as_slice()
+    );
     let relation = item.as_relation();
     assert_eq!(rt; relation.and_or(), AndOr::And);
     assert_eq!(rt; relation.polarity(), Polarity::Positive);
@@ -24,11 +25,31 @@ fn a_simple_rule_is_one_relation(rt: HostRuntime) {
 
 #[test]
 fn relations_come_in_order(rt: HostRuntime) {
-    let rule = Rule::from_str(rt.alloc(), "n % 10 = 2..4 and f != 7 or e = 1").expect(&rt, "a rule");
+    let rule = Rule::from_str(rt.alloc(), "n % 10 = 2..4 and f != 7 or e = 1").expect(
+        &rt, "a rule",
+    );
     let expected = [
-        (AndOr::And, Polarity::Positive, Operand::N, 10, RangeOrValue::Range(2, 4)),
-        (AndOr::And, Polarity::Negative, Operand::F, 0, RangeOrValue::Value(7)),
-        (AndOr::Or, Polarity::Positive, Operand::E, 0, RangeOrValue::Value(1)),
+        (
+            AndOr::And,
+            Polarity::Positive,
+            Operand::N,
+            10,
+            RangeOrValue::Range(2, 4),
+        ),
+        (
+            AndOr::And,
+            Polarity::Negative,
+            Operand::F,
+            0,
+            RangeOrValue::Value(7),
+        ),
+        (
+            AndOr::Or,
+            Polarity::Positive,
+            Operand::E,
+            0,
+            RangeOrValue::Value(1),
+        ),
     ];
     let mut relations = rule.iter();
     for (and_or, polarity, operand, modulo, range) in expected {
@@ -55,7 +76,10 @@ fn first_bytes_and_ranges_have_their_layout(rt: HostRuntime) {
     let rows = [
         (RangeOrValue::Value(1), [1, 0, 0, 0, 1, 0, 0, 0]),
         (RangeOrValue::Range(2, 4), [2, 0, 0, 0, 4, 0, 0, 0]),
-        (RangeOrValue::Range(4294967295, 256), [255, 255, 255, 255, 0, 1, 0, 0]),
+        (
+            RangeOrValue::Range(4294967295, 256),
+            [255, 255, 255, 255, 0, 1, 0, 0],
+        ),
     ];
     for (range, bytes) in rows {
         assert_eq!(rt; range.to_unaligned(), bytes);
@@ -69,7 +93,10 @@ fn ranges_are_those_of_trees(rt: HostRuntime) {
     let item = ast::RangeListItem::from(equal_ends);
     assert!(rt; item == ast::RangeListItem::Range(ast::Value(2), ast::Value(2)));
     assert_eq!(rt; RangeOrValue::try_from(&item), Ok(equal_ends));
-    let rows = [(4294967295, None), (4294967296, Some(ParseError::ValueTooLarge))];
+    let rows = [
+        (4294967295, None),
+        (4294967296, Some(ParseError::ValueTooLarge)),
+    ];
     for (value, fault) in rows {
         let single = ast::RangeListItem::Value(ast::Value(value));
         assert_eq!(rt; RangeOrValue::try_from(&single).err(), fault, "{value}");
@@ -89,9 +116,14 @@ fn a_modulus_0_is_none(rt: HostRuntime) {
 #[test]
 fn an_empty_and_condition_vanishes(rt: HostRuntime) -> Result<(), Fail> {
     let alloc = rt.alloc();
-    let mut tree = Rule::from_str(alloc, "i = 1 or v = 0").expect(&rt, "a rule").to_ast(alloc)?;
+    let mut tree = Rule::from_str(alloc, "i = 1 or v = 0")
+        .expect(&rt, "a rule")
+        .to_ast(alloc)?;
     let last = tree.condition.0.0.pop().expect(&rt, "an and-condition");
-    tree.condition.0.0.push(ast::AndCondition(Sequence(Vec::new(alloc))))?;
+    tree.condition
+        .0
+        .0
+        .push(ast::AndCondition(Sequence(Vec::new(alloc))))?;
     tree.condition.0.0.push(last)?;
     let packed = Rule::try_from(alloc, &tree).expect(&rt, "the tree packs");
     let rule = Rule::from_str(alloc, "i = 1 or v = 0").expect(&rt, "a rule");
@@ -101,7 +133,9 @@ fn an_empty_and_condition_vanishes(rt: HostRuntime) -> Result<(), Fail> {
 
 #[test]
 fn relations_are_equal_by_what_they_say(rt: HostRuntime) {
-    let rule = Rule::from_str(rt.alloc(), "i = 1 and i = 1 and i = 2 or i = 1").expect(&rt, "a rule");
+    let rule = Rule::from_str(rt.alloc(), "i = 1 and i = 1 and i = 2 or i = 1").expect(
+        &rt, "a rule",
+    );
     let first = rule.get(0).expect(&rt, "a relation").as_relation();
     let expected = [true, true, false, false];
     for (place, same) in expected.iter().enumerate() {

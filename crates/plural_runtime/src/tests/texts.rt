@@ -23,7 +23,11 @@ fn packs_texts_and_prints_them_again(rt: HostRuntime) -> Result<(), Fail> {
             "i = 1 or v = 0",
         ),
         (LONG_RULE, LONG_RULE_BYTES, LONG_RULE),
-        ("i % 0 = 5", b"\x01\0\xc1\0\0\0\0\x05\0\0\0\x05\0\0\0", "i = 5"),
+        (
+            "i % 0 = 5",
+            b"\x01\0\xc1\0\0\0\0\x05\0\0\0\x05\0\0\0",
+            "i = 5",
+        ),
         (
             "i = 1 @integer 1",
             b"\x01\0\xc1\0\0\0\0\x01\0\0\0\x01\0\0\0",
@@ -33,7 +37,11 @@ fn packs_texts_and_prints_them_again(rt: HostRuntime) -> Result<(), Fail> {
     for (text, bytes, printed) in rows {
         let rule = Rule::from_str(alloc, text).expect(&rt, "a rule");
         assert_eq!(rt; rule.as_bytes(), bytes, "bytes of {text}");
-        assert_eq!(rt; format!(in alloc; "{rule}")?.as_str(), printed, "text of {text}");
+        assert_eq!(rt;
+            format!(in alloc; "{rule}")?.as_str(),
+            printed,
+            "text of {text}"
+        );
         let tree = rule.to_ast(alloc)?;
         assert!(rt; tree.samples.is_none());
         let again = Rule::try_from(alloc, &tree).expect(&rt, "the tree packs");
@@ -66,7 +74,10 @@ fn refuses_texts(rt: HostRuntime) {
     ];
     for (text, fault) in rows {
         let refused = Rule::from_str(rt.alloc(), text);
-        assert!(rt; matches!(refused, Err(RuleError::Parse(found)) if found == fault), "{text}");
+        assert!(rt;
+            matches!(refused, Err(RuleError::Parse(found)) if found == fault),
+            "{text}"
+        );
     }
 }
 
@@ -90,8 +101,10 @@ fn packs_up_to_the_last_start(rt: HostRuntime) -> Result<(), Fail> {
     let more = many_relations(alloc, 5043)?;
     assert!(rt; matches!(Rule::from_str(alloc, &more), Err(RuleError::StartLimit)));
     // A value above 32 bits comes before a start.
-    let mut tree = Rule::from_str(alloc, &most).expect(&rt, "a rule").to_ast(alloc)?;
-    let group = &mut tree.condition.0.0[0];
+    let mut tree = Rule::from_str(alloc, &most)
+        .expect(&rt, "a rule")
+        .to_ast(alloc)?;
+    let mut group = tree.condition.0.0.pop().expect(&rt, "an and-condition");
     let relation = ast::Relation {
         expression: ast::Expression {
             operand: ast::Operand::I,
@@ -101,6 +114,7 @@ fn packs_up_to_the_last_start(rt: HostRuntime) -> Result<(), Fail> {
         range_list: ast::RangeList(plural_reference::Sequence(Vec::new(alloc))),
     };
     group.0.0.push(relation)?;
+    tree.condition.0.0.push(group)?;
     let refused = Rule::try_from(alloc, &tree);
     assert!(rt; matches!(refused, Err(RuleError::Parse(ParseError::ValueTooLarge))));
     Ok(())
@@ -110,7 +124,10 @@ fn packs_up_to_the_last_start(rt: HostRuntime) -> Result<(), Fail> {
 fn errors_say_what_is_wrong(rt: HostRuntime) -> Result<(), Fail> {
     let alloc = rt.alloc();
     let of_bytes = [
-        (RuleBytesError::List(ListError::Header), "list header too short"),
+        (
+            RuleBytesError::List(ListError::Header),
+            "list header too short",
+        ),
         (RuleBytesError::ItemLength(3), "bad length of relation 3"),
         (RuleBytesError::Operand(0), "bad operand of relation 0"),
     ];
@@ -118,7 +135,10 @@ fn errors_say_what_is_wrong(rt: HostRuntime) -> Result<(), Fail> {
         assert_eq!(rt; format!(in alloc; "{error}")?.as_str(), expected);
     }
     let of_rules = [
-        (RuleError::Parse(ParseError::ExpectedOperator), "expected operator"),
+        (
+            RuleError::Parse(ParseError::ExpectedOperator),
+            "expected operator",
+        ),
         (RuleError::StartLimit, "rule too long"),
         (RuleError::Memory, "out of memory"),
     ];

@@ -13,28 +13,46 @@ fn with_fraction(i: u64, digit: u64) -> PluralOperands {
     })
 }
 
+// The answer of a counted walk with its steps, where the walk without a count answers the same.
+fn counted(rule: &Rule<'_>, operands: &PluralOperands) -> Option<(bool, u64)> {
+    let mut steps = Steps::new();
+    let answer = test_rule_counted(rule, operands, &mut steps);
+    if test_rule(rule, operands) == answer {
+        Some((answer, steps.count()))
+    } else {
+        None
+    }
+}
+
 #[test]
 fn counts_the_ranges_that_are_needed(rt: HostRuntime) {
     let text = "n % 10 = 3..4, 9 and n % 100 != 10..19, 70..79, 90..99 or n = 0";
     let rule = Rule::from_str(rt.alloc(), text).expect(&rt, "a rule");
-    let marked = Rule::parse_bytes(b"\x01\0\x41\0\0\0\0").expect(&rt, "a rule");
     let rows = [
-        (&rule, PluralOperands::from(0u8), true, 3),
-        (&rule, PluralOperands::from(13u8), false, 3),
-        (&rule, PluralOperands::from(103u8), true, 4),
-        (&rule, PluralOperands::from(113u8), false, 3),
-        (&rule, PluralOperands::from(178u8), false, 3),
-        (&rule, with_fraction(3, 5), false, 0),
-        (&marked, PluralOperands::from(5u8), true, 0),
+        (PluralOperands::from(0u8), true, 3),
+        (PluralOperands::from(13u8), false, 3),
+        (PluralOperands::from(103u8), true, 4),
+        (PluralOperands::from(113u8), false, 3),
+        (PluralOperands::from(178u8), false, 3),
+        (with_fraction(3, 5), false, 0),
     ];
-    for (rule, operands, answer, count) in rows {
-        let mut steps = Steps::new();
-        assert_eq!(rt; test_rule_counted(rule, &operands, &mut steps), answer);
-        assert_eq!(rt; steps.count(), count);
-        assert_eq!(rt; test_rule(rule, &operands), answer);
-        // A second walk goes on from the first one's count.
-        assert_eq!(rt; test_rule_counted(rule, &operands, &mut steps), answer);
-        assert_eq!(rt; steps.count(), 2 * count);
+    for (operands, answer, count) in rows {
+        assert_eq!(rt; counted(&rule, &operands), Some((answer, count)));
+    }
+    let marked = Rule::parse_bytes(b"\x01\0\x41\0\0\0\0").expect(&rt, "a rule");
+    assert_eq!(rt;
+        counted(&marked, &PluralOperands::from(5u8)),
+        Some((true, 0))
+    );
+}
+
+#[test]
+fn a_count_goes_on(rt: HostRuntime) {
+    let rule = Rule::from_str(rt.alloc(), "i = 1..2, 4").expect(&rt, "a rule");
+    let mut steps = Steps::new();
+    for (number, count) in [(4u8, 2), (1, 3), (9, 5)] {
+        let _answer = test_rule_counted(&rule, &PluralOperands::from(number), &mut steps);
+        assert_eq!(rt; steps.count(), count, "after {number}");
     }
 }
 
@@ -48,12 +66,21 @@ fn differs_from_the_tree_where_it_is_said(rt: HostRuntime) {
         ("i = 3..1", PluralOperands::from(2u8), false, false),
         ("i != 3..1", PluralOperands::from(2u8), true, true),
         ("", PluralOperands::from(7u8), true, true),
-        ("w = 1 and t = 5 and f = 5 and v = 1 and c = 0 and e = 0", with_fraction(1, 5), true, true),
+        (
+            "w = 1 and t = 5 and f = 5 and v = 1 and c = 0 and e = 0",
+            with_fraction(1, 5),
+            true,
+            true,
+        ),
     ];
     for (text, operands, packed, tree) in rows {
         let rule = Rule::from_str(rt.alloc(), text).expect(&rt, "a rule");
         assert_eq!(rt; test_rule(&rule, &operands), packed, "packed {text}");
         let condition = parse_condition(rt.alloc(), text.as_bytes()).expect(&rt, "a condition");
-        assert_eq!(rt; test_condition(&condition, &operands), tree, "tree of {text}");
+        assert_eq!(rt;
+            test_condition(&condition, &operands),
+            tree,
+            "tree of {text}"
+        );
     }
 }

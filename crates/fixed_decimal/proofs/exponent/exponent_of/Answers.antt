@@ -1,4 +1,4 @@
-use Rattle.std.proofs.Common.{◌≡◌, ◌-◌, ◌<◌, ◌↔◌, [], ◌∷◌, ℕ, List, drop, take, length, get_or, arith, rules, subst, sym, ap}
+use Rattle.std.proofs.Common.{◌≡◌, ◌-◌, ◌<◌, [], ◌∷◌, ℕ, List, drop, take, length, get_or, arith, rules, subst, sym, ap}
 use Rattle.std.proofs.lemmas.List.{take_rest}
 use Rattle.fixed_decimal.specs.Written.{HasExponent}
 use Rattle.fixed_decimal.specs.Points.{WritesUpToThree}

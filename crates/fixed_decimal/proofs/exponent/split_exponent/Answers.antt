@@ -1,5 +1,5 @@
-use Rattle.std.proofs.Common.{◌≡◌, ◌++◌, ℕ, List, Some, None, take, drop, length, sym, ◌∙◌, ap, subst}
-use Rattle.std.proofs.lemmas.List.{take-append-drop, take_at, drop_at}
+use Rattle.std.proofs.Common.{◌≡◌, ℕ, List, Some, None, take, drop, length, sym, ◌∙◌, ap, subst}
+use Rattle.std.proofs.lemmas.List.{take_at, drop_at}
 use Rattle.fixed_decimal.specs.Written.{HasExponent}
 use Rattle.fixed_decimal.proofs.Exponents.{exponent_begins}
 use Rattle.fixed_decimal.proofs.exponent.split_exponent.Goals as goal

@@ -1,4 +1,4 @@
-use Rattle.std.proofs.Common.{◌≡◌, ◌∙◌, ℕ, ◌++◌, [], take, sym, arith, refl, ap, subst, Some}
+use Rattle.std.proofs.Common.{◌≡◌, ◌∙◌, ◌++◌, [], take, sym, arith, refl, ap, subst, Some}
 use Rattle.std.specs.Prelude.{codes, if◌then◌else◌, ◌==◌, option_map}
 use Rattle.std.specs.Fmt.{HasWritten}
 use Rattle.std.proofs.lemmas.Grind.{put_two}

@@ -1,4 +1,4 @@
-use Rattle.std.proofs.Common.{◌≡◌, ◌∙◌, ap, sym}
+use Rattle.std.proofs.Common.{◌∙◌, ap, sym}
 use Rattle.std.specs.Prelude.{flat_map}
 use Rattle.std.proofs.lemmas.Bool.Decides.{Decides-eqb}
 use Rattle.std.proofs.lemmas.Slice.Eq.{slice_eq-Decides}
@@ -10,8 +10,7 @@ pub returns : goal.returns
 returns c =
     let first = c.spelled_ranges.ensures in
     let second = c.spelled_ranges-2.ensures in
-    let same = slice_eq-Decides Decides-eqb _ _ c.eq.result c.eq.ensures in
-    (
+    let same = slice_eq-Decides Decides-eqb _ _ c.eq.result c.eq.ensures in (
       (λ h. ap ranges_in (sym first.same ∙ same.0 h ∙ second.same)),
       (λ h. same.1 (first.same ∙ sym first.spelled ∙ ap (flat_map range_bytes) h ∙ second.spelled ∙ sym second.same)),
     )

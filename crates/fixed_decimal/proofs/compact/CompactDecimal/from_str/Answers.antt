@@ -1,11 +1,11 @@
-use Rattle.std.proofs.Common.{◌≡◌, ◌≢◌, ◌<◌, ◌≤◌, ◌++◌, ◌↔◌, ◌∙◌, ℕ, List, Err, sym, ap, subst, refl, arith}
+use Rattle.std.proofs.Common.{◌≡◌, ◌∙◌, Err, sym, ap, subst, refl, arith}
 use Rattle.std.proofs.lemmas.Result.{err_from_is_err_and}
 use Rattle.fixed_decimal.specs.Written.{WritesUnsigned, WritesDecimal, HasExponent, WritesCompact, IsCompactOverLimit}
 use Rattle.fixed_decimal.specs.Places.{IsWithinLimit}
 use Rattle.fixed_decimal.specs.Compact.{CompactNumber}
 use Rattle.fixed_decimal.specs.Points.{number_at}
 use Rattle.fixed_decimal.specs.declared.decimal.Decimal.{Decimal}
-use Rattle.fixed_decimal.specs.declared.error.DecimalError.TheVariants.{Syntax, Limit, Memory}
+use Rattle.fixed_decimal.specs.declared.error.DecimalError.TheVariants.{Syntax, Limit}
 use Rattle.fixed_decimal.proofs.Points.{reads_at}
 use Rattle.fixed_decimal.proofs.Exponents.{none_compact, none_decimal, over_compact, known_decimal, long_exponent, within_compact}
 use Rattle.fixed_decimal.proofs.Refusals.{carried, no_cause, memory_alone, limit_alone}

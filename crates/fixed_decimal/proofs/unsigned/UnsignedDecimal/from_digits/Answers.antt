@@ -1,4 +1,4 @@
-use Rattle.std.proofs.Common.{◌≡◌, ◌+◌, ◌≤◌, max, length, arith, subst, sym}
+use Rattle.std.proofs.Common.{◌≡◌, ◌+◌, max, length, arith, subst, sym}
 use Rattle.fixed_decimal.specs.Places.{or_zero}
 use Rattle.fixed_decimal.specs.Points.{digits_in, written_digits, AreZeros}
 use Rattle.fixed_decimal.specs.declared.unsigned.UnsignedDecimal.TheInside.{Inside}

@@ -1,4 +1,4 @@
-use Rattle.std.proofs.Common.{◌≡◌, ◌↔◌, ◌+◌, ◌<◌, ℕ, ℤ, pos, nat_abs, int_lt, true, false, length, vec_len, arith, rules}
+use Rattle.std.proofs.Common.{◌≡◌, ◌↔◌, ◌+◌, ◌<◌, pos, nat_abs, int_lt, true, false, length, arith, rules}
 use Rattle.std.proofs.lemmas.Int.{to_z-of_z}
 use Rattle.fixed_decimal.specs.Places.{HasDigitFrom}
 use Rattle.fixed_decimal.proofs.Highest.{from_below, from_above, none_from}

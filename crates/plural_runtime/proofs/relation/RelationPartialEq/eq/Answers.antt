@@ -7,8 +7,7 @@ use Rattle.plural_runtime.proofs.relation.RelationPartialEq.eq.Goals as goal
 
 pub returns-clause-equal : goal.returns-clause-equal
 returns-clause-equal c =
-    let kinds : c.args.self.now.kind ≡ c.args.other.now.kind = c.same_kind.ensures.0 c.if-not-same_kind.false in
-    (
+    let kinds : c.args.self.now.kind ≡ c.args.other.now.kind = c.same_kind.ensures.0 c.if-not-same_kind.false in (
       (λ h. lent_same c.args.self.now c.args.other.now kinds c.if-self-other.false (c.same_ranges.ensures.0 h)),
       (λ h. c.same_ranges.ensures.1 (ap (λ (relation : PackedRelation). relation.meaning.ranges) h)),
     )
