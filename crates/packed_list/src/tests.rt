@@ -125,7 +125,7 @@ fn packs_three(alloc: Global) -> Option<bool> {
 }
 
 #[test]
-fn packs_again_after_want_of_memory(rt: HostRuntime) {
+fn packs_again_after_a_refused_growth(rt: HostRuntime) {
     let first = packs_three(rt.alloc());
     let second = packs_three(rt.alloc());
     assert!(rt; first == None || first == Some(true));

@@ -127,32 +127,6 @@ fn prints_rules(rt: HostRuntime) -> Result<(), Fail> {
 }
 
 #[test]
-fn prints_rules_that_are_read_again(rt: HostRuntime) -> Result<(), Fail> {
-    let table = [
-        (
-            "i = 0 or n = 1 @integer 0, 1 @decimal 0.0~1.0, 0.00~0.04",
-            "i = 0 or n = 1 @integer 0, 1 @decimal 0.0~1.0, 0.00~0.04",
-        ),
-        ("@integer 1 2, …", " @integer 12, …"),
-        ("@integer 0 07 5", " @integer 0075"),
-        ("@integer 1e05", " @integer 1e0"),
-        ("@integer 1c6, 2c6", " @integer 1c6, 2c6"),
-        ("@integer 1, … @integer 2", " @integer 2"),
-        ("@decimal 1.5 @integer 1", " @integer 1 @decimal 1.5"),
-        ("@decimal .~e5", " @decimal .~e5"),
-        ("@decimal 1.1c6~2.0c6, …", " @decimal 1.1c6~2.0c6, …"),
-    ];
-    for (text, want) in table {
-        let rule = parse(rt.alloc(), text.as_bytes())?;
-        let mut text = String::new(rt.alloc());
-        serialize(&rule, &mut text)?;
-        assert_eq!(rt; text.as_str(), want);
-        assert_eq!(rt; parse(rt.alloc(), want.as_bytes()), Ok(rule), "{want}");
-    }
-    Ok(())
-}
-
-#[test]
 fn joined_digits_may_be_too_long_to_be_read_again(rt: HostRuntime) -> Result<(), Fail> {
     let rule = parse(rt.alloc(), b"@integer 4294967295 0")?;
     let mut text = String::new(rt.alloc());

@@ -119,3 +119,16 @@ fn prints_what_no_text_packs_to(rt: HostRuntime) -> Result<(), Fail> {
     }
     Ok(())
 }
+
+#[test]
+fn clones_have_the_same_bytes(rt: HostRuntime) -> Result<(), Fail> {
+    let bytes = b"\x01\0\xc0\0\0\0\0\x01\0\0\0\x01\0\0\0";
+    let lent = Rule::parse_bytes(bytes).expect(&rt, "a rule");
+    assert!(rt; lent.try_clone()? == lent);
+    assert!(rt; lent.as_borrowed() == lent);
+    let tree = lent.to_ast(rt.alloc())?;
+    let owned = Rule::try_from(rt.alloc(), &tree).expect(&rt, "the tree packs");
+    let copy = owned.try_clone()?;
+    assert!(rt; copy == owned && copy == lent);
+    Ok(())
+}

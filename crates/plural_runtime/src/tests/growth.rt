@@ -1,6 +1,5 @@
 use crate::{Rule, RuleError};
 use std::alloc::Global;
-use std::test::Fail;
 
 // Whether a text packs to bytes, or there was no memory.
 fn packs(alloc: Global, text: &str, bytes: &[u8]) -> Option<bool> {
@@ -50,19 +49,4 @@ fn trees_are_made_again_after_want_of_memory(rt: HostRuntime) {
     assert!(rt; first == None || first == Some(true));
     assert!(rt; second == None || second == Some(true));
     assert!(rt; first == Some(true) || second == Some(true));
-}
-
-#[test]
-fn clones_have_the_same_bytes(rt: HostRuntime) -> Result<(), Fail> {
-    let bytes = b"\x01\0\xc0\0\0\0\0\x01\0\0\0\x01\0\0\0";
-    let lent = Rule::parse_bytes(bytes).expect(&rt, "a rule");
-    assert!(rt; lent.try_clone()? == lent);
-    assert!(rt; lent.as_borrowed() == lent);
-    let tree = lent.to_ast(rt.alloc())?;
-    let Ok(owned) = Rule::try_from(rt.alloc(), &tree) else {
-        return Ok(());
-    };
-    let copy = owned.try_clone()?;
-    assert!(rt; copy == owned && copy == lent);
-    Ok(())
 }
