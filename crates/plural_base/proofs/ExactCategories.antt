@@ -1,6 +1,6 @@
 -- Within the bound the category is the one that the exact number has.
-use Rattle.std.proofs.Common.{◌≡◌, ℕ, ◌+◌, ◌^◌, ◌<◌, List, [], ◌∷◌, ◌++◌, flat_map, Bool, true, false, refl, sym, ap, subst, ◌∙◌, inl, inr, Option, Some, None, Result, Ok, Err}
-use Rattle.std.specs.Prelude.{if◌then◌else◌, Contains}
+use Rattle.std.proofs.Common.{◌≡◌, ℕ, List, ◌++◌, flat_map, Bool, true, false, refl, ap, subst, ◌∙◌, Option, Some, None, Ok, Err}
+use Rattle.std.specs.Prelude.{if◌then◌else◌}
 use Rattle.std.proofs.lemmas.List.Elements.{Contains-append_left, Contains-append_right}
 use Rattle.fixed_decimal.specs.Places.{Places}
 use Rattle.plural_reference.specs.declared.ast.Condition.{Condition}
@@ -9,7 +9,6 @@ use Rattle.plural_reference.specs.ExactTruth.{exact_truth}
 use Rattle.plural_reference.specs.ExactnessLaws.{ConditionsAgree, IsKept}
 use Rattle.plural_reference.specs.Operands.{Operands}
 use Rattle.plural_reference.specs.Truth.{groups_of}
-use Rattle.plural_runtime.specs.declared.error.RuleError.{RuleError}
 use Rattle.plural_runtime.specs.declared.error.RuleError.TheVariants.{Parse, StartLimit}
 use Rattle.plural_runtime.specs.PackedRelations.{PackedRelation}
 use Rattle.plural_runtime.specs.PackedTree.{packed, has_large_value}

@@ -1,7 +1,7 @@
 -- A condition and the relations that it is packed to are true alike.
-use Rattle.std.proofs.Common.{◌≡◌, ℕ, List, [], ◌∷◌, ◌++◌, map, flat_map, Bool, true, false, cond, refl, sym, ap, ◌∙◌, subst, inl, inr}
+use Rattle.std.proofs.Common.{◌≡◌, List, [], ◌∷◌, ◌++◌, map, flat_map, Bool, refl, sym, ap, ◌∙◌, subst, inl, inr}
 use Rattle.std.proofs.lemmas.List.{append-nil}
-use Rattle.std.specs.Prelude.{◌&&◌, ◌||◌, ◌<◌, length}
+use Rattle.std.specs.Prelude.{◌&&◌, ◌||◌}
 use Rattle.std.specs.List.{list_any, list_all, AllByRecursion}
 use Rattle.plural_reference.specs.declared.ast.AndCondition.{AndCondition}
 use Rattle.plural_reference.specs.declared.ast.Condition.{Condition}
@@ -10,11 +10,11 @@ use Rattle.plural_reference.specs.declared.token.Token.{Token}
 use Rattle.plural_reference.specs.declared.token.Token.TheVariants as tokens
 use Rattle.plural_reference.specs.Operands.{Operands}
 use Rattle.plural_reference.specs.Parser.{Separated, IsAndCondition, IsRelation, ReadsUpTo}
-use Rattle.plural_reference.specs.Truth.{RelationMeaning, relation_truth, some_group, is_true_of, meaning_of, groups_of}
+use Rattle.plural_reference.specs.Truth.{relation_truth, some_group, is_true_of, meaning_of, groups_of}
 use Rattle.plural_runtime.specs.declared.kinds.AndOr.{AndOr}
 use Rattle.plural_runtime.specs.declared.kinds.AndOr.TheVariants.{And, Or}
-use Rattle.plural_runtime.specs.PackedRelations.{PackedRelation, groups, at_front, cut_before}
-use Rattle.plural_runtime.specs.PackedTruth.{packed_truth, is_true_at, group_truth}
+use Rattle.plural_runtime.specs.PackedRelations.{PackedRelation, groups, at_front}
+use Rattle.plural_runtime.specs.PackedTruth.{packed_truth, is_true_at}
 use Rattle.plural_runtime.specs.PackedTree.{packed_relation, packed_and_condition, packed_groups, packed}
 
 -- a group has a relation

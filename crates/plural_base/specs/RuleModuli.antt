@@ -3,7 +3,7 @@ use Rattle.std.specs.Prelude.{ℕ, List, [], ◌∷◌, ◌++◌, flat_map, Opti
 use Rattle.plural_reference.specs.declared.ast.Operand.{Operand}
 use Rattle.plural_reference.specs.declared.ast.Operand.TheVariants.{N, I, V, W, F, T, C, E}
 use Rattle.plural_runtime.specs.PackedRelations.{PackedRelation}
-use Rattle.plural_base.specs.FiveRules.{Five, FiveRules}
+use Rattle.plural_base.specs.FiveRules.{FiveRules}
 
 -- the modulus, where the operand is n or i
 abbrev pub modulus_on : Operand → ℕ → List ℕ

@@ -1,6 +1,6 @@
 //! Rules from texts.
 
-ghost use Rattle.std.specs.Prelude.{◌≡◌, ◌++◌, ◌⊎◌, Some, Ok, Err, option_map, codes, IfOk, IfErr};
+ghost use Rattle.std.specs.Prelude.{◌≡◌, ◌≢◌, ◌++◌, ◌⊎◌, Some, Ok, Err, option_map, codes, IfOk, IfErr};
 ghost use Rattle.std.specs.Option.{option_copied};
 ghost use Rattle.plural_runtime.specs.RuleErrorTexts.{rule_error_text};
 ghost use Rattle.plural_base.specs.CategoryNames.{name_of};
@@ -9,6 +9,7 @@ ghost use Rattle.plural_base.specs.TextAnswers.{IsTakenAs, IsRefused, IsFirstRef
 use crate::category::PluralCategory;
 use crate::raw_category::RawPluralCategory;
 use crate::rules_data::PluralRulesData;
+use plural_reference::ParseError;
 use plural_reference::laws::reading::{one_list_of_tokens, one_rule};
 use plural_runtime::{Rule, RuleError};
 use std::alloc::Global;
@@ -54,6 +55,8 @@ impl PluralRulesData<'static> {
             IfOk result (λ rules. AreRulesOf texts (rules_of rules)) }
         ensures refused { let texts = texts_of zero.entry one.entry two.entry few.entry many.entry in
             IfErr result (λ e. IsFirstRefused texts e.category e.error) }
+        // The values of a text fit: this fault is one of trees made by hand.
+        ensures fits { IfErr result (λ e. e.error ≢ RuleError.Parse ParseError.ValueTooLarge) }
     {
         Ok(PluralRulesData {
             zero: rule_of(alloc, zero, PluralCategory::Zero)?,
@@ -73,6 +76,7 @@ fn rule_of(
 ) -> Result<Option<Rule<'static>>, RulesTextError>
     ensures ok { IfOk result (λ rule. IsTakenAs (option_copied text.entry) rule) }
     ensures refused { IfErr result (λ e. (e.category ≡ category) × IsRefused (option_copied text.entry) e.error) }
+    ensures fits { IfErr result (λ e. e.error ≢ RuleError.Parse ParseError.ValueTooLarge) }
 {
     let Some(text) = text else {
         return Ok(None);
@@ -87,6 +91,7 @@ fn rule_of(
 fn packed(alloc: Global, text: &str) -> Result<Rule<'static>, RuleError>
     ensures ok { IfOk result (λ rule. TextGives text.now (Ok rule)) }
     ensures refused { IfErr result (λ e. TextGives text.now (Err e) ⊎ (e ≡ RuleError.Memory)) }
+    ensures fits { IfErr result (λ e. e ≢ RuleError.Parse ParseError.ValueTooLarge) }
 {
     one_list_of_tokens();
     one_rule();
