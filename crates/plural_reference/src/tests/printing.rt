@@ -1,8 +1,8 @@
 //! Printed texts, and writers that refuse.
 
-use crate::ast::{Condition, DecimalValue, Rule, SampleList, SampleRange, Samples};
+use crate::ast::{Condition, Rule, SampleList, SampleRange, Samples};
 use crate::{
-    ParseError, ReadError, Sequence, parse, parse_condition, serialize, serialize_condition,
+    ParseError, ReadError, parse, parse_condition, serialize, serialize_condition,
     serialize_decimal_value, serialize_sample_list, serialize_sample_range, serialize_samples,
 };
 use std::alloc::Global;
@@ -10,50 +10,31 @@ use std::fmt;
 use std::process::Abort;
 use std::test::Fail;
 
-fn sample(alloc: Global, text: &str) -> Result<DecimalValue, Fail> {
-    Ok(DecimalValue(String::from_str(alloc, text)?))
-}
-
-// One sample, or two with `~` between them.
-fn sample_range(alloc: Global, text: &str) -> Result<SampleRange, Fail> {
-    match text.split_once("~") {
-        Some((lower, upper)) => Ok(SampleRange {
-            lower_val: sample(alloc, lower)?,
-            upper_val: Some(sample(alloc, upper)?),
-        }),
-        None => Ok(SampleRange {
-            lower_val: sample(alloc, text)?,
-            upper_val: None,
-        }),
-    }
-}
-
-fn sample_list(alloc: Global, ranges: &[&str], ellipsis: bool) -> Result<SampleList, Fail> {
-    let mut sample_ranges = Vec::new(alloc);
-    for range in ranges {
-        sample_ranges.push(sample_range(alloc, range)?)?;
-    }
-    Ok(SampleList {
-        sample_ranges: Sequence(sample_ranges),
-        ellipsis,
-    })
-}
-
 fn printed(alloc: Global, condition: &Condition) -> Result<String, Fail> {
     let mut text = String::new(alloc);
     serialize_condition(condition, &mut text)?;
     Ok(text)
 }
 
-// `i = 0 or n = 1 @integer 0, 1 @decimal 0.0~1.0, 0.00~0.04, …`
-fn rule(alloc: Global) -> Result<Rule, Fail> {
-    Ok(Rule {
-        condition: parse_condition(alloc, b"i = 0 or n = 1")?,
-        samples: Some(Samples {
-            integer: Some(sample_list(alloc, &["0", "1"], false)?),
-            decimal: Some(sample_list(alloc, &["0.0~1.0", "0.00~0.04"], true)?),
-        }),
-    })
+fn printed_rule(alloc: Global, rule: &Rule) -> Result<String, Fail> {
+    let mut text = String::new(alloc);
+    serialize(rule, &mut text)?;
+    Ok(text)
+}
+
+fn samples_of(alloc: Global, text: &str) -> Result<Samples, Fail> {
+    let rule = parse(alloc, text.as_bytes())?;
+    Ok(rule.samples.ok_or("no samples")?)
+}
+
+fn integers_of(alloc: Global, text: &str) -> Result<SampleList, Fail> {
+    let samples = samples_of(alloc, text)?;
+    Ok(samples.integer.ok_or("no list of integers")?)
+}
+
+fn first_range_of(alloc: Global, text: &str) -> Result<SampleRange, Fail> {
+    let list = integers_of(alloc, text)?;
+    Ok(list.sample_ranges.0.into_iter().next().ok_or("no range")?)
 }
 
 #[test]
@@ -85,52 +66,49 @@ fn prints_conditions(rt: HostRuntime) -> Result<(), Fail> {
 }
 
 #[test]
-fn prints_lists_of_samples(rt: HostRuntime) -> Result<(), Fail> {
+fn prints_what_was_read(rt: HostRuntime) -> Result<(), Fail> {
     let table = [
-        (["12", "3"], true, "12, 3, …"),
-        ([".~e5", "0.0~1.0"], false, ".~e5, 0.0~1.0"),
-        (["1c6", "1.1c6~2.0c6"], true, "1c6, 1.1c6~2.0c6, …"),
+        ("", ""),
+        ("i % 0 = 5", "i % 0 = 5"),
+        (
+            "i = 0 or n = 1 @integer 0, 1 @decimal 0.0~1.0, 0.00~0.04",
+            "i = 0 or n = 1 @integer 0, 1 @decimal 0.0~1.0, 0.00~0.04",
+        ),
+        ("@integer 1 2, …", " @integer 12, …"),
+        ("@decimal 1.1c6~2.0c6, …", " @decimal 1.1c6~2.0c6, …"),
+        ("@decimal 1.5 @integer 1", " @integer 1 @decimal 1.5"),
+        ("@decimal .~e5", " @decimal .~e5"),
     ];
-    for (ranges, ellipsis, want) in table {
-        let list = sample_list(rt.alloc(), ranges.as_slice(), ellipsis)?;
-        let mut text = String::new(rt.alloc());
-        serialize_sample_list(&list, &mut text)?;
-        assert_eq!(rt; text.as_str(), want);
+    for (text, want) in table {
+        let rule = parse(rt.alloc(), text.as_bytes())?;
+        let printed = printed_rule(rt.alloc(), &rule)?;
+        assert_eq!(rt; printed.as_str(), want, "{text}");
+        let again = parse(rt.alloc(), printed.as_str().as_bytes())?;
+        assert_eq!(rt; again, rule, "{text}");
     }
     Ok(())
 }
 
 #[test]
-fn prints_rules(rt: HostRuntime) -> Result<(), Fail> {
-    let mut rule = rule(rt.alloc())?;
-    let mut text = String::new(rt.alloc());
-    serialize(&rule, &mut text)?;
-    assert_eq!(rt;
-        text.as_str(),
-        "i = 0 or n = 1 @integer 0, 1 @decimal 0.0~1.0, 0.00~0.04, …"
-    );
-    rule.samples = None;
-    let mut text = String::new(rt.alloc());
-    serialize(&rule, &mut text)?;
-    assert_eq!(rt; text.as_str(), "i = 0 or n = 1");
-    let mut text = String::new(rt.alloc());
-    let decimal = Some(sample_list(rt.alloc(), &["1.5"], false)?);
-    serialize_samples(
-        &Samples {
-            integer: None,
-            decimal,
-        },
-        &mut text,
-    )?;
-    assert_eq!(rt; text.as_str(), " @decimal 1.5");
+fn prints_lists_of_samples(rt: HostRuntime) -> Result<(), Fail> {
+    let table = [
+        ("@integer 1 2, 3, …", "12, 3, …"),
+        ("@integer .~e5, 0.0~1.0", ".~e5, 0.0~1.0"),
+        ("@integer 1c6,1.1c6~2.0c6,…", "1c6, 1.1c6~2.0c6, …"),
+    ];
+    for (text, want) in table {
+        let list = integers_of(rt.alloc(), text)?;
+        let mut printed = String::new(rt.alloc());
+        serialize_sample_list(&list, &mut printed)?;
+        assert_eq!(rt; printed.as_str(), want, "{text}");
+    }
     Ok(())
 }
 
 #[test]
 fn joined_digits_may_be_too_long_to_be_read_again(rt: HostRuntime) -> Result<(), Fail> {
     let rule = parse(rt.alloc(), b"@integer 4294967295 0")?;
-    let mut text = String::new(rt.alloc());
-    serialize(&rule, &mut text)?;
+    let text = printed_rule(rt.alloc(), &rule)?;
     assert_eq!(rt; text.as_str(), " @integer 42949672950");
     assert_eq!(rt;
         parse(rt.alloc(), text.as_bytes()),
@@ -194,51 +172,55 @@ fn stops_at_each_piece<F: FnMut(&mut Refusing) -> fmt::Result>(
 }
 
 #[test]
-fn stops_at_the_writers_first_fault(rt: HostRuntime) -> Result<(), Fail> {
-    let alloc = rt.alloc();
-    let rule = rule(alloc)?;
+fn stops_at_the_first_fault_in_a_rule(rt: HostRuntime) -> Result<(), Fail> {
+    let text = "i = 0 or n = 1 @integer 0, 1 @decimal 0.0~1.0, 0.00~0.04, …";
+    let rule = parse(rt.alloc(), text.as_bytes())?;
+    stops_at_each_piece(&rt, rt.alloc(), 24, text, |w| serialize(&rule, w));
     stops_at_each_piece(
         &rt,
-        alloc,
-        24,
-        "i = 0 or n = 1 @integer 0, 1 @decimal 0.0~1.0, 0.00~0.04, …",
-        |w| serialize(&rule, w),
-    );
-    stops_at_each_piece(
-        &rt,
-        alloc,
+        rt.alloc(),
         11,
         "i = 0 or n = 1",
         |w| serialize_condition(&rule.condition, w),
     );
-    if let Some(samples) = &rule.samples {
-        stops_at_each_piece(
-            &rt,
-            alloc,
-            13,
-            " @integer 0, 1 @decimal 0.0~1.0, 0.00~0.04, …",
-            |w| serialize_samples(samples, w),
-        );
-    }
-    let list = sample_list(alloc, &["0", "2~16"], true)?;
+    Ok(())
+}
+
+#[test]
+fn stops_at_the_first_fault_in_samples(rt: HostRuntime) -> Result<(), Fail> {
+    let text = " @integer 0, 1 @decimal 0.0~1.0, 0.00~0.04, …";
+    let samples = samples_of(rt.alloc(), text)?;
     stops_at_each_piece(
         &rt,
-        alloc,
+        rt.alloc(),
+        13,
+        text,
+        |w| serialize_samples(&samples, w),
+    );
+    let list = integers_of(rt.alloc(), "@integer 0, 2~16, …")?;
+    stops_at_each_piece(
+        &rt,
+        rt.alloc(),
         6,
         "0, 2~16, …",
         |w| serialize_sample_list(&list, w),
     );
-    let range = sample_range(alloc, "0.1~1.6")?;
+    Ok(())
+}
+
+#[test]
+fn stops_at_the_first_fault_in_a_range(rt: HostRuntime) -> Result<(), Fail> {
+    let range = first_range_of(rt.alloc(), "@integer 0.1~1.6")?;
     stops_at_each_piece(
         &rt,
-        alloc,
+        rt.alloc(),
         3,
         "0.1~1.6",
         |w| serialize_sample_range(&range, w),
     );
     stops_at_each_piece(
         &rt,
-        alloc,
+        rt.alloc(),
         1,
         "0.1",
         |w| serialize_decimal_value(&range.lower_val, w),
