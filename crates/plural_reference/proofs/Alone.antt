@@ -1,6 +1,6 @@
 -- `i` and `.` that no longer piece begins with.
 use Rattle.std.proofs.Common.{◌≡◌, ◌≢◌, ℕ, List, [], ◌∷◌, Some, refl, ap}
-use Rattle.plural_reference.specs.Parser.{first}
+use Rattle.plural_reference.specs.Ends.{first}
 use Rattle.plural_reference.specs.declared.ast.Operand.TheVariants.{I}
 use Rattle.plural_reference.specs.declared.token.Token.TheVariants.{Operand, Dot}
 use Rattle.plural_reference.specs.Scan.{tokens_of, tokens_from}

@@ -16,11 +16,13 @@ use Rattle.plural_reference.specs.declared.ast.Value.{Value}
 use Rattle.plural_reference.specs.declared.token.Token.{Token}
 use Rattle.plural_reference.specs.declared.token.Token.TheVariants.{Operand, Number, Zero, Dot, E}
 use Rattle.plural_reference.specs.Lexer.{max_number}
-use Rattle.plural_reference.specs.Parser.{first, value_of, IsItem}
+use Rattle.plural_reference.specs.Ends.{first}
+use Rattle.plural_reference.specs.Parser.{value_of, IsItem}
 use Rattle.plural_reference.specs.Samples.{IsDigits, IsExponentMark, IsFraction, IsExponent, token_text}
 use Rattle.plural_reference.specs.Scan.{tokens_of, tokens_from}
 use Rattle.plural_reference.proofs.Alone.{point_alone}
 use Rattle.plural_reference.proofs.PrintedTokens.{below_digits, above_digits, Scans, Spells, EndsRun, AreDigits, numerals, small_fits, run_gives, number_spells}
+use Rattle.plural_reference.proofs.SampleParserSteps.{digit_again}
 use Rattle.plural_reference.proofs.TokensFit.{TokenFits, AllFit}
 
 -- what may follow a sample: the end, or neither a digit nor a point
@@ -111,13 +113,6 @@ fraction_follows (Dot ∷ ts) h rest k = below_digits 46 (omega arith)
 fraction_follows (_ ∷ ts) h rest k = absurd h
 
 -- ---- an exponent
-
--- one token of digits, again as one
-digit_again : (t : Token) (n : ℕ) → value_of t ≡ Some (record { 0 = n }) → IsDigits t × (token_text t ≡ decimal n)
-unfolding digits
-digit_again Zero n e = let v : record { 0 = 0 } ≡ record { 0 = n } = cc in (tt, ap (λ (x : Value). decimal x.0) v)
-digit_again (Number m) n e = let v : record { 0 = m } ≡ record { 0 = n } = cc in (tt, ap (λ (x : Value). decimal x.0) v)
-digit_again _ n e = cc
 
 digit_retold : (t : Token) → TokenFits t → IsDigits t → (u : Token) × IsDigits u × (token_text u ≡ token_text t) × Scans EndsRun (token_text t) (u ∷ [])
 unfolding tokens_from

@@ -17,6 +17,7 @@ use Rattle.plural_reference.specs.declared.token.Token.TheVariants.{Operand, Ope
 use Rattle.plural_reference.specs.Lexer.{AreTokensOf, broken}
 use Rattle.plural_reference.specs.Parser.{Reads, Faulty, after_and}
 use Rattle.std.specs.Fmt.{digits}
+use Rattle.plural_reference.specs.PrintingLaws.{TextReads, TextFaulty}
 use Rattle.plural_reference.specs.Serializer.{condition_text}
 use Rattle.plural_reference.specs.Scan.{tokens_of, tokens_from}
 use Rattle.plural_reference.specs.Reader.{run, begin}
@@ -36,13 +37,6 @@ relation o op xs = record { expression = record { operand = o; modulus = None };
 
 abbrev only : Relation → Condition
 only r = record { 0 = record { 0 = r ∷ [] } ∷ [] }
-
--- what is read of a text, and which fault it has
-abbrev TextReads : List ℕ → Condition → Type 0
-TextReads text c = (tokens : List Token) × AreTokensOf text tokens × Reads tokens c
-
-abbrev TextFaulty : List ℕ → ParseError → Type 0
-TextFaulty text kind = (tokens : List Token) × AreTokensOf text tokens × Faulty tokens kind
 
 -- ---- tokens
 
@@ -90,94 +84,94 @@ ax_by_hand = (
 -- ---- conditions
 
 -- a text is read, or has a fault, as the reader answers
-text_reads : (text : List ℕ) (c : Condition) (rest : List Token) → run begin (tokens_of text) ≡ Ok (c, rest) → TextReads text c
+text_reads : (text : List ℕ) (c : Condition) (rest : List Token) → run begin (tokens_of text) ≡ Ok (c, rest) → TextReads Reads text c
 text_reads text c rest h = (tokens_of text, has_tokens text, (rest, subst (Said (tokens_of text)) h (said (tokens_of text))))
 
-text_faulty : (text : List ℕ) (kind : ParseError) → run begin (tokens_of text) ≡ Err kind → TextFaulty text kind
+text_faulty : (text : List ℕ) (kind : ParseError) → run begin (tokens_of text) ≡ Err kind → TextFaulty Faulty text kind
 text_faulty text kind h = (tokens_of text, has_tokens text, subst (Said (tokens_of text)) h (said (tokens_of text)))
 
 -- what has a fault isn't read
-not_read : (text : List ℕ) (kind : ParseError) → TextFaulty text kind → (c : Condition) → TextReads text c → ⊥
+not_read : (text : List ℕ) (kind : ParseError) → TextFaulty Faulty text kind → (c : Condition) → TextReads Reads text c → ⊥
 not_read text kind h c k = not_both h.0 c kind (subst (λ l. Reads l c) (tokens_are text k.0 k.1 ∙ sym (tokens_are text h.0 h.1)) k.2) h.2
 
 abbrev i_is : List RangeListItem → Condition
 i_is xs = only (relation operands.I operators.Eq xs)
 
-reads_first_zero : TextReads (codes "i = 01") (i_is (items.Value (value 0) ∷ []))
+reads_first_zero : TextReads Reads (codes "i = 01") (i_is (items.Value (value 0) ∷ []))
 unfolding tokens_from run
 reads_first_zero = text_reads (codes "i = 01") _ (Number 1 ∷ []) refl
 
-reads_first_range : TextReads (codes "i = 1..2..3") (i_is (items.Range (value 1) (value 2) ∷ []))
+reads_first_range : TextReads Reads (codes "i = 1..2..3") (i_is (items.Range (value 1) (value 2) ∷ []))
 unfolding tokens_from run
 reads_first_range = text_reads (codes "i = 1..2..3") _ (DotDot ∷ Number 3 ∷ []) refl
 
-reads_largest : TextReads (codes "i = 4294967295") (i_is (items.Value (value 4294967295) ∷ []))
+reads_largest : TextReads Reads (codes "i = 4294967295") (i_is (items.Value (value 4294967295) ∷ []))
 unfolding tokens_from run
 reads_largest = text_reads (codes "i = 4294967295") _ [] refl
 
-too_large : TextFaulty (codes "i = 4294967296") ExpectedValue
+too_large : TextFaulty Faulty (codes "i = 4294967296") ExpectedValue
 unfolding tokens_from run
 too_large = text_faulty (codes "i = 4294967296") ExpectedValue refl
 
-and_alone : TextFaulty (codes "i = 1 and") ExpectedRelation
+and_alone : TextFaulty Faulty (codes "i = 1 and") ExpectedRelation
 unfolding tokens_from run
 and_alone = text_faulty (codes "i = 1 and") ExpectedRelation refl
 
 -- `i = 1 and` isn't read as `i = 1`, nor as anything else
-and_alone_not_read : (c : Condition) → TextReads (codes "i = 1 and") c → ⊥
+and_alone_not_read : (c : Condition) → TextReads Reads (codes "i = 1 and") c → ⊥
 and_alone_not_read = not_read (codes "i = 1 and") ExpectedRelation and_alone
 
-or_alone : TextFaulty (codes "i = 1 or") ExpectedAndCondition
+or_alone : TextFaulty Faulty (codes "i = 1 or") ExpectedAndCondition
 unfolding tokens_from run
 or_alone = text_faulty (codes "i = 1 or") ExpectedAndCondition refl
 
-no_operator : TextFaulty (codes "i 1") ExpectedOperator
+no_operator : TextFaulty Faulty (codes "i 1") ExpectedOperator
 unfolding tokens_from run
 no_operator = text_faulty (codes "i 1") ExpectedOperator refl
 
-no_operand : TextFaulty (codes "= 1") ExpectedOperand
+no_operand : TextFaulty Faulty (codes "= 1") ExpectedOperand
 unfolding tokens_from run
 no_operand = text_faulty (codes "= 1") ExpectedOperand refl
 
-no_value : TextFaulty (codes "i = ") ExpectedValue
+no_value : TextFaulty Faulty (codes "i = ") ExpectedValue
 unfolding tokens_from run
 no_value = text_faulty (codes "i = ") ExpectedValue refl
 
-empty_text : TextReads [] (record { 0 = [] })
+empty_text : TextReads Reads [] (record { 0 = [] })
 unfolding tokens_from run
 empty_text = text_reads [] _ [] refl
 
-at_foo : TextReads (codes "@foo") (record { 0 = [] })
+at_foo : TextReads Reads (codes "@foo") (record { 0 = [] })
 unfolding tokens_from run
 at_foo = text_reads (codes "@foo") _ (At ∷ Operand operands.F ∷ Junk ∷ []) refl
 
-falling_range : TextReads (codes "i = 3..1") (i_is (items.Range (value 3) (value 1) ∷ []))
+falling_range : TextReads Reads (codes "i = 3..1") (i_is (items.Range (value 3) (value 1) ∷ []))
 unfolding tokens_from run
 falling_range = text_reads (codes "i = 3..1") _ [] refl
 
 -- an operand behind And that another token follows
-and_then_dot : TextFaulty (codes "i = 1 and ,") ExpectedOperand
+and_then_dot : TextFaulty Faulty (codes "i = 1 and ,") ExpectedOperand
 unfolding tokens_from run
 and_then_dot = text_faulty (codes "i = 1 and ,") ExpectedOperand refl
 
 -- At behind Or
-or_at : TextFaulty (codes "i = 1 or @integer 1") ExpectedAndCondition
+or_at : TextFaulty Faulty (codes "i = 1 or @integer 1") ExpectedAndCondition
 unfolding tokens_from run
 or_at = text_faulty (codes "i = 1 or @integer 1") ExpectedAndCondition refl
 
-no_modulus : TextFaulty (codes "i % = 1") ExpectedValue
+no_modulus : TextFaulty Faulty (codes "i % = 1") ExpectedValue
 unfolding tokens_from run
 no_modulus = text_faulty (codes "i % = 1") ExpectedValue refl
 
-modulus_then_modulo : TextFaulty (codes "i % 5 % 1") ExpectedOperator
+modulus_then_modulo : TextFaulty Faulty (codes "i % 5 % 1") ExpectedOperator
 unfolding tokens_from run
 modulus_then_modulo = text_faulty (codes "i % 5 % 1") ExpectedOperator refl
 
-comma_alone : TextFaulty (codes "i = 1,") ExpectedValue
+comma_alone : TextFaulty Faulty (codes "i = 1,") ExpectedValue
 unfolding tokens_from run
 comma_alone = text_faulty (codes "i = 1,") ExpectedValue refl
 
-dots_alone : TextFaulty (codes "i = 1..") ExpectedValue
+dots_alone : TextFaulty Faulty (codes "i = 1..") ExpectedValue
 unfolding tokens_from run
 dots_alone = text_faulty (codes "i = 1..") ExpectedValue refl
 
@@ -198,7 +192,7 @@ complex = record {
 abbrev complex_text : List ℕ
 complex_text = codes "n % 10 = 3..4, 9 and n % 100 != 10..19, 70..79, 90..99 or n = 0"
 
-complex_is_read : TextReads complex_text complex
+complex_is_read : TextReads Reads complex_text complex
 unfolding tokens_from run
 complex_is_read = text_reads complex_text complex [] refl
 

@@ -15,6 +15,7 @@ use Rattle.plural_reference.specs.declared.error.ParseError.TheVariants.{Expecte
 use Rattle.plural_reference.specs.declared.token.Token.{Token}
 use Rattle.plural_reference.specs.Lexer.{AreTokensOf, ellipsis}
 use Rattle.plural_reference.specs.Samples.{ReadsRule, FaultyRule}
+use Rattle.plural_reference.specs.PrintingLaws.{TextReads, TextFaulty}
 use Rattle.plural_reference.specs.Serializer.{rule_text}
 use Rattle.plural_reference.specs.Scan.{tokens_of, tokens_from}
 use Rattle.plural_reference.specs.Reader.{run}
@@ -22,17 +23,11 @@ use Rattle.plural_reference.specs.SampleReader.{run_samples}
 use Rattle.plural_reference.proofs.ScanSound.{has_tokens}
 use Rattle.plural_reference.proofs.RuleReadings.{rule_of, Given, given}
 
-abbrev TextReads : List ℕ → Rule → Type 0
-TextReads text r = (tokens : List Token) × AreTokensOf text tokens × ReadsRule tokens r
-
-abbrev TextFaulty : List ℕ → ParseError → Type 0
-TextFaulty text kind = (tokens : List Token) × AreTokensOf text tokens × FaultyRule tokens kind
-
-reads : (text : List ℕ) (r : Rule) → rule_of (tokens_of text) ≡ Ok r → TextReads text r
+reads : (text : List ℕ) (r : Rule) → rule_of (tokens_of text) ≡ Ok r → TextReads ReadsRule text r
 unfolding Given
 reads text r h = (tokens_of text, has_tokens text, subst (Given (tokens_of text)) h (given (tokens_of text)))
 
-faulty : (text : List ℕ) (kind : ParseError) → rule_of (tokens_of text) ≡ Err kind → TextFaulty text kind
+faulty : (text : List ℕ) (kind : ParseError) → rule_of (tokens_of text) ≡ Err kind → TextFaulty FaultyRule text kind
 unfolding Given
 faulty text kind h = (tokens_of text, has_tokens text, subst (Given (tokens_of text)) h (given (tokens_of text)))
 
@@ -48,68 +43,68 @@ list_of rs more = Some (record { sample_ranges = rs; ellipsis = more })
 abbrev only_samples : Option SampleList → Option SampleList → Rule
 only_samples i d = record { condition = record { 0 = [] }; samples = Some (record { integer = i; decimal = d }) }
 
-joined_digits : TextReads (codes "@integer 1 2, " ++ ellipsis) (only_samples (list_of (one (codes "12") ∷ []) true) None)
+joined_digits : TextReads ReadsRule (codes "@integer 1 2, " ++ ellipsis) (only_samples (list_of (one (codes "12") ∷ []) true) None)
 unfolding tokens_from run run_samples digits
 joined_digits = reads (codes "@integer 1 2, " ++ ellipsis) _ refl
 
 joined_digits_printed : rule_text (only_samples (list_of (one (codes "12") ∷ []) true) None) ≡ codes " @integer 12, " ++ ellipsis
 joined_digits_printed = refl
 
-long_digits : TextReads (codes "@integer 4294967295 0") (only_samples (list_of (one (codes "42949672950") ∷ []) false) None)
+long_digits : TextReads ReadsRule (codes "@integer 4294967295 0") (only_samples (list_of (one (codes "42949672950") ∷ []) false) None)
 unfolding tokens_from run run_samples digits
 long_digits = reads (codes "@integer 4294967295 0") _ refl
 
 -- printed and read again it is a fault
-long_digits_again : TextFaulty (codes " @integer 42949672950") ExpectedValue
+long_digits_again : TextFaulty FaultyRule (codes " @integer 42949672950") ExpectedValue
 unfolding tokens_from run run_samples digits
 long_digits_again = faulty (codes " @integer 42949672950") ExpectedValue refl
 
-replaced : TextReads (codes "@integer 1, " ++ ellipsis ++ codes " @integer 2") (only_samples (list_of (one (codes "2") ∷ []) false) None)
+replaced : TextReads ReadsRule (codes "@integer 1, " ++ ellipsis ++ codes " @integer 2") (only_samples (list_of (one (codes "2") ∷ []) false) None)
 unfolding tokens_from run run_samples digits
 replaced = reads (codes "@integer 1, " ++ ellipsis ++ codes " @integer 2") _ refl
 
-tilde_unread : TextReads (codes "@integer 1, " ++ ellipsis ++ codes "~2") (only_samples (list_of (one (codes "1") ∷ []) true) None)
+tilde_unread : TextReads ReadsRule (codes "@integer 1, " ++ ellipsis ++ codes "~2") (only_samples (list_of (one (codes "1") ∷ []) true) None)
 unfolding tokens_from run run_samples digits
 tilde_unread = reads (codes "@integer 1, " ++ ellipsis ++ codes "~2") _ refl
 
-point_to_exponent : TextReads (codes "@decimal .~e5") (only_samples None (list_of (range (codes ".") (codes "e5") ∷ []) false))
+point_to_exponent : TextReads ReadsRule (codes "@decimal .~e5") (only_samples None (list_of (range (codes ".") (codes "e5") ∷ []) false))
 unfolding tokens_from run run_samples digits
 point_to_exponent = reads (codes "@decimal .~e5") _ refl
 
-one_zero_after_mark : TextReads (codes "@integer 1e05") (only_samples (list_of (one (codes "1e0") ∷ []) false) None)
+one_zero_after_mark : TextReads ReadsRule (codes "@integer 1e05") (only_samples (list_of (one (codes "1e0") ∷ []) false) None)
 unfolding tokens_from run run_samples digits
 one_zero_after_mark = reads (codes "@integer 1e05") _ refl
 
-dots : TextFaulty (codes "@integer 1, ...") ExpectedValue
+dots : TextFaulty FaultyRule (codes "@integer 1, ...") ExpectedValue
 unfolding tokens_from run run_samples digits
 dots = faulty (codes "@integer 1, ...") ExpectedValue refl
 
-at_foo : TextFaulty (codes "@foo") ExpectedSampleType
+at_foo : TextFaulty FaultyRule (codes "@foo") ExpectedSampleType
 unfolding tokens_from run run_samples digits
 at_foo = faulty (codes "@foo") ExpectedSampleType refl
 
 -- compact exponents
-two_compact : TextReads (codes "@integer 1c6, 2c6") (only_samples (list_of (one (codes "1c6") ∷ one (codes "2c6") ∷ []) false) None)
+two_compact : TextReads ReadsRule (codes "@integer 1c6, 2c6") (only_samples (list_of (one (codes "1c6") ∷ one (codes "2c6") ∷ []) false) None)
 unfolding tokens_from run run_samples digits
 two_compact = reads (codes "@integer 1c6, 2c6") _ refl
 
-compact_range : TextReads (codes "@decimal 1.1c6~2.0c6, " ++ ellipsis) (only_samples None (list_of (range (codes "1.1c6") (codes "2.0c6") ∷ []) true))
+compact_range : TextReads ReadsRule (codes "@decimal 1.1c6~2.0c6, " ++ ellipsis) (only_samples None (list_of (range (codes "1.1c6") (codes "2.0c6") ∷ []) true))
 unfolding tokens_from run run_samples digits
 compact_range = reads (codes "@decimal 1.1c6~2.0c6, " ++ ellipsis) _ refl
 
-mark_first : TextReads (codes "@integer c5") (only_samples (list_of (one (codes "c5") ∷ []) false) None)
+mark_first : TextReads ReadsRule (codes "@integer c5") (only_samples (list_of (one (codes "c5") ∷ []) false) None)
 unfolding tokens_from run run_samples digits
 mark_first = reads (codes "@integer c5") _ refl
 
-compact_zero : TextReads (codes "@integer 1c06") (only_samples (list_of (one (codes "1c0") ∷ []) false) None)
+compact_zero : TextReads ReadsRule (codes "@integer 1c06") (only_samples (list_of (one (codes "1c0") ∷ []) false) None)
 unfolding tokens_from run run_samples digits
 compact_zero = reads (codes "@integer 1c06") _ refl
 
-one_mark : TextReads (codes "@integer 1e3c4") (only_samples (list_of (one (codes "1e3") ∷ []) false) None)
+one_mark : TextReads ReadsRule (codes "@integer 1e3c4") (only_samples (list_of (one (codes "1e3") ∷ []) false) None)
 unfolding tokens_from run run_samples digits
 one_mark = reads (codes "@integer 1e3c4") _ refl
 
-mark_alone : TextFaulty (codes "i = 1 @integer 1c") ExpectedValue
+mark_alone : TextFaulty FaultyRule (codes "i = 1 @integer 1c") ExpectedValue
 unfolding tokens_from run run_samples digits
 mark_alone = faulty (codes "i = 1 @integer 1c") ExpectedValue refl
 
@@ -126,7 +121,7 @@ whole = record {
 abbrev whole_text : List ℕ
 whole_text = codes "i = 0 or n = 1 @integer 0, 1 @decimal 0.0~1.0, 0.00~0.04"
 
-whole_read : TextReads whole_text whole
+whole_read : TextReads ReadsRule whole_text whole
 unfolding tokens_from run run_samples digits
 whole_read = reads whole_text whole refl
 

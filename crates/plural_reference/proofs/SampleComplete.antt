@@ -12,9 +12,10 @@ use Rattle.plural_reference.specs.declared.ast.SampleRange.{SampleRange}
 use Rattle.plural_reference.specs.declared.error.ParseError.{ParseError}
 use Rattle.plural_reference.specs.declared.token.Token.{Token}
 use Rattle.plural_reference.specs.declared.token.Token.TheVariants.{Operand, Number, Zero, Dot, Comma, At, Decimal, Integer, Ellipsis, Tilde, E}
-use Rattle.plural_reference.specs.Parser.{Separated, first}
-use Rattle.plural_reference.specs.Samples.{IsDigits, IsExponentMark, IsSampleType, IsFraction, IsExponent, SampleParts, IsSampleOf, token_text, IsSample, IsUpper, IsSampleRange, IsEllipsis, IsSampleList, Section, AreSections, open_range, last_sample, has_exponent, has_point, Takes, ContinuesSamples, SectionsThen, IsAfterAt, IsBeforeSample, IsAfterComma, IsAfterMark, FaultyInSamples, sample_fault, type_fault, digits_fault, fault_in_samples}
-use Rattle.plural_reference.specs.SampleReader.{Partial, SampleState, after_sections, behind_at, awaits_sample, behind_comma, in_sample, behind_mark, range_of, with_sections, ranges_of, begin_list, SampleOutcome, sample_proceed, run_samples, joins, tilde_move}
+use Rattle.plural_reference.specs.Ends.{first}
+use Rattle.plural_reference.specs.Parser.{Separated, value_fault}
+use Rattle.plural_reference.specs.Samples.{IsDigits, IsExponentMark, IsSampleType, IsFraction, IsExponent, SampleParts, IsSampleOf, token_text, IsSample, IsUpper, IsSampleRange, IsEllipsis, IsSampleList, Section, AreSections, open_range, last_sample, has_exponent, has_point, Takes, ContinuesSamples, SectionsThen, IsAfterAt, IsBeforeSample, IsAfterComma, IsAfterMark, FaultyInSamples, sample_fault, type_fault, fault_in_samples}
+use Rattle.plural_reference.specs.SampleReader.{Partial, SampleState, after_sections, behind_at, awaits_sample, behind_comma, in_sample, behind_mark, range_of, with_sections, ranges_with, begin_list, SampleOutcome, sample_proceed, run_samples, joins, tilde_move}
 use Rattle.plural_reference.specs.Samples as places
 use Rattle.plural_reference.proofs.ReaderComplete.{last-push}
 use Rattle.plural_reference.proofs.SampleSound.{ReadsSections, open-done, last_sample-range, both_false, left_false, right_false}
@@ -197,7 +198,7 @@ pub tilde_run : (p : Partial) (text : DecimalValue) (rest : List Token) → p.lo
 unfolding run_samples
 tilde_run p text rest h = rw h refl
 
-pub comma_run : (p : Partial) (text : DecimalValue) (rest : List Token) → run_samples (in_sample p text) (Comma ∷ rest) ≡ run_samples (behind_comma (record p { ranges = ranges_of p text; lower = None })) rest
+pub comma_run : (p : Partial) (text : DecimalValue) (rest : List Token) → run_samples (in_sample p text) (Comma ∷ rest) ≡ run_samples (behind_comma (record p { ranges = ranges_with p text; lower = None })) rest
 unfolding run_samples
 comma_run p text rest = refl
 
@@ -208,7 +209,7 @@ record LeadsToSample (from : SampleState) (tokens : List Token) (sections : List
   run_is : (rest : List Token) → run_samples from (tokens ++ rest) ≡ run_samples (in_sample partial text) rest
   sections_are : partial.sections ≡ sections
   type_is : partial.type ≡ type
-  ranges_are : ranges_of partial text ≡ ranges
+  ranges_are : ranges_with partial text ≡ ranges
 
 range_leads : (s : SampleState) (p : Partial) (tokens : List Token) (lower : DecimalValue) (upper : Option DecimalValue) → Starts s p → p.lower ≡ None → IsSampleRange tokens (record { lower_val = lower; upper_val = upper }) → LeadsToSample s tokens p.sections p.type (p.ranges ++ (record { lower_val = lower; upper_val = upper }) ∷ [])
 range_leads s p tokens lower None st n h = record {
@@ -258,7 +259,7 @@ ranges_lead s p tokens (r ∷ x ∷ xs) st n h =
 -- the state behind whole sections
 data Closes : SampleState → List Section → Type 0 where
   closed : (ss : List Section) → open_range ss ≡ None → Closes (after_sections ss) ss
-  in_last : (p : Partial) (text : DecimalValue) (ss : List Section) → with_sections p (ranges_of p text) false ≡ ss → Closes (in_sample p text) ss
+  in_last : (p : Partial) (text : DecimalValue) (ss : List Section) → with_sections p (ranges_with p text) false ≡ ss → Closes (in_sample p text) ss
 
 record LeadsToEnd (from : SampleState) (tokens : List Token) (ss : List Section) : Type 0 where
   state : SampleState
@@ -288,7 +289,7 @@ list_leads sections type tokens ranges true h =
           ap (run_samples (awaits_sample (begin_list sections type))) (ap (λ x. x ++ rest) (h.2 ∙ ap (λ x. h.0 ++ x) h.4) ∙ append_assoc h.0 (Comma ∷ Ellipsis ∷ []) rest)
           ∙ l.run_is (Comma ∷ Ellipsis ∷ rest)
           ∙ comma_run l.partial l.text (Ellipsis ∷ rest)
-          ∙ ellipsis_run (record l.partial { ranges = ranges_of l.partial l.text; lower = None }) rest
+          ∙ ellipsis_run (record l.partial { ranges = ranges_with l.partial l.text; lower = None }) rest
           ∙ ap (λ (x : List Section). run_samples (after_sections x) rest) (λ i. l.sections_are i ++ (record { type = l.type_is i; list = record { sample_ranges = l.ranges_are i; ellipsis = true } }) ∷ []);
       closes = closed _ (open-ellipsis sections type ranges);
     }
@@ -327,18 +328,18 @@ all_lead tokens ss h = sections_lead (after_sections []) [] tokens ss (closed []
 -- ---- the end of the reading
 
 -- what the last sample takes continues the samples
-takes_on : (p : Partial) (text : DecimalValue) (P : DecimalValue → Type 0) → P text → IsSomeAnd (open_range (with_sections p (ranges_of p text) false)) (λ r. P (last_sample r))
+takes_on : (p : Partial) (text : DecimalValue) (P : DecimalValue → Type 0) → P text → IsSomeAnd (open_range (with_sections p (ranges_with p text) false)) (λ r. P (last_sample r))
 takes_on p text P k = rw open-done (subst P (sym (last_sample-range p.lower text)) k)
 
-pub joins_ends : (full : Bool) (next : SampleState) (p : Partial) (text : DecimalValue) (ts : List Token) (k : SampleState → SampleOutcome) → (full ≡ false → ⊥) → sample_proceed (joins full next p text) ts k ≡ Ok (with_sections p (ranges_of p text) false, ts)
+pub joins_ends : (full : Bool) (next : SampleState) (p : Partial) (text : DecimalValue) (ts : List Token) (k : SampleState → SampleOutcome) → (full ≡ false → ⊥) → sample_proceed (joins full next p text) ts k ≡ Ok (with_sections p (ranges_with p text) false, ts)
 joins_ends true next p text ts k h = refl
 joins_ends false next p text ts k h = absurd (h refl)
 
-pub tilde_ends : (lower : Option DecimalValue) (p : Partial) (text : DecimalValue) (ts : List Token) (k : SampleState → SampleOutcome) → (lower ≡ None → ⊥) → sample_proceed (tilde_move lower p text) ts k ≡ Ok (with_sections p (ranges_of p text) false, ts)
+pub tilde_ends : (lower : Option DecimalValue) (p : Partial) (text : DecimalValue) (ts : List Token) (k : SampleState → SampleOutcome) → (lower ≡ None → ⊥) → sample_proceed (tilde_move lower p text) ts k ≡ Ok (with_sections p (ranges_with p text) false, ts)
 tilde_ends None p text ts k h = absurd (h refl)
 tilde_ends (Some lower) p text ts k h = refl
 
-last_ends : (p : Partial) (text : DecimalValue) (rest : List Token) → IfSome (first rest) (λ t. ¬ (ContinuesSamples (with_sections p (ranges_of p text) false) t)) → run_samples (in_sample p text) rest ≡ Ok (with_sections p (ranges_of p text) false, rest)
+last_ends : (p : Partial) (text : DecimalValue) (rest : List Token) → IfSome (first rest) (λ t. ¬ (ContinuesSamples (with_sections p (ranges_with p text) false) t)) → run_samples (in_sample p text) rest ≡ Ok (with_sections p (ranges_with p text) false, rest)
 unfolding run_samples
 last_ends p text [] h = refl
 last_ends p text (At ∷ ts) h = absurd (h tt)
@@ -397,7 +398,7 @@ comma_stop p (E ∷ ts) kind h = cc
 comma_stop p (Operand C ∷ ts) kind h = cc
 comma_stop p (_ ∷ ts) kind h = cc
 
-pub mark_stop : (p : Partial) (text : DecimalValue) (rest : List Token) (kind : ParseError) → digits_fault (first rest) ≡ Some kind → run_samples (behind_mark p text) rest ≡ Err kind
+pub mark_stop : (p : Partial) (text : DecimalValue) (rest : List Token) (kind : ParseError) → value_fault (first rest) ≡ Some kind → run_samples (behind_mark p text) rest ≡ Err kind
 unfolding run_samples
 mark_stop p text [] kind h = cc
 mark_stop p text (Zero ∷ ts) kind h = cc
@@ -457,7 +458,7 @@ arrives_comma : (q : List Token) → IsAfterComma q → (p : Partial) × Arrives
 arrives_comma q (spelled, ss, e, h, k) =
     let to = all_lead spelled ss h in
     let o = open_end to.state ss to.closes k in
-    (record o.partial { ranges = ranges_of o.partial o.text; lower = None }, then_one spelled q Comma to.state _ e to.run_is (λ rest. ap (λ s. run_samples s (Comma ∷ rest)) o.state_is ∙ comma_run o.partial o.text rest))
+    (record o.partial { ranges = ranges_with o.partial o.text; lower = None }, then_one spelled q Comma to.state _ e to.run_is (λ rest. ap (λ s. run_samples s (Comma ∷ rest)) o.state_is ∙ comma_run o.partial o.text rest))
 
 weaker : (o : Option SampleRange) (P Q : SampleRange → Type 0) → ((r : SampleRange) → P r → Q r) → IsSomeAnd o P → IsSomeAnd o Q
 weaker None P Q f h = h

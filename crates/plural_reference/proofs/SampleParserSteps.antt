@@ -9,24 +9,33 @@ use Rattle.plural_reference.specs.declared.ast.DecimalValue.{DecimalValue}
 use Rattle.plural_reference.specs.declared.ast.SampleList.{SampleList}
 use Rattle.plural_reference.specs.declared.ast.SampleRange.{SampleRange}
 use Rattle.plural_reference.specs.declared.ast.Samples as samples
+use Rattle.plural_reference.specs.declared.ast.Value.{Value}
 use Rattle.plural_reference.specs.declared.error.ParseError.{ParseError}
 use Rattle.plural_reference.specs.declared.error.ParseError.TheVariants.{ExpectedValue, ExpectedSampleType}
 use Rattle.plural_reference.specs.declared.parser.samples.SampleType.{SampleType}
 use Rattle.plural_reference.specs.declared.parser.samples.SampleType.TheVariants as types
 use Rattle.plural_reference.specs.declared.token.Token.{Token}
 use Rattle.plural_reference.specs.declared.token.Token.TheVariants.{Operand, Number, Zero, Dot, Comma, At, Ellipsis, Tilde, E}
-use Rattle.plural_reference.specs.Parser.{first}
+use Rattle.plural_reference.specs.Ends.{first}
+use Rattle.plural_reference.specs.Parser.{value_of}
+use Rattle.plural_reference.specs.ReaderSteps.{TakesValue}
 use Rattle.plural_reference.specs.Samples.{Section, IsDigits, IsExponentMark, IsSampleType, Takes, token_text, has_exponent, has_point, type_fault, sample_fault, samples_of, with_list}
-use Rattle.plural_reference.specs.SampleReader.{Partial, after_sections, behind_at, awaits_sample, behind_comma, in_sample, behind_mark, with_sections, ranges_of, begin_list, run_samples}
+use Rattle.plural_reference.specs.SampleReader.{Partial, after_sections, behind_at, awaits_sample, behind_comma, in_sample, behind_mark, with_sections, ranges_with, begin_list, run_samples}
 use Rattle.plural_reference.specs.SampleSteps.{type_token, sample_at, joined_list, TakesText, NoDigits, NoMark, ReadsDigits, ReadsNumber, JoinsExponent, ReadsExponent, ReadsSample, ReadsRange, ReadsRanges, ReadsSampleList, ReadsLists, ReadsAllSamples}
 use Rattle.plural_reference.proofs.SampleSound.{left_false, right_false}
 use Rattle.plural_reference.proofs.SampleComplete.{any-append, digits_no_mark, digits_no_point, digit_run, point_run, mark_run, after_mark_run, first_digit_run, first_point_run, first_mark_run, at_start, tilde_run, comma_run, ellipsis_run, type_run, joins_ends, tilde_ends, type_stop, sample_stop, mark_stop}
 
 -- ---- texts
 
-pub zero_text : token_text Zero ≡ decimal 0
+-- the text of a token of digits is that of its number
+pub digit_again : (t : Token) (n : ℕ) → value_of t ≡ Some (record { 0 = n }) → IsDigits t × (token_text t ≡ decimal n)
 unfolding digits
-zero_text = refl
+digit_again Zero n e = let v : record { 0 = 0 } ≡ record { 0 = n } = cc in (tt, ap (λ (x : Value). decimal x.0) v)
+digit_again (Number m) n e = let v : record { 0 = m } ≡ record { 0 = n } = cc in (tt, ap (λ (x : Value). decimal x.0) v)
+digit_again _ n e = cc
+
+pub takes_digits : (n : ℕ) (old new : List Token) → TakesValue old (record { 0 = n }) new → TakesText IsDigits old (decimal n) new
+takes_digits n old new (t, e, v) = let d = digit_again t n v in (t, e, d.0, d.1)
 
 abbrev IsNotEmpty : List ℕ → Type 0
 IsNotEmpty [] = ⊥
@@ -252,7 +261,7 @@ list_with_ellipsis old middle after new rs h e f sections type =
     to_comma old middle after rs h e sections type ∙ ap (run_samples (behind_comma (with_ranges sections type rs))) f ∙ ellipsis_run (with_ranges sections type rs) new
 
 -- where nothing continues a list, its sections are behind it
-list_ends : (p : Partial) (text : DecimalValue) (rest : List Token) → IfSome (first rest) (λ t. ¬ (Takes text t)) → (p.lower ≡ None → first rest ≢ Some Tilde) → first rest ≢ Some Comma → run_samples (in_sample p text) rest ≡ run_samples (after_sections (with_sections p (ranges_of p text) false)) rest
+list_ends : (p : Partial) (text : DecimalValue) (rest : List Token) → IfSome (first rest) (λ t. ¬ (Takes text t)) → (p.lower ≡ None → first rest ≢ Some Tilde) → first rest ≢ Some Comma → run_samples (in_sample p text) rest ≡ run_samples (after_sections (with_sections p (ranges_with p text) false)) rest
 unfolding run_samples
 list_ends p text [] w t c = refl
 list_ends p text (At ∷ ts) w t c = refl

@@ -11,9 +11,10 @@ use Rattle.plural_reference.specs.declared.ast.SampleRange.{SampleRange}
 use Rattle.plural_reference.specs.declared.error.ParseError.TheVariants.{ExpectedValue}
 use Rattle.plural_reference.specs.declared.token.Token.{Token}
 use Rattle.plural_reference.specs.declared.token.Token.TheVariants.{Operand, Number, Zero, Dot, Comma, At, Decimal, Integer, Ellipsis, Tilde, E}
-use Rattle.plural_reference.specs.Parser.{Separated, first}
+use Rattle.plural_reference.specs.Ends.{first}
+use Rattle.plural_reference.specs.Parser.{Separated}
 use Rattle.plural_reference.specs.Samples.{IsDigits, IsExponentMark, IsSampleType, IsFraction, IsExponent, SampleParts, IsSampleOf, token_text, IsSample, IsUpper, IsSampleRange, IsEllipsis, IsSampleList, Section, AreSections, open_range, last_sample, has_exponent, has_point, Takes, ContinuesSamples, SectionsThen, IsAfterAt, IsBeforeSample, IsAfterComma, IsAfterMark, FaultyInSamples, sample_fault}
-use Rattle.plural_reference.specs.SampleReader.{Partial, SampleState, after_sections, behind_at, awaits_sample, behind_comma, in_sample, behind_mark, range_of, with_sections, ranges_of, begin_list, SampleMove, goes, ends, refuses, sample_step, samples_at_end, SampleOutcome, sample_proceed, run_samples, joins, tilde_move, in_move, mark_move, at_move, section_move, comma_move, sample_move}
+use Rattle.plural_reference.specs.SampleReader.{Partial, SampleState, after_sections, behind_at, awaits_sample, behind_comma, in_sample, behind_mark, range_of, with_sections, ranges_with, begin_list, SampleMove, goes, ends, refuses, sample_step, samples_at_end, SampleOutcome, sample_proceed, run_samples, joins, tilde_move, in_move, mark_move, at_move, section_move, comma_move, sample_move}
 use Rattle.plural_reference.specs.Samples as places
 use Rattle.plural_reference.proofs.ReaderSound.{Terminated, Separated-last, Terminated-push, Terminated-front}
 use Rattle.plural_reference.proofs.ReaderComplete.{last-push}
@@ -50,13 +51,13 @@ regroup : (a : List Token) (t : Token) (b c d : List Token) → (a ++ At ∷ t �
 regroup a t b c d = simp append_assoc
 
 -- the sections are complete with a sample
-sections_done : (x y : List Token) (p : Partial) (text : DecimalValue) → SpellsPartial x p → IsSample y text → AreSections (x ++ y) (with_sections p (ranges_of p text) false)
+sections_done : (x y : List Token) (p : Partial) (text : DecimalValue) → SpellsPartial x p → IsSample y text → AreSections (x ++ y) (with_sections p (ranges_with p text) false)
 sections_done x y p text h k =
-    subst (λ l. AreSections l (with_sections p (ranges_of p text) false)) (sym (ap (λ l. l ++ y) h.whole ∙ regroup h.section_tokens p.type h.range_tokens h.lower_tokens y))
-    (AreSections-push h.section_tokens p.sections p.type (h.range_tokens ++ (h.lower_tokens ++ y)) (record { sample_ranges = ranges_of p text; ellipsis = false }) h.sections h.type
+    subst (λ l. AreSections l (with_sections p (ranges_with p text) false)) (sym (ap (λ l. l ++ y) h.whole ∙ regroup h.section_tokens p.type h.range_tokens h.lower_tokens y))
+    (AreSections-push h.section_tokens p.sections p.type (h.range_tokens ++ (h.lower_tokens ++ y)) (record { sample_ranges = ranges_with p text; ellipsis = false }) h.sections h.type
     (h.range_tokens ++ (h.lower_tokens ++ y), [], sym (append-nil _), Separated-last Comma IsSampleRange h.range_tokens (h.lower_tokens ++ y) p.ranges (range_of p.lower text) h.ranges (range_is p.lower h.lower_tokens y text h.lower k), refl))
 
-pub open-done : (p : Partial) (text : DecimalValue) → open_range (with_sections p (ranges_of p text) false) ≡ Some (range_of p.lower text)
+pub open-done : (p : Partial) (text : DecimalValue) → open_range (with_sections p (ranges_with p text) false) ≡ Some (range_of p.lower text)
 open-done p text = rw (last-push, last-push) refl
 
 pub last_sample-range : (lower : Option DecimalValue) (text : DecimalValue) → last_sample (range_of lower text) ≡ text
@@ -330,27 +331,27 @@ exponent_grown q p text t d h = record {
 -- ---- in a sample
 
 module _ (q : List Token) (p : Partial) (text : DecimalValue) (h : InSample q p text) where
-  done : AreSections q (with_sections p (ranges_of p text) false)
-  done = subst (λ l. AreSections l (with_sections p (ranges_of p text) false)) (sym h.whole) (sections_done h.before h.sample_tokens p text h.partial h.sample)
+  done : AreSections q (with_sections p (ranges_with p text) false)
+  done = subst (λ l. AreSections l (with_sections p (ranges_with p text) false)) (sym h.whole) (sections_done h.before h.sample_tokens p text h.partial h.sample)
 
   -- the token ends the reading
-  ended : (t : Token) (ts : List Token) → (ContinuesSamples (with_sections p (ranges_of p text) false) t → ⊥) → ReadsSections (q ++ t ∷ ts) (with_sections p (ranges_of p text) false) (t ∷ ts)
+  ended : (t : Token) (ts : List Token) → (ContinuesSamples (with_sections p (ranges_with p text) false) t → ⊥) → ReadsSections (q ++ t ∷ ts) (with_sections p (ranges_with p text) false) (t ∷ ts)
   ended t ts n = (q, refl, done, n)
 
   -- what the sample takes, where the range is open
-  open_here : (P : SampleRange → Type 0) → IsSomeAnd (open_range (with_sections p (ranges_of p text) false)) P → P (range_of p.lower text)
+  open_here : (P : SampleRange → Type 0) → IsSomeAnd (open_range (with_sections p (ranges_with p text) false)) P → P (range_of p.lower text)
   open_here P k = rw open-done at k
 
-  takes_here : (P : DecimalValue → Type 0) → IsSomeAnd (open_range (with_sections p (ranges_of p text) false)) (λ r. P (last_sample r)) → P text
+  takes_here : (P : DecimalValue → Type 0) → IsSomeAnd (open_range (with_sections p (ranges_with p text) false)) (λ r. P (last_sample r)) → P text
   takes_here P k = subst P (last_sample-range p.lower text) (open_here (λ r. P (last_sample r)) k)
 
-  from_here : (P : SampleRange → Type 0) → P (range_of p.lower text) → IsSomeAnd (open_range (with_sections p (ranges_of p text) false)) P
+  from_here : (P : SampleRange → Type 0) → P (range_of p.lower text) → IsSomeAnd (open_range (with_sections p (ranges_with p text) false)) P
   from_here P k = rw open-done k
 
-  taken_here : (P : DecimalValue → Type 0) → P text → IsSomeAnd (open_range (with_sections p (ranges_of p text) false)) (λ r. P (last_sample r))
+  taken_here : (P : DecimalValue → Type 0) → P text → IsSomeAnd (open_range (with_sections p (ranges_with p text) false)) (λ r. P (last_sample r))
   taken_here P k = from_here (λ r. P (last_sample r)) (subst P (sym (last_sample-range p.lower text)) k)
 
-  said_joins : (full : Bool) (next : SampleState) (t : Token) (ts : List Token) → (full ≡ true → ContinuesSamples (with_sections p (ranges_of p text) false) t → ⊥) → (full ≡ false → SpellsState (q ++ t ∷ []) next) → SaidMove q t ts (joins full next p text)
+  said_joins : (full : Bool) (next : SampleState) (t : Token) (ts : List Token) → (full ≡ true → ContinuesSamples (with_sections p (ranges_with p text) false) t → ⊥) → (full ≡ false → SpellsState (q ++ t ∷ []) next) → SaidMove q t ts (joins full next p text)
   said_joins true next t ts a b = ended t ts (a refl)
   said_joins false next t ts a b = b refl
 
@@ -364,7 +365,7 @@ module _ (q : List Token) (p : Partial) (text : DecimalValue) (h : InSample q p 
   grown_by_point : has_exponent text ≡ false → has_point text ≡ false → InSample (q ++ Dot ∷ []) p (text ++ token_text Dot)
   grown_by_point e f = grown Dot (text ++ token_text Dot) (point_joins h.sample_tokens text (open_sample h.sample_tokens text h.sample e) f)
 
-  marked : (t : Token) → IsExponentMark t → has_exponent text ≡ false → ContinuesSamples (with_sections p (ranges_of p text) false) t → BehindMark (q ++ t ∷ []) p (text ++ token_text t)
+  marked : (t : Token) → IsExponentMark t → has_exponent text ≡ false → ContinuesSamples (with_sections p (ranges_with p text) false) t → BehindMark (q ++ t ∷ []) p (text ++ token_text t)
   marked t m e k = record {
     before = h.before;
     sample_tokens = h.sample_tokens;
@@ -375,10 +376,10 @@ module _ (q : List Token) (p : Partial) (text : DecimalValue) (h : InSample q p 
     open_sample = open_sample h.sample_tokens text h.sample e;
     is_mark = m;
     text_is = refl;
-    waits = (t, m, inr (q, with_sections p (ranges_of p text) false, refl, done, k));
+    waits = (t, m, inr (q, with_sections p (ranges_with p text) false, refl, done, k));
   }
 
-  comma_partial : SpellsPartial (q ++ Comma ∷ []) (record p { ranges = ranges_of p text; lower = None })
+  comma_partial : SpellsPartial (q ++ Comma ∷ []) (record p { ranges = ranges_with p text; lower = None })
   unfolding LowerIs
   comma_partial = record {
     section_tokens = h.partial.section_tokens;
@@ -407,10 +408,10 @@ module _ (q : List Token) (p : Partial) (text : DecimalValue) (h : InSample q p 
       }
 
   said_tilde : (lower : Option DecimalValue) → p.lower ≡ lower → (ts : List Token) → SaidMove q Tilde ts (tilde_move lower p text)
-  said_tilde None e ts = (tilde_partial e, inr (q, with_sections p (ranges_of p text) false, refl, done, from_here (λ r. r.upper_val ≡ None) (subst (λ o. (range_of o text).upper_val ≡ None) (sym e) refl)))
+  said_tilde None e ts = (tilde_partial e, inr (q, with_sections p (ranges_with p text) false, refl, done, from_here (λ r. r.upper_val ≡ None) (subst (λ o. (range_of o text).upper_val ≡ None) (sym e) refl)))
   said_tilde (Some lower) e ts = ended Tilde ts (λ k. some_is_not_none (subst (λ o. (range_of o text).upper_val ≡ None) e (open_here (λ r. r.upper_val ≡ None) k)))
 
-  full_stops : (t : Token) → (Takes text t → has_exponent text ≡ false) → (IsSomeAnd (open_range (with_sections p (ranges_of p text) false)) (λ r. Takes (last_sample r) t)) → has_exponent text ≡ true → ⊥
+  full_stops : (t : Token) → (Takes text t → has_exponent text ≡ false) → (IsSomeAnd (open_range (with_sections p (ranges_with p text) false)) (λ r. Takes (last_sample r) t)) → has_exponent text ≡ true → ⊥
   full_stops t f k e = true≢false (sym e ∙ f (takes_here (λ x. Takes x t) k))
 
   said_in_sample : (t : Token) (ts : List Token) → SaidMove q t ts (in_move p text t)
@@ -420,7 +421,7 @@ module _ (q : List Token) (p : Partial) (text : DecimalValue) (h : InSample q p 
   said_in_sample E ts = said_joins (has_exponent text) _ E ts (λ e k. full_stops E (λ x. x.0) k e) (λ e. marked E tt e (taken_here (λ x. Takes x E) (e, inr tt)))
   said_in_sample (Operand C) ts = said_joins (has_exponent text) _ (Operand C) ts (λ e k. full_stops (Operand C) (λ x. x.0) k e) (λ e. marked (Operand C) tt e (taken_here (λ x. Takes x (Operand C)) (e, inr tt)))
   said_in_sample Tilde ts = said_tilde p.lower refl ts
-  said_in_sample Comma ts = (comma_partial, (q, with_sections p (ranges_of p text) false, refl, done, ap is_some (open-done p text)), refl, some_ranges p.ranges (range_of p.lower text))
+  said_in_sample Comma ts = (comma_partial, (q, with_sections p (ranges_with p text) false, refl, done, ap is_some (open-done p text)), refl, some_ranges p.ranges (range_of p.lower text))
   said_in_sample At ts = (q, refl, done)
   said_in_sample t ts = ended t ts (λ k. let x = takes_here (λ x. Takes x t) k in ⊎_elim (λ a. a) (λ a. a) x.1)
 

@@ -11,7 +11,7 @@ use Rattle.plural_reference.specs.declared.ast.Operand.TheVariants.{I}
 use Rattle.plural_reference.specs.declared.ast.Operator.TheVariants.{NotEq}
 use Rattle.plural_reference.specs.declared.token.Token.{Token}
 use Rattle.plural_reference.specs.declared.token.Token.TheVariants.{Operand, Operator, Dot, Or, And, Junk, Decimal, Integer, Ellipsis}
-use Rattle.plural_reference.specs.Parser.{first}
+use Rattle.plural_reference.specs.Ends.{first}
 use Rattle.plural_reference.specs.Lexer.{Word, marks, keywords, MayFollow, IsDigitRun, IsBegun, BeginsNone, IsPiece, space, mark, keyword, number, unknown, too_large, broken, cut_off, Piece, IsCut}
 use Rattle.plural_reference.specs.Scan.{Start, between, in_keyword, in_number, starts, look_up, begin, number_token, tokens_from, tokens_of}
 

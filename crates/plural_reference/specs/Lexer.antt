@@ -8,7 +8,7 @@ use Rattle.plural_reference.specs.declared.ast.Operand.TheVariants.{N, I, F, T, 
 use Rattle.plural_reference.specs.declared.ast.Operator.TheVariants.{Eq, NotEq}
 use Rattle.plural_reference.specs.declared.token.Token.{Token}
 use Rattle.plural_reference.specs.declared.token.Token.TheVariants.{Operand, Operator, Number, Zero, Dot, DotDot, Comma, Or, And, Modulo, Junk, At, Decimal, Integer, Ellipsis, Tilde, E}
-use Rattle.plural_reference.specs.Parser.{first}
+use Rattle.plural_reference.specs.Ends.{first}
 
 -- a piece that is always spelled in one way, and its token
 abbrev pub Word : Type 0
@@ -33,11 +33,19 @@ keywords =
 
 -- what may not follow a mark: `i` before `n`, and `.` before `.`
 abbrev pub MayFollow : List ℕ → List ℕ → Type 0
-MayFollow mark rest = (mark ≡ codes "i" → first rest ≢ Some 110) × (mark ≡ codes "." → first rest ≢ Some 46)
+MayFollow mark rest = (mark ≡ codes "i" → first rest ≢ first (codes "n")) × (mark ≡ codes "." → first rest ≢ first (codes "."))
+
+-- the byte of a space
+abbrev pub blank : ℕ
+blank = 32
+
+-- the byte of `0`
+abbrev pub digit_0 : ℕ
+digit_0 = 48
 
 -- a number's digits: the first isn't 0, and no other digit follows them
 pub record IsDigitRun (digits rest : List ℕ) : Type 0 where
-  pub begins : IfSome (first digits) (λ d. d ≢ 48)
+  pub begins : IfSome (first digits) (λ d. d ≢ digit_0)
   pub nonempty : digits ≢ []
   pub all_digits : All IsAsciiDigit digits
   pub whole : IfSome (first rest) (λ d. ¬ (IsAsciiDigit d))
@@ -57,11 +65,11 @@ pub record IsBegun (begun : List ℕ) (next : ℕ) : Type 0 where
 
 -- a byte that begins no piece
 abbrev pub BeginsNone : ℕ → Type 0
-BeginsNone b = (b ≢ 32) × (¬ (IsAsciiDigit b)) × All (λ word. first word.0 ≢ Some b) (marks ++ keywords)
+BeginsNone b = (b ≢ blank) × (¬ (IsAsciiDigit b)) × All (λ word. first word.0 ≢ Some b) (marks ++ keywords)
 
 -- a piece of a text, the rest that follows it, and the token that it gives: none for a space
 pub data IsPiece (piece rest : List ℕ) (token : Option Token) : Type 0 where
-  space : piece ≡ 32 ∷ [] → token ≡ None → IsPiece piece rest token
+  space : piece ≡ blank ∷ [] → token ≡ None → IsPiece piece rest token
   mark : (t : Token) → Contains marks (piece, t) → MayFollow piece rest → token ≡ Some t → IsPiece piece rest token
   keyword : (t : Token) → Contains keywords (piece, t) → token ≡ Some t → IsPiece piece rest token
   number : IsDigitRun piece rest → digits_value 10 piece ≤ max_number → token ≡ Some (Number (digits_value 10 piece)) → IsPiece piece rest token

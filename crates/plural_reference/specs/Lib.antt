@@ -1,3 +1,4 @@
+pub mod Ends
 pub mod Operands
 pub mod DecimalOperands
 pub mod OperandText
@@ -5,7 +6,7 @@ pub mod Lexer
 pub mod Parser
 pub mod Samples
 pub mod Serializer
-pub mod FaultTexts
+pub mod ReadErrorTexts
 pub mod Reading
 pub mod Truth
 pub mod Resolver

@@ -16,6 +16,7 @@ use Rattle.plural_reference.specs.declared.error.ParseError.{ParseError}
 use Rattle.plural_reference.specs.declared.error.ParseError.TheVariants.{ExpectedAndCondition, ExpectedRelation, ExpectedOperator, ExpectedOperand, ExpectedValue}
 use Rattle.plural_reference.specs.declared.token.Token.{Token}
 use Rattle.plural_reference.specs.declared.token.Token.TheVariants.{Operand, Operator, Number, Zero, DotDot, Comma, Or, And, Modulo, At, E}
+use Rattle.plural_reference.specs.Ends.{first, last}
 
 -- the value that a token is
 abbrev pub value_of : Token → Option Value
@@ -69,17 +70,6 @@ abbrev pub IsCondition : List Token → Condition → Type 0
 IsCondition tokens c = Separated Or IsAndCondition tokens c.0
 
 -- ---- reading
-
--- the first of a list
-abbrev pub first : {A : Type 0} → List A → Option A
-first [] = None
-first (x ∷ xs) = Some x
-
--- the last of a list
-abbrev pub last : {A : Type 0} → List A → Option A
-last [] = None
-last (x ∷ []) = Some x
-last (x ∷ y ∷ ys) = last (y ∷ ys)
 
 -- the last item of a condition
 abbrev pub last_item : Condition → Option RangeListItem

@@ -11,9 +11,11 @@ use Rattle.plural_reference.specs.declared.ast.Relation.{Relation}
 use Rattle.plural_reference.specs.declared.ast.Rule.{Rule}
 use Rattle.plural_reference.specs.declared.ast.SampleList.{SampleList}
 use Rattle.plural_reference.specs.declared.ast.Value.{Value}
+use Rattle.plural_reference.specs.declared.error.ParseError.{ParseError}
 use Rattle.plural_reference.specs.declared.token.Token.{Token}
 use Rattle.plural_reference.specs.Lexer.{AreTokensOf, max_number}
-use Rattle.plural_reference.specs.Parser.{first, last, Reads}
+use Rattle.plural_reference.specs.Ends.{first, last}
+use Rattle.plural_reference.specs.Parser.{Reads}
 use Rattle.plural_reference.specs.Samples.{ReadsRule}
 use Rattle.plural_reference.specs.Serializer.{condition_text, rule_text}
 
@@ -21,19 +23,26 @@ use Rattle.plural_reference.specs.Serializer.{condition_text, rule_text}
 abbrev pub TextReads : {A : Type 0} → (List Token → A → Type 0) → List ℕ → A → Type 0
 TextReads Read text x = (tokens : List Token) × AreTokensOf text tokens × Read tokens x
 
+-- the text has this fault: its tokens have it
+abbrev pub TextFaulty : (List Token → ParseError → Type 0) → List ℕ → ParseError → Type 0
+TextFaulty Fault text kind = (tokens : List Token) × AreTokensOf text tokens × Fault tokens kind
+
 -- ---- conditions
 
 -- a token holds the number
 abbrev pub FitsToken : Value → Type 0
 FitsToken v = v.0 ≤ max_number
 
+-- tokens hold the ends of the item
 abbrev pub IsSpellableItem : RangeListItem → Type 0
 IsSpellableItem (items.Value v) = FitsToken v
 IsSpellableItem (items.Range a b) = FitsToken a × FitsToken b
 
+-- the relation has an item, and tokens hold its numbers
 abbrev pub IsSpellableRelation : Relation → Type 0
 IsSpellableRelation r = IfSome r.expression.modulus FitsToken × (r.range_list.0 ≢ []) × All IsSpellableItem r.range_list.0
 
+-- the and-condition has a relation, and tokens hold its numbers
 abbrev pub IsSpellableGroup : AndCondition → Type 0
 IsSpellableGroup group = (group.0 ≢ []) × All IsSpellableRelation group.0
 
@@ -68,9 +77,11 @@ pub record IsRunIn (run text : List ℕ) : Type 0 where
 abbrev pub HasSmallRuns : DecimalValue → Type 0
 HasSmallRuns text = (run : List ℕ) → IsRunIn run text → digits_value 10 run ≤ max_number
 
+-- the same of each sample of a list
 abbrev pub ListHasSmallRuns : SampleList → Type 0
 ListHasSmallRuns l = All (λ r. HasSmallRuns r.lower_val × IfSome r.upper_val HasSmallRuns) l.sample_ranges
 
+-- the same of each sample of a rule
 abbrev pub RuleHasSmallRuns : Rule → Type 0
 RuleHasSmallRuns r = IfSome r.samples (λ s. IfSome s.integer ListHasSmallRuns × IfSome s.decimal ListHasSmallRuns)
 

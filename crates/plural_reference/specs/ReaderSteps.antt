@@ -14,7 +14,8 @@ use Rattle.plural_reference.specs.declared.ast.Value.{Value}
 use Rattle.plural_reference.specs.declared.error.ParseError.{ParseError}
 use Rattle.plural_reference.specs.declared.token.Token.{Token}
 use Rattle.plural_reference.specs.declared.token.Token.TheVariants.{DotDot, Comma, And}
-use Rattle.plural_reference.specs.Parser.{first, value_of, operand_of, value_fault, operand_fault, operator_fault, IsUnconditional}
+use Rattle.plural_reference.specs.Ends.{first}
+use Rattle.plural_reference.specs.Parser.{value_of, operand_of, value_fault, operand_fault, operator_fault, IsUnconditional}
 use Rattle.plural_reference.specs.Reader.{Before, Opened, State, before_operand, before_item, after_item, relation_of, with_relation, run, begin}
 
 -- no dots follow a single value

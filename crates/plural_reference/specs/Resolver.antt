@@ -23,6 +23,7 @@ abbrev pub holds_by : Relation → Option ℕ → Bool
 holds_by relation None = false
 holds_by relation (Some value) = under relation.operator (is_in_ranges (ranges_of relation.range_list) value)
 
+-- the relation of a tree is true of the operands
 abbrev pub tree_relation_truth : Operands → Relation → Bool
 tree_relation_truth number relation = holds_by relation (tree_value number relation.expression)
 

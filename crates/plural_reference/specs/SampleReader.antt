@@ -36,8 +36,8 @@ abbrev pub with_sections : Partial → List SampleRange → Bool → List Sectio
 with_sections p ranges more = p.sections ++ (record { type = p.type; list = record { sample_ranges = ranges; ellipsis = more } }) ∷ []
 
 -- the ranges with the one that the sample completes
-abbrev pub ranges_of : Partial → DecimalValue → List SampleRange
-ranges_of p text = p.ranges ++ (range_of p.lower text) ∷ []
+abbrev pub ranges_with : Partial → DecimalValue → List SampleRange
+ranges_with p text = p.ranges ++ (range_of p.lower text) ∷ []
 
 -- a list that begins
 abbrev pub begin_list : List Section → Token → Partial
@@ -65,12 +65,12 @@ comma_move p t = sample_move p t
 
 -- the token joins the sample, unless the sample can't take it
 abbrev pub joins : Bool → SampleState → Partial → DecimalValue → SampleMove
-joins full next p text = cond full (ends (with_sections p (ranges_of p text) false)) (goes next)
+joins full next p text = cond full (ends (with_sections p (ranges_with p text) false)) (goes next)
 
 -- Tilde behind a sample
 abbrev pub tilde_move : Option DecimalValue → Partial → DecimalValue → SampleMove
 tilde_move None p text = goes (awaits_sample (record p { lower = Some text }))
-tilde_move (Some lower) p text = ends (with_sections p (ranges_of p text) false)
+tilde_move (Some lower) p text = ends (with_sections p (ranges_with p text) false)
 
 -- the token behind a part of a sample
 abbrev pub in_move : Partial → DecimalValue → Token → SampleMove
@@ -80,9 +80,9 @@ in_move p text Dot = joins (has_exponent text || has_point text) (in_sample p (t
 in_move p text E = joins (has_exponent text) (behind_mark p (text ++ token_text E)) p text
 in_move p text (Operand C) = joins (has_exponent text) (behind_mark p (text ++ token_text (Operand C))) p text
 in_move p text Tilde = tilde_move p.lower p text
-in_move p text Comma = goes (behind_comma (record p { ranges = ranges_of p text; lower = None }))
-in_move p text At = goes (behind_at (with_sections p (ranges_of p text) false))
-in_move p text _ = ends (with_sections p (ranges_of p text) false)
+in_move p text Comma = goes (behind_comma (record p { ranges = ranges_with p text; lower = None }))
+in_move p text At = goes (behind_at (with_sections p (ranges_with p text) false))
+in_move p text _ = ends (with_sections p (ranges_with p text) false)
 
 -- behind the mark of an exponent
 abbrev pub mark_move : Partial → DecimalValue → Token → SampleMove
@@ -116,7 +116,7 @@ samples_at_end (after_sections sections) = ends sections
 samples_at_end (behind_at sections) = refuses ExpectedSampleType
 samples_at_end (awaits_sample p) = refuses ExpectedValue
 samples_at_end (behind_comma p) = refuses ExpectedValue
-samples_at_end (in_sample p text) = ends (with_sections p (ranges_of p text) false)
+samples_at_end (in_sample p text) = ends (with_sections p (ranges_with p text) false)
 samples_at_end (behind_mark p text) = refuses ExpectedValue
 
 -- the sections, and the tokens that are left

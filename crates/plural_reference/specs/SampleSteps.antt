@@ -11,8 +11,9 @@ use Rattle.plural_reference.specs.declared.parser.samples.SampleType.{SampleType
 use Rattle.plural_reference.specs.declared.parser.samples.SampleType.TheVariants as types
 use Rattle.plural_reference.specs.declared.token.Token.{Token}
 use Rattle.plural_reference.specs.declared.token.Token.TheVariants.{Dot, Integer, Decimal, Tilde}
-use Rattle.plural_reference.specs.Parser.{first}
-use Rattle.plural_reference.specs.Samples.{Section, IsExponentMark, Takes, token_text, has_exponent, has_point, digits_fault, type_fault, samples_of, with_list}
+use Rattle.plural_reference.specs.Ends.{first}
+use Rattle.plural_reference.specs.Parser.{value_fault}
+use Rattle.plural_reference.specs.Samples.{Section, IsExponentMark, Takes, token_text, has_exponent, has_point, type_fault, samples_of, with_list}
 use Rattle.plural_reference.specs.SampleReader.{Partial, SampleState, after_sections, awaits_sample, in_sample, range_of, begin_list, run_samples}
 
 -- the token of a type of samples
@@ -29,17 +30,13 @@ abbrev pub sample_at : Partial → DecimalValue → SampleState
 sample_at p [] = awaits_sample p
 sample_at p (b ∷ bs) = in_sample p (b ∷ bs)
 
--- what comes next is a token of this kind with this text
-abbrev pub IsNext : (Token → Type 0) → Option Token → List ℕ → Type 0
-IsNext Kind next text = (t : Token) × (next ≡ Some t) × Kind t × (token_text t ≡ text)
-
 -- the first token has this text, and is of this kind
 abbrev pub TakesText : (Token → Type 0) → List Token → List ℕ → List Token → Type 0
 TakesText Kind old text new = (t : Token) × (old ≡ t ∷ new) × Kind t × (token_text t ≡ text)
 
 -- no digits come next
 abbrev pub NoDigits : List Token → Type 0
-NoDigits rest = digits_fault (first rest) ≡ Some ExpectedValue
+NoDigits rest = value_fault (first rest) ≡ Some ExpectedValue
 
 -- no mark of an exponent comes next
 abbrev pub NoMark : List Token → Type 0

@@ -1,6 +1,6 @@
 -- The grammar of samples over tokens (UTS 35 Part 3, Samples), what is read of the tokens after a condition, and which
 -- fault they have.
-use Rattle.std.specs.Prelude.{◌≡◌, ◌≢◌, ◌⊎◌, ℕ, List, [], ◌∷◌, ◌++◌, Bool, true, false, Option, Some, None, IfSome, IsSome, IsSomeAnd, fold, unwrap_or, ◌==◌, ◌||◌, if◌then◌else◌}
+use Rattle.std.specs.Prelude.{◌≡◌, ◌≢◌, ◌⊎◌, ℕ, List, [], ◌∷◌, ◌++◌, Bool, true, false, Option, Some, None, IfSome, IsSome, IsSomeAnd, fold, unwrap_or, ◌==◌, ◌||◌, if◌then◌else◌, codes}
 use Rattle.std.specs.Option.{option_and_then}
 use Rattle.std.specs.List.{AllByRecursion, list_any, flat_map}
 use Rattle.std.specs.Fmt.{decimal}
@@ -12,18 +12,17 @@ use Rattle.plural_reference.specs.declared.ast.DecimalValue.{DecimalValue}
 use Rattle.plural_reference.specs.declared.ast.Rule.{Rule}
 use Rattle.plural_reference.specs.declared.ast.Condition.{Condition}
 use Rattle.plural_reference.specs.declared.error.ParseError.{ParseError}
-use Rattle.plural_reference.specs.declared.error.ParseError.TheVariants.{ExpectedValue, ExpectedSampleType}
+use Rattle.plural_reference.specs.declared.error.ParseError.TheVariants.{ExpectedSampleType}
 use Rattle.plural_reference.specs.declared.token.Token.{Token}
 use Rattle.plural_reference.specs.declared.token.Token.TheVariants.{Operand, Number, Zero, Dot, Comma, At, Decimal, Integer, Ellipsis, Tilde, E}
-use Rattle.plural_reference.specs.Parser.{first, last, Separated, ReadsUpTo, Faulty}
+use Rattle.plural_reference.specs.Ends.{first, last}
+use Rattle.plural_reference.specs.Parser.{Separated, ReadsUpTo, Faulty, value_of, value_fault}
 
 -- ---- kinds of token
 
 -- a run of digits
 abbrev pub IsDigits : Token → Type 0
-IsDigits Zero = Unit {0}
-IsDigits (Number n) = Unit {0}
-IsDigits _ = ⊥
+IsDigits t = IsSomeAnd (value_of t) (λ _. Unit {0})
 
 -- what begins the exponent of a sample
 abbrev pub IsExponentMark : Token → Type 0
@@ -65,11 +64,11 @@ IsSampleOf tokens s =
 
 -- the text of a sample's token
 abbrev pub token_text : Token → List ℕ
-token_text Zero = 48 ∷ []
+token_text Zero = codes "0"
 token_text (Number n) = decimal n
-token_text Dot = 46 ∷ []
-token_text E = 101 ∷ []
-token_text (Operand C) = 99 ∷ []
+token_text Dot = codes "."
+token_text E = codes "e"
+token_text (Operand C) = codes "c"
 token_text _ = []
 
 -- a sample, whose text joins the texts of its tokens
@@ -130,13 +129,23 @@ open_range sections = option_and_then (λ s. if s.list.ellipsis then None else l
 abbrev pub last_sample : SampleRange → DecimalValue
 last_sample r = unwrap_or r.upper_val r.lower_val
 
+-- the bytes of `e`, `c` and `.`
+abbrev pub letter_e : ℕ
+letter_e = 101
+
+abbrev pub letter_c : ℕ
+letter_c = 99
+
+abbrev pub point : ℕ
+point = 46
+
 -- the text of a sample has an exponent: an `e` or a `c`
 abbrev pub has_exponent : DecimalValue → Bool
-has_exponent text = list_any (λ b. b == 101 || b == 99) text
+has_exponent text = list_any (λ b. b == letter_e || b == letter_c) text
 
 -- it has a point
 abbrev pub has_point : DecimalValue → Bool
-has_point text = list_any (λ b. b == 46) text
+has_point text = list_any (λ b. b == point) text
 
 -- the sample can still take the token
 abbrev pub Takes : DecimalValue → Token → Type 0
@@ -205,18 +214,12 @@ type_fault (Some Integer) = None
 type_fault (Some Decimal) = None
 type_fault _ = Some ExpectedSampleType
 
--- the fault where digits are wanted
-abbrev pub digits_fault : Option Token → Option ParseError
-digits_fault (Some Zero) = None
-digits_fault (Some (Number n)) = None
-digits_fault _ = Some ExpectedValue
-
 -- the fault where a sample is wanted
 abbrev pub sample_fault : Option Token → Option ParseError
 sample_fault (Some Dot) = None
 sample_fault (Some E) = None
 sample_fault (Some (Operand C)) = None
-sample_fault t = digits_fault t
+sample_fault t = value_fault t
 
 -- the fault of the token that follows a place, or of the end
 abbrev pub fault_in_samples : SamplePlace → Option Token → Option ParseError
@@ -224,7 +227,7 @@ fault_in_samples after_at t = type_fault t
 fault_in_samples before_sample t = sample_fault t
 fault_in_samples after_comma (Some Ellipsis) = None
 fault_in_samples after_comma t = sample_fault t
-fault_in_samples after_mark t = digits_fault t
+fault_in_samples after_mark t = value_fault t
 
 -- a beginning of the tokens waits, and what follows it has this fault
 abbrev pub FaultyInSamples : List Token → ParseError → Type 0

@@ -61,7 +61,7 @@ pub struct Expression {
     pub modulus: Option<Value>,
 }
 
-/// An operand of a number (UTS 35 Part 3, Operands).
+/// An operand of a number (UTS 35 Part 3, Plural Operand Meanings).
 #[derive(Clone, Copy, Debug, PartialEq)]
 pub enum Operand {
     /// The absolute value of the number.

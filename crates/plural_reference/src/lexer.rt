@@ -1,9 +1,9 @@
 //! A text as tokens (UTS 35 Part 3, Plural Rules Syntax).
 
 ghost use Rattle.std.specs.Prelude.{◌≡◌, ◌≢◌, ◌≤◌, ◌+◌, ◌*◌, ◌∷◌, ℕ, Some, length, MatchOption};
-ghost use Rattle.plural_reference.specs.Parser.{first};
+ghost use Rattle.plural_reference.specs.Ends.{first};
 ghost use Rattle.std.specs.Iterator.{YieldsFirst, item_count};
-ghost use Rattle.plural_reference.specs.Lexer.{AreTokensOf};
+ghost use Rattle.plural_reference.specs.Lexer.{AreTokensOf, blank};
 ghost use Rattle.plural_reference.specs.Scan.{tokens_of, keyword_tokens, bounded};
 
 use crate::ast;
@@ -29,8 +29,8 @@ impl<'l> Model for Lexer<'l> {
 }
 
 impl<'l> Lexer<'l> {
-    /// The tokens of a text. Each spelling gives its token, a space gives none, and the longest
-    /// spelling is taken: a number takes all digits that follow, and is Junk above 4294967295.
+    /// The tokens of a text. Spaces give no token. A number takes all digits that follow, and is Junk
+    /// above 4294967295; a keyword that breaks off is one Junk with the byte that doesn't fit.
     #[inline]
     pub fn new(text: &'l [u8]) -> Self
         ensures tokens { AreTokensOf text.now result }
@@ -65,7 +65,7 @@ impl<'l> Iterator for Lexer<'l> {
 #[inline]
 #[tactic(auto, using(crate::proofs::Alone::i_alone, crate::proofs::Alone::point_alone), unfolding(crate::specs::Scan::tokens_from))]
 fn token_at(first: u8, rest: &[u8]) -> (Token, &[u8])
-    requires { first ≢ 32 }
+    requires { first ≢ blank }
     ensures { tokens_of (first ∷ rest.now) ≡ result.0 ∷ tokens_of result.1.now }
 {
     match first {
@@ -100,7 +100,8 @@ fn token_at(first: u8, rest: &[u8]) -> (Token, &[u8])
     }
 }
 
-// The bytes behind the first, where that is the byte.
+// The bytes behind the first, where that is the byte. (`strip_prefix` says so by a comparison of lists, which `token_at` would
+// have to open for each of its bytes.)
 #[inline]
 fn strip_byte(text: &[u8], byte: u8) -> Option<&[u8]>
     ensures { MatchOption result (first text.now ≢ Some byte) (λ after. text.now ≡ byte ∷ after.now) }

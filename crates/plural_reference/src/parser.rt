@@ -2,11 +2,13 @@
 
 mod samples;
 
-ghost use Rattle.std.specs.Prelude.{◌≡◌, ◌≢◌, ◌∷◌, [], Some, Ok, Err, length, ◌≤◌, MatchBool, MatchOption, MatchResult};
+ghost use Rattle.std.specs.Prelude.{◌≡◌, ◌≢◌, ◌∷◌, [], Some, None, Ok, Err, length, ◌≤◌, MatchBool, MatchOption, MatchResult};
 ghost use Rattle.plural_reference.specs.declared.token.Token.TheVariants as token;
 ghost use Rattle.plural_reference.specs.declared.token.Token.TheVariants.{Comma};
 ghost use Rattle.plural_reference.specs.Lexer.{AreTokensOf};
-ghost use Rattle.plural_reference.specs.Parser.{Reads, Faulty, first, operand_of};
+ghost use Rattle.plural_reference.specs.Ends.{first};
+ghost use Rattle.plural_reference.specs.Parser.{Reads, Faulty, operand_of, value_of, value_fault};
+ghost use Rattle.plural_reference.specs.declared.error.ParseError.TheVariants.{ExpectedValue};
 ghost use Rattle.plural_reference.specs.Samples.{ReadsRule, FaultyRule};
 ghost use Rattle.plural_reference.specs.Reading.{AnswersExactly, IsAnswer};
 ghost use Rattle.plural_reference.specs.Reader.{run, begin};
@@ -24,11 +26,12 @@ use crate::token::Token;
 use std::alloc::Global;
 use std::marker::Model;
 
-/// The condition of a rule. It is read from the longest beginning of the text that is one; what
-/// follows it is ignored, samples too. A text that is empty or begins with `@` is the empty condition.
+/// The condition of a rule (UTS 35 Part 3, Plural Rules Syntax). It is read from the longest beginning of
+/// the text that is one; what follows it is ignored, samples too. A text that is empty or begins with `@`
+/// is the empty condition.
 ///
 /// It refuses a text by the [`ParseError`] of the first place where the condition doesn't go on, or for
-/// want of memory.
+/// want of memory, which is taken for the tree alone.
 #[tactic(auto, using(crate::proofs::Answered::condition_answers))]
 pub fn parse_condition(alloc: Global, text: &[u8]) -> Result<Condition, ReadError>
     ensures { AnswersExactly Reads Faulty text.now result }
@@ -40,8 +43,8 @@ pub fn parse_condition(alloc: Global, text: &[u8]) -> Result<Condition, ReadErro
 /// A rule: its condition as by [`parse_condition`], and the samples behind it (UTS 35 Part 3, Samples).
 /// Of several lists of one type the last is kept, and what follows the samples is ignored.
 ///
-/// A fault in the samples refuses the text, too, by the [`ParseError`] of its place; else only want of
-/// memory does.
+/// It refuses a text by the [`ParseError`] of its condition, or else of its samples, or for want of
+/// memory, which is taken for the tree alone.
 pub fn parse(alloc: Global, text: &[u8]) -> Result<Rule, ReadError>
     ensures { AnswersExactly ReadsRule FaultyRule text.now result }
 {
@@ -102,15 +105,26 @@ impl<'p> Parser<'p> {
         }
     }
 
+    // Takes the next token if it is a number.
+    #[inline]
+    fn take_number(&mut self) -> Option<u32>
+        ensures { MatchOption result
+            ((value_fault (first self.old) ≡ Some ExpectedValue) × (self.new ≡ self.old))
+            (λ n. TakesValue self.old (record { 0 = n }) self.new) }
+    {
+        let number = number_of(self.ahead.as_ref()?)?;
+        self.next();
+        Some(number)
+    }
+
     // value = Number | Zero
     fn value(&mut self) -> Result<Value, ParseError>
         ensures shorter { length self.new ≤ length self.old }
         ensures value { MatchResult result (λ v. TakesValue self.old v self.new) (NoValue self.old) }
     {
-        match self.next() {
-            Some(Token::Number(n)) => Ok(Value(u64::from(n))),
-            Some(Token::Zero) => Ok(Value(0)),
-            _ => Err(ParseError::ExpectedValue),
+        match self.take_number() {
+            Some(number) => Ok(Value(u64::from(number))),
+            None => Err(ParseError::ExpectedValue),
         }
     }
 
@@ -246,6 +260,18 @@ impl<'p> Parser<'p> {
             groups.push(next)?;
         }
         Ok(Condition(Sequence(groups)))
+    }
+}
+
+// The number that a token is.
+#[inline]
+fn number_of(token: &Token) -> Option<u32>
+    ensures { MatchOption result (value_of token.now ≡ None) (λ n. value_of token.now ≡ Some (record { 0 = n })) }
+{
+    match token {
+        Token::Number(number) => Some(*number),
+        Token::Zero => Some(0),
+        _ => None,
     }
 }
 

@@ -2,7 +2,7 @@
 
 ghost use Rattle.std.specs.Prelude.{◌≡◌};
 ghost use Rattle.std.specs.List.{list_all, list_any};
-ghost use Rattle.plural_reference.specs.Truth.{operand_value, is_in_ranges, range_holds, ends_of, ranges_of};
+ghost use Rattle.plural_reference.specs.Truth.{operand_value, is_in_ranges, ends_of, ranges_of};
 ghost use Rattle.plural_reference.specs.Resolver.{tree_truth, tree_relation_truth, tree_value};
 
 use crate::ast::{
@@ -22,6 +22,7 @@ pub fn test_condition(condition: &Condition, operands: &PluralOperands) -> bool
     groups.is_empty() || test_groups(groups, operands)
 }
 
+// Whether all relations of some and-condition are true.
 fn test_groups(groups: &[AndCondition], operands: &PluralOperands) -> bool
     ensures { result ≡ list_any (λ group. list_all (tree_relation_truth operands.now) group.0) groups.now }
 {
@@ -30,6 +31,7 @@ fn test_groups(groups: &[AndCondition], operands: &PluralOperands) -> bool
         .any(|group| test_and_condition(group, operands))
 }
 
+// Whether all relations of the and-condition are true.
 fn test_and_condition(group: &AndCondition, operands: &PluralOperands) -> bool
     ensures { result ≡ list_all (tree_relation_truth operands.now) group.now.0 }
 {
@@ -40,6 +42,7 @@ fn test_and_condition(group: &AndCondition, operands: &PluralOperands) -> bool
         .all(|relation| test_relation(relation, operands))
 }
 
+// Whether the relation is true: never, where its expression has no value.
 fn test_relation(relation: &Relation, operands: &PluralOperands) -> bool
     ensures { result ≡ tree_relation_truth operands.now relation.now }
 {
@@ -63,6 +66,7 @@ fn calculate_expression(expression: &Expression, operands: &PluralOperands) -> O
     }
 }
 
+// The value of an operand: none for n with a fraction.
 fn operand_value(operand: Operand, operands: &PluralOperands) -> Option<u64>
     ensures { result ≡ operand_value operand operands.now }
 {
@@ -77,23 +81,22 @@ fn operand_value(operand: Operand, operands: &PluralOperands) -> Option<u64>
     }
 }
 
+// Whether the value is one of the list, or lies between the ends of one of its ranges.
 fn contains(list: &RangeList, value: u64) -> bool
     ensures { result ≡ is_in_ranges (ranges_of list.now) value }
 {
-    any_item_holds(list.0.as_slice(), value)
+    let items = list.0.as_slice().iter();
+    items
+        .map(ends_of)
+        .any(|(start, end)| start <= value && value <= end)
 }
 
-fn any_item_holds(items: &[RangeListItem], value: u64) -> bool
-    ensures { result ≡ list_any (λ item. range_holds value (ends_of item)) items.now }
-{
-    items.iter().any(|item| item_holds(item, value))
-}
-
-fn item_holds(item: &RangeListItem, value: u64) -> bool
-    ensures { result ≡ range_holds value (ends_of item.now) }
+// The ends of an item: a single value is both.
+fn ends_of(item: &RangeListItem) -> (u64, u64)
+    ensures { result ≡ ends_of item.now }
 {
     match item {
-        RangeListItem::Value(single) => value == single.0,
-        RangeListItem::Range(start, end) => start.0 <= value && value <= end.0,
+        RangeListItem::Range(start, end) => (start.0, end.0),
+        RangeListItem::Value(single) => (single.0, single.0),
     }
 }

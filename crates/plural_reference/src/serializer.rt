@@ -1,4 +1,4 @@
-//! Printing rules (UTS 35 Part 3, "Plural Rules Syntax" and "Samples").
+//! Printing rules (UTS 35 Part 3, Plural Rules Syntax and Samples).
 //!
 //! Each call writes the text of one part to any writer, piece by piece and without memory of its own.
 #![tactic(auto, using(crate::proofs::Writes::one_call, crate::proofs::Writes::then_writes))]
@@ -9,9 +9,10 @@ ghost use Rattle.plural_reference.specs.Serializer.{rule_text, condition_text, s
 
 mod condition;
 mod part;
+mod samples;
 
 use crate::ast;
-use part::{Part, serialize_joined, serialize_prefixed};
+use part::{serialize_joined, serialize_prefixed};
 use std::fmt;
 
 /// Writes a rule: its condition, then its samples where there are any, as `i = 1 and v = 0 @integer 1`.
@@ -45,8 +46,8 @@ pub fn serialize_condition<W: fmt::Write>(condition: &ast::Condition, w: &mut W)
 pub fn serialize_samples<W: fmt::Write>(samples: &ast::Samples, w: &mut W) -> fmt::Result
     ensures { OnOk result (WritesInCalls W.write_str_gives w.old (samples_text samples.now) w.new) }
 {
-    serialize_prefixed(" @integer ", &samples.integer, w)?;
-    serialize_prefixed(" @decimal ", &samples.decimal, w)
+    serialize_prefixed(" @integer ", samples.integer.as_ref(), w)?;
+    serialize_prefixed(" @decimal ", samples.decimal.as_ref(), w)
 }
 
 /// Writes a list of samples: its ranges with `, ` between them, then `, …` where the list has an ellipsis, as
@@ -70,7 +71,7 @@ pub fn serialize_sample_range<W: fmt::Write>(range: &ast::SampleRange, w: &mut W
     ensures { OnOk result (WritesInCalls W.write_str_gives w.old (sample_range_text range.now) w.new) }
 {
     serialize_decimal_value(&range.lower_val, w)?;
-    serialize_prefixed("~", &range.upper_val, w)
+    serialize_prefixed("~", range.upper_val.as_ref(), w)
 }
 
 /// Writes a sample: its text as it is, in one piece.
@@ -80,28 +81,4 @@ pub fn serialize_decimal_value<W: fmt::Write>(value: &ast::DecimalValue, w: &mut
     ensures { OnOk result (WritesInCalls W.write_str_gives w.old (sample_text value.now) w.new) }
 {
     w.write_str(value.0.as_str())
-}
-
-impl Part for ast::SampleList {
-    ghost text = { sample_list_text };
-
-    fn write_to<W: fmt::Write>(&self, w: &mut W) -> fmt::Result {
-        serialize_sample_list(self, w)
-    }
-}
-
-impl Part for ast::SampleRange {
-    ghost text = { sample_range_text };
-
-    fn write_to<W: fmt::Write>(&self, w: &mut W) -> fmt::Result {
-        serialize_sample_range(self, w)
-    }
-}
-
-impl Part for ast::DecimalValue {
-    ghost text = { sample_text };
-
-    fn write_to<W: fmt::Write>(&self, w: &mut W) -> fmt::Result {
-        serialize_decimal_value(self, w)
-    }
 }

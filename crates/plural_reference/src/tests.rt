@@ -1,5 +1,6 @@
 //! What no clause says: worked values, printed texts, refusing writers, refused growth.
 
+mod errors;
 mod growth;
 mod operands;
 mod printing;

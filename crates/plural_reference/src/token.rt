@@ -5,7 +5,7 @@ use crate::ast;
 /// A token of a plural rule's text (UTS 35 Part 3, Plural Rules Syntax).
 #[derive(Debug, PartialEq, Drop)]
 pub enum Token {
-    /// `n`, `i`, `v`, `w`, `f`, `t` or `c`; `e` is [`Token::E`].
+    /// `n`, `i`, `v`, `w`, `f`, `t` or `c`; `e` is [`Token::E`]. `c` also marks an exponent in a sample.
     Operand(ast::Operand),
     /// `=` or `!=`.
     Operator(ast::Operator),

@@ -1,6 +1,7 @@
 //! Clones of trees.
 
-ghost use Rattle.std.specs.Prelude.{◌≡◌, IfOk};
+ghost use Rattle.std.specs.Prelude.{◌≡◌, IfOk, Ok};
+ghost use Rattle.std.specs.Option.{option_copied};
 
 use crate::ast::{
     AndCondition, Condition, DecimalValue, Expression, RangeList, RangeListItem, Relation, Rule,
@@ -10,19 +11,19 @@ use crate::sequence::Sequence;
 use std::alloc::AllocError;
 
 impl Rule {
-    /// A clone, equal to the rule; only want of memory is refused.
+    /// A clone, equal to the rule. `Err` is want of memory alone.
     pub fn try_clone(&self) -> Result<Self, AllocError>
         ensures { IfOk result (λ x. x ≡ self.now) }
     {
         Ok(Rule {
             condition: self.condition.try_clone()?,
-            samples: clone_option(&self.samples)?,
+            samples: clone_option(self.samples.as_ref())?,
         })
     }
 }
 
 impl Condition {
-    /// A clone, equal to the condition; only want of memory is refused.
+    /// A clone, equal to the condition. `Err` is want of memory alone.
     pub fn try_clone(&self) -> Result<Self, AllocError>
         ensures { IfOk result (λ x. x ≡ self.now) }
     {
@@ -31,7 +32,7 @@ impl Condition {
 }
 
 impl AndCondition {
-    /// A clone, equal to the and-condition; only want of memory is refused.
+    /// A clone, equal to the and-condition. `Err` is want of memory alone.
     pub fn try_clone(&self) -> Result<Self, AllocError>
         ensures { IfOk result (λ x. x ≡ self.now) }
     {
@@ -40,7 +41,7 @@ impl AndCondition {
 }
 
 impl Relation {
-    /// A clone, equal to the relation; only want of memory is refused.
+    /// A clone, equal to the relation. `Err` is want of memory alone.
     pub fn try_clone(&self) -> Result<Self, AllocError>
         ensures { IfOk result (λ x. x ≡ self.now) }
     {
@@ -53,19 +54,19 @@ impl Relation {
 }
 
 impl Expression {
-    /// A clone, equal to the expression; it takes no memory.
+    /// A clone, equal to the expression. It takes no memory, so it is always there.
     pub fn try_clone(&self) -> Result<Self, AllocError>
-        ensures { IfOk result (λ x. x ≡ self.now) }
+        ensures { result ≡ Ok self.now }
     {
         Ok(Expression {
             operand: self.operand,
-            modulus: clone_option(&self.modulus)?,
+            modulus: self.modulus.as_ref().map(|modulus| Value(modulus.0)),
         })
     }
 }
 
 impl RangeList {
-    /// A clone, equal to the list; only want of memory is refused.
+    /// A clone, equal to the list. `Err` is want of memory alone.
     pub fn try_clone(&self) -> Result<Self, AllocError>
         ensures { IfOk result (λ x. x ≡ self.now) }
     {
@@ -74,9 +75,9 @@ impl RangeList {
 }
 
 impl RangeListItem {
-    /// A clone, equal to the item; it takes no memory.
+    /// A clone, equal to the item. It takes no memory, so it is always there.
     pub fn try_clone(&self) -> Result<Self, AllocError>
-        ensures { IfOk result (λ x. x ≡ self.now) }
+        ensures { result ≡ Ok self.now }
     {
         match self {
             RangeListItem::Range(start, end) => {
@@ -88,28 +89,28 @@ impl RangeListItem {
 }
 
 impl Value {
-    /// A clone, equal to the value; it takes no memory.
+    /// A clone, equal to the value. It takes no memory, so it is always there.
     pub fn try_clone(&self) -> Result<Self, AllocError>
-        ensures { IfOk result (λ x. x ≡ self.now) }
+        ensures { result ≡ Ok self.now }
     {
         Ok(Value(self.0))
     }
 }
 
 impl Samples {
-    /// A clone, equal to the samples; only want of memory is refused.
+    /// A clone, equal to the samples. `Err` is want of memory alone.
     pub fn try_clone(&self) -> Result<Self, AllocError>
         ensures { IfOk result (λ x. x ≡ self.now) }
     {
         Ok(Samples {
-            integer: clone_option(&self.integer)?,
-            decimal: clone_option(&self.decimal)?,
+            integer: clone_option(self.integer.as_ref())?,
+            decimal: clone_option(self.decimal.as_ref())?,
         })
     }
 }
 
 impl SampleList {
-    /// A clone, equal to the list; only want of memory is refused.
+    /// A clone, equal to the list. `Err` is want of memory alone.
     pub fn try_clone(&self) -> Result<Self, AllocError>
         ensures { IfOk result (λ x. x ≡ self.now) }
     {
@@ -121,19 +122,19 @@ impl SampleList {
 }
 
 impl SampleRange {
-    /// A clone, equal to the range; only want of memory is refused.
+    /// A clone, equal to the range. `Err` is want of memory alone.
     pub fn try_clone(&self) -> Result<Self, AllocError>
         ensures { IfOk result (λ x. x ≡ self.now) }
     {
         Ok(SampleRange {
             lower_val: self.lower_val.try_clone()?,
-            upper_val: clone_option(&self.upper_val)?,
+            upper_val: clone_option(self.upper_val.as_ref())?,
         })
     }
 }
 
 impl DecimalValue {
-    /// A clone, equal to the sample; only want of memory is refused.
+    /// A clone, equal to the sample. `Err` is want of memory alone.
     pub fn try_clone(&self) -> Result<Self, AllocError>
         ensures { IfOk result (λ x. x ≡ self.now) }
     {
@@ -141,7 +142,8 @@ impl DecimalValue {
     }
 }
 
-// What stands in lists and options of a tree.
+// What stands in lists and options of a tree. Each impl hands on to the public `try_clone` of its type: generic code can
+// call that by a trait alone.
 trait Cloned: Drop {
     fn cloned(&self) -> Result<Self, AllocError>
         ensures { IfOk result (λ x. x ≡ self.now) };
@@ -160,12 +162,6 @@ impl Cloned for Relation {
 }
 
 impl Cloned for RangeListItem {
-    fn cloned(&self) -> Result<Self, AllocError> {
-        self.try_clone()
-    }
-}
-
-impl Cloned for Value {
     fn cloned(&self) -> Result<Self, AllocError> {
         self.try_clone()
     }
@@ -195,8 +191,8 @@ impl Cloned for DecimalValue {
     }
 }
 
-fn clone_option<T: Cloned>(source: &Option<T>) -> Result<Option<T>, AllocError>
-    ensures { IfOk result (λ x. x ≡ source.now) }
+fn clone_option<T: Cloned>(source: Option<&T>) -> Result<Option<T>, AllocError>
+    ensures { IfOk result (λ x. x ≡ option_copied source.entry) }
 {
     match source {
         Some(value) => Ok(Some(value.cloned()?)),

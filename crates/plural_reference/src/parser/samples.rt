@@ -1,12 +1,10 @@
 //! Reading the samples of rules (UTS 35 Part 3, Samples).
 
-ghost use Rattle.std.specs.Prelude.{◌≡◌, ◌≤◌, ◌∷◌, [], Some, Err, IfOk, IfSome, OnOk, false, length, string_bytes, MatchOption, MatchResult};
-ghost use Rattle.std.specs.Fmt.{decimal};
-ghost use Rattle.plural_reference.specs.declared.error.ParseError.TheVariants.{ExpectedValue};
+ghost use Rattle.std.specs.Prelude.{◌≡◌, ◌≤◌, ◌∷◌, [], Some, Err, IfOk, OnOk, false, length, string_bytes, MatchOption, MatchResult};
 ghost use Rattle.plural_reference.specs.Reading.{IsAnswer};
-ghost use Rattle.plural_reference.specs.Samples.{IsDigits, IsExponentMark, digits_fault, has_exponent};
+ghost use Rattle.plural_reference.specs.Samples.{IsExponentMark, has_exponent, token_text};
 ghost use Rattle.plural_reference.specs.SampleReader.{after_sections, run_samples};
-ghost use Rattle.plural_reference.specs.SampleSteps.{IsNext, TakesText, NoDigits, NoMark, NoType, type_token, joined_list};
+ghost use Rattle.plural_reference.specs.SampleSteps.{TakesText, NoDigits, NoMark, NoType, type_token, joined_list};
 ghost use Rattle.plural_reference.specs.SampleSteps.{ReadsDigits, ReadsNumber, ReadsExponent, ReadsSample, ReadsRange, ReadsSampleList, ReadsAllSamples};
 ghost use Rattle.plural_reference.specs.SampleSteps.{FailsInSample, FailsAtSample, FailsAtRange, FailsAtList};
 
@@ -17,7 +15,7 @@ use crate::sequence::Sequence;
 use crate::token::Token;
 use std::alloc::{AllocError, Global};
 
-// Whose list of samples begins.
+// The type of a list of samples.
 #[derive(Drop)]
 enum SampleType {
     Integer,
@@ -129,7 +127,7 @@ impl<'p> Parser<'p> {
         ensures digits { OnOk result
             (ReadsDigits (string_bytes text.old) self.old (string_bytes text.new) self.new × NoDigits self.new) }
     {
-        'digits: while let Some(number) = self.take_digits() {
+        'digits: while let Some(number) = self.take_number() {
             write!(text, "{number}")?;
         }
         Ok(())
@@ -148,23 +146,11 @@ impl<'p> Parser<'p> {
             return Ok(());
         };
         text.push_str(mark)?;
-        let Some(number) = self.take_digits() else {
+        let Some(number) = self.take_number() else {
             return Err(ReadError::Parse(ParseError::ExpectedValue));
         };
         write!(text, "{number}")?;
         Ok(())
-    }
-
-    // Takes the next token if it is digits: their number.
-    #[inline]
-    fn take_digits(&mut self) -> Option<u32>
-        ensures { MatchOption result
-            (NoDigits self.old × (self.new ≡ self.old))
-            (λ n. TakesText IsDigits self.old (decimal n) self.new) }
-    {
-        let number = digits_of(&self.ahead)?;
-        self.next();
-        Some(number)
     }
 
     // Takes the next token if it begins an exponent: its text.
@@ -174,36 +160,22 @@ impl<'p> Parser<'p> {
             (NoMark self.old × (self.new ≡ self.old))
             (λ mark. TakesText IsExponentMark self.old mark.now self.new) }
     {
-        let mark = mark_of(&self.ahead)?;
+        let mark = mark_of(self.ahead.as_ref()?)?;
         self.next();
         Some(mark)
     }
 }
 
-// The number of a token of digits.
-#[inline]
-fn digits_of(next: &Option<Token>) -> Option<u32>
-    ensures { MatchOption result
-        (digits_fault next.now ≡ Some ExpectedValue)
-        (λ n. IsNext IsDigits next.now (decimal n)) }
-{
-    match next {
-        Some(Token::Number(number)) => Some(*number),
-        Some(Token::Zero) => Some(0),
-        _ => None,
-    }
-}
-
 // The text of a token that begins an exponent.
 #[inline]
-fn mark_of(next: &Option<Token>) -> Option<&'static str>
+fn mark_of(token: &Token) -> Option<&'static str>
     ensures { MatchOption result
-        (IfSome next.now (λ t. ¬ (IsExponentMark t)))
-        (λ mark. IsNext IsExponentMark next.now mark.now) }
+        (¬ (IsExponentMark token.now))
+        (λ mark. IsExponentMark token.now × (token_text token.now ≡ mark.now)) }
 {
-    match next {
-        Some(Token::E) => Some("e"),
-        Some(Token::Operand(Operand::C)) => Some("c"),
+    match token {
+        Token::E => Some("e"),
+        Token::Operand(Operand::C) => Some("c"),
         _ => None,
     }
 }

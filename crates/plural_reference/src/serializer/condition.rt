@@ -36,7 +36,7 @@ impl Part for ast::Expression {
 
     fn write_to<W: fmt::Write>(&self, w: &mut W) -> fmt::Result {
         self.operand.write_to(w)?;
-        serialize_prefixed(" % ", &self.modulus, w)
+        serialize_prefixed(" % ", self.modulus.as_ref(), w)
     }
 }
 

@@ -2,13 +2,14 @@
 #![tactic(auto, using(crate::proofs::Writes::one_call, crate::proofs::Writes::then_writes))]
 
 ghost use Rattle.std.specs.Prelude.{◌≡◌, ℕ, List, OnOk};
+ghost use Rattle.std.specs.Option.{option_copied};
 ghost use Rattle.std.specs.Fmt.{WritesInCalls};
 ghost use Rattle.plural_reference.specs.Serializer.{joined, prefixed};
 
 use std::fmt;
 
 // A part of a rule, with its printed text.
-pub trait Part {
+pub(super) trait Part {
     ghost text: { Self → List ℕ };
 
     fn write_to<W: fmt::Write>(&self, w: &mut W) -> fmt::Result
@@ -16,7 +17,7 @@ pub trait Part {
 }
 
 // The parts, with the separator between neighbours.
-pub fn serialize_joined<P: Part, W: fmt::Write>(
+pub(super) fn serialize_joined<P: Part, W: fmt::Write>(
     parts: &[P],
     separator: &str,
     w: &mut W,
@@ -35,12 +36,12 @@ pub fn serialize_joined<P: Part, W: fmt::Write>(
 }
 
 // The prefix and then the part, where there is one.
-pub fn serialize_prefixed<P: Part, W: fmt::Write>(
+pub(super) fn serialize_prefixed<P: Part, W: fmt::Write>(
     prefix: &str,
-    part: &Option<P>,
+    part: Option<&P>,
     w: &mut W,
 ) -> fmt::Result
-    ensures { OnOk result (WritesInCalls W.write_str_gives w.old (prefixed prefix.now P.text part.now) w.new) }
+    ensures { OnOk result (WritesInCalls W.write_str_gives w.old (prefixed prefix.now P.text (option_copied part.entry)) w.new) }
 {
     if let Some(part) = part {
         w.write_str(prefix)?;

@@ -1,8 +1,29 @@
-//! Clones and values of trees, and the texts of errors.
+//! Clones and values of trees.
 
-use crate::ast::Value;
-use crate::{LexerError, ParseError, ReadError, parse};
+use crate::ast::{AndCondition, Relation, Value};
+use crate::{ParseError, parse};
+use std::process::Abort;
 use std::test::Fail;
+
+// The relation and its parts, each equal to its clone.
+fn clones_relation(rt: &impl Abort, relation: &Relation) -> Result<(), Fail> {
+    assert_eq!(rt; relation.try_clone()?, *relation);
+    assert_eq!(rt; relation.expression.try_clone()?, relation.expression);
+    assert_eq!(rt; relation.range_list.try_clone()?, relation.range_list);
+    for item in relation.range_list.0.as_slice() {
+        assert_eq!(rt; item.try_clone()?, *item);
+    }
+    Ok(())
+}
+
+// The same of an and-condition.
+fn clones_group(rt: &impl Abort, group: &AndCondition) -> Result<(), Fail> {
+    assert_eq!(rt; group.try_clone()?, *group);
+    for relation in group.0.as_slice() {
+        clones_relation(rt, relation)?;
+    }
+    Ok(())
+}
 
 #[test]
 fn clones_equal_what_is_cloned(rt: HostRuntime) -> Result<(), Fail> {
@@ -15,23 +36,7 @@ fn clones_equal_what_is_cloned(rt: HostRuntime) -> Result<(), Fail> {
         assert_eq!(rt; rule.try_clone()?, rule, "{text}");
         assert_eq!(rt; rule.condition.try_clone()?, rule.condition, "{text}");
         for group in rule.condition.0.as_slice() {
-            assert_eq!(rt; group.try_clone()?, *group, "{text}");
-            for relation in group.0.as_slice() {
-                assert_eq!(rt; relation.try_clone()?, *relation, "{text}");
-                assert_eq!(rt;
-                    relation.expression.try_clone()?,
-                    relation.expression,
-                    "{text}"
-                );
-                assert_eq!(rt;
-                    relation.range_list.try_clone()?,
-                    relation.range_list,
-                    "{text}"
-                );
-                for item in relation.range_list.0.as_slice() {
-                    assert_eq!(rt; item.try_clone()?, *item, "{text}");
-                }
-            }
+            clones_group(&rt, group)?;
         }
     }
     Ok(())
@@ -65,42 +70,5 @@ fn turns_values_into_numbers(rt: HostRuntime) -> Result<(), Fail> {
     );
     assert_eq!(rt; Value(7).try_clone()?, Value(7));
     assert!(rt; Value(2) < Value(10));
-    Ok(())
-}
-
-#[test]
-fn prints_errors(rt: HostRuntime) -> Result<(), Fail> {
-    let table = [
-        (ParseError::ExpectedAndCondition, "expected 'AND' condition"),
-        (ParseError::ExpectedRelation, "expected relation"),
-        (ParseError::ExpectedOperator, "expected operator"),
-        (ParseError::ExpectedOperand, "expected operand"),
-        (ParseError::ExpectedValue, "expected value"),
-        (ParseError::ExpectedSampleType, "expected sample type"),
-        (ParseError::ValueTooLarge, "Value too large"),
-    ];
-    for (kind, text) in table {
-        assert_eq!(rt; kind.to_string(rt.alloc())?.as_str(), text);
-        assert_eq!(rt;
-            ReadError::Parse(kind).to_string(rt.alloc())?.as_str(),
-            text
-        );
-    }
-    assert_eq!(rt;
-        ReadError::Memory.to_string(rt.alloc())?.as_str(),
-        "out of memory"
-    );
-    assert_eq!(rt;
-        LexerError::ExpectedByte(116)
-            .to_string(rt.alloc())?
-            .as_str(),
-        "Expected byte: 116"
-    );
-    assert_eq!(rt;
-        LexerError::UnknownToken(120)
-            .to_string(rt.alloc())?
-            .as_str(),
-        "Unknown token: 120"
-    );
     Ok(())
 }
