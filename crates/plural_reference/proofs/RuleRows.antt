@@ -12,8 +12,7 @@ use Rattle.plural_reference.specs.declared.ast.SampleList.{SampleList}
 use Rattle.plural_reference.specs.declared.ast.SampleRange.{SampleRange}
 use Rattle.plural_reference.specs.declared.error.ParseError.{ParseError}
 use Rattle.plural_reference.specs.declared.error.ParseError.TheVariants.{ExpectedValue, ExpectedSampleType}
-use Rattle.plural_reference.specs.declared.token.Token.{Token}
-use Rattle.plural_reference.specs.Lexer.{AreTokensOf, ellipsis}
+use Rattle.plural_reference.specs.Lexer.{ellipsis}
 use Rattle.plural_reference.specs.Samples.{ReadsRule, FaultyRule}
 use Rattle.plural_reference.specs.PrintingLaws.{TextReads, TextFaulty}
 use Rattle.plural_reference.specs.Serializer.{rule_text}
