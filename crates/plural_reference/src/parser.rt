@@ -122,10 +122,8 @@ impl<'p> Parser<'p> {
         ensures shorter { length self.new ≤ length self.old }
         ensures value { MatchResult result (λ v. TakesValue self.old v self.new) (NoValue self.old) }
     {
-        match self.take_number() {
-            Some(number) => Ok(Value(u64::from(number))),
-            None => Err(ParseError::ExpectedValue),
-        }
+        let number = self.take_number().ok_or(ParseError::ExpectedValue)?;
+        Ok(Value::from(number))
     }
 
     // item = value | value DotDot value

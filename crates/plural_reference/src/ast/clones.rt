@@ -142,8 +142,8 @@ impl DecimalValue {
     }
 }
 
-// What stands in lists and options of a tree. Each impl hands on to the public `try_clone` of its type: generic code can
-// call that by a trait alone.
+// What stands in lists and options of a tree. Generic code reaches a method by a trait alone, so each impl hands on to the
+// public `try_clone` of its type.
 trait Cloned: Drop {
     fn cloned(&self) -> Result<Self, AllocError>
         ensures { IfOk result (λ x. x ≡ self.now) };
