@@ -7,6 +7,7 @@ pub use Rattle.fixed_decimal.specs.Written
 pub use Rattle.packed_list.specs.ListBytes
 pub use Rattle.packed_list.specs.ListFaults
 -- operands, texts and trees
+pub use Rattle.plural_reference.specs.Ends
 pub use Rattle.plural_reference.specs.Operands
 pub use Rattle.plural_reference.specs.DecimalOperands
 pub use Rattle.plural_reference.specs.OperandText
@@ -15,7 +16,7 @@ pub use Rattle.plural_reference.specs.Parser
 pub use Rattle.plural_reference.specs.Samples
 pub use Rattle.plural_reference.specs.Reading
 pub use Rattle.plural_reference.specs.Serializer
-pub use Rattle.plural_reference.specs.FaultTexts
+pub use Rattle.plural_reference.specs.ReadErrorTexts
 pub use Rattle.plural_reference.specs.Truth
 pub use Rattle.plural_reference.specs.Resolver
 pub use Rattle.plural_reference.specs.ExactTruth

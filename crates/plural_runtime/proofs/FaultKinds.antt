@@ -7,9 +7,10 @@ use Rattle.plural_reference.specs.declared.ast.Operand.TheVariants.{C}
 use Rattle.plural_reference.specs.declared.error.ParseError.{ParseError}
 use Rattle.plural_reference.specs.declared.error.ParseError.TheVariants.{ExpectedAndCondition, ExpectedRelation, ExpectedOperand, ExpectedValue, ValueTooLarge}
 use Rattle.plural_reference.specs.declared.token.Token.{Token}
-use Rattle.plural_reference.specs.declared.token.Token.TheVariants.{Operator, Operand, Number, Zero, Dot, At, Decimal, Integer, Ellipsis, E, Modulo}
-use Rattle.plural_reference.specs.Parser.{Place, start, after_or, after_and, after_operand, after_modulo, after_modulus, before_value, operand_of, value_of, operand_fault, operator_fault, value_fault, fault, first}
-use Rattle.plural_reference.specs.Samples.{SamplePlace, after_at, before_sample, after_comma, after_mark, type_fault, digits_fault, sample_fault, fault_in_samples, FaultyRule}
+use Rattle.plural_reference.specs.declared.token.Token.TheVariants.{Operator, Operand, Dot, At, Decimal, Integer, Ellipsis, E, Modulo}
+use Rattle.plural_reference.specs.Ends.{first}
+use Rattle.plural_reference.specs.Parser.{Place, start, after_or, after_and, after_operand, after_modulo, after_modulus, before_value, operand_of, value_of, operand_fault, operator_fault, value_fault, fault}
+use Rattle.plural_reference.specs.Samples.{SamplePlace, after_at, before_sample, after_comma, after_mark, type_fault, sample_fault, fault_in_samples, FaultyRule}
 use Rattle.plural_runtime.specs.declared.error.RuleError.TheVariants.{Parse}
 use Rattle.plural_runtime.specs.RuleBytes.{relation_bytes}
 use Rattle.plural_runtime.specs.PackedTree.{packed, has_large_value}
@@ -48,23 +49,18 @@ of_type (Some Integer) h = cc
 of_type (Some Decimal) h = cc
 of_type _ h = cc
 
-of_digits : (t : Option Token) → digits_fault t ≡ Some ValueTooLarge → ⊥
-of_digits (Some Zero) h = cc
-of_digits (Some (Number n)) h = cc
-of_digits _ h = cc
-
 of_sample : (t : Option Token) → sample_fault t ≡ Some ValueTooLarge → ⊥
 of_sample (Some Dot) h = cc
 of_sample (Some E) h = cc
 of_sample (Some (Operand C)) h = cc
-of_sample t h = of_digits t h
+of_sample t h = of_value t h
 
 of_samples : (place : SamplePlace) (t : Option Token) → fault_in_samples place t ≡ Some ValueTooLarge → ⊥
 of_samples after_at t h = of_type t h
 of_samples before_sample t h = of_sample t h
 of_samples after_comma (Some Ellipsis) h = cc
 of_samples after_comma t h = of_sample t h
-of_samples after_mark t h = of_digits t h
+of_samples after_mark t h = of_value t h
 
 -- no tokens have it
 pub never_too_large : (tokens : List Token) → FaultyRule tokens ValueTooLarge → ⊥

@@ -2,7 +2,7 @@
 use Rattle.std.specs.Prelude.{ℕ, List, ◌++◌, codes}
 use Rattle.std.specs.Fmt.{decimal}
 use Rattle.packed_list.specs.ListErrorTexts.{list_error_text}
-use Rattle.plural_reference.specs.FaultTexts.{parse_error_text}
+use Rattle.plural_reference.specs.ReadErrorTexts.{parse_error_text}
 use Rattle.plural_runtime.specs.declared.error.RuleBytesError.{RuleBytesError}
 use Rattle.plural_runtime.specs.declared.error.RuleBytesError.TheVariants.{List as InList, ItemLength, Operand}
 use Rattle.plural_runtime.specs.declared.error.RuleError.{RuleError}
