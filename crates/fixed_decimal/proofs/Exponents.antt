@@ -7,7 +7,7 @@ use Rattle.fixed_decimal.specs.Digits.{AreDigits, text_of, value_of}
 use Rattle.fixed_decimal.specs.Compact.{CompactNumber}
 use Rattle.fixed_decimal.specs.Written.{WritesDecimal, HasExponent, WritesCompact, IsCompactOverLimit}
 use Rattle.fixed_decimal.specs.Places.{IsOverLimit}
-use Rattle.fixed_decimal.specs.Points.{IsDigitByte, WritesUpToThree, digits_in}
+use Rattle.fixed_decimal.specs.TextParts.{IsDigitByte, WritesUpToThree, digits_in}
 use Rattle.fixed_decimal.specs.declared.decimal.Decimal.{Decimal}
 use Rattle.fixed_decimal.proofs.Points.{length-text_of, digit_byte_at, digits_back, length-digits_in}
 use Rattle.fixed_decimal.proofs.Texts.{digits_in-text_of}
