@@ -66,7 +66,7 @@ letter_at_end t front rest e h form inside =
     ap (λ s. get_or s (length front) 0) form ∙ ap (λ k. get_or (front ++ rest) k 0) z ∙ get_or-append-add front rest 0 0 ∙ letter_first rest e h (omega arith)
 
 -- ... and not before
-no_letter_before : (t front rest : List ℕ) (x : Decimal) → WritesDecimal front x → t ≡ front ++ rest → (k : ℕ) → k < length front → get_or t k 0 ≢ 99
+pub no_letter_before : (t front rest : List ℕ) (x : Decimal) → WritesDecimal front x → t ≡ front ++ rest → (k : ℕ) → k < length front → get_or t k 0 ≢ 99
 no_letter_before t front rest x h form k inside letter =
     decimal_letter front x h k inside (sym (get_or-append front rest 0 k inside) ∙ ap (λ s. get_or s k 0) (sym form) ∙ letter)
 
