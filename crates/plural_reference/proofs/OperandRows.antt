@@ -1,13 +1,15 @@
 -- Worked numbers at the bound, and their exact operands and truth, computed by the definitions.
-use Rattle.std.proofs.Common.{◌≡◌, ℕ, zero, suc, ◌+◌, ◌-◌, ◌*◌, ◌%◌, ◌^◌, ◌<◌, ◌≤◌, ◌⊎◌, ◌≢◌, inl, inr, List, [], ◌∷◌, ◌++◌, refl, sym, ap, subst, replicate, codes, arith, map, Some, None, true, false, lit<, lit≤, ◌∙◌}
+use Rattle.std.proofs.Common.{◌≡◌, ℕ, zero, suc, ◌+◌, ◌-◌, ◌*◌, ◌%◌, ◌^◌, ◌<◌, ◌≤◌, ◌⊎◌, ◌≢◌, inl, inr, List, [], ◌∷◌, ◌++◌, refl, sym, ap, subst, replicate, codes, length, arith, map, Some, None, true, false, lit<, lit≤, ◌∙◌}
 use Rattle.std.proofs.lemmas.Bool.{cases_lt}
 use Rattle.std.proofs.lemmas.Nat.{pow-add}
 use Rattle.std.proofs.lemmas.Nat.Gcd.{dvd_of_mod-eq-zero, mod-eq-zero_of_dvd, dvd_trans}
 use Rattle.std.proofs.Math.Nat.{dvd-mul_right}
 use Rattle.std.specs.Int.{◌∣◌}
+use Rattle.fixed_decimal.specs.Digits.{AreDigits, value_of}
 use Rattle.fixed_decimal.specs.Places.{Places}
 use Rattle.plural_reference.specs.Operands.{Operands, of_whole}
 use Rattle.plural_reference.specs.DecimalOperands.{AreExact, AreCut, HasFraction}
+use Rattle.plural_reference.specs.OperandText.{IsWord, WritesCount, WritesFraction, WritesOperands}
 use Rattle.plural_reference.specs.Truth.{RelationMeaning, relation_truth}
 use Rattle.plural_reference.specs.ExactTruth.{exact_value, exact_relation_truth}
 use Rattle.plural_reference.specs.Exactness.{IsWithinBound, AllDivide}
@@ -151,3 +153,23 @@ n_by_10 = refl
 
 compact_million : AreExact (number (codes "1") (codes "00000020")) 6 (six 1000000 2 1 20 2 6)
 compact_million = record { i = refl; fraction = record { v = refl; f = refl; w_divides = dvd_of_mod-eq-zero 10 refl; w_least = least_by 2 20 1 (lit≤ tt) (inr (nonzero 20 (lit< tt))); t = refl }; c = refl }
+
+-- ---- texts of operands
+
+named : (ds : List ℕ) → 0 < length ds → AreDigits ds → value_of ds < 2 ^ 64 → IsWord ds
+named ds some are below = record { nonempty = some; digits = are; below = below }
+
+-- `-5.10`
+named_5_10 : WritesOperands (codes "-5.10") (six 5 2 1 10 1 0)
+named_5_10 = inr (codes "5.10", (codes "5", codes ".10", [], five, fraction, inl (refl, refl), refl), refl)
+  where
+    five : WritesCount (codes "5") 5
+    five = (5 ∷ [], named (5 ∷ []) (lit< tt) (lit< tt, tt) (lit< tt), refl, inl refl)
+
+    fraction : WritesFraction (codes ".10") (six 5 2 1 10 1 0)
+    fraction = inr (
+      1 ∷ 0 ∷ [],
+      named (1 ∷ 0 ∷ []) (lit< tt) (lit< tt, (lit< tt, tt)) (lit< tt),
+      refl,
+      record { v = refl; f = refl; w_divides = dvd_of_mod-eq-zero 10 refl; w_least = least_by 2 10 1 (lit≤ tt) (inr (nonzero 10 (lit< tt))); t = refl },
+    )

@@ -1,4 +1,4 @@
--- When the operands that are kept of a number decide a rule as the number itself does.
+-- When the kept operands of a number decide a rule as the number itself does.
 --     IsWithinBound x e moduli      the number x with the compact exponent e, under rules with these moduli on i and n
 --     IsAdmitted moduli relation      what such a rule's relation looks like
 use Rattle.std.specs.Prelude.{ℕ, ◌<◌, ◌≤◌, ◌^◌, ◌⊎◌, List, length, Contains}
@@ -8,7 +8,7 @@ use Rattle.fixed_decimal.specs.Digits.{value_of}
 use Rattle.fixed_decimal.specs.Places.{Places, shift_right}
 use Rattle.plural_reference.specs.Truth.{RelationMeaning}
 use Rattle.plural_reference.specs.declared.ast.Operand.{Operand}
-use Rattle.plural_reference.specs.declared.ast.Operand.TheVariants.{N, I, V, W, F, T, C, E}
+use Rattle.plural_reference.specs.declared.ast.Operand.TheVariants.{N, I}
 
 -- each number of the list divides n; 0 is no modulus and doesn't count
 abbrev pub AllDivide : List ℕ → ℕ → Type 0
@@ -28,12 +28,7 @@ IsWithinBound x e moduli = IsBoundedAt (shift_right e x) moduli
 abbrev pub IsListed : Operand → ℕ → List ℕ → Type 0
 IsListed N modulus moduli = 0 < modulus → Contains moduli modulus
 IsListed I modulus moduli = 0 < modulus → Contains moduli modulus
-IsListed V modulus moduli = Unit {0}
-IsListed W modulus moduli = Unit {0}
-IsListed F modulus moduli = Unit {0}
-IsListed T modulus moduli = Unit {0}
-IsListed C modulus moduli = Unit {0}
-IsListed E modulus moduli = Unit {0}
+IsListed _ modulus moduli = Unit {0}
 
 -- the ranges end below 10 ^ 18, as those of every rule that is read from a text do
 pub record IsAdmitted (moduli : List ℕ) (relation : RelationMeaning) : Type 0 where

@@ -2,7 +2,7 @@
 -- it shows, with and without trailing zeros; f and t those digits as a number, with and without trailing zeros; and c the
 -- compact exponent, which e names too.
 --     of_whole n      those of a whole number: no fraction, no exponent
---     of_wide n      those that are kept of a whole number of more than 64 bits
+--     of_wide n      those that are kept of an integer of 128 bits
 use Rattle.std.specs.Prelude.{ℕ, ◌+◌, ◌%◌, ◌^◌, nat_lt, if◌then◌else◌}
 
 pub record Operands : Type 0 where
