@@ -1,9 +1,9 @@
 -- A text names one list of operands at most.
-use Rattle.std.proofs.Common.{◌≡◌, ◌≢◌, ◌⊎◌, ℕ, suc, ◌<◌, inl, inr, List, [], ◌∷◌, ◌++◌, refl, sym, ◌∙◌, ap, subst, length, arith, get_or, lit<}
+use Rattle.std.proofs.Common.{◌≡◌, ℕ, suc, inl, inr, List, [], ◌∷◌, ◌++◌, sym, ◌∙◌, ap, subst, length, arith, get_or, lit<}
 use Rattle.fixed_decimal.specs.Digits.{value_of, text_of}
 use Rattle.plural_reference.specs.Operands.{Operands}
 use Rattle.plural_reference.specs.DecimalOperands.{HasFraction}
-use Rattle.plural_reference.specs.OperandText.{IsWord, WritesCount, WritesExponent, WritesUnsignedOperands, WritesOperands}
+use Rattle.plural_reference.specs.OperandText.{WritesCount, WritesExponent, WritesUnsignedOperands}
 use Rattle.plural_reference.specs.OperandReader.{HasNo, WritesWhole, WritesPointed}
 use Rattle.plural_reference.specs.OperandLaws.{OneNamed}
 use Rattle.plural_reference.proofs.Fractions.{one_fraction}

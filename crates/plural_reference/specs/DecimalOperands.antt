@@ -6,7 +6,7 @@ use Rattle.std.specs.Prelude.{◌≡◌, ℕ, ◌+◌, ◌-◌, ◌/◌, ◌%◌
 use Rattle.std.specs.Int.{◌∣◌}
 use Rattle.fixed_decimal.specs.Digits.{value_of}
 use Rattle.fixed_decimal.specs.Places.{Places, shift_right}
-use Rattle.plural_reference.specs.Operands.{Operands}
+use Rattle.plural_reference.specs.Operands.{Operands, kept_places, kept_limit}
 
 -- The fraction digits that are shown are so many, and write this number. w is the least count of them with the number
 -- divisible by 10 ^ (shown - w), and t is what that division gives.
@@ -36,12 +36,13 @@ AreExact x e o = IsExactAt (shift_right e x) e o
 
 -- the number that at most 18 digits write; of more, what the last 18 write, and 10 ^ 18 besides
 abbrev pub cut_whole : List ℕ → ℕ
-cut_whole ds = if nat_le (length ds) 18 then value_of ds else value_of (drop (length ds - 18) ds) + 10 ^ 18
+cut_whole ds =
+    if nat_le (length ds) kept_places then value_of ds else value_of (drop (length ds - kept_places) ds) + kept_limit
 
 -- of the digits as they stand, and an exponent
 pub record IsCutAt (y : Places) (e : ℕ) (o : Operands) : Type 0 where
   pub i : o.i ≡ cut_whole y.whole
-  pub fraction : HasFraction o (length (take 18 y.fraction)) (value_of (take 18 y.fraction))
+  pub fraction : HasFraction o (length (take kept_places y.fraction)) (value_of (take kept_places y.fraction))
   pub c : o.c ≡ e
 
 abbrev pub AreCut : Places → ℕ → Operands → Type 0

@@ -4,7 +4,7 @@ use Rattle.std.specs.Int.{◌∣◌}
 use Rattle.std.specs.List.{AllByRecursion}
 use Rattle.fixed_decimal.specs.Digits.{IsNumeral, value_of}
 use Rattle.fixed_decimal.specs.Places.{Places, IsWritten, HasDigitFrom, shift_right}
-use Rattle.plural_reference.specs.Operands.{Operands}
+use Rattle.plural_reference.specs.Operands.{Operands, kept_limit}
 use Rattle.plural_reference.specs.DecimalOperands.{AreCut, AreExact}
 use Rattle.plural_reference.specs.Truth.{RelationMeaning, holds_value, is_in_ranges, is_true_of, relation_truth, remainder, meaning_of, groups_of}
 use Rattle.plural_reference.specs.ExactTruth.{exact_value, exact_relation_truth, exact_truth, parts}
@@ -69,15 +69,15 @@ LongValue =
 
 -- the number 2 * 10 ^ 18
 abbrev pub IsTwice : Places → Type 0
-IsTwice x = IsNumeral x.whole (2 * 10 ^ 18) × (x.fraction ≡ [])
+IsTwice x = IsNumeral x.whole (2 * kept_limit) × (x.fraction ≡ [])
 
 -- `i % m = r`, where r is what m leaves of 2 * 10 ^ 18
 abbrev pub left_of_twice : ℕ → RelationMeaning
-left_of_twice m = let r = 2 * 10 ^ 18 % m in record { operand = I; modulus = m; operator = Eq; ranges = (r, r) ∷ [] }
+left_of_twice m = let r = 2 * kept_limit % m in record { operand = I; modulus = m; operator = Eq; ranges = (r, r) ∷ [] }
 
 -- a modulus that doesn't divide 10 ^ 18 tells the exact 2 * 10 ^ 18 from what is kept of it
 abbrev pub BoundIsWidest : Type 0
 BoundIsWidest =
-    (m : ℕ) (x : Places) (kept exact : Operands) → 0 < m → ¬ (m ∣ 10 ^ 18)
+    (m : ℕ) (x : Places) (kept exact : Operands) → 0 < m → ¬ (m ∣ kept_limit)
     → IsTwice x → AreCut x 0 kept → AreExact x 0 exact
     → (exact_relation_truth exact (left_of_twice m) ≡ true) × (relation_truth kept (left_of_twice m) ≡ false)

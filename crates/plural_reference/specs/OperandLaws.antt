@@ -1,7 +1,7 @@
 -- What holds of the operands of every number.
-use Rattle.std.specs.Prelude.{◌≡◌, ℕ, ◌%◌, ◌^◌, ◌<◌, ◌≤◌, ◌↔◌, List, length}
+use Rattle.std.specs.Prelude.{◌≡◌, ℕ, ◌%◌, ◌<◌, ◌≤◌, ◌↔◌, List, length}
 use Rattle.fixed_decimal.specs.Places.{Places, IsWritten, shift_right}
-use Rattle.plural_reference.specs.Operands.{Operands, of_whole, of_wide}
+use Rattle.plural_reference.specs.Operands.{Operands, kept_places, kept_limit, of_whole, of_wide}
 use Rattle.plural_reference.specs.OperandText.{WritesOperands}
 use Rattle.plural_reference.specs.ExactTruth.{parts}
 use Rattle.plural_reference.specs.ReadingLaws.{ThereIsOne}
@@ -9,17 +9,17 @@ use Rattle.plural_reference.specs.DecimalOperands.{AreCut, AreExact, all_digits_
 
 -- a whole number below 10 ^ 18 has the same operands at 64 and at 128 bits
 abbrev pub SameBelowLimit : Type 0
-SameBelowLimit = (n : ℕ) → n < 10 ^ 18 → of_wide n ≡ of_whole n
+SameBelowLimit = (n : ℕ) → n < kept_limit → of_wide n ≡ of_whole n
 
 -- from there on both integer parts are at least 10 ^ 18, and leave the same by it
 abbrev pub CongruentFromLimit : Type 0
-CongruentFromLimit = (n : ℕ) → 10 ^ 18 ≤ n →
-    (10 ^ 18 ≤ (of_wide n).i) × (10 ^ 18 ≤ (of_whole n).i) × ((of_wide n).i % 10 ^ 18 ≡ (of_whole n).i % 10 ^ 18)
+CongruentFromLimit = (n : ℕ) → kept_limit ≤ n →
+    (kept_limit ≤ (of_wide n).i) × (kept_limit ≤ (of_whole n).i) × ((of_wide n).i % kept_limit ≡ (of_whole n).i % kept_limit)
 
 -- with at most 18 places on each side the kept operands are the exact ones
 abbrev pub NothingIsCut : Type 0
 NothingIsCut = (x : Places) (e : ℕ) (o : Operands) → IsWritten x →
-    length (shift_right e x).whole ≤ 18 → length (shift_right e x).fraction ≤ 18 → AreCut x e o ↔ AreExact x e o
+    length (shift_right e x).whole ≤ kept_places → length (shift_right e x).fraction ≤ kept_places → AreCut x e o ↔ AreExact x e o
 
 -- a number has one list of kept operands, and one of exact ones
 abbrev pub OneCut : Type 0

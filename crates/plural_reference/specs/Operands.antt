@@ -17,6 +17,14 @@ pub record Operands : Type 0 where
 abbrev pub of_whole : ℕ → Operands
 of_whole n = record { i = n; v = 0; w = 0; f = 0; t = 0; c = 0 }
 
+-- so many digits are kept on each side of the point
+abbrev pub kept_places : ℕ
+kept_places = 18
+
+-- the least whole number of which a digit is dropped; it is added to the digits that are kept
+abbrev pub kept_limit : ℕ
+kept_limit = 10 ^ kept_places
+
 -- the same below 10 ^ 18; from there on i has the last 18 digits, and 10 ^ 18 besides
 abbrev pub of_wide : ℕ → Operands
-of_wide n = of_whole (if nat_lt n (10 ^ 18) then n else n % 10 ^ 18 + 10 ^ 18)
+of_wide n = of_whole (if nat_lt n kept_limit then n else n % kept_limit + kept_limit)
