@@ -14,12 +14,16 @@ SameBelowLimit = (n : ℕ) → n < kept_limit → of_wide n ≡ of_whole n
 -- from there on both integer parts are at least 10 ^ 18, and leave the same by it
 abbrev pub CongruentFromLimit : Type 0
 CongruentFromLimit = (n : ℕ) → kept_limit ≤ n →
-    (kept_limit ≤ (of_wide n).i) × (kept_limit ≤ (of_whole n).i) × ((of_wide n).i % kept_limit ≡ (of_whole n).i % kept_limit)
+    (kept_limit ≤ (of_wide n).i)
+    × (kept_limit ≤ (of_whole n).i)
+    × ((of_wide n).i % kept_limit ≡ (of_whole n).i % kept_limit)
 
 -- with at most 18 places on each side the kept operands are the exact ones
 abbrev pub NothingIsCut : Type 0
 NothingIsCut = (x : Places) (e : ℕ) (o : Operands) → IsWritten x →
-    length (shift_right e x).whole ≤ kept_places → length (shift_right e x).fraction ≤ kept_places → AreCut x e o ↔ AreExact x e o
+    length (shift_right e x).whole ≤ kept_places
+    → length (shift_right e x).fraction ≤ kept_places
+    → AreCut x e o ↔ AreExact x e o
 
 -- a number has one list of kept operands, and one of exact ones
 abbrev pub OneCut : Type 0

@@ -1,4 +1,4 @@
-//! Within the bound the operands that are kept of a number decide a packed rule as the number itself does.
+//! Within the bound the kept operands of a number decide a packed rule as the number itself does.
 
 ghost use Rattle.plural_reference.specs.ExactnessLaws.{RelationsAgree, GroupsAgree, ConditionsAgree, HoldsWholeNumbers, ShiftedPlaces, LongValue, BoundIsWidest};
 
