@@ -3,6 +3,7 @@
 -- compact exponent, which e names too.
 --     of_whole n      those of a whole number: no fraction, no exponent
 --     of_wide n      those that are kept of an integer of 128 bits
+--     kept_places, kept_limit      18 and 10 ^ 18: what is kept of a longer number
 use Rattle.std.specs.Prelude.{ℕ, ◌+◌, ◌%◌, ◌^◌, nat_lt, if◌then◌else◌}
 
 pub record Operands : Type 0 where
@@ -21,7 +22,7 @@ of_whole n = record { i = n; v = 0; w = 0; f = 0; t = 0; c = 0 }
 abbrev pub kept_places : ℕ
 kept_places = 18
 
--- the least whole number of which a digit is dropped; it is added to the digits that are kept
+-- the least number of more digits; such a number keeps what its last digits write, and this besides
 abbrev pub kept_limit : ℕ
 kept_limit = 10 ^ kept_places
 
