@@ -7,7 +7,7 @@ use Rattle.fixed_decimal.specs.Digits.{AreDigits, text_of, value_of}
 use Rattle.fixed_decimal.specs.Compact.{CompactNumber}
 use Rattle.fixed_decimal.specs.Written.{WritesDecimal, HasExponent, WritesCompact, IsCompactOverLimit}
 use Rattle.fixed_decimal.specs.Places.{IsOverLimit}
-use Rattle.fixed_decimal.specs.Points.{IsDigitByte, WritesUpToThree, digits_in}
+use Rattle.fixed_decimal.specs.TextParts.{IsDigitByte, WritesUpToThree, digits_in}
 use Rattle.fixed_decimal.specs.declared.decimal.Decimal.{Decimal}
 use Rattle.fixed_decimal.proofs.Points.{length-text_of, digit_byte_at, digits_back, length-digits_in}
 use Rattle.fixed_decimal.proofs.Texts.{digits_in-text_of}
@@ -66,7 +66,7 @@ letter_at_end t front rest e h form inside =
     ap (λ s. get_or s (length front) 0) form ∙ ap (λ k. get_or (front ++ rest) k 0) z ∙ get_or-append-add front rest 0 0 ∙ letter_first rest e h (omega arith)
 
 -- ... and not before
-no_letter_before : (t front rest : List ℕ) (x : Decimal) → WritesDecimal front x → t ≡ front ++ rest → (k : ℕ) → k < length front → get_or t k 0 ≢ 99
+pub no_letter_before : (t front rest : List ℕ) (x : Decimal) → WritesDecimal front x → t ≡ front ++ rest → (k : ℕ) → k < length front → get_or t k 0 ≢ 99
 no_letter_before t front rest x h form k inside letter =
     decimal_letter front x h k inside (sym (get_or-append front rest 0 k inside) ∙ ap (λ s. get_or s k 0) (sym form) ∙ letter)
 

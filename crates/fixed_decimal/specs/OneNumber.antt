@@ -1,4 +1,4 @@
--- A text writes one number at most.
+-- The statements of the law `texts_write_one_number`: a text writes one number at most.
 --     OneUnsigned, OneSigned, OneCompact      as an unsigned decimal, as a decimal, as a compact decimal
 use Rattle.std.specs.Prelude.{◌≡◌, ℕ, List}
 use Rattle.fixed_decimal.specs.Places.{Places}

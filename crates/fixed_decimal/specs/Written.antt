@@ -33,11 +33,15 @@ sign_text sign.Positive = codes "+"
 abbrev pub WritesDecimal : List ℕ → Decimal → Type 0
 WritesDecimal text x = (digits : List ℕ) × WritesUnsigned digits x.absolute × (text ≡ sign_text x.sign ++ digits)
 
+-- so many digits an exponent may have
+abbrev pub most_exponent_digits : ℕ
+most_exponent_digits = 3
+
 -- `c` and one to three digits
 pub record WritesExponent (text : List ℕ) (exponent : ℕ) (ds : List ℕ) : Type 0 where
   pub digits : AreDigits ds
   pub least : 1 ≤ length ds
-  pub most : length ds ≤ 3
+  pub most : length ds ≤ most_exponent_digits
   pub value : exponent ≡ value_of ds
   pub form : text ≡ codes "c" ++ text_of ds
 

@@ -4,7 +4,7 @@ ghost use Rattle.std.specs.Prelude.{◌≡◌, ◌≢◌, ◌↔◌, ◌++◌, [
 ghost use Rattle.fixed_decimal.specs.Places.{IsWithinLimit, IsOverLimit, shift};
 ghost use Rattle.fixed_decimal.specs.Digits.{IsNumeral};
 ghost use Rattle.fixed_decimal.specs.Written.{WritesDecimal, sign_text};
-ghost use Rattle.fixed_decimal.specs.Points.{HasPointWithin};
+ghost use Rattle.fixed_decimal.specs.TextParts.{HasPointWithin};
 ghost use Rattle.fixed_decimal.specs.declared.sign.Sign.TheVariants as sign;
 ghost use Rattle.fixed_decimal.specs.declared.decimal.Decimal.{Decimal as SignedNumber};
 
@@ -61,8 +61,10 @@ impl Decimal {
 
     /// Moves the point as [`UnsignedDecimal::multiply_pow10`] does; the sign stays.
     pub fn multiply_pow10(&mut self, places: i16) -> Result<(), DecimalError>
-        ensures shifted { OnOk result (self.new ≡ record self.old { absolute = shift places self.old.absolute }) }
-        ensures limit { (result ≡ Err DecimalError.Limit) ↔ IsOverLimit (shift places self.old.absolute) }
+        ensures shifted { OnOk result
+            (self.new ≡ record self.old { absolute = shift places self.old.absolute }) }
+        ensures limit { (result ≡ Err DecimalError.Limit)
+            ↔ IsOverLimit (shift places self.old.absolute) }
         ensures only_limit { IfErr result (λ e. e ≡ DecimalError.Limit) }
         ensures unchanged { OnErr result (self.new ≡ self.old) }
     {

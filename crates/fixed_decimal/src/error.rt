@@ -1,7 +1,7 @@
 //! Why a decimal can't be had.
 
 ghost use Rattle.std.specs.Prelude.{◌≡◌, Some};
-ghost use Rattle.fixed_decimal.specs.DecimalErrorText.{error_text};
+ghost use Rattle.fixed_decimal.specs.DecimalErrorTexts.{error_text};
 ghost use Rattle.fixed_decimal.specs.declared.error.DecimalError.TheVariants.{Memory};
 
 use std::alloc::{AllocError, AllocFailed};
@@ -33,6 +33,7 @@ impl fmt::Display for DecimalError {
 
 impl Error for DecimalError {}
 
+/// `Memory`: what takes memory was refused it.
 impl From<AllocError> for DecimalError {
     ghost from_gives = { λ _ e. e ≡ Memory };
 
@@ -41,6 +42,7 @@ impl From<AllocError> for DecimalError {
     }
 }
 
+/// `Memory`: what takes memory was refused it, and gave a value back.
 impl<T: Drop> From<AllocFailed<T>> for DecimalError {
     ghost from_gives = { λ _ e. e ≡ Memory };
 

@@ -3,11 +3,12 @@
 ghost use Rattle.std.specs.Prelude.{◌≡◌, ◌≢◌, ℕ, ◌+◌, ◌-◌, ◌<◌, ◌≤◌, ◌↔◌, List, ◌++◌, length, slice_index, IfSome, IsSomeAnd};
 ghost use Rattle.fixed_decimal.specs.Digits.{value_of};
 ghost use Rattle.fixed_decimal.specs.Written.{WritesDecimal, HasExponent};
-ghost use Rattle.fixed_decimal.specs.Points.{AllDigitBytes, digits_in, WritesUpToThree};
+ghost use Rattle.fixed_decimal.specs.TextParts.{AllDigitBytes, digits_in, WritesUpToThree, letter_c};
 ghost use Rattle.fixed_decimal.specs.declared.decimal.Decimal.{Decimal as SignedNumber};
 
-use crate::point::run_end;
+use crate::digits::run_end;
 
+// So many digits an exponent may have.
 const MOST_DIGITS: usize = 3;
 
 // The text before the exponent, and the exponent: 0 where none is written.
@@ -26,8 +27,8 @@ pub(crate) fn split_exponent(text: &[u8]) -> Option<(&[u8], u16)>
 fn exponent_start(text: &[u8]) -> usize
     ensures most { result ≤ length text.now }
     ensures before { (k : ℕ)
-        → length text.now - (MOST_DIGITS + 1) ≤ k → k < result → slice_index text.now k ≢ 99 }
-    ensures found { result < length text.now → slice_index text.now result ≡ 99 }
+        → length text.now - (MOST_DIGITS + 1) ≤ k → k < result → slice_index text.now k ≢ letter_c }
+    ensures found { result < length text.now → slice_index text.now result ≡ letter_c }
 {
     let mut at = text.len().saturating_sub(MOST_DIGITS + 1);
     while at < text.len() && text[at] != b'c' {

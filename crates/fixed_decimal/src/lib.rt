@@ -3,6 +3,7 @@
 
 mod compact;
 mod decimal;
+mod digits;
 mod error;
 mod exponent;
 pub mod laws;

@@ -115,6 +115,19 @@ fn a_compact_decimal_has_its_parts(rt: HostRuntime) -> Result<(), Fail> {
 }
 
 #[test]
+fn an_error_prints_its_text(rt: HostRuntime) -> Result<(), Fail> {
+    let rows = [
+        (DecimalError::Syntax, "bad number"),
+        (DecimalError::Limit, "number out of limits"),
+        (DecimalError::Memory, "out of memory"),
+    ];
+    for (error, text) in rows {
+        assert_eq!(rt; error.to_string(rt.alloc())?.as_str(), text);
+    }
+    Ok(())
+}
+
+#[test]
 fn a_side_has_32767_places_at_most(rt: HostRuntime) -> Result<(), Fail> {
     let mut text = repeated(rt.alloc(), "9", 32767)?;
     let number = UnsignedDecimal::from_str(rt.alloc(), text.as_str())?;
@@ -184,15 +197,16 @@ fn a_shift_keeps_every_digit_or_is_refused(rt: HostRuntime) -> Result<(), Fail> 
 #[test]
 fn a_shift_reaches_the_last_place(rt: HostRuntime) -> Result<(), Fail> {
     let rows = [
-        ("1", 32766, (0, 32766), 32766),
-        ("5", -32767, (-32767, 0), -32767),
+        ("1", 32766, (0, 32766), 32766, 1),
+        ("5", -32767, (-32767, 0), -32767, 5),
     ];
-    for (text, places, range, magnitude) in rows {
+    for (text, places, range, magnitude, digit) in rows {
         let mut number = UnsignedDecimal::from_str(rt.alloc(), text)?;
-        assert!(rt; number.multiply_pow10(places).is_ok(), "{text}");
+        assert_eq!(rt; number.multiply_pow10(places), Ok(()), "{text}");
         assert_eq!(rt; number.magnitude_range(), range, "{text}");
-        assert!(rt; number.digit_at(magnitude) > 0, "{text}");
+        assert_eq!(rt; number.digit_at(magnitude), digit, "{text}");
         assert_eq!(rt; number.digit_at(magnitude / 2), 0, "{text}");
+        assert_eq!(rt; number.digit_at(0), 0, "{text}");
     }
     Ok(())
 }
@@ -324,5 +338,31 @@ fn where_growth_is_refused_a_call_wants_memory_and_then_answers(
         CompactDecimal::from_str(alloc, "1c256").err(),
         Some(DecimalError::Limit)
     );
+    Ok(())
+}
+
+#[test]
+fn a_shift_answers_where_growth_is_refused(rt: HostRuntime) -> Result<(), Fail> {
+    let refused = Err(DecimalError::Limit);
+    let rows = [
+        ("1", 32766, Ok(()), (0, 32766)),
+        ("1", 32767, refused, (0, 0)),
+        ("5", -32767, Ok(()), (-32767, 0)),
+        ("5", i16::MIN, refused, (0, 0)),
+        ("0.5", 1, Ok(()), (0, 1)),
+    ];
+    for (text, places, outcome, range) in rows {
+        let mut number = either(
+            Decimal::from_str(rt.alloc(), text),
+            Decimal::from_str(rt.alloc(), text),
+        )?;
+        let shifted = number.multiply_pow10(places);
+        assert_eq!(rt; shifted, outcome, "{text} by {places}");
+        assert_eq!(rt;
+            number.absolute.magnitude_range(),
+            range,
+            "{text} by {places}"
+        );
+    }
     Ok(())
 }

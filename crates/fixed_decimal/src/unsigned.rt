@@ -3,18 +3,16 @@
 ghost use Rattle.std.specs.Prelude.{◌≡◌, ◌+◌, ◌-◌, ◌≤◌, ◌++◌, ◌↔◌, pos, neg_ℤ, [], length, slice_index, IfOk, IfErr, OnOk, OnErr, IsTrue};
 ghost use Rattle.fixed_decimal.specs.Digits.{IsNumeral};
 ghost use Rattle.fixed_decimal.specs.Written.{WritesUnsigned};
-ghost use Rattle.fixed_decimal.specs.Points.{AllDigitBytes, HasPointWithin, number_of, number_at};
+ghost use Rattle.fixed_decimal.specs.TextParts.{AllDigitBytes, HasPointWithin, number_of, number_at};
 ghost use Rattle.fixed_decimal.specs.Places.{Places, IsWritten, IsWithinLimit, IsOverLimit, shift, shift_left, shift_right, digit_at, HasDigitFrom};
 
 use crate::DecimalError;
+use crate::digits::MOST_PLACES;
 use crate::point::point_within;
 use crate::span::{digits_between, end_before_zeros, zeros_before};
 use itoa::Buffer;
 use std::alloc::{AllocError, Global};
 use std::marker::Model;
-
-/// How many places there may be on a side.
-pub(crate) const MOST_PLACES: u16 = 32767;
 
 /// A written number without a sign: its integer digits, at least one, and its fraction digits. All
 /// written zeros count. Only the digits from the first to the last that isn't zero take memory.
@@ -28,7 +26,7 @@ pub struct UnsignedDecimal {
 
 impl Model for UnsignedDecimal {
     ghost use Rattle.fixed_decimal.specs.Places.{Places};
-    ghost use Rattle.fixed_decimal.specs.Span.{places_of, IsSpan};
+    ghost use Rattle.fixed_decimal.specs.UnsignedInside.{places_of, IsSpan};
 
     ghost Value = { Places };
 
@@ -147,8 +145,8 @@ impl UnsignedDecimal {
         )
     }
 
-    /// Whether a digit at `10^magnitude` or above isn't 0. It looks at no digit: the span begins
-    /// with one.
+    /// Whether a digit at `10^magnitude` or above isn't 0. It looks at no digit: the kept digits begin
+    /// with one that isn't 0.
     #[inline]
     pub fn has_digit_from(&self, magnitude: i16) -> bool
         ensures { IsTrue result ↔ HasDigitFrom self.now magnitude }

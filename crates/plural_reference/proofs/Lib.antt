@@ -5,6 +5,7 @@ pub mod GroupsAgree
 pub mod Conversion
 pub mod OperandLawsProved
 pub mod OperandTexts
+pub mod NamedOnce
 mod OperandRows
 pub mod ExactnessLawsProved
 pub mod Folds

@@ -8,7 +8,7 @@ use Rattle.std.specs.Int.{◌∣◌}
 use Rattle.fixed_decimal.specs.Digits.{value_of}
 use Rattle.fixed_decimal.specs.Places.{Places, IsWritten, shift_right}
 use Rattle.plural_reference.specs.Operands.{Operands, of_whole, of_wide}
-use Rattle.plural_reference.specs.DecimalOperands.{HasFraction, IsCutAt, IsExactAt, number_of, cut_whole}
+use Rattle.plural_reference.specs.DecimalOperands.{HasFraction, IsCutAt, IsExactAt, all_digits_value, cut_whole}
 use Rattle.plural_reference.specs.OperandLaws.{SameBelowLimit, CongruentFromLimit, NothingIsCut, OneCut, OneExact, TellTheNumber}
 use Rattle.plural_reference.proofs.Numbers.{value_of-append-div, value_of-append-mod}
 use Rattle.plural_reference.proofs.Fractions.{SameFraction, one_fraction, exact_whole, exact_fraction, cut_fraction, IsWritten-shift_right}
@@ -56,7 +56,7 @@ six_parts o = refl
 same_six : (a b : Operands) → a.i ≡ b.i → a.v ≡ b.v → a.w ≡ b.w → a.f ≡ b.f → a.t ≡ b.t → a.c ≡ b.c → six a.i a.v a.w a.f a.t a.c ≡ six b.i b.v b.w b.f b.t b.c
 same_six a b i v w f t c = cc
 
-one_record : (a b : Operands) → a.i ≡ b.i → SameFraction a b → a.c ≡ b.c → a ≡ b
+pub one_record : (a b : Operands) → a.i ≡ b.i → SameFraction a b → a.c ≡ b.c → a ≡ b
 one_record a b i s c = six_parts a ∙ same_six a b i s.v s.w s.f s.t c ∙ sym (six_parts b)
 
 -- a count without trailing zeros, and what is left then
@@ -103,8 +103,8 @@ one_cut x e =
 pub one_exact : OneExact
 one_exact x e =
     let y : Places = shift_right e x in
-    let m : (o : Operands) × (o.i ≡ number_of y / 10 ^ length y.fraction) × HasFraction o (length y.fraction) (number_of y % 10 ^ length y.fraction) × (o.c ≡ e)
-    = made (number_of y / 10 ^ length y.fraction) (length y.fraction) (number_of y % 10 ^ length y.fraction) e in
+    let m : (o : Operands) × (o.i ≡ all_digits_value y / 10 ^ length y.fraction) × HasFraction o (length y.fraction) (all_digits_value y % 10 ^ length y.fraction) × (o.c ≡ e)
+    = made (all_digits_value y / 10 ^ length y.fraction) (length y.fraction) (all_digits_value y % 10 ^ length y.fraction) e in
     let k : IsExactAt y e m.0 = record { i = m.1; fraction = m.2; c = m.3 } in
     (m.0, k, λ b h. one_record b m.0 (h.i ∙ sym k.i) (one_fraction b m.0 _ _ h.fraction k.fraction) (h.c ∙ sym k.c))
 
@@ -114,8 +114,8 @@ pub tell_the_number : TellTheNumber
 tell_the_number x e o h =
     let y : Places = shift_right e x in (
       ap (λ n. n * 10 ^ o.v + o.f) h.i
-          ∙ ap (λ n. number_of y / 10 ^ length y.fraction * 10 ^ n + o.f) h.fraction.v
-          ∙ ap (λ n. number_of y / 10 ^ length y.fraction * 10 ^ length y.fraction + n) h.fraction.f
-          ∙ div-add-mod' (number_of y) (10 ^ length y.fraction),
+          ∙ ap (λ n. all_digits_value y / 10 ^ length y.fraction * 10 ^ n + o.f) h.fraction.v
+          ∙ ap (λ n. all_digits_value y / 10 ^ length y.fraction * 10 ^ length y.fraction + n) h.fraction.f
+          ∙ div-add-mod' (all_digits_value y) (10 ^ length y.fraction),
       h.fraction.v,
     )

@@ -1,18 +1,22 @@
 -- Worked numbers at the bound, and their exact operands and truth, computed by the definitions.
-use Rattle.std.proofs.Common.{◌≡◌, ℕ, zero, suc, ◌+◌, ◌-◌, ◌*◌, ◌%◌, ◌^◌, ◌<◌, ◌≤◌, ◌⊎◌, ◌≢◌, inl, inr, List, [], ◌∷◌, ◌++◌, refl, sym, ap, subst, replicate, codes, arith, map, Some, None, true, false, lit<, lit≤, ◌∙◌}
+use Rattle.std.proofs.Common.{◌≡◌, ℕ, zero, suc, ◌+◌, ◌-◌, ◌*◌, ◌%◌, ◌^◌, ◌<◌, ◌≤◌, ◌⊎◌, ◌≢◌, inl, inr, List, [], ◌∷◌, ◌++◌, refl, sym, ap, subst, replicate, codes, length, get_or, arith, map, Some, None, true, false, lit<, lit≤, ◌∙◌}
 use Rattle.std.proofs.lemmas.Bool.{cases_lt}
 use Rattle.std.proofs.lemmas.Nat.{pow-add}
 use Rattle.std.proofs.lemmas.Nat.Gcd.{dvd_of_mod-eq-zero, mod-eq-zero_of_dvd, dvd_trans}
 use Rattle.std.proofs.Math.Nat.{dvd-mul_right}
 use Rattle.std.specs.Int.{◌∣◌}
+use Rattle.fixed_decimal.specs.Digits.{AreDigits, value_of}
 use Rattle.fixed_decimal.specs.Places.{Places}
 use Rattle.plural_reference.specs.Operands.{Operands, of_whole}
 use Rattle.plural_reference.specs.DecimalOperands.{AreExact, AreCut, HasFraction}
+use Rattle.plural_reference.specs.OperandText.{IsWord, WritesCount, WritesFraction, WritesOperands}
+use Rattle.plural_reference.specs.OperandReader.{HasNo, WritesPointed}
 use Rattle.plural_reference.specs.Truth.{RelationMeaning, relation_truth}
 use Rattle.plural_reference.specs.ExactTruth.{exact_value, exact_relation_truth}
 use Rattle.plural_reference.specs.Exactness.{IsWithinBound, AllDivide}
 use Rattle.plural_reference.specs.declared.ast.Operand.TheVariants.{N, I}
 use Rattle.plural_reference.specs.declared.ast.Operator.TheVariants.{Eq, NotEq}
+use Rattle.plural_reference.proofs.OperandTexts.{names_pointed}
 
 -- ---- helpers
 
@@ -151,3 +155,36 @@ n_by_10 = refl
 
 compact_million : AreExact (number (codes "1") (codes "00000020")) 6 (six 1000000 2 1 20 2 6)
 compact_million = record { i = refl; fraction = record { v = refl; f = refl; w_divides = dvd_of_mod-eq-zero 10 refl; w_least = least_by 2 20 1 (lit≤ tt) (inr (nonzero 20 (lit< tt))); t = refl }; c = refl }
+
+-- ---- texts of operands
+
+named : (ds : List ℕ) → 0 < length ds → AreDigits ds → value_of ds < 2 ^ 64 → IsWord ds
+named ds some are below = record { nonempty = some; digits = are; below = below }
+
+-- `-5.10`
+named_5_10 : WritesOperands (codes "-5.10") (six 5 2 1 10 1 0)
+named_5_10 = inr (codes "5.10", (codes "5", codes ".10", [], five, fraction, inl (refl, refl), refl), refl)
+  where
+    five : WritesCount (codes "5") 5
+    five = (5 ∷ [], named (5 ∷ []) (lit< tt) (lit< tt, tt) (lit< tt), refl, inl refl)
+
+    fraction : WritesFraction (codes ".10") (six 5 2 1 10 1 0)
+    fraction = inr (
+      1 ∷ 0 ∷ [],
+      named (1 ∷ 0 ∷ []) (lit< tt) (lit< tt, (lit< tt, tt)) (lit< tt),
+      refl,
+      record { v = refl; f = refl; w_divides = dvd_of_mod-eq-zero 10 refl; w_least = least_by 2 10 1 (lit≤ tt) (inr (nonzero 10 (lit< tt))); t = refl },
+    )
+
+-- `1.+5`: a fraction takes no `+`
+no_plus_behind_the_point : (o : Operands) → WritesOperands (codes "1.+5") o → ⊥
+no_plus_behind_the_point o (inr (rest, h, e)) = let k : 49 ≡ 45 = ap (λ l. get_or l 0 0) e in omega (arith, k)
+no_plus_behind_the_point o (inl h) = pointed o (names_pointed (codes "1.+5") (codes "1") (codes "+5") o none refl h)
+  where
+    none : HasNo 46 (codes "1")
+    none zero i e = omega (arith, e)
+    none (suc k) i e = omega (arith, i)
+
+    pointed : (o : Operands) → WritesPointed (codes "1") (codes "+5") o → ⊥
+    pointed o (w, ([], tail, word, f, x, e)) = let s : 0 < 0 = word.nonempty in omega (arith, s)
+    pointed o (w, (d ∷ ds, tail, word, f, x, e)) = let k : 43 ≡ 48 + d = ap (λ l. get_or l 0 0) e in omega (arith, k)

@@ -17,7 +17,7 @@ use Rattle.plural_reference.specs.declared.operands.error.OperandsError.TheVaria
 
 -- ---- digits and their bytes
 
-abbrev digits_of : List ℕ → List ℕ
+abbrev pub digits_of : List ℕ → List ℕ
 digits_of bytes = map (λ b. b - 48) bytes
 
 text_of-digits_of : (bytes : List ℕ) → AllDigits 10 bytes → text_of (digits_of bytes) ≡ bytes
@@ -31,7 +31,7 @@ AreDigits-digits_of : (bytes : List ℕ) → AllDigits 10 bytes → AreDigits (d
 AreDigits-digits_of [] h = tt
 AreDigits-digits_of (b ∷ bytes) h = (let r : IsInRange 48 57 b = digit_from_value b h.0 in omega (arith, r), AreDigits-digits_of bytes h.1)
 
-digits_of-text_of : (ds : List ℕ) → digits_of (text_of ds) ≡ ds
+pub digits_of-text_of : (ds : List ℕ) → digits_of (text_of ds) ≡ ds
 digits_of-text_of [] = refl
 digits_of-text_of (d ∷ ds) = let e : 48 + d - 48 ≡ d = omega arith in ap (λ n. n ∷ digits_of (text_of ds)) e ∙ ap (λ l. d ∷ l) (digits_of-text_of ds)
 
@@ -109,7 +109,7 @@ HasNo-count byte n text (ds, w, v, inr e) plus other = subst (HasNo byte) (sym e
 other_head : (a b : ℕ) (xs ys : List ℕ) → a ∷ xs ≡ b ∷ ys → a ≡ b
 other_head a b xs ys e = cc
 
-same_tail : (a b : ℕ) (xs ys : List ℕ) → a ∷ xs ≡ b ∷ ys → xs ≡ ys
+pub same_tail : (a b : ℕ) (xs ys : List ℕ) → a ∷ xs ≡ b ∷ ys → xs ≡ ys
 same_tail a b xs ys e = cc
 
 head_first : (bytes : List ℕ) → get_or bytes 0 0 ≡ 43 → bytes ≡ 43 ∷ drop 1 bytes
@@ -117,7 +117,7 @@ head_first [] e = absurd (omega (arith, e))
 head_first (b ∷ bytes) e = ap (λ n. n ∷ bytes) e
 
 -- no digits begin with a `+`
-no_plus : (ds : List ℕ) → IsWord ds → get_or (text_of ds) 0 0 ≡ 43 → ⊥
+pub no_plus : (ds : List ℕ) → IsWord ds → get_or (text_of ds) 0 0 ≡ 43 → ⊥
 no_plus [] w e = omega (arith, e)
 no_plus (d ∷ ds) w e = omega (arith, e)
 
@@ -174,7 +174,7 @@ digits_answer text (Err e) other h = (h.0, λ n d. h.1 n (count_from_digits text
 -- ---- what stands before the first `e`
 
 -- nothing follows that, or an `e`
-tail_of : (rest : List ℕ) (c : ℕ) → WritesExponent rest c → (rest ≡ []) ⊎ ((more : List ℕ) × (rest ≡ 101 ∷ more))
+pub tail_of : (rest : List ℕ) (c : ℕ) → WritesExponent rest c → (rest ≡ []) ⊎ ((more : List ℕ) × (rest ≡ 101 ∷ more))
 tail_of rest c (inl a) = inl a.0
 tail_of rest c (inr a) = inr (a.0, a.2)
 
@@ -190,7 +190,7 @@ one_front byte (x ∷ xs) us (y ∷ ys) vs h k p q e =
     let j : x ≡ y = other_head x y (xs ++ us) (ys ++ vs) e in
     cc
 
-same_rest : (xs us vs : List ℕ) → xs ++ us ≡ xs ++ vs → us ≡ vs
+pub same_rest : (xs us vs : List ℕ) → xs ++ us ≡ xs ++ vs → us ≡ vs
 same_rest [] us vs e = e
 same_rest (x ∷ xs) us vs e = same_rest xs us vs (same_tail x x (xs ++ us) (xs ++ vs) e)
 
@@ -215,10 +215,10 @@ refuses_exponent text front count h e none other c (rest, k, inr (more, w, g), f
 
 -- ---- a count and perhaps an exponent
 
-ends_by_count : (text whole rest : List ℕ) (n c : ℕ) → WritesCount whole n → WritesExponent rest c → text ≡ whole ++ rest → EndsInExponent text whole c
+pub ends_by_count : (text whole rest : List ℕ) (n c : ℕ) → WritesCount whole n → WritesExponent rest c → text ≡ whole ++ rest → EndsInExponent text whole c
 ends_by_count text whole rest n c w x e = (rest, HasNo-count 101 n whole w (λ k. omega (arith, k)) (inr (lit< tt)), x, e)
 
-ends_by_word : (text ds rest : List ℕ) (c : ℕ) → IsWord ds → WritesExponent rest c → text ≡ text_of ds ++ rest → EndsInExponent text (text_of ds) c
+pub ends_by_word : (text ds rest : List ℕ) (c : ℕ) → IsWord ds → WritesExponent rest c → text ≡ text_of ds ++ rest → EndsInExponent text (text_of ds) c
 ends_by_word text ds rest c w x e = (rest, HasNo-word 101 ds w (inr (lit< tt)), x, e)
 
 pub whole_without_exponent : (text : List ℕ) → ((front : List ℕ) (c : ℕ) → ¬ (EndsInExponent text front c)) → (o : Operands) → ¬ (WritesWhole text o)
@@ -244,7 +244,7 @@ HasNo-exponent : (byte c : ℕ) (rest : List ℕ) → WritesExponent rest c → 
 HasNo-exponent byte c rest (inl w) other plus high = subst (HasNo byte) (sym w.0) (λ i below. absurd (omega arith))
 HasNo-exponent byte c rest (inr (count, w, e)) other plus high = subst (HasNo byte) (sym e) (HasNo-cons byte 101 count (λ k. other (sym k)) (HasNo-count byte c count w plus high))
 
-no_point : (text whole exponent : List ℕ) (n c : ℕ) → WritesCount whole n → WritesExponent exponent c → text ≡ whole ++ exponent → HasNo 46 text
+pub no_point : (text whole exponent : List ℕ) (n c : ℕ) → WritesCount whole n → WritesExponent exponent c → text ≡ whole ++ exponent → HasNo 46 text
 no_point text whole exponent n c w x e =
     subst (HasNo 46) (sym e) (HasNo-append 46 whole exponent (HasNo-count 46 n whole w (λ k. omega (arith, k)) (inl (lit< tt))) (HasNo-exponent 46 c exponent x (λ k. omega (arith, k)) (λ k. omega (arith, k)) (inl (lit< tt))))
 
@@ -252,7 +252,7 @@ no_point text whole exponent n c w x e =
 pointed_names : (text whole rest : List ℕ) (o : Operands) → text ≡ whole ++ (46 ∷ rest) → WritesPointed whole rest o → WritesUnsignedOperands text o
 pointed_names text whole rest o e (w, (ds, tail, d, f, x, k)) = (whole, 46 ∷ text_of ds, tail, w, inr (ds, d, refl, f), x, e ∙ ap (λ l. whole ++ (46 ∷ l)) k)
 
-names_pointed : (text whole rest : List ℕ) (o : Operands) → HasNo 46 whole → text ≡ whole ++ (46 ∷ rest) → WritesUnsignedOperands text o → WritesPointed whole rest o
+pub names_pointed : (text whole rest : List ℕ) (o : Operands) → HasNo 46 whole → text ≡ whole ++ (46 ∷ rest) → WritesUnsignedOperands text o → WritesPointed whole rest o
 names_pointed text whole rest o h e (number, fraction, exponent, w, inl f, x, k) =
     absurd (has_no-seam 46 whole rest (subst (HasNo 46) e (no_point text number exponent o.i o.c w x (k ∙ ap (λ l. number ++ (l ++ exponent)) f.0))))
 names_pointed text whole rest o h e (number, fraction, exponent, w, inr (ds, d, g, f), x, k) =
@@ -266,7 +266,7 @@ answer_pointed text whole rest (Ok o) h e a = pointed_names text whole rest o e 
 answer_pointed text whole rest (Err d) h e a = (a.0, λ o w. a.1 o (names_pointed text whole rest o h e w))
 
 -- of a text without a point
-names_whole : (text : List ℕ) (o : Operands) → HasNo 46 text → WritesUnsignedOperands text o → WritesWhole text o
+pub names_whole : (text : List ℕ) (o : Operands) → HasNo 46 text → WritesUnsignedOperands text o → WritesWhole text o
 names_whole text o h (number, fraction, exponent, w, inl f, x, k) = (number, w, f.1, (exponent, x, k ∙ ap (λ l. number ++ (l ++ exponent)) f.0))
 names_whole text o h (number, fraction, exponent, w, inr (ds, d, g, f), x, k) =
     absurd (has_no-seam 46 number (text_of ds ++ exponent) (subst (HasNo 46) (k ∙ ap (λ l. number ++ (l ++ exponent)) g) h))
@@ -283,7 +283,7 @@ first_of_count text n (ds, w, v, inr e) = (43, text_of ds, e, λ k. omega (arith
 first_of_count text n ([], w, v, inl e) = absurd (let s : 0 < 0 = w.nonempty in omega arith)
 first_of_count text n (d ∷ ds, w, v, inl e) = (48 + d, text_of ds, e, λ k. omega (arith, k))
 
-no_minus : (text rest : List ℕ) (o : Operands) → text ≡ 45 ∷ rest → WritesUnsignedOperands text o → ⊥
+pub no_minus : (text rest : List ℕ) (o : Operands) → text ≡ 45 ∷ rest → WritesUnsignedOperands text o → ⊥
 no_minus text rest o e (whole, fraction, exponent, w, f, x, k) =
     let first : (b : ℕ) × (more : List ℕ) × (whole ≡ b ∷ more) × (b ≢ 45) = first_of_count whole o.i w in
     first.3 (sym (other_head 45 first.0 rest (first.1 ++ (fraction ++ exponent)) (sym e ∙ k ∙ ap (λ l. l ++ (fraction ++ exponent)) first.2)))

@@ -1,12 +1,12 @@
 -- Which operands a written number has (UTS 35 Part 3, Plural Operand Meanings). The number is given by its digits x and its
 -- compact exponent e: the point goes e places to the right before the digits count.
---     AreExact x e o      the operands, whatever the number's length
---     AreCut x e o      the operands that are kept: the last 18 integer digits and the first 18 fraction digits count
+--     AreExact x e o      the exact operands, whatever the number's length
+--     AreCut x e o      the kept operands: the last 18 integer digits and the first 18 fraction digits count
 use Rattle.std.specs.Prelude.{◌≡◌, ℕ, ◌+◌, ◌-◌, ◌/◌, ◌%◌, ◌^◌, ◌≤◌, List, ◌++◌, length, take, drop, nat_le, if◌then◌else◌}
 use Rattle.std.specs.Int.{◌∣◌}
 use Rattle.fixed_decimal.specs.Digits.{value_of}
 use Rattle.fixed_decimal.specs.Places.{Places, shift_right}
-use Rattle.plural_reference.specs.Operands.{Operands}
+use Rattle.plural_reference.specs.Operands.{Operands, kept_places, kept_limit}
 
 -- The fraction digits that are shown are so many, and write this number. w is the least count of them with the number
 -- divisible by 10 ^ (shown - w), and t is what that division gives.
@@ -20,28 +20,29 @@ pub record HasFraction (o : Operands) (shown written : ℕ) : Type 0 where
 -- ---- Exact operands
 
 -- the whole number that all digits write: the number itself is so many parts of 10 ^ (count of its fraction digits)
-abbrev pub number_of : Places → ℕ
-number_of y = value_of (y.whole ++ y.fraction)
+abbrev pub all_digits_value : Places → ℕ
+all_digits_value y = value_of (y.whole ++ y.fraction)
 
 -- of the digits as they stand, and an exponent
 pub record IsExactAt (y : Places) (e : ℕ) (o : Operands) : Type 0 where
-  pub i : o.i ≡ number_of y / 10 ^ length y.fraction
-  pub fraction : HasFraction o (length y.fraction) (number_of y % 10 ^ length y.fraction)
+  pub i : o.i ≡ all_digits_value y / 10 ^ length y.fraction
+  pub fraction : HasFraction o (length y.fraction) (all_digits_value y % 10 ^ length y.fraction)
   pub c : o.c ≡ e
 
 abbrev pub AreExact : Places → ℕ → Operands → Type 0
 AreExact x e o = IsExactAt (shift_right e x) e o
 
--- ---- Cut operands
+-- ---- Kept operands
 
 -- the number that at most 18 digits write; of more, what the last 18 write, and 10 ^ 18 besides
 abbrev pub cut_whole : List ℕ → ℕ
-cut_whole ds = if nat_le (length ds) 18 then value_of ds else value_of (drop (length ds - 18) ds) + 10 ^ 18
+cut_whole ds =
+    if nat_le (length ds) kept_places then value_of ds else value_of (drop (length ds - kept_places) ds) + kept_limit
 
 -- of the digits as they stand, and an exponent
 pub record IsCutAt (y : Places) (e : ℕ) (o : Operands) : Type 0 where
   pub i : o.i ≡ cut_whole y.whole
-  pub fraction : HasFraction o (length (take 18 y.fraction)) (value_of (take 18 y.fraction))
+  pub fraction : HasFraction o (length (take kept_places y.fraction)) (value_of (take kept_places y.fraction))
   pub c : o.c ≡ e
 
 abbrev pub AreCut : Places → ℕ → Operands → Type 0

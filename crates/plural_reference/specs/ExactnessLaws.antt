@@ -1,10 +1,10 @@
--- The operands that are kept of a number decide a rule as the number itself does, within the bound.
+-- Within the bound the kept operands of a number decide a rule as the number itself does.
 use Rattle.std.specs.Prelude.{◌≡◌, ℕ, ◌+◌, ◌-◌, ◌*◌, ◌%◌, ◌^◌, ◌<◌, ◌≤◌, ◌↔◌, List, [], ◌∷◌, length, IsTrue, true, false, pos, ◌-ℤ◌}
 use Rattle.std.specs.Int.{◌∣◌}
 use Rattle.std.specs.List.{AllByRecursion}
 use Rattle.fixed_decimal.specs.Digits.{IsNumeral, value_of}
 use Rattle.fixed_decimal.specs.Places.{Places, IsWritten, HasDigitFrom, shift_right}
-use Rattle.plural_reference.specs.Operands.{Operands}
+use Rattle.plural_reference.specs.Operands.{Operands, kept_limit}
 use Rattle.plural_reference.specs.DecimalOperands.{AreCut, AreExact}
 use Rattle.plural_reference.specs.Truth.{RelationMeaning, holds_value, is_in_ranges, is_true_of, relation_truth, remainder, meaning_of, groups_of}
 use Rattle.plural_reference.specs.ExactTruth.{exact_value, exact_relation_truth, exact_truth, parts}
@@ -15,34 +15,34 @@ use Rattle.plural_reference.specs.declared.ast.Operator.TheVariants.{Eq}
 
 -- ---- The agreement
 
--- a number within the bound, with its cut and its exact operands
-pub record IsKept (x : Places) (e : ℕ) (moduli : List ℕ) (cut exact : Operands) : Type 0 where
+-- a number within the bound, with its kept and its exact operands
+pub record IsKept (x : Places) (e : ℕ) (moduli : List ℕ) (kept exact : Operands) : Type 0 where
   pub written : IsWritten x
   pub within : IsWithinBound x e moduli
-  pub are_cut : AreCut x e cut
+  pub are_cut : AreCut x e kept
   pub are_exact : AreExact x e exact
 
--- a relation is true of the operands that are kept exactly if it is true of the exact ones
+-- a relation is true of the kept operands exactly if it is true of the exact ones
 abbrev pub RelationsAgree : Type 0
 RelationsAgree =
-    (x : Places) (e : ℕ) (moduli : List ℕ) (cut exact : Operands) (relation : RelationMeaning)
-    → IsKept x e moduli cut exact → IsAdmitted moduli relation
-    → relation_truth cut relation ≡ exact_relation_truth exact relation
+    (x : Places) (e : ℕ) (moduli : List ℕ) (kept exact : Operands) (relation : RelationMeaning)
+    → IsKept x e moduli kept exact → IsAdmitted moduli relation
+    → relation_truth kept relation ≡ exact_relation_truth exact relation
 
 -- the same of groups of relations
 abbrev pub GroupsAgree : Type 0
 GroupsAgree =
-    (x : Places) (e : ℕ) (moduli : List ℕ) (cut exact : Operands) (groups : List (List RelationMeaning))
-    → IsKept x e moduli cut exact → AllByRecursion (AllByRecursion (IsAdmitted moduli)) groups
-    → is_true_of (relation_truth cut) groups ≡ is_true_of (exact_relation_truth exact) groups
+    (x : Places) (e : ℕ) (moduli : List ℕ) (kept exact : Operands) (groups : List (List RelationMeaning))
+    → IsKept x e moduli kept exact → AllByRecursion (AllByRecursion (IsAdmitted moduli)) groups
+    → is_true_of (relation_truth kept) groups ≡ is_true_of (exact_relation_truth exact) groups
 
 -- the same of a condition
 abbrev pub ConditionsAgree : Type 0
 ConditionsAgree =
-    (x : Places) (e : ℕ) (moduli : List ℕ) (cut exact : Operands) (condition : Condition)
-    → IsKept x e moduli cut exact
+    (x : Places) (e : ℕ) (moduli : List ℕ) (kept exact : Operands) (condition : Condition)
+    → IsKept x e moduli kept exact
     → AllByRecursion (AllByRecursion (λ relation. IsAdmitted moduli (meaning_of relation))) (groups_of condition)
-    → is_true_of (λ relation. relation_truth cut (meaning_of relation)) (groups_of condition) ≡ exact_truth exact condition
+    → is_true_of (λ relation. relation_truth kept (meaning_of relation)) (groups_of condition) ≡ exact_truth exact condition
 
 -- ---- Whole numbers
 
@@ -69,15 +69,15 @@ LongValue =
 
 -- the number 2 * 10 ^ 18
 abbrev pub IsTwice : Places → Type 0
-IsTwice x = IsNumeral x.whole (2 * 10 ^ 18) × (x.fraction ≡ [])
+IsTwice x = IsNumeral x.whole (2 * kept_limit) × (x.fraction ≡ [])
 
 -- `i % m = r`, where r is what m leaves of 2 * 10 ^ 18
 abbrev pub left_of_twice : ℕ → RelationMeaning
-left_of_twice m = let r = 2 * 10 ^ 18 % m in record { operand = I; modulus = m; operator = Eq; ranges = (r, r) ∷ [] }
+left_of_twice m = let r = 2 * kept_limit % m in record { operand = I; modulus = m; operator = Eq; ranges = (r, r) ∷ [] }
 
 -- a modulus that doesn't divide 10 ^ 18 tells the exact 2 * 10 ^ 18 from what is kept of it
 abbrev pub BoundIsWidest : Type 0
 BoundIsWidest =
-    (m : ℕ) (x : Places) (cut exact : Operands) → 0 < m → ¬ (m ∣ 10 ^ 18)
-    → IsTwice x → AreCut x 0 cut → AreExact x 0 exact
-    → (exact_relation_truth exact (left_of_twice m) ≡ true) × (relation_truth cut (left_of_twice m) ≡ false)
+    (m : ℕ) (x : Places) (kept exact : Operands) → 0 < m → ¬ (m ∣ kept_limit)
+    → IsTwice x → AreCut x 0 kept → AreExact x 0 exact
+    → (exact_relation_truth exact (left_of_twice m) ≡ true) × (relation_truth kept (left_of_twice m) ≡ false)

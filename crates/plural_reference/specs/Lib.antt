@@ -2,6 +2,7 @@ pub mod Ends
 pub mod Operands
 pub mod DecimalOperands
 pub mod OperandText
+pub mod OperandsErrorTexts
 pub mod Lexer
 pub mod Parser
 pub mod Samples
@@ -12,9 +13,9 @@ pub mod Truth
 pub mod Resolver
 pub mod ExactTruth
 pub mod Exactness
+pub mod ReadingLaws
 pub mod OperandLaws
 pub mod ExactnessLaws
-pub mod ReadingLaws
 pub mod PrintingLaws
 -- not definitions of the subject
 pub mod Scan

@@ -1,32 +1,42 @@
 -- What holds of the operands of every number.
-use Rattle.std.specs.Prelude.{◌≡◌, ℕ, ◌%◌, ◌^◌, ◌<◌, ◌≤◌, ◌↔◌, length}
+use Rattle.std.specs.Prelude.{◌≡◌, ℕ, ◌%◌, ◌<◌, ◌≤◌, ◌↔◌, List, length}
 use Rattle.fixed_decimal.specs.Places.{Places, IsWritten, shift_right}
-use Rattle.plural_reference.specs.Operands.{Operands, of_whole, of_wide}
+use Rattle.plural_reference.specs.Operands.{Operands, kept_places, kept_limit, of_whole, of_wide}
+use Rattle.plural_reference.specs.OperandText.{WritesOperands}
 use Rattle.plural_reference.specs.ExactTruth.{parts}
-use Rattle.plural_reference.specs.DecimalOperands.{AreCut, AreExact, number_of}
+use Rattle.plural_reference.specs.ReadingLaws.{ThereIsOne}
+use Rattle.plural_reference.specs.DecimalOperands.{AreCut, AreExact, all_digits_value}
 
 -- a whole number below 10 ^ 18 has the same operands at 64 and at 128 bits
 abbrev pub SameBelowLimit : Type 0
-SameBelowLimit = (n : ℕ) → n < 10 ^ 18 → of_wide n ≡ of_whole n
+SameBelowLimit = (n : ℕ) → n < kept_limit → of_wide n ≡ of_whole n
 
 -- from there on both integer parts are at least 10 ^ 18, and leave the same by it
 abbrev pub CongruentFromLimit : Type 0
-CongruentFromLimit = (n : ℕ) → 10 ^ 18 ≤ n →
-    (10 ^ 18 ≤ (of_wide n).i) × (10 ^ 18 ≤ (of_whole n).i) × ((of_wide n).i % 10 ^ 18 ≡ (of_whole n).i % 10 ^ 18)
+CongruentFromLimit = (n : ℕ) → kept_limit ≤ n →
+    (kept_limit ≤ (of_wide n).i)
+    × (kept_limit ≤ (of_whole n).i)
+    × ((of_wide n).i % kept_limit ≡ (of_whole n).i % kept_limit)
 
--- with at most 18 places on each side nothing is cut
+-- with at most 18 places on each side the kept operands are the exact ones
 abbrev pub NothingIsCut : Type 0
 NothingIsCut = (x : Places) (e : ℕ) (o : Operands) → IsWritten x →
-    length (shift_right e x).whole ≤ 18 → length (shift_right e x).fraction ≤ 18 → AreCut x e o ↔ AreExact x e o
+    length (shift_right e x).whole ≤ kept_places
+    → length (shift_right e x).fraction ≤ kept_places
+    → AreCut x e o ↔ AreExact x e o
 
--- a number has one list of cut operands, and one of exact ones
+-- a number has one list of kept operands, and one of exact ones
 abbrev pub OneCut : Type 0
-OneCut = (x : Places) (e : ℕ) → (o : Operands) × AreCut x e o × ((other : Operands) → AreCut x e other → other ≡ o)
+OneCut = (x : Places) (e : ℕ) → ThereIsOne (AreCut x e)
 
 abbrev pub OneExact : Type 0
-OneExact = (x : Places) (e : ℕ) → (o : Operands) × AreExact x e o × ((other : Operands) → AreExact x e other → other ≡ o)
+OneExact = (x : Places) (e : ℕ) → ThereIsOne (AreExact x e)
+
+-- a text names one list of operands at most
+abbrev pub OneNamed : Type 0
+OneNamed = (text : List ℕ) (x y : Operands) → WritesOperands text x → WritesOperands text y → x ≡ y
 
 -- the exact operands tell the number: i * 10 ^ v + f is what all its digits write
 abbrev pub TellTheNumber : Type 0
 TellTheNumber = (x : Places) (e : ℕ) (o : Operands) → AreExact x e o →
-    (parts o ≡ number_of (shift_right e x)) × (o.v ≡ length (shift_right e x).fraction)
+    (parts o ≡ all_digits_value (shift_right e x)) × (o.v ≡ length (shift_right e x).fraction)

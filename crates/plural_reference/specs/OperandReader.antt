@@ -1,4 +1,4 @@
--- What the reader of an operand text says of a text's parts; not a definition of the subject.
+-- Not a definition of the subject: the parts of a text of operands, of which private contracts speak.
 use Rattle.std.specs.Prelude.{◌≡◌, ◌≢◌, ℕ, ◌<◌, List, ◌++◌, length, slice_index, Result, Ok, Err}
 use Rattle.fixed_decimal.specs.Digits.{value_of, text_of}
 use Rattle.plural_reference.specs.Operands.{Operands}
@@ -25,10 +25,20 @@ EndsInExponent text front c = (rest : List ℕ) × HasNo 101 front × WritesExpo
 
 -- a count and perhaps an exponent
 abbrev pub WritesWhole : List ℕ → Operands → Type 0
-WritesWhole text o = (whole : List ℕ) × WritesCount whole o.i × HasFraction o 0 0 × ((rest : List ℕ) × WritesExponent rest o.c × (text ≡ whole ++ rest))
+WritesWhole text o =
+    (whole : List ℕ)
+    × WritesCount whole o.i
+    × HasFraction o 0 0
+    × ((rest : List ℕ) × WritesExponent rest o.c × (text ≡ whole ++ rest))
 
 -- a count, and behind the point digits and perhaps an exponent
 abbrev pub WritesPointed : List ℕ → List ℕ → Operands → Type 0
 WritesPointed whole text o =
     WritesCount whole o.i
-    × ((ds rest : List ℕ) × IsWord ds × HasFraction o (length ds) (value_of ds) × WritesExponent rest o.c × (text ≡ text_of ds ++ rest))
+    × (
+    (ds rest : List ℕ)
+    × IsWord ds
+    × HasFraction o (length ds) (value_of ds)
+    × WritesExponent rest o.c
+    × (text ≡ text_of ds ++ rest)
+    )

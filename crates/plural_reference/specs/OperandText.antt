@@ -1,7 +1,7 @@
 -- Texts that name operands.
 --     WritesOperands text o      an optional `-`; a count; perhaps `.` and digits; perhaps `e` and a count
 --     ReadsOperands text r      what reading the text answers
--- A count is digits, perhaps behind a `+`. The integer part isn't cut, and nothing is moved by the exponent.
+-- A count is digits, perhaps behind a `+`. All of the integer part is kept, and nothing is moved by the exponent.
 use Rattle.std.specs.Prelude.{◌≡◌, ◌≢◌, ℕ, ◌<◌, ◌^◌, ◌⊎◌, List, [], ◌++◌, length, codes, Result, Ok, Err}
 use Rattle.fixed_decimal.specs.Digits.{AreDigits, value_of, text_of}
 use Rattle.plural_reference.specs.Operands.{Operands}
@@ -37,7 +37,9 @@ WritesUnsignedOperands text o =
     × (text ≡ whole ++ (fraction ++ exponent))
 
 abbrev pub WritesOperands : List ℕ → Operands → Type 0
-WritesOperands text o = WritesUnsignedOperands text o ⊎ ((rest : List ℕ) × WritesUnsignedOperands rest o × (text ≡ codes "-" ++ rest))
+WritesOperands text o =
+    WritesUnsignedOperands text o
+    ⊎ ((rest : List ℕ) × WritesUnsignedOperands rest o × (text ≡ codes "-" ++ rest))
 
 -- Empty is the fault of the empty text alone, Invalid that of every other text that names no operands.
 abbrev pub FailsOperands : List ℕ → OperandsError → Type 0

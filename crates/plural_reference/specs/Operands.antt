@@ -2,7 +2,8 @@
 -- it shows, with and without trailing zeros; f and t those digits as a number, with and without trailing zeros; and c the
 -- compact exponent, which e names too.
 --     of_whole n      those of a whole number: no fraction, no exponent
---     of_wide n      those that are kept of a whole number of more than 64 bits
+--     of_wide n      those that are kept of an integer of 128 bits
+--     kept_places, kept_limit      18 and 10 ^ 18: what is kept of a longer number
 use Rattle.std.specs.Prelude.{ℕ, ◌+◌, ◌%◌, ◌^◌, nat_lt, if◌then◌else◌}
 
 pub record Operands : Type 0 where
@@ -17,6 +18,14 @@ pub record Operands : Type 0 where
 abbrev pub of_whole : ℕ → Operands
 of_whole n = record { i = n; v = 0; w = 0; f = 0; t = 0; c = 0 }
 
+-- so many digits are kept on each side of the point
+abbrev pub kept_places : ℕ
+kept_places = 18
+
+-- the least number of more digits; such a number keeps what its last digits write, and this besides
+abbrev pub kept_limit : ℕ
+kept_limit = 10 ^ kept_places
+
 -- the same below 10 ^ 18; from there on i has the last 18 digits, and 10 ^ 18 besides
 abbrev pub of_wide : ℕ → Operands
-of_wide n = of_whole (if nat_lt n (10 ^ 18) then n else n % 10 ^ 18 + 10 ^ 18)
+of_wide n = of_whole (if nat_lt n kept_limit then n else n % kept_limit + kept_limit)

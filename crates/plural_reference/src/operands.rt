@@ -12,11 +12,14 @@ mod text;
 pub use error::OperandsError;
 use std::marker::Model;
 
-/// The operands of a number (UTS 35 Part 3, Plural Operand Meanings).
+/// The operands of a number (UTS 35 Part 3, Plural Operand Meanings): `i`, its integer part; `v` and
+/// `w`, how many fraction digits it shows, with and without the trailing zeros; `f` and `t`, those
+/// digits as a number, with and without the trailing zeros; and `c`, the compact exponent.
 ///
 /// They come from integers, from decimals, from texts and from [`RawPluralOperands`]. No conversion
-/// takes memory. Decimals keep at most 18 places on each side of the point; how a longer number
-/// is cut is said at [`PluralOperands::from_significand_and_exponent`].
+/// takes memory. Of a decimal at most 18 places on each side of the point are kept; what is kept of
+/// a longer number is said at [`PluralOperands::from_significand_and_exponent`]. `==` compares all
+/// six; the default is 0 for each, the operands of the number 0.
 ///
 /// [`RawPluralOperands`]: crate::RawPluralOperands
 #[derive(Clone, Copy, Debug, PartialEq, Default)]

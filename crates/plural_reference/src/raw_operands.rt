@@ -22,8 +22,10 @@ pub struct RawPluralOperands {
     pub c: usize,
 }
 
+/// The six numbers as they are.
 impl From<RawPluralOperands> for PluralOperands {
-    ghost from_gives = { λ r o. o ≡ record { i = r.i; v = r.v; w = r.w; f = r.f; t = r.t; c = r.c } };
+    ghost from_gives = { λ r o.
+        o ≡ record { i = r.i; v = r.v; w = r.w; f = r.f; t = r.t; c = r.c } };
 
     #[inline]
     fn from(raw: RawPluralOperands) -> PluralOperands {
@@ -38,8 +40,10 @@ impl From<RawPluralOperands> for PluralOperands {
     }
 }
 
+/// The six numbers, each to be read.
 impl From<PluralOperands> for RawPluralOperands {
-    ghost from_gives = { λ o r. r ≡ record { i = o.i; v = o.v; w = o.w; f = o.f; t = o.t; c = o.c } };
+    ghost from_gives = { λ o r.
+        r ≡ record { i = o.i; v = o.v; w = o.w; f = o.f; t = o.t; c = o.c } };
 
     #[inline]
     fn from(operands: PluralOperands) -> RawPluralOperands {

@@ -1,9 +1,14 @@
-//! The operands that are kept of a number decide a rule as the number itself does, within the bound.
+//! Within the bound the kept operands of a number decide a packed rule as the number itself does.
 
 ghost use Rattle.plural_reference.specs.ExactnessLaws.{RelationsAgree, GroupsAgree, ConditionsAgree, HoldsWholeNumbers, ShiftedPlaces, LongValue, BoundIsWidest};
 
-/// Within the bound the same relations, groups of relations and conditions are true of the operands
-/// that are kept of a number and of its exact operands.
+/// Within the bound a relation is true of the operands that are kept of a number, as packed rules
+/// are asked (`test_rule`, `category_for`), exactly if it is true of the exact number; so are groups
+/// of relations and conditions. The moduli on n and i are those of the bound, 0 aside, and ranges
+/// end below `10^18`. [`test_condition`] differs: n at a fraction and a modulus 0 are false under
+/// `!=` too.
+///
+/// [`test_condition`]: crate::test_condition
 pub fn kept_operands_agree()
     ensures relations { RelationsAgree }
     ensures groups { GroupsAgree }
@@ -22,7 +27,8 @@ pub fn bound_before_the_shift()
     ensures value { LongValue }
 {}
 
-/// Each modulus that the bound doesn't admit tells some number from what is kept of it.
+/// The bound on moduli is the widest: each modulus that doesn't divide `10^18` tells `2 * 10^18` from
+/// what is kept of it.
 pub fn bound_is_widest()
     ensures { BoundIsWidest }
 {}

@@ -2,7 +2,7 @@
 
 ghost use Rattle.std.specs.Prelude.{◌≡◌, nat_abs};
 ghost use Rattle.plural_reference.specs.Operands.{of_whole, of_wide};
-ghost use Rattle.plural_reference.specs.OperandLaws.{SameBelowLimit, CongruentFromLimit, NothingIsCut, OneCut, OneExact, TellTheNumber};
+ghost use Rattle.plural_reference.specs.OperandLaws.{SameBelowLimit, CongruentFromLimit, NothingIsCut, OneCut, OneExact, OneNamed, TellTheNumber};
 
 use crate::operands::PluralOperands;
 
@@ -31,15 +31,20 @@ pub fn wide_signed_as_absolute(number: i128) -> (PluralOperands, PluralOperands)
     (PluralOperands::from(number), PluralOperands::from(absolute))
 }
 
-/// With at most 18 places on each side of the point nothing is cut: the operands are the exact ones.
+/// With at most 18 places on each side of the point the kept operands are the exact ones.
 pub fn short_numbers_are_exact()
     ensures { NothingIsCut }
 {}
 
-/// A number has one list of cut operands, and one of exact ones.
+/// A number has one list of kept operands, and one of exact ones.
 pub fn one_list_of_operands()
     ensures cut { OneCut }
     ensures exact { OneExact }
+{}
+
+/// A text names one list of operands at most.
+pub fn texts_name_one_list()
+    ensures { OneNamed }
 {}
 
 /// The exact operands tell the number.

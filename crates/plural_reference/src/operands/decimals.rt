@@ -43,6 +43,7 @@ impl PluralOperands {
 impl From<&UnsignedDecimal> for PluralOperands {
     ghost from_gives = { λ x o. AreCut x.now 0 o × IsWritten x.now };
 
+    #[inline]
     fn from(number: &UnsignedDecimal) -> PluralOperands {
         PluralOperands::from_significand_and_exponent(number, 0)
     }
@@ -52,6 +53,7 @@ impl From<&UnsignedDecimal> for PluralOperands {
 impl From<&Decimal> for PluralOperands {
     ghost from_gives = { λ x o. AreCut x.now.absolute 0 o × IsWritten x.now.absolute };
 
+    #[inline]
     fn from(number: &Decimal) -> PluralOperands {
         PluralOperands::from(&number.absolute)
     }
@@ -59,8 +61,10 @@ impl From<&Decimal> for PluralOperands {
 
 /// As [`PluralOperands::from_significand_and_exponent`] of the two parts: the sign has no effect.
 impl From<&CompactDecimal> for PluralOperands {
-    ghost from_gives = { λ x o. AreCut x.now.significand.absolute x.now.exponent o × IsWritten x.now.significand.absolute };
+    ghost from_gives = { λ x o.
+        AreCut x.now.significand.absolute x.now.exponent o × IsWritten x.now.significand.absolute };
 
+    #[inline]
     fn from(number: &CompactDecimal) -> PluralOperands {
         PluralOperands::from_significand_and_exponent(
             &number.significand().absolute,
@@ -69,7 +73,8 @@ impl From<&CompactDecimal> for PluralOperands {
     }
 }
 
-// The number that so many digits write, from a power of ten down.
+// The number that so many digits write, from a power of ten down. The lowest of them is one of the
+// first 18 behind the point, moved by at most 255 places: it lies above `10^-300`.
 fn number_at(significand: &UnsignedDecimal, top: i16, count: usize) -> u64
     requires few { count ≤ 18 }
     requires high { neg_ℤ (pos 300) ≤ℤ top }

@@ -1,7 +1,8 @@
 //! Why a text names no operands.
 
-ghost use Rattle.std.specs.Prelude.{◌≡◌, Some, codes};
-ghost use Rattle.plural_reference.specs.declared.operands.error.OperandsError.TheVariants.{Empty, Invalid};
+ghost use Rattle.std.specs.Prelude.{◌≡◌, Some};
+ghost use Rattle.plural_reference.specs.OperandsErrorTexts.{operands_error_text};
+ghost use Rattle.plural_reference.specs.declared.operands.error.OperandsError.TheVariants.{Invalid};
 
 use std::error::Error;
 use std::fmt;
@@ -17,7 +18,7 @@ pub enum OperandsError {
 }
 
 impl fmt::Display for OperandsError {
-    ghost output = { λ e. Some (elim e [ Empty ↦ codes "Input to the Operands parsing was empty" | Invalid ↦ codes "Input to the Operands parsing was invalid" ]) };
+    ghost output = { λ e. Some (operands_error_text e) };
 
     fn fmt<W: fmt::Write>(&self, f: &mut fmt::Formatter<W>) -> fmt::Result {
         f.write_str(match self {
@@ -29,6 +30,7 @@ impl fmt::Display for OperandsError {
 
 impl Error for OperandsError {}
 
+/// `Invalid`: a part of the text is no number of 64 bits.
 impl From<ParseIntError> for OperandsError {
     ghost from_gives = { λ _ e. e ≡ Invalid };
 

@@ -31,6 +31,9 @@ fn without_zeros(shown: usize, written: u64) -> (usize, u64)
     ensures least { (k : ℕ) → 10 ^ (shown - k) ∣ written → result.0 ≤ k }
     ensures number { result.1 ≡ written / 10 ^ (shown - result.0) }
 {
+    if written == 0 {
+        return (0, 0);
+    }
     let mut left = shown;
     let mut number = written;
     while left > 0 && number % 10 == 0 {

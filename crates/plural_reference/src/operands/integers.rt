@@ -8,6 +8,7 @@ use crate::operands::PluralOperands;
 // From here on the last 18 digits of a number are kept, with this added.
 pub(crate) const LIMIT: u64 = 1_000_000_000_000_000_000;
 
+/// `i` is the number.
 impl From<u8> for PluralOperands {
     ghost from_gives = { λ n o. o ≡ of_whole n };
 
@@ -17,6 +18,7 @@ impl From<u8> for PluralOperands {
     }
 }
 
+/// `i` is the number.
 impl From<u16> for PluralOperands {
     ghost from_gives = { λ n o. o ≡ of_whole n };
 
@@ -26,6 +28,7 @@ impl From<u16> for PluralOperands {
     }
 }
 
+/// `i` is the number.
 impl From<u32> for PluralOperands {
     ghost from_gives = { λ n o. o ≡ of_whole n };
 
@@ -35,6 +38,7 @@ impl From<u32> for PluralOperands {
     }
 }
 
+/// `i` is the number, also from `10^18` on.
 impl From<u64> for PluralOperands {
     ghost from_gives = { λ n o. o ≡ of_whole n };
 
@@ -51,6 +55,7 @@ impl From<u64> for PluralOperands {
     }
 }
 
+/// `i` is the number, also from `10^18` on.
 impl From<usize> for PluralOperands {
     ghost from_gives = { λ n o. o ≡ of_whole n };
 
@@ -75,7 +80,7 @@ impl From<u128> for PluralOperands {
     }
 }
 
-/// Those of the absolute value.
+/// Those of the absolute value: the sign has no effect.
 impl From<i8> for PluralOperands {
     ghost from_gives = { λ z o. o ≡ of_whole (nat_abs z) };
 
@@ -85,7 +90,7 @@ impl From<i8> for PluralOperands {
     }
 }
 
-/// Those of the absolute value.
+/// Those of the absolute value: the sign has no effect.
 impl From<i16> for PluralOperands {
     ghost from_gives = { λ z o. o ≡ of_whole (nat_abs z) };
 
@@ -95,7 +100,7 @@ impl From<i16> for PluralOperands {
     }
 }
 
-/// Those of the absolute value.
+/// Those of the absolute value: the sign has no effect.
 impl From<i32> for PluralOperands {
     ghost from_gives = { λ z o. o ≡ of_whole (nat_abs z) };
 
@@ -105,7 +110,7 @@ impl From<i32> for PluralOperands {
     }
 }
 
-/// Those of the absolute value.
+/// Those of the absolute value: the sign has no effect.
 impl From<i64> for PluralOperands {
     ghost from_gives = { λ z o. o ≡ of_whole (nat_abs z) };
 
@@ -115,7 +120,7 @@ impl From<i64> for PluralOperands {
     }
 }
 
-/// Those of the absolute value.
+/// Those of the absolute value: the sign has no effect.
 impl From<isize> for PluralOperands {
     ghost from_gives = { λ z o. o ≡ of_whole (nat_abs z) };
 
@@ -125,7 +130,7 @@ impl From<isize> for PluralOperands {
     }
 }
 
-/// Those of the absolute value, as a `u128`.
+/// Those of the absolute value, as of a `u128`.
 impl From<i128> for PluralOperands {
     ghost from_gives = { λ z o. o ≡ of_wide (nat_abs z) };
 

@@ -11,8 +11,9 @@ use std::str::FromStr;
 /// Reads an optional `-`, an integer, perhaps `.` and a fraction, and perhaps `e` and an exponent.
 ///
 /// The integer and the exponent are digits, perhaps behind a `+`; the fraction is digits. Each is at
-/// most 18446744073709551615 as a number. The sign has no effect, the integer isn't cut, and nothing
-/// is moved by the exponent. `Empty` where the text is, `Invalid` for each other text.
+/// most 18446744073709551615 as a number. The sign has no effect, all of the integer is kept, and
+/// nothing is moved by the exponent. `Empty` for the empty text, `Invalid` for every other text that
+/// isn't of this form. It takes no memory.
 impl FromStr for PluralOperands {
     type Err = OperandsError;
 
@@ -61,7 +62,8 @@ fn read_whole(text: &str) -> Result<PluralOperands, OperandsError>
 // What stands before the first `e`, and the count behind it; the whole text and 0 where there is none.
 fn split_exponent(text: &str) -> Result<(&str, usize), OperandsError>
     ensures found { IfOk result (λ parts. EndsInExponent text.now parts.0.now parts.1) }
-    ensures none { IfErr result (λ e. (e ≡ Invalid) × ((front : List ℕ) (c : ℕ) → ¬ (EndsInExponent text.now front c))) }
+    ensures none { IfErr result (λ e.
+        (e ≡ Invalid) × ((front : List ℕ) (c : ℕ) → ¬ (EndsInExponent text.now front c))) }
 {
     let Some((front, count)) = text.split_once('e') else {
         return Ok((text, 0));

@@ -1,6 +1,6 @@
 //! The operands of worked numbers.
 
-use crate::{OperandsError, PluralOperands, RawPluralOperands, parse_condition, test_condition};
+use crate::{OperandsError, PluralOperands, RawPluralOperands};
 use fixed_decimal::{CompactDecimal, Decimal, DecimalError, UnsignedDecimal};
 use std::alloc::{AllocError, Global};
 use std::test::Fail;
@@ -157,6 +157,8 @@ fn a_compact_decimal_moves_its_point(rt: HostRuntime) -> Result<(), Fail> {
         ("0c18", six(1_000_000_000_000_000_000, 0, 0, 0, 0, 18)),
         ("1c255", six(1_000_000_000_000_000_000, 0, 0, 0, 0, 255)),
         ("0.5c0", six(0, 1, 1, 5, 5, 0)),
+        ("1.5c1", six(15, 0, 0, 0, 0, 1)),
+        (".1c1", six(1, 0, 0, 0, 0, 1)),
     ];
     for (text, want) in rows {
         let number = CompactDecimal::from_str(rt.alloc(), text)?;
@@ -183,6 +185,41 @@ fn the_longest_compact_decimal_has_operands(rt: HostRuntime) -> Result<(), Fail>
     let text = long_text(rt.alloc(), "", "9", 32768, "")?;
     let refused = Decimal::from_str(rt.alloc(), text.as_str()).err();
     assert_eq!(rt; refused, Some(DecimalError::Limit));
+    Ok(())
+}
+
+#[test]
+fn the_largest_numbers_have_operands(rt: HostRuntime) -> Result<(), Fail> {
+    let limit = 1_000_000_000_000_000_000;
+    let rows = [
+        ("1", "0", 32765, "7", six(limit + 7, 0, 0, 0, 0, 0)),
+        (
+            "1",
+            "0",
+            32765,
+            "7.000000000000000000",
+            six(limit + 7, 18, 0, 0, 0, 0),
+        ),
+        (
+            "1",
+            "0",
+            32765,
+            "7.0000000000000000000",
+            six(limit + 7, 18, 0, 0, 0, 0),
+        ),
+        ("", "0", 32767, "", six(limit, 0, 0, 0, 0, 0)),
+        ("", "9", 32767, "c255", six(limit, 0, 0, 0, 0, 255)),
+        ("0.", "0", 32766, "1c255", six(limit, 18, 0, 0, 0, 255)),
+    ];
+    for (before, digit, count, after, want) in rows {
+        let text = long_text(rt.alloc(), before, digit, count, after)?;
+        let number = CompactDecimal::from_str(rt.alloc(), text.as_str())?;
+        assert_eq!(rt;
+            PluralOperands::from(&number),
+            want,
+            "{before}, {count} times {digit}, {after}"
+        );
+    }
     Ok(())
 }
 
@@ -275,9 +312,41 @@ fn only_a_whole_number_without_exponent_is_exact(rt: HostRuntime) {
 }
 
 #[test]
-fn n_has_no_value_at_a_fraction(rt: HostRuntime) -> Result<(), Fail> {
-    let condition = parse_condition(rt.alloc(), b"n != 1")?;
-    let number = Decimal::from_str(rt.alloc(), "1.5")?;
-    assert!(rt; !test_condition(&condition, &PluralOperands::from(&number)));
+fn a_compact_decimal_is_exactly_one_only_without_exponent(rt: HostRuntime) -> Result<(), Fail> {
+    let rows = [
+        ("0", true, false),
+        ("0c1", false, false),
+        ("1c0", false, true),
+        ("-1", false, true),
+        ("+1", false, true),
+        ("01", false, true),
+        ("1c1", false, false),
+        (".1c1", false, false),
+        ("1.0", false, false),
+    ];
+    for (text, zero, one) in rows {
+        let number = CompactDecimal::from_str(rt.alloc(), text)?;
+        let operands = PluralOperands::from(&number);
+        assert_eq!(rt; operands.is_exactly_zero(), zero, "{text}");
+        assert_eq!(rt; operands.is_exactly_one(), one, "{text}");
+    }
+    Ok(())
+}
+
+#[test]
+fn an_error_of_operands_prints_its_text(rt: HostRuntime) -> Result<(), Fail> {
+    let rows = [
+        (
+            OperandsError::Empty,
+            "Input to the Operands parsing was empty",
+        ),
+        (
+            OperandsError::Invalid,
+            "Input to the Operands parsing was invalid",
+        ),
+    ];
+    for (error, text) in rows {
+        assert_eq!(rt; error.to_string(rt.alloc())?.as_str(), text);
+    }
     Ok(())
 }

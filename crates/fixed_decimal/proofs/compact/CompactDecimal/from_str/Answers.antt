@@ -3,7 +3,7 @@ use Rattle.std.proofs.lemmas.Result.{err_from_is_err_and}
 use Rattle.fixed_decimal.specs.Written.{WritesUnsigned, WritesDecimal, HasExponent, WritesCompact, IsCompactOverLimit}
 use Rattle.fixed_decimal.specs.Places.{IsWithinLimit}
 use Rattle.fixed_decimal.specs.Compact.{CompactNumber}
-use Rattle.fixed_decimal.specs.Points.{number_at}
+use Rattle.fixed_decimal.specs.TextParts.{number_at}
 use Rattle.fixed_decimal.specs.declared.decimal.Decimal.{Decimal}
 use Rattle.fixed_decimal.specs.declared.error.DecimalError.TheVariants.{Syntax, Limit}
 use Rattle.fixed_decimal.proofs.Points.{reads_at}

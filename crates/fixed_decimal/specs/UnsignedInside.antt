@@ -4,7 +4,7 @@
 --     IsSpan a      what holds of each number that is kept
 use Rattle.std.specs.Prelude.{◌≢◌, ℕ, ◌+◌, ◌-◌, ◌<◌, ◌≤◌, List, ◌++◌, length, take, drop, replicate, slice_index}
 use Rattle.fixed_decimal.specs.Digits.{AreDigits}
-use Rattle.fixed_decimal.specs.Places.{Places}
+use Rattle.fixed_decimal.specs.Places.{Places, most_places}
 use Rattle.fixed_decimal.specs.declared.unsigned.UnsignedDecimal.TheInside.{Inside}
 
 -- all written digits
@@ -20,8 +20,8 @@ places_of a = record { whole = take a.whole_places (digits_of a); fraction = dro
 -- the limits, the places of the span, and its nonzero ends
 pub record IsSpan (a : Inside) : Type 0 where
   pub whole_nonempty : 0 < a.whole_places
-  pub whole_within : a.whole_places ≤ 32767
-  pub fraction_within : a.fraction_places ≤ 32767
+  pub whole_within : a.whole_places ≤ most_places
+  pub fraction_within : a.fraction_places ≤ most_places
   pub inside : a.leading_zeros + length a.span.items ≤ a.whole_places + a.fraction_places
   pub digits : AreDigits a.span.items
   pub first_nonzero : 0 < length a.span.items → slice_index a.span.items 0 ≢ 0

@@ -1,4 +1,4 @@
--- What is printed of an error.
+-- The texts that the errors print.
 use Rattle.std.specs.Prelude.{ℕ, List, codes}
 use Rattle.fixed_decimal.specs.declared.error.DecimalError.{DecimalError}
 use Rattle.fixed_decimal.specs.declared.error.DecimalError.TheVariants.{Syntax, Limit, Memory}

@@ -1,0 +1,22 @@
+//! Runs of digits in a text, and how long they may be.
+
+ghost use Rattle.std.specs.Prelude.{◌≤◌, ◌<◌, length, slice_index};
+ghost use Rattle.fixed_decimal.specs.TextParts.{AreDigitBytes, IsDigitByte};
+
+// So many places there may be on a side.
+pub(crate) const MOST_PLACES: u16 = 32767;
+
+// The end of the run of digits from an index on.
+pub(crate) fn run_end(text: &[u8], from: usize) -> usize
+    requires { from ≤ length text.now }
+    ensures least { from ≤ result }
+    ensures most { result ≤ length text.now }
+    ensures digits { AreDigitBytes text.now from result }
+    ensures end { result < length text.now → ¬ (IsDigitByte (slice_index text.now result)) }
+{
+    let mut at = from;
+    while at < text.len() && text[at].is_ascii_digit() {
+        at += 1;
+    }
+    at
+}
