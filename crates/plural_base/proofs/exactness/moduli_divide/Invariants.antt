@@ -1,7 +1,7 @@
 use Rattle.std.proofs.Common.{◌≡◌}
 use Rattle.std.specs.List.{list_all}
 use Rattle.plural_base.specs.ModulusTests.{is_admitted}
-use Rattle.plural_base.proofs.exactness.are_admitted.Given as goal
+use Rattle.plural_base.proofs.exactness.moduli_divide.Given as goal
 
 abbrev pub invariant-loop-item : goal.invariant-loop-item
 invariant-loop-item l =
