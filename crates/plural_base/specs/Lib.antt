@@ -25,6 +25,7 @@ pub mod RuleTexts
 pub mod TextAnswers
 pub mod RuleModuli
 pub mod DecimalChoice
+pub mod ChoiceLaws
 -- not definitions of the subject
 pub mod CategoriesLeft
 pub mod ModulusTests

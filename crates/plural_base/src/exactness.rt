@@ -1,13 +1,13 @@
 //! When the category of a decimal is exact.
 
-ghost use Rattle.std.specs.Prelude.{◌≡◌, ◌↔◌, ◌^◌, ◌≤◌, pos, ◌-ℤ◌, length, IsTrue};
+ghost use Rattle.std.specs.Prelude.{◌≡◌, ◌↔◌, ◌^◌, ◌≤◌, Some, pos, ◌-ℤ◌, length, IsTrue};
 ghost use Rattle.std.specs.List.{list_all};
 ghost use Rattle.fixed_decimal.specs.Digits.{value_of};
 ghost use Rattle.fixed_decimal.specs.Places.{IsWritten, shift_right};
 ghost use Rattle.plural_reference.specs.Exactness.{IsWithinBound};
 ghost use Rattle.plural_runtime.specs.RuleViews.{lent_relation};
-ghost use Rattle.plural_base.specs.ModulusTests.{divides_limit, is_admitted, is_rule_admitted, are_all_admitted};
-ghost use Rattle.plural_base.specs.RuleModuli.{moduli_of};
+ghost use Rattle.plural_base.specs.ModulusTests.{divides_ten_to_18};
+ghost use Rattle.plural_base.specs.RuleModuli.{moduli_of, moduli_of_rule, moduli_of_relation};
 
 use crate::rules::PluralRules;
 use fixed_decimal::{CompactDecimal, Decimal, UnsignedDecimal};
@@ -57,8 +57,9 @@ impl<'data> PluralRules<'data> {
     }
 
     // Whether each modulus on n and i in the five rules divides 10 to the power 18.
+    #[tactic(auto, using(crate::proofs::Moduli::tests_of_both))]
     fn all_moduli_divide(&self) -> bool
-        ensures { result ≡ are_all_admitted self.now }
+        ensures { result ≡ list_all divides_ten_to_18 (moduli_of self.now) }
     {
         moduli_of_rule_divide(&self.data.zero)
             && moduli_of_rule_divide(&self.data.one)
@@ -99,7 +100,7 @@ fn first_place_above(exponent: u8) -> i16
 
 // Whether each modulus on n and i in a rule, if it is there, divides 10 to the power 18.
 fn moduli_of_rule_divide(rule: &Option<Rule<'_>>) -> bool
-    ensures { result ≡ is_rule_admitted rule.now }
+    ensures { result ≡ list_all divides_ten_to_18 (moduli_of_rule rule.now) }
 {
     match rule {
         Some(rule) => moduli_divide(rule),
@@ -108,8 +109,9 @@ fn moduli_of_rule_divide(rule: &Option<Rule<'_>>) -> bool
 }
 
 // The same of a rule that is there.
+#[tactic(auto, using(crate::proofs::Moduli::tests_of_both))]
 fn moduli_divide(rule: &Rule<'_>) -> bool
-    ensures { result ≡ list_all is_admitted rule.now }
+    ensures { result ≡ list_all divides_ten_to_18 (moduli_of_rule (Some rule.now)) }
 {
     for item in rule.iter() {
         if !relation_divides(item.as_relation()) {
@@ -121,7 +123,7 @@ fn moduli_divide(rule: &Rule<'_>) -> bool
 
 // Whether a relation's modulus, if it is on n or i, divides 10 to the power 18.
 fn relation_divides(relation: Relation<'_>) -> bool
-    ensures { result ≡ is_admitted (lent_relation relation.entry) }
+    ensures { result ≡ list_all divides_ten_to_18 (moduli_of_relation (lent_relation relation.entry)) }
 {
     match relation.operand() {
         Operand::N | Operand::I => divides_ten_to_18(relation.modulo()),
@@ -131,7 +133,7 @@ fn relation_divides(relation: Relation<'_>) -> bool
 
 // Whether a modulus is none, or divides 10 to the power 18.
 fn divides_ten_to_18(modulus: u32) -> bool
-    ensures { result ≡ divides_limit modulus }
+    ensures { result ≡ divides_ten_to_18 modulus }
 {
     modulus == 0 || TEN_TO_18 % u64::from(modulus) == 0
 }
