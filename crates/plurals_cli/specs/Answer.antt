@@ -40,6 +40,7 @@ abbrev pub AnswersTokens : List Token → List ℕ → Result (List ℕ) RunErro
 AnswersTokens tokens integer (Err (Condition kind)) = Faulty tokens kind
 AnswersTokens tokens integer answer = (condition : Tree) × Reads tokens condition × (answer ≡ truth_at condition (integer_of integer))
 
+-- the same, the text of the condition given
 abbrev pub AnswersTest : List ℕ → List ℕ → Result (List ℕ) RunError → Type 0
 AnswersTest condition integer answer = (tokens : List Token) × AreTokensOf condition tokens × AnswersTokens tokens integer answer
 
@@ -75,4 +76,7 @@ IsAnswered words old new (Err fault) = AnswersWords words (Err fault) × Keeps o
 -- the status that the program ends with
 abbrev pub status_of : RunError → ℕ
 status_of Usage = 2
-status_of _ = 1
+status_of (Condition fault) = 1
+status_of (Number fault) = 1
+status_of Write = 1
+status_of Memory = 1

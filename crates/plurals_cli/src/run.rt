@@ -10,8 +10,13 @@ use std::io::{Read, Write};
 
 /// Writes the answer to the words of a command, one line, and nothing else.
 ///
-/// `test CONDITION INTEGER` answers whether the condition is true of the integer, and reads nothing.
-/// At a fault nothing was written, a failed write aside. Takes memory for the condition's tree.
+/// `test CONDITION INTEGER` answers whether the condition (UTS 35 Part 3, Plural Rules Syntax) is true
+/// of the integer, and reads nothing. It takes memory for the condition's tree.
+///
+/// The errors, in the order in which they are looked for: [`RunError::Usage`] where the words are no
+/// command; [`RunError::Condition`] where the condition can't be read; [`RunError::Number`] where the
+/// integer is out of form, or above its limit; [`RunError::Write`] where the writer failed;
+/// [`RunError::Memory`] where memory ran out. Nothing was written then, a failed write aside.
 pub fn run<R: Read, W: Write>(
     alloc: Global,
     words: &[&str],
