@@ -7,4 +7,6 @@ use Rattle.plural_base.specs.FiveRules.{listed}
 
 -- those whose flag is set
 abbrev pub categories_left : Inside → List PluralCategory
-categories_left c = listed Zero c.zero ++ listed One c.one ++ listed Two c.two ++ listed Few c.few ++ listed Many c.many ++ listed Other c.other
+categories_left c =
+    listed Zero c.zero ++ listed One c.one ++ listed Two c.two ++ listed Few c.few ++ listed Many c.many
+    ++ listed Other c.other

@@ -41,7 +41,8 @@ abbrev pub AreRulesOf : Five (Option (List ℕ)) → FiveRules → Type 0
 AreRulesOf texts rules = (conditions : Five (Option Condition)) × AreReadFrom texts conditions rules
 
 -- the texts behind five references
-abbrev pub texts_of : {A : Type 0} → Option (Bor A) → Option (Bor A) → Option (Bor A) → Option (Bor A) → Option (Bor A) → Five (Option A)
+abbrev pub texts_of : {A : Type 0} → Option (Bor A) → Option (Bor A) → Option (Bor A) → Option (Bor A) → Option (Bor A)
+    → Five (Option A)
 texts_of zero one two few many =
     five (option_copied zero) (option_copied one) (option_copied two) (option_copied few) (option_copied many)
 
@@ -55,7 +56,8 @@ IsNoZero (Some modulus) = modulus.0 ≢ 0
 -- no relation of the condition, if it is there, has the modulus 0
 abbrev pub HasNoZeroModulus : Option Condition → Type 0
 HasNoZeroModulus None = Unit {0}
-HasNoZeroModulus (Some condition) = AllByRecursion (AllByRecursion (λ relation. IsNoZero relation.expression.modulus)) (groups_of condition)
+HasNoZeroModulus (Some condition) =
+    AllByRecursion (AllByRecursion (λ relation. IsNoZero relation.expression.modulus)) (groups_of condition)
 
 -- nor has one of five conditions
 pub record HaveNoZeroModulus (conditions : Five (Option Condition)) : Type 0 where

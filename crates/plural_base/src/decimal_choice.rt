@@ -25,8 +25,10 @@ impl<'data> PluralRules<'data> {
     /// without a modulus 0, it is the category of the number itself, whatever its length. It takes no
     /// memory.
     pub fn category_for_compact(&self, number: &CompactDecimal) -> PluralCategory
-        ensures kept { IsKeptChoice self.now number.now.significand.absolute number.now.exponent result }
-        ensures exact { IsExactChoice self.now number.now.significand.absolute number.now.exponent result }
+        ensures kept { let digits = number.now.significand.absolute in
+            IsKeptChoice self.now digits number.now.exponent result }
+        ensures exact { let digits = number.now.significand.absolute in
+            IsExactChoice self.now digits number.now.exponent result }
     {
         kept_operands_agree();
         let operands = PluralOperands::from(number);

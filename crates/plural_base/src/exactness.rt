@@ -123,7 +123,8 @@ fn moduli_divide(rule: &Rule<'_>) -> bool
 
 // Whether a relation's modulus, if it is on n or i, divides 10 to the power 18.
 fn relation_divides(relation: Relation<'_>) -> bool
-    ensures { result ≡ list_all divides_ten_to_18 (moduli_of_relation (lent_relation relation.entry)) }
+    ensures { result ≡
+        list_all divides_ten_to_18 (moduli_of_relation (lent_relation relation.entry)) }
 {
     match relation.operand() {
         Operand::N | Operand::I => divides_ten_to_18(relation.modulo()),

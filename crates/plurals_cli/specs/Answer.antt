@@ -51,7 +51,8 @@ test_words condition integer = codes "test" ∷ condition ∷ integer ∷ []
 -- the answer to the words of a command line, which are of no command or of `test`
 abbrev pub AnswersWords : List (List ℕ) → Result (List ℕ) RunError → Type 0
 AnswersWords words (Err Usage) = (condition integer : List ℕ) → words ≢ test_words condition integer
-AnswersWords words answer = (condition : List ℕ) × (integer : List ℕ) × (words ≡ test_words condition integer) × AnswersTest condition integer answer
+AnswersWords words answer =
+    (condition : List ℕ) × (integer : List ℕ) × (words ≡ test_words condition integer) × AnswersTest condition integer answer
 
 -- the answer is given, or memory was wanting; nothing is written yet
 abbrev pub Gives : (Result (List ℕ) RunError → Type 0) → Result (Bor (List ℕ)) RunError → Type 0

@@ -23,7 +23,8 @@ pub fn run<R: Read, W: Write>(
     reader: &mut R,
     writer: &mut W,
 ) -> Result<(), RunError>
-    ensures answers { IsAnswered (map (λ w. w.now) words.now) (W.contents writer.old) (W.contents writer.new) result }
+    ensures answers { let texts = map (λ w. w.now) words.now in
+        IsAnswered texts (W.contents writer.old) (W.contents writer.new) result }
     ensures reads_nothing { reader.new ≡ reader.old }
 {
     let text = line_of(alloc, words)?;
