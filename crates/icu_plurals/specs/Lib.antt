@@ -7,6 +7,7 @@ pub use Rattle.fixed_decimal.specs.DecimalErrorText
 -- packed lists
 pub use Rattle.packed_list.specs.ListBytes
 pub use Rattle.packed_list.specs.ListFaults
+pub use Rattle.packed_list.specs.ListReading
 pub use Rattle.packed_list.specs.ListErrorTexts
 -- operands, texts and trees
 pub use Rattle.plural_reference.specs.Operands
@@ -32,6 +33,7 @@ pub use Rattle.plural_runtime.specs.PackedTree
 pub use Rattle.plural_runtime.specs.Packing
 pub use Rattle.plural_runtime.specs.RuleErrorTexts
 pub use Rattle.plural_runtime.specs.RuleKinds
+pub use Rattle.plural_runtime.specs.RuleReading
 pub use Rattle.plural_runtime.specs.RuleViews
 pub use Rattle.plural_runtime.specs.RelationEquality
 -- categories
