@@ -3,9 +3,12 @@ pub use Rattle.fixed_decimal.specs.Digits
 pub use Rattle.fixed_decimal.specs.Places
 pub use Rattle.fixed_decimal.specs.Compact
 pub use Rattle.fixed_decimal.specs.Written
+pub use Rattle.fixed_decimal.specs.DecimalErrorText
 -- packed lists
 pub use Rattle.packed_list.specs.ListBytes
 pub use Rattle.packed_list.specs.ListFaults
+pub use Rattle.packed_list.specs.ListReading
+pub use Rattle.packed_list.specs.ListErrorTexts
 -- operands, texts and trees
 pub use Rattle.plural_reference.specs.Ends
 pub use Rattle.plural_reference.specs.Operands
@@ -30,6 +33,10 @@ pub use Rattle.plural_runtime.specs.NeededRanges
 pub use Rattle.plural_runtime.specs.PackedTree
 pub use Rattle.plural_runtime.specs.Packing
 pub use Rattle.plural_runtime.specs.RuleErrorTexts
+pub use Rattle.plural_runtime.specs.RuleKinds
+pub use Rattle.plural_runtime.specs.RuleReading
+pub use Rattle.plural_runtime.specs.RuleViews
+pub use Rattle.plural_runtime.specs.RelationEquality
 -- categories
 pub use Rattle.plural_base.specs.CategoryNames
 pub use Rattle.plural_base.specs.FiveRules

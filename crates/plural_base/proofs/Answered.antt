@@ -1,57 +1,59 @@
 -- What is answered of a text.
-use Rattle.std.proofs.Common.{◌≡◌, ℕ, List, refl, sym, inl, inr, Option, Some, None, Result, Ok, Err}
+use Rattle.std.proofs.Common.{◌≡◌, ℕ, List, refl, sym, inl, inr, Some, Result, Ok, Err}
 use Rattle.std.specs.Prelude.{◌⊎◌, IfOk, IfErr}
 use Rattle.plural_reference.specs.declared.ast.Condition.{Condition}
 use Rattle.plural_reference.specs.declared.ast.Rule.{Rule}
 use Rattle.plural_reference.specs.declared.error.ParseError.{ParseError}
 use Rattle.plural_reference.specs.declared.token.Token.{Token}
 use Rattle.plural_reference.specs.Lexer.{AreTokensOf}
+use Rattle.plural_reference.specs.PrintingLaws.{TextReads}
 use Rattle.plural_reference.specs.ReadingLaws.{HaveOneListOfTokens, HaveOneRule}
 use Rattle.plural_reference.specs.Samples.{ReadsRule, FaultyRule}
 use Rattle.plural_runtime.specs.declared.error.RuleError.{RuleError}
 use Rattle.plural_runtime.specs.declared.error.RuleError.TheVariants.{Parse, Memory}
 use Rattle.plural_runtime.specs.PackedRelations.{PackedRelation}
-use Rattle.plural_runtime.specs.Packing.{Packs}
-use Rattle.plural_base.specs.RuleTexts.{IsReadFrom}
-use Rattle.plural_base.specs.TextAnswers.{TextGives, IsTakenAs}
+use Rattle.plural_runtime.specs.Packing.{packing, Packs}
+use Rattle.plural_base.specs.RuleTexts.{ReadsAs}
+use Rattle.plural_base.specs.TextAnswers.{IsTakenAs, HasRuleError}
 
 abbrev pub Answer : Type 0
 Answer = Result (List PackedRelation) RuleError
+
+-- a text's condition is packed to this, or the text has a fault and this is answered
+abbrev pub IsTold : List ℕ → Answer → Type 0
+IsTold text answer =
+    ((condition : Condition) × ReadsAs text condition × (answer ≡ packing condition))
+    ⊎ ((kind : ParseError) × TextReads FaultyRule text kind × (answer ≡ Err (Parse kind)))
 
 -- of the one reading or fault of a text, or of want of memory, an answer is told
 pub is_answered : HaveOneListOfTokens → HaveOneRule → (text : List ℕ) (answer : Answer)
     → ((tokens : List Token) (rule : Rule) → AreTokensOf text tokens → ReadsRule tokens rule → Packs rule.condition answer)
     → ((tokens : List Token) (kind : ParseError) → AreTokensOf text tokens → FaultyRule tokens kind → (answer ≡ Err (Parse kind)) ⊎ (answer ≡ Err Memory))
-    → TextGives text answer ⊎ (answer ≡ Err Memory)
+    → IsTold text answer ⊎ (answer ≡ Err Memory)
 is_answered one_list one_rule text answer read fault =
     let tokens = one_list text in
     elim (one_rule tokens.0) [
       | inl rule ↦ elim (read tokens.0 rule.0.0 tokens.1 rule.0.1) [
-        | inl packed ↦ inl (tokens.0, tokens.1, inl (rule.0.0, rule.0.1, packed))
+        | inl packed ↦ inl (inl (rule.0.0.condition, (rule.0.0, (tokens.0, tokens.1, rule.0.1), refl), packed))
         | inr memory ↦ inr memory
       ]
       | inr kind ↦ elim (fault tokens.0 kind.0.0 tokens.1 kind.0.1) [
-        | inl same ↦ inl (tokens.0, tokens.1, inr (kind.0.0, kind.0.1, same))
+        | inl same ↦ inl (inr (kind.0.0, (tokens.0, tokens.1, kind.0.1), same))
         | inr memory ↦ inr memory
       ]
     ]
 
-pub answered_ok : (text : List ℕ) (answer : Answer) → TextGives text answer ⊎ (answer ≡ Err Memory) → IfOk answer (λ rule. TextGives text (Ok rule))
-answered_ok text (Ok rule) (inl gives) = gives
+pub answered_ok : (text : List ℕ) (answer : Answer) → IsTold text answer ⊎ (answer ≡ Err Memory) → IfOk answer (λ rule. IsTakenAs (Some text) (Some rule))
+answered_ok text (Ok rule) (inl (inl read)) = (Some read.0, (read.1, sym read.2))
+answered_ok text (Ok rule) (inl (inr fault)) = absurd (let e = fault.2 in cc)
 answered_ok text (Ok rule) (inr memory) = cc
 answered_ok text (Err e) h = tt
 
-pub answered_err : (text : List ℕ) (answer : Answer) → TextGives text answer ⊎ (answer ≡ Err Memory) → IfErr answer (λ e. TextGives text (Err e) ⊎ (e ≡ Memory))
-answered_err text (Ok rule) h = tt
-answered_err text (Err e) (inl gives) = inl gives
-answered_err text (Err e) (inr memory) = inr cc
+same_error : (e f : RuleError) → ◌≡◌ {A = Answer} (Err e) (Err f) → e ≡ f
+same_error e f same = cc
 
--- a text that is taken is read as a condition that packs to the rule
-pub read_from : (text : Option (List ℕ)) (rule : Option (List PackedRelation)) → IsTakenAs text rule → (condition : Option Condition) × IsReadFrom text condition rule
-read_from None None h = (None, tt)
-read_from (Some text) (Some rule) h = elim h.2 [
-  | inl read ↦ (Some read.0.condition, ((h.0, h.1, (read.0, read.1, refl)), sym read.2))
-  | inr fault ↦ absurd (let e = fault.2 in cc)
-]
-read_from None (Some rule) h = absurd h
-read_from (Some text) None h = absurd h
+pub answered_err : (text : List ℕ) (answer : Answer) → IsTold text answer ⊎ (answer ≡ Err Memory) → IfErr answer (λ e. HasRuleError text e ⊎ (e ≡ Memory))
+answered_err text (Ok rule) h = tt
+answered_err text (Err e) (inl (inl read)) = inl (inr (read.0, read.1, sym read.2))
+answered_err text (Err e) (inl (inr fault)) = inl (inl (fault.0, fault.1, same_error e (Parse fault.0) fault.2))
+answered_err text (Err e) (inr memory) = inr cc

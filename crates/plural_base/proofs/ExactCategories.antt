@@ -38,10 +38,11 @@ packing-ok condition rule h = packs (has_large_value condition) _ (packed condit
 
 reads_filled : (text : List ℕ) (condition : Condition) → ReadsAs text condition → AreLaterFilled (groups_of condition)
 reads_filled text condition reads =
-    let rule = reads.2.0 in
-    let spelled = reads.2.1 in
+    let rule = reads.0 in
+    let read = reads.1 in
+    let spelled = read.2 in
     let P : Condition → Type 0 = λ c. AreLaterFilled (groups_of c) in
-    subst P reads.2.2 (read_is_filled reads.0 rule.condition spelled.0 spelled.1)
+    subst P reads.2 (read_is_filled read.0 rule.condition spelled.0 spelled.1)
 
 rule_alike : ConditionsAgree → (x : Places) (e : ℕ) (moduli : List ℕ) (cut exact : Operands) → IsKept x e moduli cut exact
     → (text : Option (List ℕ)) (condition : Option Condition) (rule : Option (List PackedRelation)) → IsReadFrom text condition rule → Covers moduli (moduli_of_rule rule)

@@ -5,3 +5,4 @@ pub mod PackedConditions
 pub mod ConditionsAdmitted
 pub mod ExactCategories
 pub mod Answered
+pub mod WidestChoice

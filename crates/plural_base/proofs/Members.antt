@@ -1,6 +1,6 @@
 -- The chosen category is one of those that rules have.
 use Rattle.std.proofs.Common.{◌≡◌, List, [], ◌∷◌, ◌++◌, Bool, true, false, refl, Option, Some, None}
-use Rattle.std.specs.Prelude.{Contains}
+use Rattle.std.specs.Prelude.{Contains, is_some}
 use Rattle.std.proofs.lemmas.List.Elements.{Contains-append_left, Contains-append_right, Contains-push}
 use Rattle.plural_base.specs.declared.category.PluralCategory.{PluralCategory}
 use Rattle.plural_base.specs.declared.category.PluralCategory.TheVariants.{Zero, One, Two, Few, Many, Other}
@@ -8,7 +8,7 @@ use Rattle.plural_base.specs.FiveRules.{Five, passes, first_category, listed, ca
 use Rattle.plural_base.proofs.Choice.{chosen}
 
 -- what passes is listed
-listed_has : {A : Type 0} (test : A → Bool) (category : PluralCategory) (thing : Option A) → passes test thing ≡ true → Contains (listed category thing) category
+listed_has : {A : Type 0} (test : A → Bool) (category : PluralCategory) (thing : Option A) → passes test thing ≡ true → Contains (listed category (is_some thing)) category
 listed_has test category None e = cc
 listed_has test category (Some x) e = Contains-push [] category
 
@@ -19,19 +19,19 @@ listed_first : {A : Type 0} (test : A → Bool) (things : Five (Option A)) (p q 
 listed_first test things p q r s t zero one more few many = at p q r s t zero one more few many
   where
     a : List PluralCategory
-    a = listed Zero things.zero
+    a = listed Zero (is_some things.zero)
 
     b : List PluralCategory
-    b = listed One things.one
+    b = listed One (is_some things.one)
 
     c : List PluralCategory
-    c = listed Two things.two
+    c = listed Two (is_some things.two)
 
     d : List PluralCategory
-    d = listed Few things.few
+    d = listed Few (is_some things.few)
 
     f : List PluralCategory
-    f = listed Many things.many
+    f = listed Many (is_some things.many)
 
     in_five : (category : PluralCategory) → Contains (a ++ b ++ c ++ d ++ f) category → Contains (categories_of things) category
     in_five category here = Contains-append_left (a ++ b ++ c ++ d ++ f) (Other ∷ []) category here

@@ -17,6 +17,7 @@ use Rattle.plural_base.specs.RuleTexts.{AreReadFrom, HaveNoZeroModulus}
 -- Whatever five texts the rules are read from: if no modulus in them is 0 and the number, with its compact exponent,
 -- is within the bound, the category is the first of zero, one, two, few, many whose condition is there and true of
 -- the exact number, else other.
+-- The standard doesn't say what a modulus 0 means, so nothing is promised of it (the proof doesn't need the premise: 0 is none here).
 abbrev pub IsExactChoice : FiveRules → Places → ℕ → PluralCategory → Type 0
 IsExactChoice rules number exponent category =
     (texts : Five (Option (List ℕ))) (conditions : Five (Option Condition)) (exact : Operands)

@@ -7,6 +7,7 @@ use Rattle.plural_base.specs.declared.category.PluralCategory.{PluralCategory}
 use Rattle.plural_base.specs.declared.category.PluralCategory.TheVariants.{Zero, One, Two, Few, Many, Other}
 use Rattle.plural_runtime.specs.PackedRelations.{PackedRelation}
 
+-- a thing for each category but other
 pub record Five (A : Type 0) : Type 0 where
   pub zero : A
   pub one : A
@@ -27,6 +28,7 @@ abbrev pub passes : {A : Type 0} → (A → Bool) → Option A → Bool
 passes test None = false
 passes test (Some x) = test x
 
+-- the first category whose thing is there and passes, else other
 abbrev pub first_category : {A : Type 0} → (A → Bool) → Five (Option A) → PluralCategory
 first_category test things =
     if passes test things.zero then Zero
@@ -35,10 +37,12 @@ first_category test things =
     else (if passes test things.few then Few
     else (if passes test things.many then Many else Other))))
 
--- the category, where its thing is there
-abbrev pub listed : {A : Type 0} → PluralCategory → Option A → List PluralCategory
-listed category thing = if is_some thing then category ∷ [] else []
+-- the category, where it is there
+abbrev pub listed : PluralCategory → Bool → List PluralCategory
+listed category is_there = if is_there then category ∷ [] else []
 
+-- the categories whose thing is there, from zero to many, then other
 abbrev pub categories_of : {A : Type 0} → Five (Option A) → List PluralCategory
 categories_of things =
-    listed Zero things.zero ++ listed One things.one ++ listed Two things.two ++ listed Few things.few ++ listed Many things.many ++ Other ∷ []
+    listed Zero (is_some things.zero) ++ listed One (is_some things.one) ++ listed Two (is_some things.two)
+    ++ listed Few (is_some things.few) ++ listed Many (is_some things.many) ++ Other ∷ []

@@ -11,8 +11,7 @@ use Rattle.std.specs.Option.{option_copied}
 use Rattle.plural_reference.specs.declared.ast.Condition.{Condition}
 use Rattle.plural_reference.specs.declared.ast.Rule.{Rule}
 use Rattle.plural_reference.specs.declared.ast.Value.{Value}
-use Rattle.plural_reference.specs.declared.token.Token.{Token}
-use Rattle.plural_reference.specs.Lexer.{AreTokensOf}
+use Rattle.plural_reference.specs.PrintingLaws.{TextReads}
 use Rattle.plural_reference.specs.Samples.{ReadsRule}
 use Rattle.plural_reference.specs.Truth.{groups_of}
 use Rattle.plural_runtime.specs.PackedRelations.{PackedRelation}
@@ -21,7 +20,7 @@ use Rattle.plural_base.specs.FiveRules.{Five, five, FiveRules}
 
 -- the tokens of the text are read as a rule with this condition
 abbrev pub ReadsAs : List ℕ → Condition → Type 0
-ReadsAs text condition = (tokens : List Token) × AreTokensOf text tokens × ((rule : Rule) × ReadsRule tokens rule × (rule.condition ≡ condition))
+ReadsAs text condition = (rule : Rule) × TextReads ReadsRule text rule × (rule.condition ≡ condition)
 
 -- all three are absent, or the text is read as the condition, and the rule is what the condition is packed to
 abbrev pub IsReadFrom : Option (List ℕ) → Option Condition → Option (List PackedRelation) → Type 0
@@ -42,7 +41,8 @@ abbrev pub AreRulesOf : Five (Option (List ℕ)) → FiveRules → Type 0
 AreRulesOf texts rules = (conditions : Five (Option Condition)) × AreReadFrom texts conditions rules
 
 -- the texts behind five references
-abbrev pub texts_of : {A : Type 0} → Option (Bor A) → Option (Bor A) → Option (Bor A) → Option (Bor A) → Option (Bor A) → Five (Option A)
+abbrev pub texts_of : {A : Type 0} → Option (Bor A) → Option (Bor A) → Option (Bor A) → Option (Bor A) → Option (Bor A)
+    → Five (Option A)
 texts_of zero one two few many =
     five (option_copied zero) (option_copied one) (option_copied two) (option_copied few) (option_copied many)
 
@@ -56,7 +56,8 @@ IsNoZero (Some modulus) = modulus.0 ≢ 0
 -- no relation of the condition, if it is there, has the modulus 0
 abbrev pub HasNoZeroModulus : Option Condition → Type 0
 HasNoZeroModulus None = Unit {0}
-HasNoZeroModulus (Some condition) = AllByRecursion (AllByRecursion (λ relation. IsNoZero relation.expression.modulus)) (groups_of condition)
+HasNoZeroModulus (Some condition) =
+    AllByRecursion (AllByRecursion (λ relation. IsNoZero relation.expression.modulus)) (groups_of condition)
 
 -- nor has one of five conditions
 pub record HaveNoZeroModulus (conditions : Five (Option Condition)) : Type 0 where

@@ -1,10 +1,9 @@
 -- What texts give in place of rules: which are taken, and the first that is refused.
-use Rattle.std.specs.Prelude.{◌≡◌, ◌⊎◌, ℕ, List, Option, Some, None, Result, Ok, Err}
-use Rattle.plural_reference.specs.declared.ast.Rule.{Rule}
+use Rattle.std.specs.Prelude.{◌≡◌, ◌⊎◌, ℕ, List, Option, Some, None, Err}
+use Rattle.plural_reference.specs.declared.ast.Condition.{Condition}
 use Rattle.plural_reference.specs.declared.error.ParseError.{ParseError}
-use Rattle.plural_reference.specs.declared.token.Token.{Token}
-use Rattle.plural_reference.specs.Lexer.{AreTokensOf}
-use Rattle.plural_reference.specs.Samples.{ReadsRule, FaultyRule}
+use Rattle.plural_reference.specs.PrintingLaws.{TextReads}
+use Rattle.plural_reference.specs.Samples.{FaultyRule}
 use Rattle.plural_runtime.specs.declared.error.RuleError.{RuleError}
 use Rattle.plural_runtime.specs.declared.error.RuleError.TheVariants.{Parse, Memory}
 use Rattle.plural_runtime.specs.PackedRelations.{PackedRelation}
@@ -12,24 +11,24 @@ use Rattle.plural_runtime.specs.Packing.{packing}
 use Rattle.plural_base.specs.declared.category.PluralCategory.{PluralCategory}
 use Rattle.plural_base.specs.declared.category.PluralCategory.TheVariants.{Zero, One, Two, Few, Many, Other}
 use Rattle.plural_base.specs.FiveRules.{Five}
+use Rattle.plural_base.specs.RuleTexts.{ReadsAs, IsReadFrom}
 
--- what a text gives as a rule, want of memory aside: the packing of the condition that is read, or the fault of its tokens
-abbrev pub TextGives : List ℕ → Result (List PackedRelation) RuleError → Type 0
-TextGives text answer = (tokens : List Token) × AreTokensOf text tokens
-    × (((rule : Rule) × ReadsRule tokens rule × (answer ≡ packing rule.condition))
-    ⊎ ((kind : ParseError) × FaultyRule tokens kind × (answer ≡ Err (Parse kind))))
-
--- a text is taken as a rule, and no text as none
+-- the rule is that of the text, by some condition; both may be absent
 abbrev pub IsTakenAs : Option (List ℕ) → Option (List PackedRelation) → Type 0
-IsTakenAs None None = Unit {0}
-IsTakenAs (Some text) (Some rule) = TextGives text (Ok rule)
-IsTakenAs _ _ = ⊥
+IsTakenAs text rule = (condition : Option Condition) × IsReadFrom text condition rule
 
--- a text is there and gives no rule, or memory ran out
+-- a text has a fault, or its condition can't be packed
+abbrev pub HasRuleError : List ℕ → RuleError → Type 0
+HasRuleError text error =
+    ((kind : ParseError) × TextReads FaultyRule text kind × (error ≡ Parse kind))
+    ⊎ ((condition : Condition) × ReadsAs text condition × (packing condition ≡ Err error))
+
+-- a text is there and gives no rule for this reason, or memory ran out
 abbrev pub IsRefused : Option (List ℕ) → RuleError → Type 0
 IsRefused None error = ⊥
-IsRefused (Some text) error = TextGives text (Err error) ⊎ (error ≡ Memory)
+IsRefused (Some text) error = HasRuleError text error ⊎ (error ≡ Memory)
 
+-- a text gives a rule, or there is none
 abbrev pub IsTaken : Option (List ℕ) → Type 0
 IsTaken text = (rule : Option (List PackedRelation)) × IsTakenAs text rule
 

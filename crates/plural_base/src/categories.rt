@@ -1,10 +1,11 @@
 //! The categories of rules.
 
-ghost use Rattle.std.specs.Prelude.{◌≡◌, true};
+ghost use Rattle.std.specs.Prelude.{◌≡◌};
 ghost use Rattle.std.specs.Iterator.{YieldsFirst, item_count};
-ghost use Rattle.plural_base.specs.CategoryFlags.{flagged};
+ghost use Rattle.plural_base.specs.FiveRules.{categories_of};
 
 use crate::category::PluralCategory;
+use crate::rules_data::PluralRulesData;
 use std::marker::Model;
 use std::mem;
 
@@ -33,16 +34,18 @@ impl Model for Categories {
 }
 
 impl Categories {
-    // Those that are there, then other.
-    pub(crate) fn new(zero: bool, one: bool, two: bool, few: bool, many: bool) -> Categories
-        ensures { result ≡ flagged zero one two few many true }
+    ghost use Rattle.plural_base.specs.RulesData.{rules_of};
+
+    // Those whose rule is there, then other.
+    pub(crate) fn of(rules: &PluralRulesData<'_>) -> Categories
+        ensures { result ≡ categories_of (rules_of rules.now) }
     {
         Categories {
-            zero,
-            one,
-            two,
-            few,
-            many,
+            zero: rules.zero.is_some(),
+            one: rules.one.is_some(),
+            two: rules.two.is_some(),
+            few: rules.few.is_some(),
+            many: rules.many.is_some(),
             other: true,
         }
     }

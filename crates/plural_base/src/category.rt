@@ -45,14 +45,16 @@ impl PluralCategory {
 
     /// The category of a name in lower case, as CLDR writes it; `None` for any other text.
     pub fn get_for_cldr_string(name: &str) -> Option<PluralCategory>
-        ensures { (category : PluralCategory) → (result ≡ Some category) ↔ (name.now ≡ name_of category) }
+        ensures { (category : PluralCategory) →
+            (result ≡ Some category) ↔ (name.now ≡ name_of category) }
     {
         PluralCategory::get_for_cldr_bytes(name.as_bytes())
     }
 
     /// The same of a name's bytes.
     pub fn get_for_cldr_bytes(name: &[u8]) -> Option<PluralCategory>
-        ensures { (category : PluralCategory) → (result ≡ Some category) ↔ (name.now ≡ name_of category) }
+        ensures { (category : PluralCategory) →
+            (result ≡ Some category) ↔ (name.now ≡ name_of category) }
     {
         match name {
             b"zero" => Some(PluralCategory::Zero),

@@ -1,53 +1,26 @@
-//! The categories of decimals, and when they are exact.
+//! When the category of a decimal is exact.
 
-ghost use Rattle.std.specs.Prelude.{◌≡◌, ◌↔◌, ◌^◌, ◌≤◌, pos, ◌-ℤ◌, length, IsTrue};
+ghost use Rattle.std.specs.Prelude.{◌≡◌, ◌↔◌, ◌^◌, ◌≤◌, Some, pos, ◌-ℤ◌, length, IsTrue};
 ghost use Rattle.std.specs.List.{list_all};
 ghost use Rattle.fixed_decimal.specs.Digits.{value_of};
 ghost use Rattle.fixed_decimal.specs.Places.{IsWritten, shift_right};
 ghost use Rattle.plural_reference.specs.Exactness.{IsWithinBound};
 ghost use Rattle.plural_runtime.specs.RuleViews.{lent_relation};
-ghost use Rattle.plural_base.specs.DecimalChoice.{IsExactChoice, IsKeptChoice};
-ghost use Rattle.plural_base.specs.ModulusTests.{divides_limit, is_admitted, is_rule_admitted, are_all_admitted};
-ghost use Rattle.plural_base.specs.RuleModuli.{moduli_of};
+ghost use Rattle.plural_base.specs.ModulusTests.{divides_ten_to_18};
+ghost use Rattle.plural_base.specs.RuleModuli.{moduli_of, moduli_of_rule, moduli_of_relation};
 
-use crate::category::PluralCategory;
 use crate::rules::PluralRules;
 use fixed_decimal::{CompactDecimal, Decimal, UnsignedDecimal};
-use plural_reference::PluralOperands;
-use plural_reference::laws::exactness::{bound_before_the_shift, kept_operands_agree};
+use plural_reference::laws::exactness::bound_before_the_shift;
 use plural_runtime::{Operand, Relation, Rule};
 
 // So many places are kept of a decimal on each side of the point.
 const KEPT: usize = 18;
 
 // What is cut from an integer part is a multiple of this, 10 to the power 18.
-const LIMIT: u64 = 1_000_000_000_000_000_000;
+const TEN_TO_18: u64 = 1_000_000_000_000_000_000;
 
 impl<'data> PluralRules<'data> {
-    /// The category of a decimal by the operands that are kept of it. Where
-    /// [`PluralRules::is_exact_for_decimal`] holds and the rules come from texts without a modulus
-    /// 0, it is the category of the number itself, whatever its length. It takes no memory.
-    pub fn category_for_decimal(&self, number: &Decimal) -> PluralCategory
-        ensures kept { IsKeptChoice self.now number.now.absolute 0 result }
-        ensures exact { IsExactChoice self.now number.now.absolute 0 result }
-    {
-        kept_operands_agree();
-        self.category_for(PluralOperands::from(number))
-    }
-
-    /// The category of a compact decimal by the operands that are kept of it, after the point has
-    /// moved by the exponent. Where [`PluralRules::is_exact_for`] holds and the rules come from texts
-    /// without a modulus 0, it is the category of the number itself, whatever its length. It takes no
-    /// memory.
-    pub fn category_for_compact(&self, number: &CompactDecimal) -> PluralCategory
-        ensures kept { IsKeptChoice self.now number.now.significand.absolute number.now.exponent result }
-        ensures exact { IsExactChoice self.now number.now.significand.absolute number.now.exponent result }
-    {
-        kept_operands_agree();
-        let operands = PluralOperands::from(number);
-        self.category_for(operands)
-    }
-
     /// Whether the rules choose this number's category as the number itself does, and not only as
     /// what is kept of it does.
     ///
@@ -80,18 +53,19 @@ impl<'data> PluralRules<'data> {
         if whole <= KEPT {
             return true;
         }
-        is_long_after(digits, exponent) && self.have_admitted_moduli()
+        is_long_after(digits, exponent) && self.all_moduli_divide()
     }
 
     // Whether each modulus on n and i in the five rules divides 10 to the power 18.
-    fn have_admitted_moduli(&self) -> bool
-        ensures { result ≡ are_all_admitted self.now }
+    #[tactic(auto, using(crate::proofs::Moduli::tests_of_both))]
+    fn all_moduli_divide(&self) -> bool
+        ensures { result ≡ list_all divides_ten_to_18 (moduli_of self.now) }
     {
-        has_admitted_moduli(&self.data.zero)
-            && has_admitted_moduli(&self.data.one)
-            && has_admitted_moduli(&self.data.two)
-            && has_admitted_moduli(&self.data.few)
-            && has_admitted_moduli(&self.data.many)
+        moduli_of_rule_divide(&self.data.zero)
+            && moduli_of_rule_divide(&self.data.one)
+            && moduli_of_rule_divide(&self.data.two)
+            && moduli_of_rule_divide(&self.data.few)
+            && moduli_of_rule_divide(&self.data.many)
     }
 }
 
@@ -125,21 +99,22 @@ fn first_place_above(exponent: u8) -> i16
 }
 
 // Whether each modulus on n and i in a rule, if it is there, divides 10 to the power 18.
-fn has_admitted_moduli(rule: &Option<Rule<'_>>) -> bool
-    ensures { result ≡ is_rule_admitted rule.now }
+fn moduli_of_rule_divide(rule: &Option<Rule<'_>>) -> bool
+    ensures { result ≡ list_all divides_ten_to_18 (moduli_of_rule rule.now) }
 {
     match rule {
-        Some(rule) => are_admitted(rule),
+        Some(rule) => moduli_divide(rule),
         None => true,
     }
 }
 
 // The same of a rule that is there.
-fn are_admitted(rule: &Rule<'_>) -> bool
-    ensures { result ≡ list_all is_admitted rule.now }
+#[tactic(auto, using(crate::proofs::Moduli::tests_of_both))]
+fn moduli_divide(rule: &Rule<'_>) -> bool
+    ensures { result ≡ list_all divides_ten_to_18 (moduli_of_rule (Some rule.now)) }
 {
     for item in rule.iter() {
-        if !has_admitted_modulus(item.as_relation()) {
+        if !relation_divides(item.as_relation()) {
             return false;
         }
     }
@@ -147,18 +122,19 @@ fn are_admitted(rule: &Rule<'_>) -> bool
 }
 
 // Whether a relation's modulus, if it is on n or i, divides 10 to the power 18.
-fn has_admitted_modulus(relation: Relation<'_>) -> bool
-    ensures { result ≡ is_admitted (lent_relation relation.entry) }
+fn relation_divides(relation: Relation<'_>) -> bool
+    ensures { result ≡
+        list_all divides_ten_to_18 (moduli_of_relation (lent_relation relation.entry)) }
 {
     match relation.operand() {
-        Operand::N | Operand::I => divides_limit(relation.modulo()),
+        Operand::N | Operand::I => divides_ten_to_18(relation.modulo()),
         Operand::V | Operand::W | Operand::F | Operand::T | Operand::C | Operand::E => true,
     }
 }
 
 // Whether a modulus is none, or divides 10 to the power 18.
-fn divides_limit(modulus: u32) -> bool
-    ensures { result ≡ divides_limit modulus }
+fn divides_ten_to_18(modulus: u32) -> bool
+    ensures { result ≡ divides_ten_to_18 modulus }
 {
-    modulus == 0 || LIMIT % u64::from(modulus) == 0
+    modulus == 0 || TEN_TO_18 % u64::from(modulus) == 0
 }

@@ -3,6 +3,7 @@
 
 mod categories;
 mod category;
+mod decimal_choice;
 mod exactness;
 pub mod laws;
 mod options;

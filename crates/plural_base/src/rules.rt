@@ -74,13 +74,7 @@ impl<'data> PluralRules<'data> {
         ensures there { result ≡ categories_of self.now }
         ensures last { (front : List PluralCategory) × (result ≡ front ++ Other ∷ []) }
     {
-        Categories::new(
-            self.data.zero.is_some(),
-            self.data.one.is_some(),
-            self.data.two.is_some(),
-            self.data.few.is_some(),
-            self.data.many.is_some(),
-        )
+        Categories::of(&self.data)
     }
 }
 

@@ -1,10 +1,10 @@
 //! Rules from texts.
 
-ghost use Rattle.std.specs.Prelude.{◌≡◌, ◌≢◌, ◌++◌, ◌⊎◌, Some, Ok, Err, option_map, codes, IfOk, IfErr};
+ghost use Rattle.std.specs.Prelude.{◌≡◌, ◌≢◌, ◌++◌, ◌⊎◌, Some, option_map, codes, IfOk, IfErr};
 ghost use Rattle.std.specs.Option.{option_copied};
 ghost use Rattle.plural_runtime.specs.RuleErrorTexts.{rule_error_text};
 ghost use Rattle.plural_base.specs.CategoryNames.{name_of};
-ghost use Rattle.plural_base.specs.TextAnswers.{IsTakenAs, IsRefused, IsFirstRefused, TextGives};
+ghost use Rattle.plural_base.specs.TextAnswers.{IsTakenAs, HasRuleError, IsRefused, IsFirstRefused};
 
 use crate::category::PluralCategory;
 use crate::raw_category::RawPluralCategory;
@@ -26,7 +26,8 @@ pub struct RulesTextError {
 }
 
 impl fmt::Display for RulesTextError {
-    ghost output = { λ e. Some (codes "rule " ++ name_of e.category ++ codes ": " ++ rule_error_text e.error) };
+    ghost output = { λ e.
+        Some (codes "rule " ++ name_of e.category ++ codes ": " ++ rule_error_text e.error) };
 
     fn fmt<W: fmt::Write>(&self, f: &mut fmt::Formatter<W>) -> fmt::Result {
         let name = RawPluralCategory::from(self.category).as_str();
@@ -40,9 +41,13 @@ impl PluralRulesData<'static> {
     ghost use Rattle.plural_base.specs.RulesData.{rules_of};
     ghost use Rattle.plural_base.specs.RuleTexts.{AreRulesOf, texts_of};
 
-    /// The rules of texts as CLDR writes them, samples included, looked at in the order zero, one,
-    /// two, few, many. The first that gives no rule is named with its fault; what stands behind it is
-    /// not looked at. It takes memory for each rule.
+    /// The rules of texts as CLDR writes them (UTS 35 Part 3, Plural Rules Syntax), samples included,
+    /// looked at in the order zero, one, two, few, many. It takes memory for each rule.
+    ///
+    /// The error names the first text that gives no rule; what stands behind it is not looked at. Its
+    /// cause is [`RuleError::Parse`] where the text has a fault, in its samples too;
+    /// [`RuleError::StartLimit`] where the packed rule would be too long; [`RuleError::Memory`] where
+    /// memory ran out.
     pub fn from_texts(
         alloc: Global,
         zero: Option<&str>,
@@ -53,7 +58,8 @@ impl PluralRulesData<'static> {
     ) -> Result<PluralRulesData<'static>, RulesTextError>
         ensures ok { let texts = texts_of zero.entry one.entry two.entry few.entry many.entry in
             IfOk result (λ rules. AreRulesOf texts (rules_of rules)) }
-        ensures refused { let texts = texts_of zero.entry one.entry two.entry few.entry many.entry in
+        ensures refused { let texts =
+            texts_of zero.entry one.entry two.entry few.entry many.entry in
             IfErr result (λ e. IsFirstRefused texts e.category e.error) }
         // The values of a text fit: this fault is one of trees made by hand.
         ensures fits { IfErr result (λ e. e.error ≢ RuleError.Parse ParseError.ValueTooLarge) }
@@ -75,7 +81,8 @@ fn rule_of(
     category: PluralCategory,
 ) -> Result<Option<Rule<'static>>, RulesTextError>
     ensures ok { IfOk result (λ rule. IsTakenAs (option_copied text.entry) rule) }
-    ensures refused { IfErr result (λ e. (e.category ≡ category) × IsRefused (option_copied text.entry) e.error) }
+    ensures refused { IfErr result (λ e.
+        (e.category ≡ category) × IsRefused (option_copied text.entry) e.error) }
     ensures fits { IfErr result (λ e. e.error ≢ RuleError.Parse ParseError.ValueTooLarge) }
 {
     let Some(text) = text else {
@@ -89,8 +96,8 @@ fn rule_of(
 
 // The rule of a text.
 fn packed(alloc: Global, text: &str) -> Result<Rule<'static>, RuleError>
-    ensures ok { IfOk result (λ rule. TextGives text.now (Ok rule)) }
-    ensures refused { IfErr result (λ e. TextGives text.now (Err e) ⊎ (e ≡ RuleError.Memory)) }
+    ensures ok { IfOk result (λ rule. IsTakenAs (Some text.now) (Some rule)) }
+    ensures refused { IfErr result (λ e. HasRuleError text.now e ⊎ (e ≡ RuleError.Memory)) }
     ensures fits { IfErr result (λ e. e ≢ RuleError.Parse ParseError.ValueTooLarge) }
 {
     one_list_of_tokens();

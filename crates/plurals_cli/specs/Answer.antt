@@ -40,6 +40,7 @@ abbrev pub AnswersTokens : List Token → List ℕ → Result (List ℕ) RunErro
 AnswersTokens tokens integer (Err (Condition kind)) = Faulty tokens kind
 AnswersTokens tokens integer answer = (condition : Tree) × Reads tokens condition × (answer ≡ truth_at condition (integer_of integer))
 
+-- the same, the text of the condition given
 abbrev pub AnswersTest : List ℕ → List ℕ → Result (List ℕ) RunError → Type 0
 AnswersTest condition integer answer = (tokens : List Token) × AreTokensOf condition tokens × AnswersTokens tokens integer answer
 
@@ -50,7 +51,8 @@ test_words condition integer = codes "test" ∷ condition ∷ integer ∷ []
 -- the answer to the words of a command line, which are of no command or of `test`
 abbrev pub AnswersWords : List (List ℕ) → Result (List ℕ) RunError → Type 0
 AnswersWords words (Err Usage) = (condition integer : List ℕ) → words ≢ test_words condition integer
-AnswersWords words answer = (condition : List ℕ) × (integer : List ℕ) × (words ≡ test_words condition integer) × AnswersTest condition integer answer
+AnswersWords words answer =
+    (condition : List ℕ) × (integer : List ℕ) × (words ≡ test_words condition integer) × AnswersTest condition integer answer
 
 -- the answer is given, or memory was wanting; nothing is written yet
 abbrev pub Gives : (Result (List ℕ) RunError → Type 0) → Result (Bor (List ℕ)) RunError → Type 0
@@ -75,4 +77,7 @@ IsAnswered words old new (Err fault) = AnswersWords words (Err fault) × Keeps o
 -- the status that the program ends with
 abbrev pub status_of : RunError → ℕ
 status_of Usage = 2
-status_of _ = 1
+status_of (Condition fault) = 1
+status_of (Number fault) = 1
+status_of Write = 1
+status_of Memory = 1

@@ -37,7 +37,7 @@ impl RunError {
     {
         match self {
             RunError::Usage => 2,
-            _ => 1,
+            RunError::Condition(_) | RunError::Number(_) | RunError::Write | RunError::Memory => 1,
         }
     }
 }

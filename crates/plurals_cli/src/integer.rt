@@ -8,7 +8,7 @@ ghost use Rattle.plurals_cli.specs.Answer.{integer_of, is_numeral};
 use fixed_decimal::DecimalError;
 
 // The number of a word of one or more digits. The form is decided before the limit.
-pub fn integer(word: &str) -> Result<u64, DecimalError>
+pub(crate) fn integer(word: &str) -> Result<u64, DecimalError>
     ensures { result ≡ integer_of word.now }
 {
     if !is_numeral(word) {

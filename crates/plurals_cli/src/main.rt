@@ -9,19 +9,27 @@ mod test_command;
 use error::RunError;
 use run::run;
 use std::env;
+use std::io::ErrorKind;
 use std::process::ExitCode;
 
 #[cfg(test)]
 mod tests;
 
-// Answers the words of the command line. Words that can't be had as texts are no command.
+// The words of the command line. One that isn't UTF-8 is part of no command.
+fn arguments(rt: &HostRuntime) -> Result<Vec<String>, RunError> {
+    match env::args(rt) {
+        Ok(found) => match found.skip(1).collect::<Vec<String>>(rt.alloc()) {
+            Ok(words) => Ok(words),
+            Err(_) => Err(RunError::Memory),
+        },
+        Err(error) if error.kind() == ErrorKind::OutOfMemory => Err(RunError::Memory),
+        Err(_) => Err(RunError::Usage),
+    }
+}
+
+// Answers the words of the command line.
 fn answer(rt: &HostRuntime) -> Result<(), RunError> {
-    let Ok(arguments) = env::args(rt) else {
-        return Err(RunError::Usage);
-    };
-    let Ok(owned) = arguments.skip(1).collect::<Vec<String>>(rt.alloc()) else {
-        return Err(RunError::Memory);
-    };
+    let owned = arguments(rt)?;
     let Ok(words) = owned
         .iter()
         .map(|word| word.as_str())

@@ -10,15 +10,21 @@ use std::io::{Read, Write};
 
 /// Writes the answer to the words of a command, one line, and nothing else.
 ///
-/// `test CONDITION INTEGER` answers whether the condition is true of the integer, and reads nothing.
-/// At a fault nothing was written, a failed write aside. Takes memory for the condition's tree.
+/// `test CONDITION INTEGER` answers whether the condition (UTS 35 Part 3, Plural Rules Syntax) is true
+/// of the integer, and reads nothing. It takes memory for the condition's tree.
+///
+/// The errors, in the order in which they are looked for: [`RunError::Usage`] where the words are no
+/// command; [`RunError::Condition`] where the condition can't be read; [`RunError::Number`] where the
+/// integer is out of form, or above its limit; [`RunError::Write`] where the writer failed;
+/// [`RunError::Memory`] where memory ran out. Nothing was written then, a failed write aside.
 pub fn run<R: Read, W: Write>(
     alloc: Global,
     words: &[&str],
     reader: &mut R,
     writer: &mut W,
 ) -> Result<(), RunError>
-    ensures answers { IsAnswered (map (λ w. w.now) words.now) (W.contents writer.old) (W.contents writer.new) result }
+    ensures answers { let texts = map (λ w. w.now) words.now in
+        IsAnswered texts (W.contents writer.old) (W.contents writer.new) result }
     ensures reads_nothing { reader.new ≡ reader.old }
 {
     let text = line_of(alloc, words)?;

@@ -11,7 +11,11 @@ use plural_reference::{PluralOperands, ReadError, parse_condition, test_conditio
 use std::alloc::Global;
 
 // The line for a condition and an integer: whether the condition is true of the integer.
-pub fn test_line(alloc: Global, condition: &str, number: &str) -> Result<&'static str, RunError>
+pub(crate) fn test_line(
+    alloc: Global,
+    condition: &str,
+    number: &str,
+) -> Result<&'static str, RunError>
     ensures { Gives (AnswersTest condition.now number.now) result }
 {
     // The answer is that of the condition's tokens, of which there is one list.

@@ -53,10 +53,32 @@ fn numbers_are_those_of_the_raw_categories(rt: HostRuntime) {
 
 #[test]
 fn categories_are_in_the_order_of_the_rules(rt: HostRuntime) {
-    assert!(rt; PluralCategory::Zero < PluralCategory::One);
-    assert!(rt; PluralCategory::Two < PluralCategory::Few);
-    assert!(rt; PluralCategory::Many < PluralCategory::Other);
-    assert!(rt; RawPluralCategory::Other < RawPluralCategory::Zero);
+    let categories = [
+        PluralCategory::Zero,
+        PluralCategory::One,
+        PluralCategory::Two,
+        PluralCategory::Few,
+        PluralCategory::Many,
+        PluralCategory::Other,
+    ];
+    for k in 0..5usize {
+        assert!(rt; categories[k] < categories[k + 1]);
+    }
+}
+
+#[test]
+fn raw_categories_are_in_the_order_of_their_numbers(rt: HostRuntime) {
+    let categories = [
+        RawPluralCategory::Other,
+        RawPluralCategory::Zero,
+        RawPluralCategory::One,
+        RawPluralCategory::Two,
+        RawPluralCategory::Few,
+        RawPluralCategory::Many,
+    ];
+    for k in 0..5usize {
+        assert!(rt; categories[k] < categories[k + 1]);
+    }
 }
 
 #[test]

@@ -127,6 +127,7 @@ fn the_exponent_moves_the_point(rt: HostRuntime) -> Result<(), Fail> {
         ("n = 1000000 and c = 6", "1c6", ONE, true),
         ("n = 1 and c = 6", "1c6", OTHER, true),
         ("i % 3 = 2", "2c18", OTHER, false),
+        ("i % 3 = 2", "2000000000000000000", OTHER, false),
     ];
     for (one, number, category, is_exact) in rows {
         let (found, exact) = compact(rt.alloc(), one, number)?;

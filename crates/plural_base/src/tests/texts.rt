@@ -1,7 +1,29 @@
 use crate::*;
 use plural_reference::{ParseError, PluralOperands};
 use plural_runtime::RuleError;
+use std::process::Abort;
 use std::test::Fail;
+
+const ZERO: PluralCategory = PluralCategory::Zero;
+
+const ONE: PluralCategory = PluralCategory::One;
+
+const TWO: PluralCategory = PluralCategory::Two;
+
+const FEW: PluralCategory = PluralCategory::Few;
+
+const MANY: PluralCategory = PluralCategory::Many;
+
+const OTHER: PluralCategory = PluralCategory::Other;
+
+// The rules have just these categories, in this order.
+fn has_just(rt: &impl Abort, rules: &PluralRules<'_>, wanted: &[PluralCategory]) {
+    let mut categories = rules.categories();
+    for category in wanted {
+        assert_eq!(rt; categories.next(), Some(*category));
+    }
+    assert_eq!(rt; categories.next(), None);
+}
 
 // The category of a whole number.
 fn category_of(rules: &PluralRules<'_>, number: u64) -> PluralCategory {
@@ -13,9 +35,10 @@ fn rules_of_two_forms_choose_as_languages_do(rt: HostRuntime) -> Result<(), Fail
     let one = Some("i = 1 and v = 0 @integer 1");
     let data = PluralRulesData::from_texts(rt.alloc(), None, one, None, None, None)?;
     let rules = PluralRules::from_data(data);
-    assert_eq!(rt; category_of(&rules, 0), PluralCategory::Other);
-    assert_eq!(rt; category_of(&rules, 1), PluralCategory::One);
-    assert_eq!(rt; category_of(&rules, 11), PluralCategory::Other);
+    has_just(&rt, &rules, &[ONE, OTHER]);
+    assert_eq!(rt; category_of(&rules, 0), OTHER);
+    assert_eq!(rt; category_of(&rules, 1), ONE);
+    assert_eq!(rt; category_of(&rules, 11), OTHER);
     Ok(())
 }
 
@@ -26,13 +49,8 @@ fn rules_of_four_forms_choose_as_languages_do(rt: HostRuntime) -> Result<(), Fai
     let few = Some("n % 10 = 3 and n % 100 != 13");
     let data = PluralRulesData::from_texts(rt.alloc(), None, one, two, few, None)?;
     let rules = PluralRules::from_data(data);
-    let rows = [
-        (1, PluralCategory::One),
-        (11, PluralCategory::Other),
-        (22, PluralCategory::Two),
-        (103, PluralCategory::Few),
-        (112, PluralCategory::Other),
-    ];
+    has_just(&rt, &rules, &[ONE, TWO, FEW, OTHER]);
+    let rows = [(1, ONE), (11, OTHER), (22, TWO), (103, FEW), (112, OTHER)];
     for (number, category) in rows {
         assert_eq!(rt; category_of(&rules, number), category, "{number}");
     }
@@ -48,13 +66,8 @@ fn rules_of_ends_of_tens_choose_as_languages_do(rt: HostRuntime) -> Result<(), F
     );
     let data = PluralRulesData::from_texts(rt.alloc(), None, one, None, few, many)?;
     let rules = PluralRules::from_data(data);
-    let rows = [
-        (0, PluralCategory::Many),
-        (4, PluralCategory::Few),
-        (13, PluralCategory::Many),
-        (21, PluralCategory::One),
-        (23, PluralCategory::Few),
-    ];
+    has_just(&rt, &rules, &[ONE, FEW, MANY, OTHER]);
+    let rows = [(0, MANY), (4, FEW), (13, MANY), (21, ONE), (23, FEW)];
     for (number, category) in rows {
         assert_eq!(rt; category_of(&rules, number), category, "{number}");
     }
@@ -67,13 +80,14 @@ fn rules_of_six_forms_choose_as_languages_do(rt: HostRuntime) -> Result<(), Fail
     let (few, many) = (Some("n % 100 = 3..10"), Some("n % 100 = 11..99"));
     let data = PluralRulesData::from_texts(rt.alloc(), zero, one, two, few, many)?;
     let rules = PluralRules::from_data(data);
+    has_just(&rt, &rules, &[ZERO, ONE, TWO, FEW, MANY, OTHER]);
     let rows = [
-        (0, PluralCategory::Zero),
-        (1, PluralCategory::One),
-        (2, PluralCategory::Two),
-        (103, PluralCategory::Few),
-        (11, PluralCategory::Many),
-        (100, PluralCategory::Other),
+        (0, ZERO),
+        (1, ONE),
+        (2, TWO),
+        (103, FEW),
+        (11, MANY),
+        (100, OTHER),
     ];
     for (number, category) in rows {
         assert_eq!(rt; category_of(&rules, number), category, "{number}");
@@ -95,12 +109,12 @@ fn names_the_first_text_that_gives_no_rule(rt: HostRuntime) {
     let fault = Some(RuleError::Parse(ParseError::ExpectedOperator));
     let alloc = rt.alloc();
     let error = error_of(PluralRulesData::from_texts(alloc, None, good, bad, other, None));
-    assert_eq!(rt; error.map(|e| e.category), Some(PluralCategory::Two));
+    assert_eq!(rt; error.map(|e| e.category), Some(TWO));
     assert_eq!(rt; error.map(|e| e.error), fault);
     let error = error_of(PluralRulesData::from_texts(alloc, bad, other, other, other, other));
-    assert_eq!(rt; error.map(|e| e.category), Some(PluralCategory::Zero));
+    assert_eq!(rt; error.map(|e| e.category), Some(ZERO));
     let error = error_of(PluralRulesData::from_texts(alloc, None, None, good, None, bad));
-    assert_eq!(rt; error.map(|e| e.category), Some(PluralCategory::Many));
+    assert_eq!(rt; error.map(|e| e.category), Some(MANY));
 }
 
 #[test]
@@ -113,7 +127,7 @@ fn a_fault_of_samples_refuses_a_text(rt: HostRuntime) {
 
 #[test]
 fn errors_print_the_category_and_the_fault(rt: HostRuntime) -> Result<(), Fail> {
-    let category = PluralCategory::Two;
+    let category = TWO;
     let error = RuleError::Parse(ParseError::ExpectedOperator);
     let printed = format!(in rt.alloc(); "{}", RulesTextError { category, error })?;
     assert_eq!(rt; printed.as_str(), "rule two: expected operator");
@@ -128,7 +142,7 @@ fn lent_and_cloned_data_are_equal(rt: HostRuntime) -> Result<(), Fail> {
     assert!(rt; copy == data);
     assert!(rt; copy != PluralRulesData::default());
     let rules = PluralRules::from_data(data.as_borrowed());
-    assert_eq!(rt; category_of(&rules, 111), PluralCategory::Many);
+    assert_eq!(rt; category_of(&rules, 111), MANY);
     Ok(())
 }
 
@@ -141,13 +155,35 @@ fn refused_growth_is_want_of_memory(rt: HostRuntime) {
         match PluralRulesData::from_texts(rt.alloc(), None, one, None, None, many) {
             Ok(data) => {
                 let rules = PluralRules::from_data(data);
-                assert_eq!(rt; category_of(&rules, 111), PluralCategory::Many);
+                assert_eq!(rt; category_of(&rules, 111), MANY);
             }
             Err(error) => {
                 assert_eq!(rt; error.error, RuleError::Memory);
+                assert!(rt; error.category == ONE || error.category == MANY);
                 refused = refused.saturating_add(1);
             }
         }
     }
     assert!(rt; refused <= 1);
+}
+
+#[test]
+fn growth_of_clones_may_be_refused(rt: HostRuntime) -> Result<(), Fail> {
+    let (one, many) = (Some("n = 1"), Some("n % 100 = 11..99"));
+    let mut refused = 0u8;
+    for _ in 0..2u8 {
+        let Ok(data) = PluralRulesData::from_texts(rt.alloc(), None, one, None, None, many) else {
+            refused = refused.saturating_add(1);
+            continue;
+        };
+        match data.try_clone() {
+            Ok(copy) => assert!(rt; copy == data),
+            Err(_) => {
+                refused = refused.saturating_add(1);
+                assert!(rt; data.try_clone()? == data);
+            }
+        }
+    }
+    assert!(rt; refused <= 1);
+    Ok(())
 }

@@ -1,0 +1,5 @@
+use Rattle.plural_base.proofs.WidestChoice.{widest_choice}
+use Rattle.plural_base.proofs.laws.bound_is_widest.Goals as goal
+
+pub returns : goal.returns
+returns c = widest_choice c.bound_is_widest.ensures

@@ -1,0 +1,50 @@
+-- The bound on moduli is the widest for the choice of a category too.
+use Rattle.std.specs.Prelude.{◌≡◌, ℕ, ◌*◌, ◌%◌, ◌^◌, ◌<◌, List, [], ◌∷◌, Option, Some, None, Ok}
+use Rattle.std.specs.Int.{◌∣◌}
+use Rattle.fixed_decimal.specs.Places.{Places}
+use Rattle.plural_reference.specs.declared.ast.Condition.{Condition}
+use Rattle.plural_reference.specs.declared.ast.Relation.{Relation}
+use Rattle.plural_reference.specs.declared.ast.Operand.TheVariants.{I}
+use Rattle.plural_reference.specs.declared.ast.Operator.TheVariants.{Eq}
+use Rattle.plural_reference.specs.declared.ast.RangeListItem.TheVariants as items
+use Rattle.plural_reference.specs.DecimalOperands.{AreCut, AreExact}
+use Rattle.plural_reference.specs.ExactnessLaws.{IsTwice}
+use Rattle.plural_reference.specs.ExactTruth.{exact_truth}
+use Rattle.plural_reference.specs.Operands.{Operands}
+use Rattle.plural_runtime.specs.PackedRelations.{PackedRelation}
+use Rattle.plural_runtime.specs.PackedTree.{packed, condition_of}
+use Rattle.plural_runtime.specs.PackedTruth.{packed_truth}
+use Rattle.plural_runtime.specs.Packing.{packing}
+use Rattle.plural_base.specs.declared.category.PluralCategory.TheVariants.{One, Other}
+use Rattle.plural_base.specs.FiveRules.{Five, five, first_category}
+
+-- a thing for one, and none for the others
+abbrev pub only_one : {A : Type 0} → A → Five (Option A)
+only_one thing = five None (Some thing) None None None
+
+-- the relation `i % m = r`
+abbrev pub leaves : ℕ → ℕ → Relation
+leaves m r = record {
+  expression = record { operand = I; modulus = Some (record { 0 = m }) };
+  operator = Eq;
+  range_list = record { 0 = items.Value (record { 0 = r }) ∷ [] };
+}
+
+-- the condition of a relation alone
+abbrev pub alone : Relation → Condition
+alone relation = condition_of ((relation ∷ []) ∷ [])
+
+-- what the law says of one modulus, with the condition of one: its rule, and what is chosen for the exact number and for what is kept
+pub record TellsApart (condition : Condition) (rule : List PackedRelation) (kept exact : Operands) : Type 0 where
+  pub packs : packing condition ≡ Ok rule
+  pub for_exact : first_category (exact_truth exact) (only_one condition) ≡ One
+  pub for_kept : first_category (packed_truth kept) (only_one rule) ≡ Other
+
+-- Each modulus up to 4294967295 that doesn't divide 10 ^ 18 is in rules that tell the exact number 2 * 10 ^ 18 from what is
+-- kept of it: those with `i % m = r` alone, for one, where r is what m leaves of 2 * 10 ^ 18.
+abbrev pub BoundIsWidestForChoice : Type 0
+BoundIsWidestForChoice =
+    (m : ℕ) (x : Places) (kept exact : Operands) → 0 < m → m < 2 ^ 32 → ¬ (m ∣ 10 ^ 18)
+    → IsTwice x → AreCut x 0 kept → AreExact x 0 exact
+    → let condition = alone (leaves m (2 * 10 ^ 18 % m)) in
+    TellsApart condition (packed condition) kept exact
