@@ -3,7 +3,7 @@ pub use Rattle.fixed_decimal.specs.Digits
 pub use Rattle.fixed_decimal.specs.Places
 pub use Rattle.fixed_decimal.specs.Compact
 pub use Rattle.fixed_decimal.specs.Written
-pub use Rattle.fixed_decimal.specs.DecimalErrorText
+pub use Rattle.fixed_decimal.specs.DecimalErrorTexts
 -- packed lists
 pub use Rattle.packed_list.specs.ListBytes
 pub use Rattle.packed_list.specs.ListFaults
@@ -14,6 +14,7 @@ pub use Rattle.plural_reference.specs.Ends
 pub use Rattle.plural_reference.specs.Operands
 pub use Rattle.plural_reference.specs.DecimalOperands
 pub use Rattle.plural_reference.specs.OperandText
+pub use Rattle.plural_reference.specs.OperandsErrorTexts
 pub use Rattle.plural_reference.specs.Lexer
 pub use Rattle.plural_reference.specs.Parser
 pub use Rattle.plural_reference.specs.Samples
