@@ -34,7 +34,7 @@ leaves m r = record {
 abbrev pub alone : Relation → Condition
 alone relation = condition_of ((relation ∷ []) ∷ [])
 
--- what the law says of one modulus, with the condition of one: its rule, and what is chosen for the exact number and for what is kept
+-- the condition packs to the rule; alone, for one, the condition chooses one for the exact number, and the rule other for what is kept
 pub record TellsApart (condition : Condition) (rule : List PackedRelation) (kept exact : Operands) : Type 0 where
   pub packs : packing condition ≡ Ok rule
   pub for_exact : first_category (exact_truth exact) (only_one condition) ≡ One
