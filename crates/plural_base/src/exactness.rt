@@ -17,7 +17,7 @@ use plural_runtime::{Operand, Relation, Rule};
 // So many places are kept of a decimal on each side of the point.
 const KEPT: usize = 18;
 
-// What is cut from an integer part is a multiple of this, 10 to the power 18.
+// What is dropped of an integer part is a multiple of this, 10 to the power 18.
 const TEN_TO_18: u64 = 1_000_000_000_000_000_000;
 
 impl<'data> PluralRules<'data> {
