@@ -4,6 +4,7 @@ ghost use Rattle.std.specs.Prelude.{◌≡◌};
 ghost use Rattle.std.specs.Iterator.{YieldsFirstRef, item_count};
 
 use crate::list::PackedList;
+use crate::starts::part;
 use std::marker::Model;
 
 /// The items of a list that are left, each lent from the bytes of the list.
@@ -11,16 +12,19 @@ use std::marker::Model;
 pub struct Items<'a> {
     list: PackedList<'a>,
     next: usize,
+    // Where the next item starts, so that its start isn't read again.
+    start: usize,
 }
 
 impl<'a> Model for Items<'a> {
-    ghost use Rattle.std.specs.Prelude.{ℕ, List, drop, length, ◌≤◌};
+    ghost use Rattle.std.specs.Prelude.{◌≡◌, ℕ, List, drop, length, take, ◌≤◌};
+    ghost use Rattle.std.specs.List.{concat};
 
     ghost Value = { List (List ℕ) };
 
     ghost view = { λ items. drop items.next items.list };
 
-    ghost invariant = { λ items. items.next ≤ length items.list };
+    ghost invariant = { λ items. (items.next ≤ length items.list) × (items.start ≡ length (concat (take items.next items.list))) };
 }
 
 impl<'a> Items<'a> {
@@ -29,7 +33,11 @@ impl<'a> Items<'a> {
     pub(crate) fn of(list: PackedList<'a>) -> Items<'a>
         ensures { result ≡ list.entry }
     {
-        Items { list, next: 0 }
+        Items {
+            list,
+            next: 0,
+            start: 0,
+        }
     }
 }
 
@@ -42,12 +50,13 @@ impl<'a> Iterator for Items<'a> {
 
     #[inline]
     fn next(&mut self) -> Option<&'a [u8]> {
-        if self.next < self.list.len() {
-            let item = self.list.get(self.next);
-            self.next += 1;
-            item
-        } else {
-            None
+        if self.next == self.list.len() {
+            return None;
         }
+        let end = self.list.end(self.next);
+        let item = part(self.list.data(), self.start, end);
+        self.next += 1;
+        self.start = end;
+        Some(item)
     }
 }
