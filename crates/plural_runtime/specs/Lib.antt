@@ -12,5 +12,5 @@ pub mod RuleLaws
 -- not definitions of the subject
 pub mod RuleReading
 pub mod RuleViews
-pub mod RuleWalk
+pub mod OpenGroup
 pub mod RuleText

@@ -3,7 +3,7 @@ use Rattle.std.specs.Prelude.{slice_get}
 use Rattle.std.proofs.lemmas.List.{drop_all}
 use Rattle.plural_reference.specs.declared.ast.AndCondition.{AndCondition}
 use Rattle.plural_reference.specs.declared.ast.Relation.{Relation}
-use Rattle.plural_runtime.specs.RuleWalk.{done_before, open_before}
+use Rattle.plural_runtime.specs.OpenGroup.{done_before, open_before}
 use Rattle.plural_runtime.specs.RuleViews.{lent_relation}
 use Rattle.plural_runtime.proofs.TreeGroups.{no_relations, glued, glued-all, glued_more, whole_tree}
 use Rattle.plural_runtime.proofs.tree.condition_of.Goals as goal
