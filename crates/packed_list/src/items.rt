@@ -11,6 +11,9 @@ use std::marker::Model;
 #[derive(Debug, Drop)]
 pub struct Items<'a> {
     list: PackedList<'a>,
+    // How many items there are and their data, so that the header isn't read for each.
+    count: usize,
+    content: &'a [u8],
     next: usize,
     // Where the next item starts, so that its start isn't read again.
     start: usize,
@@ -24,7 +27,12 @@ impl<'a> Model for Items<'a> {
 
     ghost view = { λ items. drop items.next items.list };
 
-    ghost invariant = { λ items. (items.next ≤ length items.list) × (items.start ≡ length (concat (take items.next items.list))) };
+    ghost invariant = { λ items. record {
+      within : items.next ≤ length items.list;
+      count : items.count ≡ length items.list;
+      content : items.content.now ≡ concat items.list;
+      start : items.start ≡ length (concat (take items.next items.list));
+    } };
 }
 
 impl<'a> Items<'a> {
@@ -34,6 +42,8 @@ impl<'a> Items<'a> {
         ensures { result ≡ list.entry }
     {
         Items {
+            count: list.len(),
+            content: list.data(),
             list,
             next: 0,
             start: 0,
@@ -50,11 +60,11 @@ impl<'a> Iterator for Items<'a> {
 
     #[inline]
     fn next(&mut self) -> Option<&'a [u8]> {
-        if self.next == self.list.len() {
+        if self.next >= self.count {
             return None;
         }
-        let end = self.list.end(self.next);
-        let item = part(self.list.data(), self.start, end);
+        let end = self.list.end_in(self.next, self.count, self.content);
+        let item = part(self.content, self.start, end);
         self.next += 1;
         self.start = end;
         Some(item)

@@ -152,15 +152,25 @@ impl<'a> PackedList<'a> {
 
     // Where the item at a place ends in the data.
     #[inline]
-    pub(crate) fn end(&self, index: usize) -> usize
+    fn end(&self, index: usize) -> usize
         requires { index < length self.now }
         ensures { result ≡ unwrap_or (slice_get (starts self.now) (index + 1)) (length (concat self.now)) }
     {
-        let count = self.len();
+        self.end_in(index, self.len(), self.data())
+    }
+
+    // The same, where the count of items and their data are known.
+    #[inline]
+    pub(crate) fn end_in(&self, index: usize, count: usize, content: &[u8]) -> usize
+        requires index { index < length self.now }
+        requires count { count ≡ length self.now }
+        requires content { content.now ≡ concat self.now }
+        ensures { result ≡ unwrap_or (slice_get (starts self.now) (index + 1)) (length (concat self.now)) }
+    {
         if index + 1 < count {
             self.place(index + 1)
         } else {
-            self.data().len()
+            content.len()
         }
     }
 }
