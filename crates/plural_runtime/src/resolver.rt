@@ -159,6 +159,9 @@ fn holds<C: Counter>(value: u64, range: &[u8], counter: &mut C) -> bool
 {
     counter.step();
     let start = u32::from_le_bytes([range[0], range[1], range[2], range[3]]);
+    if value < u64::from(start) {
+        return false;
+    }
     let end = u32::from_le_bytes([range[4], range[5], range[6], range[7]]);
-    u64::from(start) <= value && value <= u64::from(end)
+    value <= u64::from(end)
 }
