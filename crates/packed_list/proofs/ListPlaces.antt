@@ -195,3 +195,29 @@ yields items k (Some x) h e =
     let g = slice_get-get_or items k [] h in
     let f : get_or items k [] ≡ x.now = cc in
     drop_more items k [] h ∙ ap (λ p. p ∷ drop (k + 1) items) f
+
+-- an item starts where those before it end
+pub starts-front : (place : ℕ) (items : List (List ℕ)) (k : ℕ) → k < length items → slice_get (starts_from place items) k ≡ Some (place + length (concat (take k items)))
+starts-front place [] k h = absurd (omega arith)
+starts-front place (item ∷ items) zero h = let e : place ≡ place + 0 = omega arith in ap Some e
+starts-front place (item ∷ items) (suc k) h =
+    let again = starts-front (place + length item) items k (omega arith) in
+    let l = length-append item (concat (take k items)) in
+    let e : (place + length item) + length (concat (take k items)) ≡ place + length (item ++ concat (take k items)) = omega (arith, l) in
+    again ∙ ap Some e
+
+pub start_behind : (items : List (List ℕ)) (k : ℕ) → k < length items → slice_get (starts items) k ≡ Some (length (concat (take k items)))
+start_behind items k h = let e : 0 + length (concat (take k items)) ≡ length (concat (take k items)) = omega arith in starts-front 0 items k h ∙ ap Some e
+
+-- an item ends where those up to it end
+pub end_behind : (items : List (List ℕ)) (k t : ℕ) → k < length items → t ≡ unwrap_or (slice_get (starts items) (k + 1)) (length (concat items)) → t ≡ length (concat (take (k + 1) items))
+end_behind items k t h e = elim (cases_lt (k + 1) (length items)) [
+  | inl more ↦ e ∙ ap (λ o. unwrap_or o (length (concat items))) (start_behind items (k + 1) more)
+  | inr past ↦
+      let n = length-starts items in
+      e ∙ ap (λ o. unwrap_or o (length (concat items))) (slice_get_past (starts items) (k + 1) (omega (arith, n))) ∙ ap (λ l. length (concat l)) (sym (take_all (k + 1) items past))
+]
+
+-- the item behind those that were given
+pub next_part : (items : List (List ℕ)) (k s t : ℕ) → k < length items → s ≡ length (concat (take k items)) → t ≡ unwrap_or (slice_get (starts items) (k + 1)) (length (concat items)) → IsPart items k s t
+next_part items k s t h e f = item_is items k s t h (start_behind items k h ∙ ap Some (sym e)) f

@@ -1,4 +1,4 @@
--- Not a definition of the subject: a reader of list bytes, which the view of a list and private contracts need.
+-- A reader of list bytes, for the view of a list, for bytes that are known to be one, and for laws. Not a definition of the subject.
 use Rattle.std.specs.Prelude.{ℕ, suc, ◌+◌, ◌-◌, ◌*◌, ◌<◌, ◌≤◌, List, [], ◌∷◌, length, drop, slice_index, slice_range}
 use Rattle.packed_list.specs.ListBytes.{ListBytes}
 use Rattle.packed_list.specs.ListFaults.{number_at, start_at}

@@ -4,23 +4,35 @@ ghost use Rattle.std.specs.Prelude.{◌≡◌};
 ghost use Rattle.std.specs.Iterator.{YieldsFirstRef, item_count};
 
 use crate::list::PackedList;
+use crate::starts::part;
 use std::marker::Model;
 
 /// The items of a list that are left, each lent from the bytes of the list.
 #[derive(Debug, Drop)]
 pub struct Items<'a> {
     list: PackedList<'a>,
+    // How many items there are and their data, so that the header isn't read for each.
+    count: usize,
+    content: &'a [u8],
     next: usize,
+    // Where the next item starts, so that its start isn't read again.
+    start: usize,
 }
 
 impl<'a> Model for Items<'a> {
-    ghost use Rattle.std.specs.Prelude.{ℕ, List, drop, length, ◌≤◌};
+    ghost use Rattle.std.specs.Prelude.{◌≡◌, ℕ, List, drop, length, take, ◌≤◌};
+    ghost use Rattle.std.specs.List.{concat};
 
     ghost Value = { List (List ℕ) };
 
     ghost view = { λ items. drop items.next items.list };
 
-    ghost invariant = { λ items. items.next ≤ length items.list };
+    ghost invariant = { λ items. record {
+      within : items.next ≤ length items.list;
+      count : items.count ≡ length items.list;
+      content : items.content.now ≡ concat items.list;
+      start : items.start ≡ length (concat (take items.next items.list));
+    } };
 }
 
 impl<'a> Items<'a> {
@@ -29,7 +41,13 @@ impl<'a> Items<'a> {
     pub(crate) fn of(list: PackedList<'a>) -> Items<'a>
         ensures { result ≡ list.entry }
     {
-        Items { list, next: 0 }
+        Items {
+            count: list.len(),
+            content: list.data(),
+            list,
+            next: 0,
+            start: 0,
+        }
     }
 }
 
@@ -42,12 +60,13 @@ impl<'a> Iterator for Items<'a> {
 
     #[inline]
     fn next(&mut self) -> Option<&'a [u8]> {
-        if self.next < self.list.len() {
-            let item = self.list.get(self.next);
-            self.next += 1;
-            item
-        } else {
-            None
+        if self.next >= self.count {
+            return None;
         }
+        let end = self.list.end_in(self.next, self.count, self.content);
+        let item = part(self.content, self.start, end);
+        self.next += 1;
+        self.start = end;
+        Some(item)
     }
 }

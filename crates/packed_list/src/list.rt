@@ -62,7 +62,13 @@ impl<'a> PackedList<'a> {
         Ok(PackedList::from_checked(bytes))
     }
 
-    /// The list in bytes that are known to be one, without a look at them.
+    /// The list in bytes that are known to be one, without a look at them. Such bytes are those that [`parse_bytes`] took,
+    /// [`as_bytes`] lends or [`encode`] gave ([`read_again`]).
+    ///
+    /// [`parse_bytes`]: PackedList::parse_bytes
+    /// [`as_bytes`]: PackedList::as_bytes
+    /// [`encode`]: PackedList::encode
+    /// [`read_again`]: crate::laws::read_again
     #[inline]
     pub fn from_checked(bytes: &'a [u8]) -> PackedList<'a>
         requires { IsList bytes.now }
@@ -124,7 +130,7 @@ impl<'a> PackedList<'a> {
 
     // The items, without what stands before them.
     #[inline]
-    fn data(&self) -> &'a [u8]
+    pub(crate) fn data(&self) -> &'a [u8]
         ensures { result.now ≡ concat self.now }
     {
         let bytes = self.bytes;
@@ -150,11 +156,21 @@ impl<'a> PackedList<'a> {
         requires { index < length self.now }
         ensures { result ≡ unwrap_or (slice_get (starts self.now) (index + 1)) (length (concat self.now)) }
     {
-        let count = self.len();
+        self.end_in(index, self.len(), self.data())
+    }
+
+    // The same, where the count of items and their data are known.
+    #[inline]
+    pub(crate) fn end_in(&self, index: usize, count: usize, content: &[u8]) -> usize
+        requires index { index < length self.now }
+        requires count { count ≡ length self.now }
+        requires content { content.now ≡ concat self.now }
+        ensures { result ≡ unwrap_or (slice_get (starts self.now) (index + 1)) (length (concat self.now)) }
+    {
         if index + 1 < count {
             self.place(index + 1)
         } else {
-            self.data().len()
+            content.len()
         }
     }
 }

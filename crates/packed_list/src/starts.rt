@@ -6,7 +6,7 @@ ghost use Rattle.packed_list.specs.ListReading.{HasGoodStarts};
 
 // The number in the two bytes at a place, low byte first.
 #[inline]
-pub fn number(bytes: &[u8], place: usize) -> usize
+pub(crate) fn number(bytes: &[u8], place: usize) -> usize
     requires { place + 1 < length bytes.now }
     ensures value { result ≡ number_at bytes.now place }
     ensures bound { result < 65536 }
@@ -16,7 +16,7 @@ pub fn number(bytes: &[u8], place: usize) -> usize
 
 // The bytes from one place up to another.
 #[inline]
-pub fn part(bytes: &[u8], from: usize, to: usize) -> &[u8]
+pub(crate) fn part(bytes: &[u8], from: usize, to: usize) -> &[u8]
     requires order { from ≤ to }
     requires within { to ≤ length bytes.now }
     ensures { result.now ≡ slice_range bytes.now from to }
@@ -25,7 +25,7 @@ pub fn part(bytes: &[u8], from: usize, to: usize) -> &[u8]
 }
 
 // Whether no start lies below the one before it or above the length of the data.
-pub fn are_starts(bytes: &[u8], count: usize) -> bool
+pub(crate) fn are_starts(bytes: &[u8], count: usize) -> bool
     requires count { count ≡ number_at bytes.now 0 }
     requires some { 0 < count }
     requires header { 2 * count ≤ length bytes.now }

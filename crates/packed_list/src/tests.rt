@@ -53,8 +53,9 @@ fn refuses_hostile_bytes(rt: HostRuntime) {
 #[test]
 fn answers_at_every_beginning(rt: HostRuntime) {
     // How many bytes are no list for want of a header, and how many for a start behind the data.
-    let cases: [(&[u8], usize, usize); 3] = [
+    let cases: [(&[u8], usize, usize); 4] = [
         (THREE_ITEMS, 6, 8),
+        (b"\x02\x00\x05\x00\x01", 4, 6),
         (
             b"\x02\x00\x0d\x00\xc1\0\0\0\0\x01\0\0\0\x01\0\0\0\x42\0\0\0\0\0\0\0\0\0\0\0\0",
             4,
@@ -75,6 +76,16 @@ fn answers_at_every_beginning(rt: HostRuntime) {
             };
             assert_eq!(rt; answer(&bytes[..end]), expected, "first {end} of {bytes:?}");
         }
+    }
+}
+
+#[test]
+fn the_last_items_of_a_beginning_are_empty(rt: HostRuntime) {
+    let list = PackedList::parse_bytes(&THREE_ITEMS[..8]).expect(&rt, "a list");
+    let expected: [&[u8]; 3] = [b"ab", b"", b""];
+    assert_eq!(rt; list.len(), 3);
+    for (place, item) in expected.iter().enumerate() {
+        assert_eq!(rt; list.get(place), Some(*item), "item {place}");
     }
 }
 

@@ -4,12 +4,11 @@ use Rattle.std.specs.Prelude.{if◌then◌else◌, Option, option_map}
 use Rattle.std.proofs.lemmas.List.Sums.{sum_by-cons}
 use Rattle.plural_reference.specs.Operands.{Operands}
 use Rattle.plural_runtime.specs.PackedRelations.{PackedRelation}
-use Rattle.plural_runtime.specs.RuleWalk.{ends_true, is_looked_at, holds_after, needed_left}
 use Rattle.plural_reference.specs.Truth.{range_holds, operand_value, remainder}
 use Rattle.plural_runtime.specs.PackedTruth.{is_true_at}
 use Rattle.plural_runtime.specs.NeededRanges.{needed_of_value, needed_of_relation, needed_ranges, all_ranges}
 use Rattle.plural_runtime.proofs.NeededGroups.{needed_from, needed_of_list-is}
-use Rattle.plural_runtime.proofs.Walks.{needed_left-is}
+use Rattle.plural_runtime.proofs.Walks.{ends_true, is_looked_at, holds_after, needed_left, needed_left-is}
 
 pub needed_from-le : (value : ℕ) (ranges : List (ℕ × ℕ)) → needed_from value ranges ≤ length ranges
 needed_from-le value [] = omega arith

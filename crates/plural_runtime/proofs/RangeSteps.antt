@@ -1,7 +1,8 @@
 -- One range more of the bytes of a list.
-use Rattle.std.proofs.Common.{◌≡◌, ℕ, ◌+◌, ◌<◌, ◌≤◌, List, [], ◌∷◌, length, drop, take, refl, sym, ap, ◌∙◌, arith, Bool}
-use Rattle.std.specs.Prelude.{◌||◌, if◌then◌else◌}
+use Rattle.std.proofs.Common.{◌≡◌, ℕ, ◌+◌, ◌-◌, ◌%◌, ◌<◌, ◌≤◌, List, [], ◌∷◌, length, drop, take, refl, sym, ap, ◌∙◌, arith, Bool, true, false, length-drop, eq-eqb}
+use Rattle.std.specs.Prelude.{◌||◌, if◌then◌else◌, ◌==◌}
 use Rattle.std.specs.List.{list_any}
+use Rattle.std.proofs.lemmas.Bool.{eqb-true, eqb-false}
 use Rattle.plural_runtime.specs.RuleReading.{range_in, ranges_in}
 use Rattle.plural_reference.specs.Truth.{range_holds}
 use Rattle.plural_runtime.proofs.NeededGroups.{needed_from}
@@ -50,3 +51,22 @@ range_step value bytes range rest holds h e f g =
 
 pub nothing_needed : (value : ℕ) (bytes : List ℕ) → length bytes < 8 → needed_from value (ranges_in bytes) ≡ 0
 nothing_needed value bytes h = ap (needed_from value) (ranges-short bytes h)
+
+-- what is left behind a range is whole, and holds one where it isn't empty
+pub record WholeRest (rest : List ℕ) : Type 0 where
+  pub whole : (length rest % 8 == 0) ≡ true
+  pub some : (length rest == 0) ≡ false → 8 ≤ length rest
+  pub short : (length rest == 0) ≡ true → length rest < 8
+
+pub whole_rest : (bytes rest : List ℕ) → (length bytes % 8 == 0) ≡ true → 8 ≤ length bytes → rest ≡ drop 8 bytes → WholeRest rest
+whole_rest bytes rest h l e =
+    let n : length rest ≡ length bytes - 8 = ap length e ∙ omega (arith, length-drop 8 bytes) in
+    let m : length rest % 8 ≡ 0 = omega (arith, n, eqb-true _ _ h) in
+    record {
+      whole = eq-eqb _ 0 m;
+      some = λ f. omega (arith, m, eqb-false _ _ f);
+      short = λ t. omega (arith, eqb-true _ _ t);
+    }
+
+pub none_holds : (value : ℕ) (bytes : List ℕ) → length bytes < 8 → list_any (range_holds value) (ranges_in bytes) ≡ false
+none_holds value bytes h = ap (list_any (range_holds value)) (ranges-short bytes h)

@@ -1,19 +1,47 @@
 -- The walk over the relations of a rule tells its truth, and counts the needed ranges.
-use Rattle.std.proofs.Common.{◌≡◌, ℕ, ◌+◌, ◌<◌, List, [], ◌∷◌, length, drop, get_or, map, refl, sym, ap, ◌∙◌, arith, Bool, true, false, Some}
-use Rattle.std.specs.Prelude.{◌&&◌, ◌||◌, if◌then◌else◌}
-use Rattle.std.specs.List.{list_any, slice_get}
-use Rattle.std.proofs.lemmas.Option.{slice_get-get_or}
-use Rattle.std.proofs.lemmas.List.{drop_more}
+use Rattle.std.proofs.Common.{◌≡◌, ℕ, ◌+◌, List, [], ◌∷◌, refl, sym, ap, ◌∙◌, arith, Bool, true, false}
+use Rattle.std.specs.Prelude.{◌&&◌, ◌||◌, not, if◌then◌else◌}
+use Rattle.std.specs.List.{list_any}
 use Rattle.plural_reference.specs.Operands.{Operands}
 use Rattle.plural_runtime.specs.declared.kinds.AndOr.{AndOr}
 use Rattle.plural_runtime.specs.declared.kinds.AndOr.TheVariants.{And, Or}
 use Rattle.plural_runtime.specs.PackedRelations.{PackedRelation, groups, at_front, cut_before}
-use Rattle.plural_runtime.specs.RuleReading.{relation_in}
-use Rattle.plural_runtime.specs.RuleWalk.{ends_true, is_looked_at, holds_after, truth_left, needed_here, needed_left}
-use Rattle.plural_runtime.specs.PackedTruth.{is_true_at}
-use Rattle.plural_runtime.specs.PackedTruth.{group_truth, packed_truth}
+use Rattle.plural_runtime.specs.PackedTruth.{group_truth, is_true_at, packed_truth}
 use Rattle.plural_runtime.specs.NeededRanges.{needed_of_relation, needed_ranges}
 use Rattle.plural_runtime.proofs.NeededGroups.{groups-behind, needed_in_group, needed_in_groups}
+
+-- a true group ends where the next one begins
+abbrev pub ends_true : AndOr → Bool → Bool
+ends_true And holds = false
+ends_true Or holds = holds
+
+-- a relation is looked at where its group may still be true
+abbrev pub is_looked_at : AndOr → Bool → Bool
+is_looked_at And holds = holds
+is_looked_at Or holds = true
+
+-- whether the group is true up to a relation, that one included
+abbrev pub holds_after : AndOr → Bool → Bool → Bool
+holds_after And holds truth = holds && truth
+holds_after Or holds truth = truth
+
+-- the truth of what is left, if no earlier group is true and this one is so far or not
+abbrev pub truth_left : Operands → Bool → List PackedRelation → Bool
+truth_left number holds [] = holds
+truth_left number holds (relation ∷ relations) =
+    if ends_true relation.and_or holds then true
+    else truth_left number (holds_after relation.and_or holds (is_true_at number relation)) relations
+
+-- the ranges that a relation needs, if no earlier group is true and this one is so far or not
+abbrev pub needed_here : Operands → Bool → PackedRelation → ℕ
+needed_here number holds relation = if is_looked_at relation.and_or holds then needed_of_relation number relation.meaning else 0
+
+-- the ranges that what is left needs
+abbrev pub needed_left : Operands → Bool → List PackedRelation → ℕ
+needed_left number holds [] = 0
+needed_left number holds (relation ∷ relations) =
+    if ends_true relation.and_or holds then 0
+    else (needed_here number holds relation + needed_left number (holds_after relation.and_or holds (is_true_at number relation)) relations)
 
 -- the truth of groups, if the first one is true so far or not
 abbrev pub groups_truth : Operands → Bool → List (List PackedRelation) → Bool
@@ -121,34 +149,51 @@ needed_left-is number relations =
     needed_left-groups number true relations ∙ ap (groups_need number true) f.is
     ∙ sym (groups-behind number [] (groups relations) false refl ∙ ap (needed_in_groups number) f.is)
 
--- the relations of the items that are left
-abbrev pub left_from : List (List ℕ) → ℕ → List PackedRelation
-left_from items k = map relation_in (drop k items)
+-- a relation is read in a new group where the one before is false, and else where its group is true so far
+abbrev pub is_read : AndOr → Bool → Bool
+is_read And holds = holds
+is_read Or holds = not holds
 
-pub left_more : (items : List (List ℕ)) (k : ℕ) (item : List ℕ) → k < length items → Some item ≡ slice_get items k → left_from items k ≡ relation_in item ∷ left_from items (k + 1)
-left_more items k item h e =
-    let g = slice_get-get_or items k [] h in
-    let i : get_or items k [] ≡ item = cc in
-    ap (map relation_in) (drop_more items k [] h) ∙ ap (λ r. relation_in r ∷ left_from items (k + 1)) i
+-- a relation that is read decides whether its group is true so far
+pub record WalkReads (number : Operands) (holds : Bool) (relation : PackedRelation) (others : List PackedRelation) : Type 0 where
+  pub truth : truth_left number holds (relation ∷ others) ≡ truth_left number (is_true_at number relation) others
+  pub needed : needed_left number holds (relation ∷ others) ≡ needed_of_relation number relation.meaning + needed_left number (is_true_at number relation) others
 
--- a true group has ended
-pub record WalkEnds (number : Operands) (holds : Bool) (relations : List PackedRelation) : Type 0 where
-  pub truth : truth_left number holds relations ≡ true
-  pub needed : needed_left number holds relations ≡ 0
+pub walk_reads : (number : Operands) (holds : Bool) (relation : PackedRelation) (others : List PackedRelation) → is_read relation.and_or holds ≡ true → WalkReads number holds relation others
+walk_reads number holds relation others h = record { truth = truth_by relation.and_or holds h; needed = needed_by relation.and_or holds h }
+  where
+    truth_by : (mark : AndOr) (holds : Bool) → is_read mark holds ≡ true → (if ends_true mark holds then true else truth_left number (holds_after mark holds (is_true_at number relation)) others) ≡ truth_left number (is_true_at number relation) others
+    truth_by And true h = refl
+    truth_by And false h = cc
+    truth_by Or true h = cc
+    truth_by Or false h = refl
 
-pub walk_ends : (number : Operands) (holds : Bool) (relation : PackedRelation) (relations others : List PackedRelation) → relations ≡ relation ∷ others → true ≡ ends_true relation.and_or holds → WalkEnds number holds relations
-walk_ends number holds relation relations others e h = record {
-  truth = ap (truth_left number holds) e ∙ ap (λ b. if b then true else truth_left number (holds_after relation.and_or holds (is_true_at number relation)) others) (sym h);
-  needed = ap (needed_left number holds) e ∙ ap (λ b. if b then 0 else (needed_here number holds relation + needed_left number (holds_after relation.and_or holds (is_true_at number relation)) others)) (sym h);
+    needed_by : (mark : AndOr) (holds : Bool) → is_read mark holds ≡ true →
+        (if ends_true mark holds then 0 else ((if is_looked_at mark holds then needed_of_relation number relation.meaning else 0) + needed_left number (holds_after mark holds (is_true_at number relation)) others))
+        ≡ needed_of_relation number relation.meaning + needed_left number (is_true_at number relation) others
+    needed_by And true h = refl
+    needed_by And false h = cc
+    needed_by Or true h = cc
+    needed_by Or false h = refl
+
+-- a relation of a false group is not read
+pub record WalkSkips (number : Operands) (relation : PackedRelation) (others : List PackedRelation) : Type 0 where
+  pub truth : truth_left number false (relation ∷ others) ≡ truth_left number false others
+  pub needed : needed_left number false (relation ∷ others) ≡ needed_left number false others
+
+pub walk_skips : (number : Operands) (relation : PackedRelation) (others : List PackedRelation) → relation.and_or ≡ And → WalkSkips number relation others
+walk_skips number relation others h = record {
+  truth = ap (λ mark. if ends_true mark false then true else truth_left number (holds_after mark false (is_true_at number relation)) others) h;
+  needed = ap (λ mark. if ends_true mark false then 0 else ((if is_looked_at mark false then needed_of_relation number relation.meaning else 0) + needed_left number (holds_after mark false (is_true_at number relation)) others)) h ∙ omega arith;
 }
 
--- no true group has ended
-pub record WalkGoesOn (number : Operands) (holds after : Bool) (relation : PackedRelation) (relations others : List PackedRelation) : Type 0 where
-  pub truth : truth_left number holds relations ≡ truth_left number after others
-  pub needed : needed_left number holds relations ≡ needed_here number holds relation + needed_left number after others
+-- a true group ends at Or
+pub record WalkEnds (number : Operands) (relation : PackedRelation) (others : List PackedRelation) : Type 0 where
+  pub truth : truth_left number true (relation ∷ others) ≡ true
+  pub needed : needed_left number true (relation ∷ others) ≡ 0
 
-pub walk_goes_on : (number : Operands) (holds after : Bool) (relation : PackedRelation) (relations others : List PackedRelation) → relations ≡ relation ∷ others → false ≡ ends_true relation.and_or holds → after ≡ holds_after relation.and_or holds (is_true_at number relation) → WalkGoesOn number holds after relation relations others
-walk_goes_on number holds after relation relations others e h a = record {
-  truth = ap (truth_left number holds) e ∙ ap (λ b. if b then true else truth_left number (holds_after relation.and_or holds (is_true_at number relation)) others) (sym h) ∙ ap (λ b. truth_left number b others) (sym a);
-  needed = ap (needed_left number holds) e ∙ ap (λ b. if b then 0 else (needed_here number holds relation + needed_left number (holds_after relation.and_or holds (is_true_at number relation)) others)) (sym h) ∙ ap (λ b. needed_here number holds relation + needed_left number b others) (sym a);
+pub walk_ends : (number : Operands) (relation : PackedRelation) (others : List PackedRelation) → relation.and_or ≡ Or → WalkEnds number relation others
+walk_ends number relation others h = record {
+  truth = ap (λ mark. if ends_true mark true then true else truth_left number (holds_after mark true (is_true_at number relation)) others) h;
+  needed = ap (λ mark. if ends_true mark true then 0 else ((if is_looked_at mark true then needed_of_relation number relation.meaning else 0) + needed_left number (holds_after mark true (is_true_at number relation)) others)) h;
 }

@@ -9,8 +9,8 @@ pub mod RuleKinds
 pub mod Packing
 pub mod RuleErrorTexts
 pub mod RuleLaws
+pub mod RuleViews
 -- not definitions of the subject
 pub mod RuleReading
-pub mod RuleViews
-pub mod RuleWalk
+pub mod OpenGroup
 pub mod RuleText

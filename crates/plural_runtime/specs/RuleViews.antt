@@ -1,4 +1,4 @@
--- Not a definition of the subject: what lent relations and first bytes stand for.
+-- What contracts see of lent relations and first bytes.
 use Rattle.std.specs.Prelude.{ℕ, Option, option_map}
 use Rattle.plural_runtime.specs.declared.first_byte.AndOrPolarityOperand.{AndOrPolarityOperand}
 use Rattle.plural_runtime.specs.declared.relation.RelationULE.{RelationULE}

@@ -35,7 +35,7 @@ fn write_relations<W: fmt::Write>(rule: &Rule<'_>, f: &mut fmt::Formatter<W>) ->
 {
     for index in 0..rule.len() {
         let Some(item) = rule.get(index) else {
-            return Ok(());
+            unreachable!();
         };
         write_next(index == 0, &item.as_relation(), f)?;
     }
@@ -48,7 +48,8 @@ fn write_next<W: fmt::Write>(
     relation: &Relation<'_>,
     f: &mut fmt::Formatter<W>,
 ) -> fmt::Result
-    ensures { DisplaysOnOk W.write_str_gives f.old result (Some (mark_text is_first (lent_relation relation.now).and_or ++ relation_shown (lent_relation relation.now).meaning)) f.new }
+    ensures { let shown = lent_relation relation.now in
+        DisplaysOnOk W.write_str_gives f.old result (Some (mark_text is_first shown.and_or ++ relation_shown shown.meaning)) f.new }
 {
     f.write_str(mark(is_first, relation.and_or()))?;
     write_relation(relation, f)
@@ -113,7 +114,8 @@ fn write_modulus<W: fmt::Write>(modulo: u32, f: &mut fmt::Formatter<W>) -> fmt::
 
 // Prints the operator and the ranges of a relation.
 fn write_list<W: fmt::Write>(relation: &Relation<'_>, f: &mut fmt::Formatter<W>) -> fmt::Result
-    ensures { DisplaysOnOk W.write_str_gives f.old result (Some (sign_text (lent_relation relation.now).meaning.operator ++ ranges_shown (lent_relation relation.now).meaning.ranges)) f.new }
+    ensures { let meaning = (lent_relation relation.now).meaning in
+        DisplaysOnOk W.write_str_gives f.old result (Some (sign_text meaning.operator ++ ranges_shown meaning.ranges)) f.new }
 {
     f.write_str(sign(relation.polarity()))?;
     write_ranges(relation, f)
@@ -135,7 +137,7 @@ fn write_ranges<W: fmt::Write>(relation: &Relation<'_>, f: &mut fmt::Formatter<W
 {
     for index in 0..relation.len() {
         let Some(range) = relation.range(index) else {
-            return Ok(());
+            unreachable!();
         };
         write_next_range(index == 0, range, f)?;
     }

@@ -10,7 +10,7 @@ use crate::kinds::{AndOr, Operand, Polarity};
 // How the relation of an item is joined to the one before it.
 #[inline]
 #[tactic(auto, unfolding(crate::specs::RuleReading::relation_in))]
-pub fn and_or_at(item: &[u8]) -> AndOr
+pub(crate) fn and_or_at(item: &[u8]) -> AndOr
     requires { IsTrue (is_relation item.now) }
     ensures { result ≡ (relation_in item.now).and_or }
 {
@@ -20,7 +20,7 @@ pub fn and_or_at(item: &[u8]) -> AndOr
 // Whether the value is to be in the list of an item.
 #[inline]
 #[tactic(auto, unfolding(crate::specs::RuleReading::relation_in))]
-pub fn polarity_at(item: &[u8]) -> Polarity
+pub(crate) fn polarity_at(item: &[u8]) -> Polarity
     requires { IsTrue (is_relation item.now) }
     ensures { operator_of result ≡ (relation_in item.now).meaning.operator }
 {
@@ -33,7 +33,7 @@ pub fn polarity_at(item: &[u8]) -> Polarity
 
 // What of a number the relation of an item looks at.
 #[tactic(auto, unfolding(crate::specs::RuleReading::relation_in))]
-pub fn operand_at(item: &[u8]) -> Operand
+pub(crate) fn operand_at(item: &[u8]) -> Operand
     requires { IsTrue (is_relation item.now) }
     ensures { tree_operand_of result ≡ (relation_in item.now).meaning.operand }
 {
@@ -52,7 +52,7 @@ pub fn operand_at(item: &[u8]) -> Operand
 // The modulus of an item, or 0.
 #[inline]
 #[tactic(auto, unfolding(crate::specs::RuleReading::relation_in))]
-pub fn modulo_at(item: &[u8]) -> u32
+pub(crate) fn modulo_at(item: &[u8]) -> u32
     requires { IsTrue (is_relation item.now) }
     ensures { result ≡ (relation_in item.now).meaning.modulus }
 {
@@ -62,7 +62,7 @@ pub fn modulo_at(item: &[u8]) -> u32
 // The ranges of an item.
 #[inline]
 #[tactic(auto, unfolding(crate::specs::RuleReading::relation_in))]
-pub fn ranges_at(item: &[u8]) -> &[u8]
+pub(crate) fn ranges_at(item: &[u8]) -> &[u8]
     requires { IsTrue (is_relation item.now) }
     ensures ranges { ranges_in result.now ≡ (relation_in item.now).meaning.ranges }
     ensures whole { IsTrue (length result.now % 8 == 0) }

@@ -110,7 +110,7 @@ impl Operand {
         let modulus = if modulo == 0 {
             None
         } else {
-            Some(ast::Value(u64::from(modulo)))
+            Some(ast::Value::from(modulo))
         };
         ast::Expression {
             operand: ast::Operand::from(self),

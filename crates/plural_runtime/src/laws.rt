@@ -18,7 +18,8 @@ use plural_reference::laws::printing::{
 
 /// Rules are the same bytes exactly if they are the same relations.
 pub fn one_encoding()
-    ensures { (relations others : List PackedRelation) (a b : List ℕ) → RuleBytes relations a → RuleBytes others b → (a ≡ b) ↔ (relations ≡ others) }
+    ensures { (relations others : List PackedRelation) (a b : List ℕ) → RuleBytes relations a → RuleBytes others b
+        → (a ≡ b) ↔ (relations ≡ others) }
 {
     read_again();
 }
@@ -42,7 +43,8 @@ pub fn at_most_all()
 
 /// A rule is true exactly where its tree is, if the fraction is zero or no relation tests `n` with `!=`.
 pub fn truths_agree()
-    ensures { (number : Operands) (relations : List PackedRelation) → (number.w ≡ 0) ⊎ IsTrue (has_no_negated_n relations) → tree_truth number (unpacked relations) ≡ packed_truth number relations }
+    ensures { (number : Operands) (relations : List PackedRelation) → (number.w ≡ 0) ⊎ IsTrue (has_no_negated_n relations)
+        → tree_truth number (unpacked relations) ≡ packed_truth number relations }
 {}
 
 /// A rule that is packed from a text, printed, read and packed again is the same: the text that is printed is read as the

@@ -4,12 +4,12 @@
 mod display;
 mod error;
 mod first_byte;
+mod from_bytes;
 mod from_text;
 mod item;
 mod kinds;
 pub mod laws;
 mod pack;
-mod parse;
 mod range;
 mod relation;
 mod relations;
@@ -18,8 +18,8 @@ mod rule;
 mod steps;
 #[cfg(test)]
 mod tests;
-mod tree;
 mod tree_bytes;
+mod unpack;
 
 pub use error::{RuleBytesError, RuleError};
 pub use first_byte::AndOrPolarityOperand;

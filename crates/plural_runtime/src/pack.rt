@@ -108,7 +108,8 @@ fn is_large(value: &ast::Value) -> bool
 // The bytes of a tree. More than 65535 relations have a start above 65535 too.
 fn encoded(alloc: Global, condition: &ast::Condition) -> Result<Vec<u8>, PackError>
     ensures ok { IfOk result (λ bytes. ListBytes (map relation_bytes (packed condition.now)) bytes.items) }
-    ensures limit { (result ≡ Err PackError.CountLimit) ⊎ (result ≡ Err PackError.StartLimit) → IsTrue (has_high_start (map relation_bytes (packed condition.now))) }
+    ensures limit { (result ≡ Err PackError.CountLimit) ⊎ (result ≡ Err PackError.StartLimit)
+        → IsTrue (has_high_start (map relation_bytes (packed condition.now))) }
 {
     let items = items_of(alloc, condition)?;
     let slices = slices(alloc, &items)?;

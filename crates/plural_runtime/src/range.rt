@@ -21,11 +21,10 @@ impl From<RangeOrValue> for ast::RangeListItem {
 
     fn from(range: RangeOrValue) -> ast::RangeListItem {
         match range {
-            RangeOrValue::Range(start, end) => ast::RangeListItem::Range(
-                ast::Value(u64::from(start)),
-                ast::Value(u64::from(end)),
-            ),
-            RangeOrValue::Value(value) => ast::RangeListItem::Value(ast::Value(u64::from(value))),
+            RangeOrValue::Range(start, end) => {
+                ast::RangeListItem::Range(ast::Value::from(start), ast::Value::from(end))
+            }
+            RangeOrValue::Value(value) => ast::RangeListItem::Value(ast::Value::from(value)),
         }
     }
 }
@@ -39,17 +38,9 @@ impl<'a> TryFrom<&'a ast::RangeListItem> for RangeOrValue {
     fn try_from(item: &'a ast::RangeListItem) -> Result<RangeOrValue, ParseError> {
         match item {
             ast::RangeListItem::Range(start, end) => {
-                if start.0 > 4294967295 || end.0 > 4294967295 {
-                    return Err(ParseError::ValueTooLarge);
-                }
-                Ok(RangeOrValue::Range(start.0 as u32, end.0 as u32))
+                Ok(RangeOrValue::Range(u32::try_from(start)?, u32::try_from(end)?))
             }
-            ast::RangeListItem::Value(value) => {
-                if value.0 > 4294967295 {
-                    return Err(ParseError::ValueTooLarge);
-                }
-                Ok(RangeOrValue::Value(value.0 as u32))
-            }
+            ast::RangeListItem::Value(value) => Ok(RangeOrValue::Value(u32::try_from(value)?)),
         }
     }
 }

@@ -45,6 +45,7 @@ impl<'a> RelationULE<'a> {
     }
 
     /// The bytes of the item: the first byte, the modulus and the ranges.
+    #[inline]
     pub fn as_bytes(&self) -> &'a [u8]
         ensures { result.now ≡ relation_bytes (item_relation self.now) }
     {
@@ -52,6 +53,7 @@ impl<'a> RelationULE<'a> {
     }
 
     /// The relation that the bytes hold.
+    #[inline]
     pub fn as_relation(&self) -> Relation<'a>
         ensures { lent_relation result ≡ item_relation self.now }
     {
@@ -74,6 +76,7 @@ impl<'a> Relation<'a> {
     ghost use Rattle.plural_runtime.specs.RuleViews.{lent_relation};
 
     /// How it is joined to the one before it.
+    #[inline]
     pub fn and_or(&self) -> AndOr
         ensures { result ≡ (lent_relation self.now).and_or }
     {
@@ -81,6 +84,7 @@ impl<'a> Relation<'a> {
     }
 
     /// Whether the value is to be in the list.
+    #[inline]
     pub fn polarity(&self) -> Polarity
         ensures { operator_of result ≡ (lent_relation self.now).meaning.operator }
     {
@@ -88,6 +92,7 @@ impl<'a> Relation<'a> {
     }
 
     /// What of a number it looks at.
+    #[inline]
     pub fn operand(&self) -> Operand
         ensures { tree_operand_of result ≡ (lent_relation self.now).meaning.operand }
     {
@@ -95,6 +100,7 @@ impl<'a> Relation<'a> {
     }
 
     /// The modulus, or 0 where there is none.
+    #[inline]
     pub fn modulo(&self) -> u32
         ensures { result ≡ (lent_relation self.now).meaning.modulus }
     {
@@ -102,6 +108,7 @@ impl<'a> Relation<'a> {
     }
 
     /// How many ranges it has.
+    #[inline]
     pub fn len(&self) -> usize
         ensures { result ≡ length (lent_relation self.now).meaning.ranges }
     {
@@ -109,6 +116,7 @@ impl<'a> Relation<'a> {
     }
 
     /// The range at a place. Equal ends are a value.
+    #[inline]
     pub fn range(&self, index: usize) -> Option<RangeOrValue>
         ensures { result ≡ option_map range_or_value (slice_get (lent_relation self.now).meaning.ranges index) }
     {

@@ -34,6 +34,7 @@ impl<'a> Model for Relations<'a> {
 
 impl<'a> Relations<'a> {
     // The relations of items that were checked.
+    #[inline]
     pub(crate) fn of(items: Items<'a>) -> Relations<'a>
         requires { IsTrue (list_all is_relation items) }
         ensures { result ≡ map relation_in items.entry }
@@ -49,6 +50,7 @@ impl<'a> Iterator for Relations<'a> {
 
     ghost remaining = { item_count (λ relations. relations) };
 
+    #[inline]
     fn next(&mut self) -> Option<RelationULE<'a>> {
         let item = self.items.next()?;
         Some(RelationULE::from_checked(item))

@@ -1,11 +1,10 @@
 //! Tells whether a rule is true, by its bytes alone.
 
-ghost use Rattle.std.specs.Prelude.{◌≡◌, ◌≤◌, ◌+◌, ◌<◌, min, length, option_map, IsTrue};
+ghost use Rattle.std.specs.Prelude.{◌≡◌, ◌≤◌, ◌+◌, ◌<◌, ◌%◌, ◌==◌, min, length, option_map, IsTrue};
 ghost use Rattle.std.specs.Fn.{iterate};
 ghost use Rattle.plural_reference.specs.Truth.{holds_value, is_in_ranges, operand_value, range_holds, remainder};
 ghost use Rattle.plural_runtime.specs.RuleFaults.{is_relation};
 ghost use Rattle.plural_runtime.specs.RuleReading.{relation_in, range_in, ranges_in};
-ghost use Rattle.plural_runtime.specs.RuleWalk.{ends_true, holds_after, needed_here};
 ghost use Rattle.plural_runtime.specs.PackedTruth.{packed_truth, is_true_at};
 ghost use Rattle.plural_runtime.specs.NeededRanges.{needed_ranges, all_ranges, needed_of_relation, needed_of_list};
 
@@ -21,6 +20,7 @@ use plural_reference::{PluralOperands, RawPluralOperands};
 ///
 /// A relation on `n` where the fraction isn't zero is in no list: false under `=`, true under `!=`. A modulus 0 is
 /// none. It takes no memory.
+#[inline]
 pub fn test_rule(rule: &Rule<'_>, operands: &PluralOperands) -> bool
     ensures { result ≡ packed_truth operands.now rule.now }
 {
@@ -36,6 +36,7 @@ pub fn test_rule_counted(rule: &Rule<'_>, operands: &PluralOperands, steps: &mut
     ensures count { steps.new ≡ min (steps.old + needed_ranges operands.now rule.now) 18446744073709551615 }
     ensures at_most { steps.new ≤ steps.old + all_ranges rule.now }
 {
+    // Read for the proof: that the count so far is one of 64 bits.
     let _before = steps.count();
     at_most_all();
     is_true(rule, operands, steps)
@@ -47,46 +48,23 @@ fn is_true<C: Counter>(rule: &Rule<'_>, operands: &PluralOperands, counter: &mut
     ensures answer { result ≡ packed_truth operands.now rule.now }
     ensures count { counter.new ≡ iterate C.after_one (needed_ranges operands.now rule.now) counter.old }
 {
-    let list = rule.list();
     let mut holds = true;
-    for index in 0..list.len() {
-        let Some(item) = list.get(index) else {
-            return holds;
-        };
-        if group_ends(holds, item) {
-            return true;
+    for item in rule.list().iter() {
+        match and_or_at(item) {
+            AndOr::Or => {
+                if holds {
+                    return true;
+                }
+            }
+            AndOr::And => {
+                if !holds {
+                    continue;
+                }
+            }
         }
-        holds = group_holds(holds, item, operands, counter);
+        holds = relation_holds(item, operands, counter);
     }
     holds
-}
-
-// Whether a group that is true or not ends before the relation of an item, and is true.
-#[inline]
-fn group_ends(holds: bool, item: &[u8]) -> bool
-    requires { IsTrue (is_relation item.now) }
-    ensures { result ≡ ends_true (relation_in item.now).and_or holds }
-{
-    holds && and_or_at(item) == AndOr::Or
-}
-
-// Whether a group is true up to the relation of an item, if it is so far or not. At Or a new group begins.
-#[inline]
-fn group_holds<C: Counter>(
-    holds: bool,
-    item: &[u8],
-    operands: &PluralOperands,
-    counter: &mut C,
-) -> bool
-    requires { IsTrue (is_relation item.now) }
-    ensures answer { result ≡ holds_after (relation_in item.now).and_or holds (is_true_at operands.now (relation_in item.now)) }
-    ensures count { counter.new ≡ iterate C.after_one (needed_here operands.now holds (relation_in item.now)) counter.old }
-{
-    if holds || and_or_at(item) == AndOr::Or {
-        relation_holds(item, operands, counter)
-    } else {
-        false
-    }
 }
 
 // Whether the relation of an item is true.
@@ -126,19 +104,14 @@ fn value_at(item: &[u8], operands: &PluralOperands) -> Option<u64>
 {
     let operands = RawPluralOperands::from(*operands);
     match item[0] % 64 {
-        0 => {
-            if operands.w == 0 {
-                Some(operands.i)
-            } else {
-                None
-            }
-        }
-        1 => Some(operands.i),
+        0 if operands.w != 0 => None,
+        0 | 1 => Some(operands.i),
         2 => Some(operands.v as u64),
         3 => Some(operands.w as u64),
         4 => Some(operands.f),
         5 => Some(operands.t),
-        _ => Some(operands.c as u64),
+        6 | 7 => Some(operands.c as u64),
+        _ => unreachable!(),
     }
 }
 
@@ -157,18 +130,24 @@ fn reduced(modulo: u32, value: u64) -> u64
 // Whether some range holds the value. None is read behind the first that does.
 #[inline]
 fn any_holds<C: Counter>(value: u64, ranges: &[u8], counter: &mut C) -> bool
+    requires { IsTrue (length ranges.now % 8 == 0) }
     ensures answer { result ≡ is_in_ranges (ranges_in ranges.now) value }
     ensures count { counter.new ≡ iterate C.after_one (needed_of_list (ranges_in ranges.now) value) counter.old }
 {
+    if ranges.is_empty() {
+        return false;
+    }
     let mut rest = ranges;
-    while rest.len() >= 8 {
+    loop {
         let (range, others) = rest.split_at(8);
         if holds(value, range, counter) {
             return true;
         }
+        if others.is_empty() {
+            return false;
+        }
         rest = others;
     }
-    false
 }
 
 // Reads the ends of a range and counts it: whether it holds the value.
@@ -180,6 +159,9 @@ fn holds<C: Counter>(value: u64, range: &[u8], counter: &mut C) -> bool
 {
     counter.step();
     let start = u32::from_le_bytes([range[0], range[1], range[2], range[3]]);
+    if value < u64::from(start) {
+        return false;
+    }
     let end = u32::from_le_bytes([range[4], range[5], range[6], range[7]]);
-    u64::from(start) <= value && value <= u64::from(end)
+    value <= u64::from(end)
 }

@@ -7,6 +7,7 @@ ghost use Rattle.plural_runtime.specs.RuleFaults.{is_relation};
 ghost use Rattle.plural_runtime.specs.RuleReading.{IsRule, relation_in};
 ghost use Rattle.plural_runtime.specs.RuleViews.{item_relation};
 
+use crate::laws::one_encoding;
 use crate::relation::RelationULE;
 use crate::relations::Relations;
 use packed_list::PackedList;
@@ -68,6 +69,7 @@ impl<'data> Rule<'data> {
     }
 
     /// How many relations it has.
+    #[inline]
     pub fn len(&self) -> usize
         ensures { result ≡ length self.now }
     {
@@ -75,6 +77,7 @@ impl<'data> Rule<'data> {
     }
 
     /// The relation at a place.
+    #[inline]
     pub fn get(&self, index: usize) -> Option<RelationULE<'_>>
         ensures { option_map item_relation result ≡ slice_get self.now index }
     {
@@ -84,6 +87,7 @@ impl<'data> Rule<'data> {
     }
 
     /// The relations, from the first one on.
+    #[inline]
     pub fn iter(&self) -> Relations<'_>
         ensures { result ≡ self.now }
     {
@@ -122,7 +126,7 @@ impl<'data> Rule<'data> {
 }
 
 impl<'data> PartialEq for Rule<'data> {
-    ghost use Rattle.std.specs.Prelude.{nat_eq};
+    ghost use Rattle.std.specs.Prelude.{◌≡◌, ◌↔◌, IsTrue, nat_eq};
     ghost use Rattle.std.specs.Cmp.{on_per, partial_equiv_from_equiv};
     ghost use Rattle.std.specs.Cmp.Lexicographic.{pointwise, nat_list_eq_equiv};
     ghost use Rattle.plural_runtime.specs.RuleBytes.{packed_bytes};
@@ -131,7 +135,11 @@ impl<'data> PartialEq for Rule<'data> {
 
     ghost laws = { on_per packed_bytes (partial_equiv_from_equiv nat_list_eq_equiv) };
 
-    fn eq(&self, other: &Self) -> bool {
+    fn eq(&self, other: &Self) -> bool
+        ensures same { result ≡ pointwise nat_eq (packed_bytes self.now) (packed_bytes other.now) }
+        ensures equal { IsTrue result ↔ (self.now ≡ other.now) }
+    {
+        one_encoding();
         self.as_bytes() == other.as_bytes()
     }
 }

@@ -14,7 +14,10 @@ use std::alloc::{AllocError, Global};
 
 // The bytes of all relations in order.
 #[tactic(auto, unfolding(crate::specs::PackedTree::packed))]
-pub fn items_of(alloc: Global, condition: &ast::Condition) -> Result<Vec<Vec<u8>>, AllocError>
+pub(crate) fn items_of(
+    alloc: Global,
+    condition: &ast::Condition,
+) -> Result<Vec<Vec<u8>>, AllocError>
     ensures { IfOk result (λ items. map vec_items items.items ≡ map relation_bytes (packed condition.now)) }
 {
     let mut items = Vec::new(alloc);

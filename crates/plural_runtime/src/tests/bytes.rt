@@ -1,3 +1,4 @@
+use crate::tests::LONG_RULE_BYTES;
 use crate::{Rule, RuleBytesError, test_rule};
 use packed_list::ListError;
 use plural_reference::{PluralOperands, RawPluralOperands};
@@ -63,6 +64,9 @@ fn answers_at_every_beginning(rt: HostRuntime) {
     let one: &[u8] = b"\x01\0\xc0\0\0\0\0\x01\0\0\0\x01\0\0\0";
     let marked: &[u8] = b"\x01\0\x41\0\0\0\0";
     let negative: &[u8] = b"\x01\0\x81\0\0\0\0";
+    let long = LONG_RULE_BYTES;
+    let falling: &[u8] = b"\x02\0\x05\0\x01";
+    let nameless: &[u8] = b"\x01\0\xc8\0\0\0\0";
     // From the first place up to the second one, both included.
     let rows = [
         (one, 0, 0, Cut::Rule(always)),
@@ -78,10 +82,26 @@ fn answers_at_every_beginning(rt: HostRuntime) {
         (two, 22, 22, Cut::Rule([false, true, false, true])),
         (two, 23, 29, Cut::Refused(RuleBytesError::ItemLength(1))),
         (two, 30, 30, Cut::Rule(always)),
+        (marked, 0, 0, Cut::Rule(always)),
         (marked, 1, 1, Cut::Refused(header)),
         (marked, 2, 6, Cut::Refused(RuleBytesError::ItemLength(0))),
         (marked, 7, 7, Cut::Rule(always)),
+        (negative, 0, 0, Cut::Rule(always)),
+        (negative, 1, 1, Cut::Refused(header)),
+        (negative, 2, 6, Cut::Refused(RuleBytesError::ItemLength(0))),
         (negative, 7, 7, Cut::Rule(always)),
+        (long, 0, 0, Cut::Rule(always)),
+        (long, 1, 5, Cut::Refused(header)),
+        (long, 6, 55, Cut::Refused(start)),
+        (long, 56, 60, Cut::Refused(RuleBytesError::ItemLength(2))),
+        (long, 61, 61, Cut::Rule([false; 4])),
+        (long, 62, 68, Cut::Refused(RuleBytesError::ItemLength(2))),
+        (long, 69, 69, Cut::Rule([true, false, false, false])),
+        (falling, 1, 3, Cut::Refused(header)),
+        (falling, 4, 5, Cut::Refused(start)),
+        (nameless, 1, 1, Cut::Refused(header)),
+        (nameless, 2, 6, Cut::Refused(RuleBytesError::ItemLength(0))),
+        (nameless, 7, 7, Cut::Refused(RuleBytesError::Operand(0))),
     ];
     for (bytes, first, last, expected) in rows {
         for end in first..=last {
@@ -101,7 +121,12 @@ fn answers_at_every_beginning(rt: HostRuntime) {
 #[test]
 fn prints_what_no_text_packs_to(rt: HostRuntime) -> Result<(), Fail> {
     let alloc = rt.alloc();
-    let rows: [(&[u8], &str); 4] = [
+    let rows: [(&[u8], &str); 6] = [
+        (b"\x01\0\xc0\0\0\0\0", "n = "),
+        (
+            &LONG_RULE_BYTES[..61],
+            "n % 10 = 3..4, 9 and n % 100 != 10..19, 70..79, 90..99 or n = ",
+        ),
         (b"\x01\0\x41\0\0\0\0", " or i = "),
         (b"\x01\0\x81\0\0\0\0", "i != "),
         (

@@ -1,4 +1,6 @@
-use crate::{AndOr, AndOrPolarityOperand, Operand, Polarity, RangeOrValue, Rule, test_rule};
+use crate::{
+    AndOr, AndOrPolarityOperand, Operand, Polarity, RangeOrValue, Rule, RuleError, test_rule,
+};
 use plural_reference::{ParseError, PluralOperands, Sequence, ast};
 use std::test::Fail;
 
@@ -103,6 +105,23 @@ fn ranges_are_those_of_trees(rt: HostRuntime) {
         let end = ast::RangeListItem::Range(ast::Value(0), ast::Value(value));
         assert_eq!(rt; RangeOrValue::try_from(&end).err(), fault, "0..{value}");
     }
+}
+
+#[test]
+fn a_large_end_is_refused(rt: HostRuntime) -> Result<(), Fail> {
+    let alloc = rt.alloc();
+    let rule = Rule::from_str(alloc, "i = 0..1").expect(&rt, "a rule");
+    let mut tree = rule.to_ast(alloc)?;
+    let mut group = tree.condition.0.0.pop().expect(&rt, "an and-condition");
+    let mut relation = group.0.0.pop().expect(&rt, "a relation");
+    relation.range_list = ast::RangeList(Sequence(Vec::new(alloc)));
+    let large = ast::RangeListItem::Range(ast::Value(0), ast::Value(4294967296));
+    relation.range_list.0.0.push(large)?;
+    group.0.0.push(relation)?;
+    tree.condition.0.0.push(group)?;
+    let refused = Rule::try_from(alloc, &tree);
+    assert!(rt; matches!(refused, Err(RuleError::Parse(ParseError::ValueTooLarge))));
+    Ok(())
 }
 
 #[test]

@@ -1,3 +1,4 @@
+use crate::tests::LONG_RULE_BYTES;
 use crate::{Rule, RuleBytesError, RuleError};
 use packed_list::ListError;
 use plural_reference::{ParseError, ast, parse_condition};
@@ -5,11 +6,6 @@ use std::alloc::Global;
 use std::test::Fail;
 
 const LONG_RULE: &str = "n % 10 = 3..4, 9 and n % 100 != 10..19, 70..79, 90..99 or n = 0";
-
-const LONG_RULE_BYTES: &[u8] = b"\x03\0\x15\0\x32\0\
-\xc0\x0a\0\0\0\x03\0\0\0\x04\0\0\0\x09\0\0\0\x09\0\0\0\
-\x80\x64\0\0\0\x0a\0\0\0\x13\0\0\0\x46\0\0\0\x4f\0\0\0\x5a\0\0\0\x63\0\0\0\
-\x40\0\0\0\0\0\0\0\0\0\0\0\0";
 
 #[test]
 fn packs_texts_and_prints_them_again(rt: HostRuntime) -> Result<(), Fail> {

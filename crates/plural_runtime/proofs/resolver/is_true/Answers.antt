@@ -1,53 +1,44 @@
-use Rattle.std.proofs.Common.{arith, ◌∙◌, ap, sym, true, ◌+◌}
+use Rattle.std.proofs.Common.{◌≡◌, ◌∙◌, ◌∷◌, ap, sym, subst, map, true, IsTrue}
+use Rattle.std.specs.Cmp.{second_so}
 use Rattle.std.specs.Fn.{iterate}
+use Rattle.std.specs.List.{list_all}
+use Rattle.plural_runtime.specs.declared.kinds.AndOr.TheVariants.{And, Or}
+use Rattle.plural_runtime.specs.RuleFaults.{is_relation}
 use Rattle.plural_runtime.specs.RuleReading.{relation_in}
-use Rattle.plural_runtime.specs.RuleWalk.{truth_left, needed_left, needed_here}
+use Rattle.plural_runtime.specs.NeededRanges.{needed_of_relation}
 use Rattle.plural_runtime.proofs.Counts.{steps_left}
-use Rattle.plural_runtime.proofs.RuleItems.{item_at_passes}
-use Rattle.plural_runtime.proofs.Walks.{left_from, left_more, walk_ends, walk_goes_on, truth_left-is, needed_left-is}
+use Rattle.plural_runtime.proofs.Walks.{is_read, needed_left, needed_left-is, truth_left, truth_left-is, walk_reads}
+use Rattle.plural_runtime.proofs.resolver.is_true.Goals.{in-Or+else-holds, in-And+else-not-holds}
 use Rattle.plural_runtime.proofs.resolver.is_true.Goals as goal
 
-pub loop-index-init : goal.loop-index-init
-loop-index-init g c =
+pub loop-item-init : goal.loop-item-init
+loop-item-init g c =
     let number = c.args.operands.now in
     let rule = c.args.rule.now in
-    let same = c.list-list.ensures.relations in
+    let all : c.into_iter-item-iterator.result ≡ c.list.result = c.into_iter-item-iterator.ensures.into_iter_gives ∙ c.iter-item-items.ensures in
+    let same : map relation_in c.into_iter-item-iterator.result ≡ rule = ap (map relation_in) all ∙ c.list.ensures.relations in
     record {
+      items = subst (λ items. IsTrue (list_all is_relation items)) (sym all) c.list.ensures.items;
       truth = ap (truth_left number true) same ∙ truth_left-is number rule;
       count = ap (λ n. iterate g.C.Counter.after_one n c.args.counter.now) (ap (needed_left number true) same ∙ needed_left-is number rule);
     }
 
-pub group_ends-requires : goal.group_ends-requires
-group_ends-requires g c = item_at_passes c.list-list.result c.loop-index.index c.in-Some.item.now c.list-list.ensures.items c.in-Some.ensures
-
-pub returns-then-group_ends-clause-answer : goal.returns-then-group_ends-clause-answer
-returns-then-group_ends-clause-answer g c =
-    let items = c.list-list.result in
-    let k = c.loop-index.index in
-    let more = left_more items k c.in-Some.item.now (omega arith) c.in-Some.ensures in
-    let ends = walk_ends c.args.operands.now c.loop-index.holds (relation_in c.in-Some.item.now) (left_from items k) (left_from items (k + 1)) more c.if-group_ends.ensures in
-    sym ends.truth ∙ c.loop-index.invariant.truth
-
-pub returns-then-group_ends-clause-count : goal.returns-then-group_ends-clause-count
-returns-then-group_ends-clause-count g c =
-    let items = c.list-list.result in
-    let k = c.loop-index.index in
-    let more = left_more items k c.in-Some.item.now (omega arith) c.in-Some.ensures in
-    let ends = walk_ends c.args.operands.now c.loop-index.holds (relation_in c.in-Some.item.now) (left_from items k) (left_from items (k + 1)) more c.if-group_ends.ensures in
-    ap (λ n. iterate g.C.Counter.after_one n c.loop-index.counter) (sym ends.needed) ∙ c.loop-index.invariant.count
-
-pub group_holds-holds-requires : goal.group_holds-holds-requires
-group_holds-holds-requires g c = item_at_passes c.list-list.result c.loop-index.index c.in-Some.item.now c.list-list.ensures.items c.in-Some.ensures
-
-pub loop-index-preserved : goal.loop-index-preserved
-loop-index-preserved g c =
+pub loop-item-preserved : goal.loop-item-preserved
+loop-item-preserved g c =
     let number = c.args.operands.now in
-    let items = c.list-list.result in
-    let k = c.loop-index.index in
     let relation = relation_in c.in-Some.item.now in
-    let more = left_more items k c.in-Some.item.now (omega arith) c.in-Some.ensures in
-    let on = walk_goes_on number c.loop-index.holds c.group_holds-holds.result relation (left_from items k) (left_from items (k + 1)) more c.if-group_ends.ensures c.group_holds-holds.ensures.answer in
+    let others = map relation_in c.next.new.self in
+    let more = c.in-Some.ensures.steps in
+    let read : is_read relation.and_or c.loop-item.holds ≡ true = elim c.match-and_or_at.branch [
+      | in-Or+else-holds w ↦ ap (λ mark. is_read mark c.loop-item.holds) (sym w.in-Or.ensures) ∙ ap (is_read Or) w.if-holds.false
+      | in-And+else-not-holds w ↦ ap (λ mark. is_read mark c.loop-item.holds) (sym w.in-And.ensures) ∙ ap (is_read And) w.if-not-holds.false
+    ] in
+    let on = walk_reads number c.loop-item.holds relation others read in
+    let all : IsTrue (list_all is_relation (c.in-Some.item.now ∷ c.next.new.self)) = subst (λ items. IsTrue (list_all is_relation items)) more c.loop-item.invariant.items in
     record {
-      truth = sym on.truth ∙ c.loop-index.invariant.truth;
-      count = steps_left g.C.Counter.after_one (needed_here number c.loop-index.holds relation) (needed_left number c.group_holds-holds.result (left_from items (k + 1))) _ c.loop-index.counter c.group_holds-holds.new.counter on.needed c.group_holds-holds.ensures.count ∙ c.loop-index.invariant.count;
+      items = second_so (is_relation c.in-Some.item.now) (list_all is_relation c.next.new.self) all;
+      truth = ap (λ b. truth_left number b others) c.relation_holds-holds.ensures.answer ∙ sym on.truth ∙ ap (λ items. truth_left number c.loop-item.holds (map relation_in items)) (sym more) ∙ c.loop-item.invariant.truth;
+      count = ap (λ b. iterate g.C.Counter.after_one (needed_left number b others) c.relation_holds-holds.new.counter) c.relation_holds-holds.ensures.answer
+          ∙ steps_left g.C.Counter.after_one (needed_of_relation number relation.meaning) _ _ c.loop-item.counter c.relation_holds-holds.new.counter on.needed c.relation_holds-holds.ensures.count
+          ∙ ap (λ items. iterate g.C.Counter.after_one (needed_left number c.loop-item.holds (map relation_in items)) c.loop-item.counter) (sym more) ∙ c.loop-item.invariant.count;
     }

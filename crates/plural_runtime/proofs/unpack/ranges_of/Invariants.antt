@@ -1,7 +1,7 @@
 use Rattle.std.proofs.Common.{◌≡◌, take, map}
 use Rattle.plural_runtime.specs.PackedTree.{unpacked_range}
 use Rattle.plural_runtime.specs.RuleViews.{lent_relation}
-use Rattle.plural_runtime.proofs.tree.ranges_of.Given as goal
+use Rattle.plural_runtime.proofs.unpack.ranges_of.Given as goal
 
 -- The ranges so far are made.
 abbrev pub invariant-loop-index : goal.invariant-loop-index

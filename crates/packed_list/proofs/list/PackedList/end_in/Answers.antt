@@ -2,7 +2,7 @@ use Rattle.std.proofs.lemmas.Option.{slice_get_past}
 use Rattle.packed_list.specs.ListBytes.{starts}
 use Rattle.std.proofs.Common.{rules, arith, ◌+◌, ◌≤◌, length}
 use Rattle.packed_list.proofs.ListPlaces.{length-starts}
-use Rattle.packed_list.proofs.list.PackedList.end.Goals as goal
+use Rattle.packed_list.proofs.list.PackedList.end_in.Goals as goal
 
 pub returns-else-index-count : goal.returns-else-index-count
 returns-else-index-count c =

@@ -2,7 +2,7 @@ use Rattle.std.proofs.Common.{arith, ap, ◌∙◌, ◌++◌, ◌∷◌, [], map
 use Rattle.plural_runtime.specs.PackedTree.{unpacked_range}
 use Rattle.plural_runtime.specs.RuleViews.{lent_relation}
 use Rattle.plural_runtime.proofs.TreeGroups.{made_more}
-use Rattle.plural_runtime.proofs.tree.ranges_of.Goals as goal
+use Rattle.plural_runtime.proofs.unpack.ranges_of.Goals as goal
 
 pub loop-index-preserved : goal.loop-index-preserved
 loop-index-preserved c =

@@ -3,7 +3,7 @@
 ghost use Rattle.std.specs.Prelude.{◌≡◌, map, IfOk, OnOk, None};
 ghost use Rattle.plural_runtime.specs.PackedTree.{unpacked_relation, unpacked_range, unpacked};
 ghost use Rattle.plural_runtime.specs.RuleViews.{lent_relation};
-ghost use Rattle.plural_runtime.specs.RuleWalk.{done_before, open_before};
+ghost use Rattle.plural_runtime.specs.OpenGroup.{done_before, open_before};
 
 use crate::kinds::AndOr;
 use crate::relation::Relation;
@@ -39,7 +39,7 @@ fn condition_of(alloc: Global, rule: &Rule<'_>) -> Result<ast::Condition, AllocE
     let mut group = Vec::new(alloc);
     for index in 0..count {
         let Some(item) = rule.get(index) else {
-            return Err(AllocError);
+            unreachable!();
         };
         let relation = item.as_relation();
         close_group(alloc, relation.and_or(), &mut groups, &mut group)?;
@@ -87,7 +87,7 @@ fn ranges_of(alloc: Global, relation: &Relation<'_>) -> Result<ast::RangeList, A
     let mut items = Vec::new(alloc);
     for index in 0..relation.len() {
         let Some(range) = relation.range(index) else {
-            return Err(AllocError);
+            unreachable!();
         };
         items.push(ast::RangeListItem::from(range))?;
     }

@@ -22,7 +22,8 @@ impl<'data> Rule<'data> {
         ensures ok { IfOk result (λ rule. RuleBytes rule bytes.now) }
         ensures accepted { (relations : List PackedRelation) → RuleBytes relations bytes.now → result ≡ Ok relations }
         ensures list_fault { (fault : ListError) → (result ≡ Err (RuleBytesError.List fault)) ↔ HasFault bytes.now fault }
-        ensures item_fault { (items : List (List ℕ)) → ListBytes items bytes.now → MatchResult result (λ _. first_fault 0 items ≡ None) (λ fault. first_fault 0 items ≡ Some fault) }
+        ensures item_fault { (items : List (List ℕ)) → ListBytes items bytes.now
+            → MatchResult result (λ _. first_fault 0 items ≡ None) (λ fault. first_fault 0 items ≡ Some fault) }
     {
         read_again();
         item_bytes();
@@ -42,7 +43,9 @@ fn first_fault_of(list: &PackedList<'_>) -> Option<RuleBytesError>
     ensures { result ≡ first_fault 0 list.now }
 {
     for index in 0..list.len() {
-        let item = list.get(index)?;
+        let Some(item) = list.get(index) else {
+            unreachable!();
+        };
         let fault = fault_of(index, item);
         if fault.is_some() {
             return fault;

@@ -3,10 +3,10 @@ use Rattle.std.specs.Prelude.{slice_get}
 use Rattle.std.proofs.lemmas.List.{drop_all}
 use Rattle.plural_reference.specs.declared.ast.AndCondition.{AndCondition}
 use Rattle.plural_reference.specs.declared.ast.Relation.{Relation}
-use Rattle.plural_runtime.specs.RuleWalk.{done_before, open_before}
+use Rattle.plural_runtime.specs.OpenGroup.{done_before, open_before}
 use Rattle.plural_runtime.specs.RuleViews.{lent_relation}
 use Rattle.plural_runtime.proofs.TreeGroups.{no_relations, glued, glued-all, glued_more, whole_tree}
-use Rattle.plural_runtime.proofs.tree.condition_of.Goals as goal
+use Rattle.plural_runtime.proofs.unpack.condition_of.Goals as goal
 
 pub returns-then-count-eq0 : goal.returns-then-count-eq0
 returns-then-count-eq0 c = no_relations c.new-groups.result.items c.args.rule.now (omega arith) c.new-groups.ensures.items
