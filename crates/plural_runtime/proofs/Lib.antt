@@ -1,4 +1,5 @@
 mod ItemBytes
+mod FirstBytes
 mod ItemRanges
 mod RuleItems
 mod Meanings

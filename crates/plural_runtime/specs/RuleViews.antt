@@ -1,11 +1,9 @@
--- What contracts see of lent relations and first bytes.
-use Rattle.std.specs.Prelude.{ℕ, Option, option_map}
-use Rattle.plural_runtime.specs.declared.first_byte.AndOrPolarityOperand.{AndOrPolarityOperand}
+-- What contracts see of lent relations.
 use Rattle.plural_runtime.specs.declared.relation.RelationULE.{RelationULE}
 use Rattle.plural_runtime.specs.declared.relation.Relation.{Relation}
 use Rattle.plural_runtime.specs.PackedRelations.{PackedRelation}
-use Rattle.plural_runtime.specs.RuleKinds.{operator_of, tree_operand_of, packed_operand_of, polarity_of}
-use Rattle.plural_runtime.specs.RuleReading.{relation_in, ranges_in, and_or_in, operator_in, operand_in}
+use Rattle.plural_runtime.specs.RuleKinds.{operator_of, tree_operand_of}
+use Rattle.plural_runtime.specs.RuleReading.{relation_in, ranges_in}
 
 -- the relation of an item's bytes
 abbrev pub item_relation : RelationULE → PackedRelation
@@ -22,7 +20,3 @@ lent_relation relation = record {
     ranges = ranges_in relation.ranges.now;
   };
 }
-
--- what a first byte says, if its bits 0 to 5 are at most 7
-abbrev pub parts_of : ℕ → Option AndOrPolarityOperand
-parts_of byte = option_map (λ operand. record { and_or = and_or_in byte; polarity = polarity_of (operator_in byte); operand = packed_operand_of operand }) (operand_in byte)

@@ -1,8 +1,8 @@
 //! The first byte of a packed relation.
 
-ghost use Rattle.std.specs.Prelude.{◌≡◌};
-ghost use Rattle.plural_runtime.specs.RuleKinds.{byte_of};
-ghost use Rattle.plural_runtime.specs.RuleViews.{parts_of};
+ghost use Rattle.std.specs.Prelude.{◌≡◌, IfSome, Some, option_map};
+ghost use Rattle.plural_runtime.specs.RuleKinds.{byte_of, operator_of, tree_operand_of};
+ghost use Rattle.plural_runtime.specs.RuleReading.{and_or_in, operand_in, operator_in};
 
 use crate::kinds::{AndOr, Operand, Polarity};
 
@@ -36,29 +36,52 @@ impl AndOrPolarityOperand {
 
     /// The three of a byte, where its bits 0 to 5 number an operand.
     pub fn from_unaligned(byte: u8) -> Option<AndOrPolarityOperand>
-        ensures { result ≡ parts_of byte }
+        ensures parts { IfSome result (λ parts. byte ≡ byte_of parts) }
+        ensures found { (parts : AndOrPolarityOperand) → byte ≡ byte_of parts → result ≡ Some parts }
     {
-        let operand = match byte % 64 {
-            0 => Operand::N,
-            1 => Operand::I,
-            2 => Operand::V,
-            3 => Operand::W,
-            4 => Operand::F,
-            5 => Operand::T,
-            6 => Operand::C,
-            7 => Operand::E,
-            _ => return None,
-        };
-        let and_or = if byte < 128 { AndOr::Or } else { AndOr::And };
-        let polarity = if byte % 128 < 64 {
-            Polarity::Negative
-        } else {
-            Polarity::Positive
-        };
+        let operand = operand_of(byte)?;
         Some(AndOrPolarityOperand {
-            and_or,
-            polarity,
+            and_or: and_or_of(byte),
+            polarity: polarity_of(byte),
             operand,
         })
     }
+}
+
+// What bit 7 of a byte says.
+#[inline]
+pub(crate) fn and_or_of(byte: u8) -> AndOr
+    ensures { result ≡ and_or_in byte }
+{
+    if byte < 128 { AndOr::Or } else { AndOr::And }
+}
+
+// What bit 6 says.
+#[inline]
+pub(crate) fn polarity_of(byte: u8) -> Polarity
+    ensures { operator_of result ≡ operator_in byte }
+{
+    if byte % 128 < 64 {
+        Polarity::Negative
+    } else {
+        Polarity::Positive
+    }
+}
+
+// What bits 0 to 5 say.
+#[inline]
+pub(crate) fn operand_of(byte: u8) -> Option<Operand>
+    ensures { option_map tree_operand_of result ≡ operand_in byte }
+{
+    Some(match byte % 64 {
+        0 => Operand::N,
+        1 => Operand::I,
+        2 => Operand::V,
+        3 => Operand::W,
+        4 => Operand::F,
+        5 => Operand::T,
+        6 => Operand::C,
+        7 => Operand::E,
+        _ => return None,
+    })
 }

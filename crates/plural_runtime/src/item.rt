@@ -5,6 +5,7 @@ ghost use Rattle.plural_runtime.specs.RuleFaults.{is_relation};
 ghost use Rattle.plural_runtime.specs.RuleReading.{relation_in, ranges_in};
 ghost use Rattle.plural_runtime.specs.RuleKinds.{operator_of, tree_operand_of};
 
+use crate::first_byte::{and_or_of, operand_of, polarity_of};
 use crate::kinds::{AndOr, Operand, Polarity};
 
 // How the relation of an item is joined to the one before it.
@@ -14,7 +15,7 @@ pub(crate) fn and_or_at(item: &[u8]) -> AndOr
     requires { IsTrue (is_relation item.now) }
     ensures { result ≡ (relation_in item.now).and_or }
 {
-    if item[0] < 128 { AndOr::Or } else { AndOr::And }
+    and_or_of(item[0])
 }
 
 // Whether the value is to be in the list of an item.
@@ -24,11 +25,7 @@ pub(crate) fn polarity_at(item: &[u8]) -> Polarity
     requires { IsTrue (is_relation item.now) }
     ensures { operator_of result ≡ (relation_in item.now).meaning.operator }
 {
-    if item[0] % 128 < 64 {
-        Polarity::Negative
-    } else {
-        Polarity::Positive
-    }
+    polarity_of(item[0])
 }
 
 // What of a number the relation of an item looks at.
@@ -37,16 +34,10 @@ pub(crate) fn operand_at(item: &[u8]) -> Operand
     requires { IsTrue (is_relation item.now) }
     ensures { tree_operand_of result ≡ (relation_in item.now).meaning.operand }
 {
-    match item[0] % 64 {
-        0 => Operand::N,
-        1 => Operand::I,
-        2 => Operand::V,
-        3 => Operand::W,
-        4 => Operand::F,
-        5 => Operand::T,
-        6 => Operand::C,
-        _ => Operand::E,
-    }
+    let Some(operand) = operand_of(item[0]) else {
+        unreachable!();
+    };
+    operand
 }
 
 // The modulus of an item, or 0.

@@ -55,7 +55,8 @@ fn push_group(
 fn bytes_of(alloc: Global, and_or: AndOr, relation: &ast::Relation) -> Result<Vec<u8>, AllocError>
     ensures { IfOk result (λ bytes. bytes.items ≡ relation_bytes (packed_relation and_or relation.now)) }
 {
-    let mut bytes = Vec::new(alloc);
+    let count = relation.range_list.0.as_slice().len();
+    let mut bytes = Vec::with_capacity(alloc, 5 + 8 * count)?;
     bytes.push(first_byte_of(and_or, relation))?;
     push_number(&mut bytes, modulus_of(&relation.expression))?;
     for item in relation.range_list.0.as_slice() {

@@ -105,6 +105,7 @@ fn answers_at_every_beginning(rt: HostRuntime) {
     ];
     for (bytes, first, last, expected) in rows {
         for end in first..=last {
+            assert!(rt; end <= bytes.len());
             match (Rule::parse_bytes(&bytes[..end]), &expected) {
                 (Ok(rule), Cut::Rule(wanted)) => {
                     assert_eq!(rt; answers(&rule), *wanted, "first {end} of {bytes:?}");
@@ -121,12 +122,8 @@ fn answers_at_every_beginning(rt: HostRuntime) {
 #[test]
 fn prints_what_no_text_packs_to(rt: HostRuntime) -> Result<(), Fail> {
     let alloc = rt.alloc();
-    let rows: [(&[u8], &str); 6] = [
+    let rows: [(&[u8], &str); 5] = [
         (b"\x01\0\xc0\0\0\0\0", "n = "),
-        (
-            &LONG_RULE_BYTES[..61],
-            "n % 10 = 3..4, 9 and n % 100 != 10..19, 70..79, 90..99 or n = ",
-        ),
         (b"\x01\0\x41\0\0\0\0", " or i = "),
         (b"\x01\0\x81\0\0\0\0", "i != "),
         (
@@ -142,6 +139,20 @@ fn prints_what_no_text_packs_to(rt: HostRuntime) -> Result<(), Fail> {
         let again = Rule::try_from(alloc, &tree).expect(&rt, "the tree packs");
         assert_eq!(rt; again.as_bytes(), bytes, "{text}");
     }
+    Ok(())
+}
+
+#[test]
+fn prints_a_last_relation_without_ranges(rt: HostRuntime) -> Result<(), Fail> {
+    let alloc = rt.alloc();
+    let rule = Rule::parse_bytes(&LONG_RULE_BYTES[..61]).expect(&rt, "a rule");
+    assert_eq!(rt;
+        format!(in alloc; "{rule}")?.as_str(),
+        "n % 10 = 3..4, 9 and n % 100 != 10..19, 70..79, 90..99 or n = "
+    );
+    let tree = rule.to_ast(alloc)?;
+    let again = Rule::try_from(alloc, &tree).expect(&rt, "the tree packs");
+    assert!(rt; again == rule);
     Ok(())
 }
 
