@@ -6,3 +6,5 @@ pub mod ConditionsAdmitted
 pub mod ExactCategories
 pub mod Answered
 pub mod WidestChoice
+pub mod TextsGiven
+pub mod JsonAnswers

@@ -5,19 +5,25 @@ mod categories;
 mod category;
 mod decimal_choice;
 mod exactness;
+mod float;
+mod json_error;
 pub mod laws;
 mod options;
 mod raw_category;
+mod rule_json;
 mod rules;
 mod rules_data;
+mod rules_json;
 mod rules_text;
 #[cfg(test)]
 mod tests;
 
 pub use categories::Categories;
 pub use category::{AllCategories, PluralCategory};
+pub use json_error::{ElementsPackError, JsonError};
 pub use options::{PluralRuleType, PluralRulesOptions};
 pub use raw_category::RawPluralCategory;
+pub use rule_json::{rule_from_json, rule_to_json};
 pub use rules::PluralRules;
 pub use rules_data::PluralRulesData;
 pub use rules_text::RulesTextError;
