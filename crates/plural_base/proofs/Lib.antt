@@ -8,3 +8,6 @@ pub mod Answered
 pub mod WidestChoice
 pub mod TextsGiven
 pub mod JsonAnswers
+pub mod Rows
+pub mod RowsRead
+pub mod RulesRead

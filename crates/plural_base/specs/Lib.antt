@@ -26,6 +26,8 @@ pub mod TextAnswers
 pub mod TextReaders
 pub mod JsonErrorTexts
 pub mod RulesJson
+pub mod Providers
+pub mod DocumentJson
 pub mod RuleModuli
 pub mod DecimalChoice
 pub mod ChoiceLaws
@@ -33,3 +35,4 @@ pub mod ChoiceLaws
 pub mod CategoriesLeft
 pub mod ModulusTests
 pub mod JsonRefusals
+pub mod ProviderRows
