@@ -6,3 +6,8 @@ pub mod ConditionsAdmitted
 pub mod ExactCategories
 pub mod Answered
 pub mod WidestChoice
+pub mod TextsGiven
+pub mod JsonAnswers
+pub mod Rows
+pub mod RowsRead
+pub mod RulesRead

@@ -23,9 +23,16 @@ pub mod FiveRules
 pub mod RulesData
 pub mod RuleTexts
 pub mod TextAnswers
+pub mod TextReaders
+pub mod JsonErrorTexts
+pub mod RulesJson
+pub mod Providers
+pub mod DocumentJson
 pub mod RuleModuli
 pub mod DecimalChoice
 pub mod ChoiceLaws
 -- not definitions of the subject
 pub mod CategoriesLeft
 pub mod ModulusTests
+pub mod JsonRefusals
+pub mod ProviderRows

@@ -1,8 +1,10 @@
 //! What is true of all rules.
 
 ghost use Rattle.plural_base.specs.ChoiceLaws.{BoundIsWidestForChoice};
+ghost use Rattle.plural_base.specs.TextReaders.{TextsGiveOneAnswer};
 
 use plural_reference::laws::exactness;
+use plural_reference::laws::reading::{one_list_of_tokens, one_rule};
 
 /// The bound on moduli is the widest: for each modulus `m` up to 4294967295 that doesn't divide
 /// `10^18`, the rules with `i % m = r` alone, for one, where `r` is what `m` leaves of `2 * 10^18`,
@@ -11,4 +13,13 @@ pub fn bound_is_widest()
     ensures { BoundIsWidestForChoice }
 {
     exactness::bound_is_widest();
+}
+
+/// Every text gives one answer as a rule, and no other: the relations that its condition is packed to,
+/// or the reason why it gives none.
+pub fn texts_give_one_answer()
+    ensures { TextsGiveOneAnswer }
+{
+    one_list_of_tokens();
+    one_rule();
 }

@@ -1,10 +1,11 @@
 //! Rules from texts.
 
-ghost use Rattle.std.specs.Prelude.{◌≡◌, ◌≢◌, ◌++◌, ◌⊎◌, Some, option_map, codes, IfOk, IfErr};
+ghost use Rattle.std.specs.Prelude.{◌≡◌, ◌≢◌, ◌++◌, ◌⊎◌, Some, Err, option_map, codes, IfOk, IfErr};
 ghost use Rattle.std.specs.Option.{option_copied};
 ghost use Rattle.plural_runtime.specs.RuleErrorTexts.{rule_error_text};
 ghost use Rattle.plural_base.specs.CategoryNames.{name_of};
 ghost use Rattle.plural_base.specs.TextAnswers.{IsTakenAs, HasRuleError, IsRefused, IsFirstRefused};
+ghost use Rattle.plural_base.specs.TextReaders.{TextReader, TellsTexts};
 
 use crate::category::PluralCategory;
 use crate::raw_category::RawPluralCategory;
@@ -95,7 +96,8 @@ fn rule_of(
 }
 
 // The rule of a text.
-fn packed(alloc: Global, text: &str) -> Result<Rule<'static>, RuleError>
+pub(crate) fn packed(alloc: Global, text: &str) -> Result<Rule<'static>, RuleError>
+    ensures told { (texts : TextReader) → TellsTexts texts → (result ≡ texts text.now) ⊎ (result ≡ Err RuleError.Memory) }
     ensures ok { IfOk result (λ rule. IsTakenAs (Some text.now) (Some rule)) }
     ensures refused { IfErr result (λ e. HasRuleError text.now e ⊎ (e ≡ RuleError.Memory)) }
     ensures fits { IfErr result (λ e. e ≢ RuleError.Parse ParseError.ValueTooLarge) }

@@ -1,3 +1,5 @@
 mod categories;
 mod exact;
+mod json;
+mod provider;
 mod texts;

@@ -1,0 +1,66 @@
+-- Rows that are read, member by member.
+use Rattle.std.proofs.Common.{◌≡◌, ℕ, List, [], ◌∷◌, ◌++◌, Ok, Err, refl, sym, ap, ◌∙◌}
+use Rattle.plural_base.specs.declared.json_error.JsonError.{JsonError}
+use Rattle.plural_base.specs.declared.json_error.JsonError.TheVariants.{Float, Shape, Rule, RangeKey, RangeValue, Pack, Memory}
+use Rattle.plural_base.specs.DocumentJson.{Rows, rows_shape}
+use Rattle.plural_base.specs.RulesJson.{Stands, IsRefusal, ◌>>=◌}
+use Rattle.std.proofs.lemmas.List.{append-nil, append_assoc}
+use Rattle.std.specs.BTreeMap.{insert_entry}
+use Rattle.std.specs.Cmp.Lexicographic.{slice_cmp}
+use Rattle.std.specs.Map.{keys_of}
+use Rattle.std.specs.Ordering.{nat_cmp}
+use Rattle.plural_base.proofs.Rows.{Ascend, put_last, ascend_push}
+use Rattle.serde_json.specs.Data.{Data, Members, member}
+
+-- rows that are read behind others
+abbrev pub behind : {A : Type 0} → Rows A → Stands (Rows A) → Stands (Rows A)
+behind rows (Ok more) = Ok (rows ++ more)
+behind rows (Err e) = Err e
+
+-- behind none
+pub behind_none : {A : Type 0} (more : Stands (Rows A)) → more ≡ behind [] more
+behind_none (Ok more) = refl
+behind_none (Err e) = refl
+
+-- a refusal is handed on
+pub handed_on : {A B : Type 0} (e : JsonError) (a : Stands A) (b : Stands B) → (a ≡ Err e → b ≡ Err e) → IsRefusal e a → IsRefusal e b
+handed_on Memory a b f h = tt
+handed_on Float a b f h = f h
+handed_on Shape a b f h = f h
+handed_on (Rule category fault) a b f h = f h
+handed_on RangeKey a b f h = f h
+handed_on RangeValue a b f h = f h
+handed_on (Pack fault) a b f h = f h
+
+module _ {A : Type 0} (shape : Data → Stands A) (rows : Rows A) (k : List ℕ) (d : Data) (ms : Members) where
+  -- the refusal of a member is that of all that are left
+  pub refused_row : (e : JsonError) → IsRefusal e (shape d) → IsRefusal e (behind rows (rows_shape shape (member k d ms)))
+  refused_row e = handed_on e (shape d) _ (λ h. rw h refl)
+
+  push_behind : (first : A) (more : Stands (Rows A)) → behind rows (more >>= λ rest. Ok ((k, first) ∷ rest)) ≡ behind (rows ++ (k, first) ∷ []) more
+  push_behind first (Ok more) = ap Ok (sym (append_assoc rows ((k, first) ∷ []) more))
+  push_behind first (Err e) = refl
+
+  -- a member that is read is the next row
+  pub taken_row : (first : A) → shape d ≡ Ok first → behind rows (rows_shape shape (member k d ms)) ≡ behind (rows ++ (k, first) ∷ []) (rows_shape shape ms)
+  taken_row first h = rw h (push_behind first (rows_shape shape ms))
+
+-- at the end
+pub behind_nothing : {A : Type 0} (rows : Rows A) → behind rows (Ok []) ≡ Ok rows
+behind_nothing rows = ap Ok (append-nil rows)
+
+-- ---- A step
+
+module _ {A : Type 0} (rows new : Rows A) (k : List ℕ) (first : A) (keys : List (List ℕ)) where
+  -- what is put behind keys that ascend is put last
+  put_behind : new ≡ insert_entry (slice_cmp nat_cmp) rows k first → Ascend (keys_of rows ++ k ∷ keys) → new ≡ rows ++ (k, first) ∷ []
+  put_behind put h = put ∙ put_last rows k first keys h
+
+  -- and the keys still ascend
+  pub order_kept : new ≡ insert_entry (slice_cmp nat_cmp) rows k first → Ascend (keys_of rows ++ k ∷ keys) → Ascend (keys_of new ++ keys)
+  order_kept put h = rw (put_behind put h) (ascend_push rows k first keys h)
+
+  -- and the rows are those of the members so far
+  pub rows_kept : (shape : Data → Stands A) (d : Data) (ms : Members) → new ≡ insert_entry (slice_cmp nat_cmp) rows k first → Ascend (keys_of rows ++ k ∷ keys)
+      → shape d ≡ Ok first → behind rows (rows_shape shape (member k d ms)) ≡ behind new (rows_shape shape ms)
+  rows_kept shape d ms put h read = taken_row shape rows k d ms first read ∙ ap (λ r. behind r (rows_shape shape ms)) (sym (put_behind put h))

@@ -1,0 +1,46 @@
+//! The search for floats in a JSON value.
+
+ghost use Rattle.std.specs.Prelude.{◌≡◌};
+ghost use Rattle.serde_json.specs.View.{view, items_view, members_view};
+ghost use Rattle.serde_json.specs.Written.{has_float, items_have_float, members_have_float};
+
+use serde_json::{Map, Value};
+
+// Whether a float stands anywhere in the value: a number for which `as_u64` and `as_i64` both answer `None`.
+#[cycle(float)]
+pub(crate) fn holds_float(value: &Value) -> bool
+    ensures { result ≡ has_float (view value.now) }
+{
+    match value {
+        Value::Number(number) => number.is_f64(),
+        Value::Array(items) => items_hold_float(items),
+        Value::Object(members) => members_hold_float(members),
+        Value::Null | Value::Bool(_) | Value::String(_) => false,
+    }
+}
+
+// Whether one stands in some item.
+#[cycle(float)]
+fn items_hold_float(items: &Vec<Value>) -> bool
+    ensures { result ≡ items_have_float (items_view items.now.items) }
+{
+    for item in items {
+        if holds_float(item) {
+            return true;
+        }
+    }
+    false
+}
+
+// Whether one stands in some member.
+#[cycle(float)]
+fn members_hold_float(members: &Map<String, Value>) -> bool
+    ensures { result ≡ members_have_float (members_view members.now.entries) }
+{
+    for (_, member) in members.iter() {
+        if holds_float(member) {
+            return true;
+        }
+    }
+    false
+}

@@ -1,0 +1,160 @@
+//! Rules by locale from a JSON document.
+
+ghost use Rattle.std.specs.Prelude.{◌≡◌, ◌≢◌, Option, Err, OnOk, IfOk, List, ℕ, codes, option_map, string_bytes};
+ghost use Rattle.std.specs.BTreeMap.{insert_entry};
+ghost use Rattle.std.specs.Cmp.Lexicographic.{slice_cmp};
+ghost use Rattle.std.specs.Ordering.{nat_cmp};
+ghost use Rattle.plural_base.specs.declared.category.PluralCategory.{PluralCategory};
+ghost use Rattle.plural_base.specs.DocumentJson.{document_shape, found, map_shape, rows_shape};
+ghost use Rattle.plural_base.specs.ProviderRows.{rows_of};
+ghost use Rattle.plural_base.specs.Providers.{Loads};
+ghost use Rattle.plural_base.specs.RulesData.{rules_of};
+ghost use Rattle.plural_base.specs.RulesJson.{rules_shape, Answers};
+ghost use Rattle.plural_base.specs.TextReaders.{TextReader, TellsTexts};
+ghost use Rattle.serde_json.specs.View.{view, members_view};
+
+use crate::float::holds_float;
+use crate::json_error::JsonError;
+use crate::laws::texts_give_one_answer;
+use crate::provider::{DataError, PluralsProvider};
+use crate::rules_data::PluralRulesData;
+use crate::rules_json::read_rules;
+use plural_runtime::RuleError;
+use serde_json::{Map, Value};
+use std::alloc::{AllocError, Global};
+use std::collections::BTreeMap;
+use std::marker::Model;
+
+/// Rules by locale that were read from a JSON document. It owns them.
+#[derive(Debug, Drop)]
+pub struct JsonProvider {
+    cardinal: BTreeMap<String, PluralRulesData<'static>>,
+    ordinal: BTreeMap<String, PluralRulesData<'static>>,
+}
+
+impl Model for JsonProvider {
+    ghost use Rattle.plural_base.specs.DocumentJson.{Document};
+    ghost use Rattle.plural_base.specs.ProviderRows.{rows_of};
+
+    ghost Value = { Document };
+
+    ghost view = { λ p. record { cardinal = rows_of p.cardinal.entries; ordinal = rows_of p.ordinal.entries } };
+}
+
+impl JsonProvider {
+    ghost use Rattle.plural_base.specs.DocumentJson.{found, document_of_json, value_at, IsReadAt};
+
+    /// The provider of a document: an object with an object from locales to rules, as
+    /// [`PluralRulesData::from_json`] reads them, under each of `cardinal` and `ordinal`, or null or
+    /// nothing where there are none. Other keys are not looked at.
+    ///
+    /// [`JsonError::Float`] where a float stands anywhere in the document, else [`JsonError::Shape`] where
+    /// it is no object; else the refusal of the first place: cardinal before ordinal, in each first
+    /// [`JsonError::Shape`] where it is neither null nor an object, then its locales in the order of their
+    /// bytes, each as [`PluralRulesData::from_json`] refuses it. It takes memory; want of it is
+    /// [`JsonError::Memory`].
+    pub fn from_value(alloc: Global, value: &Value) -> Result<JsonProvider, JsonError>
+        ensures answers { (texts : TextReader) → TellsTexts texts → Answers (λ provider. provider) result (document_of_json texts (view value.now)) }
+        // A locale has rules exactly where its key is there, and they are those of the texts under it.
+        ensures cardinal { IfOk result (λ provider. (locale : List ℕ) → IsReadAt (value_at (codes "cardinal") locale (view value.now)) (found locale provider.cardinal)) }
+        ensures ordinal { IfOk result (λ provider. (locale : List ℕ) → IsReadAt (value_at (codes "ordinal") locale (view value.now)) (found locale provider.ordinal)) }
+        ensures memory { (category : Option PluralCategory) → result ≢ Err (JsonError.Rule category RuleError.Memory) }
+    {
+        texts_give_one_answer();
+        if holds_float(value) {
+            return Err(JsonError::Float);
+        }
+        read_document(alloc, value)
+    }
+}
+
+impl PluralsProvider for JsonProvider {
+    ghost use Rattle.plural_base.specs.DocumentJson.{found};
+
+    ghost cardinal = { λ p locale. found locale p.cardinal };
+
+    ghost ordinal = { λ p locale. found locale p.ordinal };
+
+    fn load_cardinal(&self, locale: &str) -> Result<PluralRulesData<'_>, DataError> {
+        load(&self.cardinal, locale)
+    }
+
+    fn load_ordinal(&self, locale: &str) -> Result<PluralRulesData<'_>, DataError> {
+        load(&self.ordinal, locale)
+    }
+}
+
+// The locale's rules of a map.
+fn load<'a>(
+    rows: &'a BTreeMap<String, PluralRulesData<'static>>,
+    locale: &str,
+) -> Result<PluralRulesData<'a>, DataError>
+    ensures { Loads (found locale.now (rows_of rows.now.entries)) result }
+{
+    match rows.get(locale) {
+        Some(rules) => Ok(rules.as_borrowed()),
+        None => Err(DataError::NotFound),
+    }
+}
+
+// The provider of a document without floats.
+fn read_document(alloc: Global, value: &Value) -> Result<JsonProvider, JsonError>
+    ensures answers { (texts : TextReader) → TellsTexts texts → Answers (λ provider. provider) result (document_shape texts (view value.now)) }
+    ensures memory { (category : Option PluralCategory) → result ≢ Err (JsonError.Rule category RuleError.Memory) }
+{
+    if !value.is_object() {
+        return Err(JsonError::Shape);
+    }
+    Ok(JsonProvider {
+        cardinal: read_map(alloc, value.get("cardinal"))?,
+        ordinal: read_map(alloc, value.get("ordinal"))?,
+    })
+}
+
+// The map of a value that may be absent or null.
+fn read_map(
+    alloc: Global,
+    value: Option<&Value>,
+) -> Result<BTreeMap<String, PluralRulesData<'static>>, JsonError>
+    ensures answers { (texts : TextReader) → TellsTexts texts → Answers (λ rows. rows_of rows.entries) result (map_shape (rules_shape texts) (option_map (λ v. view v.now) value.entry)) }
+    ensures memory { (category : Option PluralCategory) → result ≢ Err (JsonError.Rule category RuleError.Memory) }
+{
+    let Some(value) = value else {
+        return Ok(BTreeMap::new(alloc));
+    };
+    if value.is_null() {
+        return Ok(BTreeMap::new(alloc));
+    }
+    match value.as_object() {
+        Some(members) => read_rows(alloc, members),
+        None => Err(JsonError::Shape),
+    }
+}
+
+// The rules of each member under its key.
+fn read_rows(
+    alloc: Global,
+    members: &Map<String, Value>,
+) -> Result<BTreeMap<String, PluralRulesData<'static>>, JsonError>
+    ensures answers { (texts : TextReader) → TellsTexts texts → Answers (λ rows. rows_of rows.entries) result (rows_shape (rules_shape texts) (members_view members.now.entries)) }
+    ensures memory { (category : Option PluralCategory) → result ≢ Err (JsonError.Rule category RuleError.Memory) }
+{
+    let mut rows = BTreeMap::new(alloc);
+    for (locale, value) in members.iter() {
+        let rules = read_rules(alloc, value)?;
+        put(&mut rows, locale.clone()?, rules)?;
+    }
+    Ok(rows)
+}
+
+// Puts a locale's rules into a map.
+fn put(
+    rows: &mut BTreeMap<String, PluralRulesData<'static>>,
+    locale: String,
+    rules: PluralRulesData<'static>,
+) -> Result<(), AllocError>
+    ensures { OnOk result (rows_of rows.new.entries ≡ insert_entry (slice_cmp nat_cmp) (rows_of rows.old.entries) (string_bytes locale) (rules_of rules.entry)) }
+{
+    drop(rows.insert(locale, rules)?);
+    Ok(())
+}
