@@ -14,14 +14,7 @@ impl<T> PluralElements<T> {
         requires { F.IsAlwaysCallable f }
         ensures { (last : F) × VisitsEach (CalledAt F.FnMut) f (values_in_order self.now) last }
     {
-        f(&self.other);
-        visit_place(&self.zero, &mut f);
-        visit_place(&self.one, &mut f);
-        visit_place(&self.two, &mut f);
-        visit_place(&self.few, &mut f);
-        visit_place(&self.many, &mut f);
-        visit_place(&self.explicit_zero, &mut f);
-        visit_place(&self.explicit_one, &mut f);
+        self.visit_all(&mut f);
     }
 
     /// The same up to the first answer that is an `Err`, which is what the call answers then; the
@@ -39,6 +32,21 @@ impl<T> PluralElements<T> {
         try_visit_place(&self.many, &mut f)?;
         try_visit_place(&self.explicit_zero, &mut f)?;
         try_visit_place(&self.explicit_one, &mut f)
+    }
+
+    // Calls at the values that are there, and no other.
+    fn visit_all<F: FnMut(&T)>(&self, f: &mut F)
+        requires { F.IsAlwaysCallable f.old }
+        ensures { VisitsEach (CalledAt F.FnMut) f.old (values_in_order self.now) f.new }
+    {
+        f(&self.other);
+        visit_place(&self.zero, f);
+        visit_place(&self.one, f);
+        visit_place(&self.two, f);
+        visit_place(&self.few, f);
+        visit_place(&self.many, f);
+        visit_place(&self.explicit_zero, f);
+        visit_place(&self.explicit_one, f);
     }
 }
 
