@@ -1,0 +1,2 @@
+pub mod ReferenceCalls
+pub mod Stops

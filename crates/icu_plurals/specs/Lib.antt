@@ -1,3 +1,6 @@
+-- elements
+pub mod Elements
+pub mod ElementCalls
 -- the written numbers
 pub use Rattle.fixed_decimal.specs.Digits
 pub use Rattle.fixed_decimal.specs.Places

@@ -5,10 +5,12 @@
 //! [`provider::rules::runtime`], and all else at the root.
 #![tactic(auto)]
 
+mod elements;
 pub mod provider;
 #[cfg(test)]
 mod tests;
 
+pub use elements::PluralElements;
 pub use fixed_decimal::{CompactDecimal, Decimal, DecimalError, Sign, UnsignedDecimal};
 pub use packed_list::{Items, ListError, PackError, PackedList};
 pub use plural_base::{

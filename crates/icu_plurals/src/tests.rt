@@ -1,3 +1,5 @@
+mod elements;
+
 use crate::provider::rules::{reference, runtime};
 use crate::*;
 use std::test::Fail;
@@ -27,6 +29,7 @@ fn types_stand_at_their_paths() {
     named::<crate::PluralRulesOptions>();
     named::<crate::PluralRules<'static>>();
     named::<crate::RulesTextError>();
+    named::<crate::PluralElements<u8>>();
     named::<crate::provider::PluralRulesData<'static>>();
     named::<crate::provider::RawPluralCategory>();
 }

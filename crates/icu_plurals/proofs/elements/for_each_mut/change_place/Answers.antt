@@ -1,0 +1,6 @@
+use Rattle.std.proofs.Common.{refl}
+use Rattle.icu_plurals.proofs.elements.for_each_mut.change_place.Goals as goal
+
+pub returns-in-Some-clause-called : goal.returns-in-Some-clause-called
+returns-in-Some-clause-called g c =
+    rw c.in-Some.is (_, refl, (c.f.result, record { shown = _; shows = refl; left = _; called = c.f.ensures; leaves = refl }))

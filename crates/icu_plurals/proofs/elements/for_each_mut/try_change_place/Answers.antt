@@ -1,0 +1,8 @@
+use Rattle.icu_plurals.proofs.ReferenceCalls.{lent_ok, lent_err}
+use Rattle.icu_plurals.proofs.elements.for_each_mut.try_change_place.Goals as goal
+
+pub returns-in-Some-clause-ok : goal.returns-in-Some-clause-ok
+returns-in-Some-clause-ok g c = rw c.in-Some.is (lent_ok _ _ _ _ _ _ c.f.ensures)
+
+pub returns-in-Some-clause-err : goal.returns-in-Some-clause-err
+returns-in-Some-clause-err g c = rw c.in-Some.is (lent_err _ _ _ _ _ _ c.f.ensures)

@@ -1,0 +1,210 @@
+//! A value for each plural category, and for exactly 0 and 1.
+
+ghost use Rattle.std.specs.Prelude.{◌≡◌, Option, Some, None, IfSome, option_map, unwrap_or};
+ghost use Rattle.icu_plurals.specs.Elements.{only_other, each_by, of_category, explicit_at, element_at};
+
+mod for_each;
+mod for_each_mut;
+mod map;
+mod try_clone;
+mod with_values;
+
+use plural_base::{PluralCategory, PluralRules};
+use plural_reference::PluralOperands;
+use std::marker::Model;
+
+/// A value for each plural category, and for exactly 0 and exactly 1 (UTS 35 Part 3, Plural Rules and
+/// Explicit 0 and 1 Rules). Other's value is always there.
+///
+/// [`get`] chooses among them by the operands of a number.
+///
+/// [`get`]: PluralElements::get
+#[derive(Debug, Drop, PartialEq, Eq)]
+pub struct PluralElements<T> {
+    other: T,
+    zero: Option<T>,
+    one: Option<T>,
+    two: Option<T>,
+    few: Option<T>,
+    many: Option<T>,
+    explicit_zero: Option<T>,
+    explicit_one: Option<T>,
+}
+
+impl<T> Model for PluralElements<T> {
+    ghost use Rattle.icu_plurals.specs.Elements.{Elements};
+
+    ghost Value = { Elements T };
+
+    ghost view = { λ e. record {
+      other = e.other;
+      zero = e.zero;
+      one = e.one;
+      two = e.two;
+      few = e.few;
+      many = e.many;
+      explicit_zero = e.explicit_zero;
+      explicit_one = e.explicit_one;
+    } };
+
+    ghost inverse = { λ e. record {
+      other = e.other;
+      zero = e.zero;
+      one = e.one;
+      two = e.two;
+      few = e.few;
+      many = e.many;
+      explicit_zero = e.explicit_zero;
+      explicit_one = e.explicit_one;
+    } };
+}
+
+impl<T> PluralElements<T> {
+    /// Other's value alone.
+    pub fn new(other: T) -> PluralElements<T>
+        ensures { result ≡ only_other other }
+    {
+        PluralElements {
+            other,
+            zero: None,
+            one: None,
+            two: None,
+            few: None,
+            many: None,
+            explicit_zero: None,
+            explicit_one: None,
+        }
+    }
+
+    /// The value of [`PluralCategory::Zero`], or other's.
+    pub fn zero(&self) -> &T
+        ensures { result.now ≡ unwrap_or self.now.zero self.now.other }
+    {
+        self.zero.as_ref().unwrap_or(&self.other)
+    }
+
+    /// The value of [`PluralCategory::One`], or other's.
+    pub fn one(&self) -> &T
+        ensures { result.now ≡ unwrap_or self.now.one self.now.other }
+    {
+        self.one.as_ref().unwrap_or(&self.other)
+    }
+
+    /// The value of [`PluralCategory::Two`], or other's.
+    pub fn two(&self) -> &T
+        ensures { result.now ≡ unwrap_or self.now.two self.now.other }
+    {
+        self.two.as_ref().unwrap_or(&self.other)
+    }
+
+    /// The value of [`PluralCategory::Few`], or other's.
+    pub fn few(&self) -> &T
+        ensures { result.now ≡ unwrap_or self.now.few self.now.other }
+    {
+        self.few.as_ref().unwrap_or(&self.other)
+    }
+
+    /// The value of [`PluralCategory::Many`], or other's.
+    pub fn many(&self) -> &T
+        ensures { result.now ≡ unwrap_or self.now.many self.now.other }
+    {
+        self.many.as_ref().unwrap_or(&self.other)
+    }
+
+    /// The value of [`PluralCategory::Other`].
+    pub fn other(&self) -> &T
+        ensures { result.now ≡ self.now.other }
+    {
+        &self.other
+    }
+
+    /// Other's value, where it is the only one that is there.
+    pub fn try_into_other(self) -> Option<T>
+    where
+        T: Drop,
+        ensures some { IfSome result (λ x. self ≡ only_other x) }
+        ensures only { (x : T) → self ≡ only_other x → result ≡ Some x }
+    {
+        match self {
+            PluralElements {
+                other,
+                zero: None,
+                one: None,
+                two: None,
+                few: None,
+                many: None,
+                explicit_zero: None,
+                explicit_one: None,
+            } => Some(other),
+            _ => None,
+        }
+    }
+
+    /// The value at exactly 0, where it is there.
+    pub fn explicit_zero(&self) -> Option<&T>
+        ensures { option_map (λ x. x.now) result ≡ self.now.explicit_zero }
+    {
+        self.explicit_zero.as_ref()
+    }
+
+    /// The value at exactly 1, where it is there.
+    pub fn explicit_one(&self) -> Option<&T>
+        ensures { option_map (λ x. x.now) result ≡ self.now.explicit_one }
+    {
+        self.explicit_one.as_ref()
+    }
+
+    /// The same values, lent.
+    pub fn as_ref(&self) -> PluralElements<&T>
+        ensures { each_by (λ x. x.now) result ≡ self.now }
+    {
+        PluralElements {
+            other: &self.other,
+            zero: self.zero.as_ref(),
+            one: self.one.as_ref(),
+            two: self.two.as_ref(),
+            few: self.few.as_ref(),
+            many: self.many.as_ref(),
+            explicit_zero: self.explicit_zero.as_ref(),
+            explicit_one: self.explicit_one.as_ref(),
+        }
+    }
+
+    /// The value for a number: the explicit one where the operands are exactly 0 or 1 and it is there,
+    /// else that of the category that the rules choose, else other's. It takes no memory.
+    pub fn get<'a>(&'a self, op: PluralOperands, rules: &PluralRules<'_>) -> &'a T
+        ensures { result.now ≡ element_at self.now op rules.now }
+    {
+        match self.explicit_at(op) {
+            Some(value) => value,
+            None => self.of_category(rules.category_for(op)),
+        }
+    }
+
+    // The explicit value at exactly 0 or 1, where it is there.
+    fn explicit_at(&self, op: PluralOperands) -> Option<&T>
+        ensures { option_map (λ x. x.now) result ≡ explicit_at self.now op }
+    {
+        if op.is_exactly_zero() {
+            self.explicit_zero()
+        } else if op.is_exactly_one() {
+            self.explicit_one()
+        } else {
+            None
+        }
+    }
+
+    // The value of a category, or other's.
+    fn of_category(&self, category: PluralCategory) -> &T
+        ensures { result.now ≡ of_category self.now category }
+    {
+        match category {
+            PluralCategory::Zero => self.zero(),
+            PluralCategory::One => self.one(),
+            PluralCategory::Two => self.two(),
+            PluralCategory::Few => self.few(),
+            PluralCategory::Many => self.many(),
+            PluralCategory::Other => &self.other,
+        }
+    }
+}

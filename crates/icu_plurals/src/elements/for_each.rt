@@ -1,0 +1,78 @@
+//! A closure called at the values.
+
+ghost use Rattle.std.specs.Prelude.{◌≡◌, Ok, OnOk, IfErr};
+ghost use Rattle.std.specs.Fn.{CalledAt};
+ghost use Rattle.icu_plurals.specs.Elements.{values_in_order};
+ghost use Rattle.icu_plurals.specs.ElementCalls.{CallsAt, VisitsAt, VisitsEach, RefusesAt, StopsAt};
+
+use super::PluralElements;
+
+impl<T> PluralElements<T> {
+    /// Calls the closure for other, zero, one, two, few, many, explicit zero and explicit one, in this
+    /// order, where they are there.
+    pub fn for_each<F: FnMut(&T)>(&self, mut f: F)
+        requires { F.IsAlwaysCallable f }
+        ensures { (last : F) × VisitsEach (CalledAt F.FnMut) f (values_in_order self.now) last }
+    {
+        self.visit_all(&mut f);
+    }
+
+    /// The same up to the first answer that is an `Err`, which is what the call answers then; the
+    /// closure isn't called again.
+    pub fn try_for_each<E, F: FnMut(&T) -> Result<(), E>>(&self, mut f: F) -> Result<(), E>
+        requires { F.IsAlwaysCallable f }
+        ensures ok { OnOk result ((last : F) × VisitsEach (λ p x y q. CalledAt F.FnMut p x (Ok y) q) f (values_in_order self.now) last) }
+        ensures err { IfErr result (λ e. (last : F) × StopsAt (CalledAt F.FnMut) f (values_in_order self.now) e last) }
+    {
+        f(&self.other)?;
+        try_visit_place(&self.zero, &mut f)?;
+        try_visit_place(&self.one, &mut f)?;
+        try_visit_place(&self.two, &mut f)?;
+        try_visit_place(&self.few, &mut f)?;
+        try_visit_place(&self.many, &mut f)?;
+        try_visit_place(&self.explicit_zero, &mut f)?;
+        try_visit_place(&self.explicit_one, &mut f)
+    }
+
+    // Calls at the values that are there, and no other.
+    fn visit_all<F: FnMut(&T)>(&self, f: &mut F)
+        requires { F.IsAlwaysCallable f.old }
+        ensures { VisitsEach (CalledAt F.FnMut) f.old (values_in_order self.now) f.new }
+    {
+        f(&self.other);
+        visit_place(&self.zero, f);
+        visit_place(&self.one, f);
+        visit_place(&self.two, f);
+        visit_place(&self.few, f);
+        visit_place(&self.many, f);
+        visit_place(&self.explicit_zero, f);
+        visit_place(&self.explicit_one, f);
+    }
+}
+
+// A call at the value, where one is there.
+fn visit_place<T, F: FnMut(&T)>(place: &Option<T>, f: &mut F)
+    requires { F.IsAlwaysCallable f.old }
+    ensures called { VisitsAt (CalledAt F.FnMut) f.old place.now f.new }
+    ensures again { F.IsAlwaysCallable f.new }
+{
+    if let Some(value) = place {
+        f(value);
+    }
+}
+
+// A call at the value, where one is there.
+fn try_visit_place<T, E, F: FnMut(&T) -> Result<(), E>>(
+    place: &Option<T>,
+    f: &mut F,
+) -> Result<(), E>
+    requires { F.IsAlwaysCallable f.old }
+    ensures ok { OnOk result (VisitsAt (λ p x y q. CalledAt F.FnMut p x (Ok y) q) f.old place.now f.new) }
+    ensures err { IfErr result (λ e. RefusesAt (CalledAt F.FnMut) f.old place.now e f.new) }
+    ensures again { F.IsAlwaysCallable f.new }
+{
+    match place {
+        Some(value) => f(value),
+        None => Ok(()),
+    }
+}

@@ -1,0 +1,73 @@
+//! A closure that may change the values.
+
+ghost use Rattle.std.specs.Prelude.{◌≡◌, Ok, OnOk, IfErr};
+ghost use Rattle.std.specs.Fn.{CalledAtMut};
+ghost use Rattle.icu_plurals.specs.Elements.{values_in_order};
+ghost use Rattle.icu_plurals.specs.ElementCalls.{CallsAt, CallsEach, Changes, ChangesTo, RefusesChanging, StopsAtChanging};
+
+use super::PluralElements;
+
+impl<T> PluralElements<T> {
+    /// Calls the closure, which may change what it is called at, for other, zero, one, two, few, many,
+    /// explicit zero and explicit one, in this order, where they are there.
+    pub fn for_each_mut<F: FnMut(&mut T)>(&mut self, mut f: F)
+        requires { F.IsAlwaysCallable f }
+        ensures { (last : F) × CallsEach (Changes (CalledAtMut F.FnMut)) f (values_in_order self.old) (values_in_order self.new) last }
+    {
+        f(&mut self.other);
+        change_place(&mut self.zero, &mut f);
+        change_place(&mut self.one, &mut f);
+        change_place(&mut self.two, &mut f);
+        change_place(&mut self.few, &mut f);
+        change_place(&mut self.many, &mut f);
+        change_place(&mut self.explicit_zero, &mut f);
+        change_place(&mut self.explicit_one, &mut f);
+    }
+
+    /// The same up to the first answer that is an `Err`, which is what the call answers then; the
+    /// closure isn't called again, and what it has changed before stays changed.
+    pub fn try_for_each_mut<E, F: FnMut(&mut T) -> Result<(), E>>(
+        &mut self,
+        mut f: F,
+    ) -> Result<(), E>
+        requires { F.IsAlwaysCallable f }
+        ensures ok { OnOk result ((last : F) × CallsEach (ChangesTo (CalledAtMut F.FnMut)) f (values_in_order self.old) (values_in_order self.new) last) }
+        ensures err { IfErr result (λ e. (last : F) × StopsAtChanging (CalledAtMut F.FnMut) f (values_in_order self.old) (values_in_order self.new) e last) }
+    {
+        f(&mut self.other)?;
+        try_change_place(&mut self.zero, &mut f)?;
+        try_change_place(&mut self.one, &mut f)?;
+        try_change_place(&mut self.two, &mut f)?;
+        try_change_place(&mut self.few, &mut f)?;
+        try_change_place(&mut self.many, &mut f)?;
+        try_change_place(&mut self.explicit_zero, &mut f)?;
+        try_change_place(&mut self.explicit_one, &mut f)
+    }
+}
+
+// A call at the value, where one is there.
+fn change_place<T, F: FnMut(&mut T)>(place: &mut Option<T>, f: &mut F)
+    requires { F.IsAlwaysCallable f.old }
+    ensures called { CallsAt (Changes (CalledAtMut F.FnMut)) f.old place.old place.new f.new }
+    ensures again { F.IsAlwaysCallable f.new }
+{
+    if let Some(value) = place {
+        f(value);
+    }
+}
+
+// A call at the value, where one is there.
+fn try_change_place<T, E, F: FnMut(&mut T) -> Result<(), E>>(
+    place: &mut Option<T>,
+    f: &mut F,
+) -> Result<(), E>
+    requires { F.IsAlwaysCallable f.old }
+    ensures ok { OnOk result (CallsAt (ChangesTo (CalledAtMut F.FnMut)) f.old place.old place.new f.new) }
+    ensures err { IfErr result (λ e. RefusesChanging (CalledAtMut F.FnMut) f.old place.old place.new e f.new) }
+    ensures again { F.IsAlwaysCallable f.new }
+{
+    match place {
+        Some(value) => f(value),
+        None => Ok(()),
+    }
+}
