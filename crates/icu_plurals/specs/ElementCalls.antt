@@ -2,7 +2,7 @@
 -- y and leave the closure as g.
 --     CallsEach call f xs ys last      one call at each value of xs that is there, in order, and ys has the answers at their places
 --     VisitsEach call f xs last      the same, whatever is answered
---     StopsAt call f xs e last      calls in order up to the first that answers Err e; all before it answer Ok, none comes after it
+--     StopsAt call f xs e last      calls in order up to the first that answers an Err, which is Err e and leaves last; all before it answer Ok
 --     StopsAtChanging call f xs ys e last      the same, where a call may change its value: ys has what is left in the places of xs
 use Rattle.std.specs.Prelude.{◌≡◌, List, [], ◌∷◌, ◌++◌, Option, Some, None, Result, Ok, Err}
 

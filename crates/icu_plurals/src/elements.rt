@@ -1,6 +1,6 @@
 //! A value for each plural category, and for exactly 0 and 1.
 
-ghost use Rattle.std.specs.Prelude.{◌≡◌, Option, Some, None, IfSome, option_map, unwrap_or};
+ghost use Rattle.std.specs.Prelude.{◌≡◌, IfSome, option_map, unwrap_or};
 ghost use Rattle.icu_plurals.specs.Elements.{only_other, each_by, of_category, explicit_at, element_at};
 
 mod for_each;

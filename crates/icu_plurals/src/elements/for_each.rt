@@ -1,9 +1,9 @@
 //! A closure called at the values.
 
-ghost use Rattle.std.specs.Prelude.{◌≡◌, Ok, OnOk, IfErr};
+ghost use Rattle.std.specs.Prelude.{Ok, OnOk, IfErr};
 ghost use Rattle.std.specs.Fn.{CalledAt};
 ghost use Rattle.icu_plurals.specs.Elements.{values_in_order};
-ghost use Rattle.icu_plurals.specs.ElementCalls.{CallsAt, VisitsAt, VisitsEach, RefusesAt, StopsAt};
+ghost use Rattle.icu_plurals.specs.ElementCalls.{VisitsAt, VisitsEach, RefusesAt, StopsAt};
 
 use super::PluralElements;
 

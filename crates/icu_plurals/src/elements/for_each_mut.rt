@@ -1,6 +1,6 @@
 //! A closure that may change the values.
 
-ghost use Rattle.std.specs.Prelude.{◌≡◌, Ok, OnOk, IfErr};
+ghost use Rattle.std.specs.Prelude.{Ok, OnOk, IfErr};
 ghost use Rattle.std.specs.Fn.{CalledAtMut};
 ghost use Rattle.icu_plurals.specs.Elements.{values_in_order};
 ghost use Rattle.icu_plurals.specs.ElementCalls.{CallsAt, CallsEach, Changes, ChangesTo, RefusesChanging, StopsAtChanging};
