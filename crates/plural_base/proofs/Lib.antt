@@ -7,7 +7,7 @@ pub mod ExactCategories
 pub mod Answered
 pub mod WidestChoice
 pub mod TextsGiven
-pub mod JsonAnswers
+pub mod RuleRefusals
 pub mod Rows
 pub mod RowsRead
 pub mod RulesRead

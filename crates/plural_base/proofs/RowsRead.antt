@@ -1,10 +1,8 @@
 -- Rows that are read, member by member.
 use Rattle.std.proofs.Common.{◌≡◌, ℕ, List, [], ◌∷◌, ◌++◌, Ok, Err, refl, sym, ap, ◌∙◌}
-use Rattle.plural_base.specs.declared.json_error.JsonError.{JsonError}
-use Rattle.plural_base.specs.declared.json_error.JsonError.TheVariants.{Float, Shape, Rule, RangeKey, RangeValue, Pack, Memory}
 use Rattle.plural_base.specs.DocumentJson.{Rows, rows_shape}
-use Rattle.plural_base.specs.RulesJson.{Stands, IsRefusal, ◌>>=◌}
-use Rattle.std.proofs.lemmas.List.{append-nil, append_assoc}
+use Rattle.plural_base.specs.RulesJson.{Stands, ◌>>=◌}
+use Rattle.std.proofs.lemmas.List.{append_assoc}
 use Rattle.std.specs.BTreeMap.{insert_entry}
 use Rattle.std.specs.Cmp.Lexicographic.{slice_cmp}
 use Rattle.std.specs.Map.{keys_of}
@@ -22,21 +20,7 @@ pub behind_none : {A : Type 0} (more : Stands (Rows A)) → more ≡ behind [] m
 behind_none (Ok more) = refl
 behind_none (Err e) = refl
 
--- a refusal is handed on
-pub handed_on : {A B : Type 0} (e : JsonError) (a : Stands A) (b : Stands B) → (a ≡ Err e → b ≡ Err e) → IsRefusal e a → IsRefusal e b
-handed_on Memory a b f h = tt
-handed_on Float a b f h = f h
-handed_on Shape a b f h = f h
-handed_on (Rule category fault) a b f h = f h
-handed_on RangeKey a b f h = f h
-handed_on RangeValue a b f h = f h
-handed_on (Pack fault) a b f h = f h
-
 module _ {A : Type 0} (shape : Data → Stands A) (rows : Rows A) (k : List ℕ) (d : Data) (ms : Members) where
-  -- the refusal of a member is that of all that are left
-  pub refused_row : (e : JsonError) → IsRefusal e (shape d) → IsRefusal e (behind rows (rows_shape shape (member k d ms)))
-  refused_row e = handed_on e (shape d) _ (λ h. rw h refl)
-
   push_behind : (first : A) (more : Stands (Rows A)) → behind rows (more >>= λ rest. Ok ((k, first) ∷ rest)) ≡ behind (rows ++ (k, first) ∷ []) more
   push_behind first (Ok more) = ap Ok (sym (append_assoc rows ((k, first) ∷ []) more))
   push_behind first (Err e) = refl
@@ -44,10 +28,6 @@ module _ {A : Type 0} (shape : Data → Stands A) (rows : Rows A) (k : List ℕ)
   -- a member that is read is the next row
   pub taken_row : (first : A) → shape d ≡ Ok first → behind rows (rows_shape shape (member k d ms)) ≡ behind (rows ++ (k, first) ∷ []) (rows_shape shape ms)
   taken_row first h = rw h (push_behind first (rows_shape shape ms))
-
--- at the end
-pub behind_nothing : {A : Type 0} (rows : Rows A) → behind rows (Ok []) ≡ Ok rows
-behind_nothing rows = ap Ok (append-nil rows)
 
 -- ---- A step
 

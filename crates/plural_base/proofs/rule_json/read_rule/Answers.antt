@@ -1,5 +1,5 @@
 use Rattle.std.proofs.Common.{sym}
-use Rattle.plural_base.proofs.JsonAnswers.{text_refused}
+use Rattle.plural_base.proofs.RuleRefusals.{text_refused}
 use Rattle.plural_base.proofs.rule_json.read_rule.Goals as goal
 
 pub returns-in-Err-clause-answers : goal.returns-in-Err-clause-answers

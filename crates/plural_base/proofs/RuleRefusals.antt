@@ -1,4 +1,4 @@
--- What is answered of a JSON value, step by step.
+-- The refusal of a text that gives no rule.
 use Rattle.std.proofs.Common.{◌≡◌, ℕ, List, refl, sym, ◌∙◌, inl, inr, Option, Some, Err}
 use Rattle.std.specs.Prelude.{◌⊎◌}
 use Rattle.plural_runtime.specs.declared.error.RuleError.{RuleError}
