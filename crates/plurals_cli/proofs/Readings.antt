@@ -1,16 +1,14 @@
 -- What is answered after the input was read, or wasn't.
-use Rattle.std.proofs.Common.{◌≡◌, inl, inr, ℕ, List, Option, Some, None, Result, Ok, Err, refl, sym, subst, ap}
+use Rattle.std.proofs.Common.{◌≡◌, inl, ℕ, List, Option, Some, None, Result, Ok, Err, refl, sym, subst, ap}
 use Rattle.std.specs.Prelude.{⊤}
 use Rattle.std.specs.Io.KnownBytes.{IsAtEnd, Keeps}
 use Rattle.icu_plurals.specs.declared.PluralRuleType.{PluralRuleType}
-use Rattle.icu_plurals.specs.Compact.{CompactNumber}
 use Rattle.icu_plurals.specs.FiveRules.{FiveRules}
 use Rattle.icu_plurals.specs.TextReaders.{TextReader}
 use Rattle.plurals_cli.specs.Answer.{AnswersCategory, AnswersRules, Gives, GivesAfterReading, IsAnswered, IsInput, IsRead, Text}
 use Rattle.plurals_cli.specs.InputBytes.{GivesInput}
 use Rattle.plurals_cli.specs.InputRules.{rules_in}
-use Rattle.plurals_cli.specs.NumberWords.{GivesNumber, IsNumberOf}
-use Rattle.plurals_cli.specs.RuleLines.{IsCategoryLine}
+use Rattle.plurals_cli.specs.NumberWords.{GivesNumber}
 use Rattle.plurals_cli.specs.declared.error.RunError.{RunError}
 use Rattle.plurals_cli.specs.declared.error.RunError.TheVariants.{Usage, Condition, Number, Read, TooLong, Json, Document, Locale, Write, Memory}
 use Rattle.plurals_cli.proofs.Inputs.{rules_beyond, some_input}

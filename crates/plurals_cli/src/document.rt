@@ -1,6 +1,5 @@
 //! The rules that a document has for a locale.
 
-ghost use Rattle.std.specs.Prelude.{◌≡◌};
 ghost use Rattle.serde_json.specs.View.{view};
 ghost use Rattle.icu_plurals.specs.RulesData.{rules_of as data_of};
 ghost use Rattle.icu_plurals.specs.TextReaders.{TextReader, TellsTexts};

@@ -6,6 +6,7 @@ use icu_plurals::{ElementsPackError, JsonError};
 use std::alloc::Global;
 use std::io;
 use std::io::{Read, Write};
+use std::process::Abort;
 use std::test::Fail;
 
 mod documents;
@@ -54,12 +55,12 @@ struct Taking {
 }
 
 impl Write for Taking {
-    fn write(&mut self, _buf: &[u8]) -> io::Result<usize> {
+    fn write(&mut self, buf: &[u8]) -> io::Result<usize> {
         if self.left == 0 {
             return Err(io::Error::from(io::ErrorKind::BrokenPipe));
         }
         self.left -= 1;
-        Ok(1)
+        Ok(buf.len().min(1))
     }
 
     fn flush(&mut self) -> io::Result<()> {
@@ -181,26 +182,33 @@ fn a_refused_write_is_a_fault(rt: HostRuntime) -> Result<(), Fail> {
     Ok(())
 }
 
+// The fault has this text, and the common status.
+fn has_text(rt: &impl Abort, alloc: Global, fault: &RunError, text: &str) -> Result<(), Fail> {
+    assert_eq!(rt; fault.status(), 1);
+    assert_eq!(rt; fault.to_string(alloc)?.as_str(), text);
+    Ok(())
+}
+
 #[test]
 fn faults_that_no_command_shows_have_their_texts(rt: HostRuntime) -> Result<(), Fail> {
-    let rows = [
-        (RunError::Memory, "out of memory"),
-        (
-            RunError::Document(JsonError::RangeKey),
-            "bad document: range key",
-        ),
-        (
-            RunError::Document(JsonError::RangeValue),
-            "bad document: range value",
-        ),
-        (
-            RunError::Document(JsonError::Pack(ElementsPackError::StartLimit)),
-            "bad document: elements too long",
-        ),
-    ];
-    for (fault, text) in rows {
-        assert_eq!(rt; fault.status(), 1);
-        assert_eq!(rt; fault.to_string(rt.alloc())?.as_str(), text);
-    }
-    Ok(())
+    let alloc = rt.alloc();
+    has_text(&rt, alloc, &RunError::Memory, "out of memory")?;
+    has_text(
+        &rt,
+        alloc,
+        &RunError::Document(JsonError::RangeKey),
+        "bad document: range key",
+    )?;
+    has_text(
+        &rt,
+        alloc,
+        &RunError::Document(JsonError::RangeValue),
+        "bad document: range value",
+    )?;
+    has_text(
+        &rt,
+        alloc,
+        &RunError::Document(JsonError::Pack(ElementsPackError::StartLimit)),
+        "bad document: elements too long",
+    )
 }

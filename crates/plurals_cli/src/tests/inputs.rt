@@ -35,7 +35,7 @@ impl<'a> Read for Padded<'a> {
 }
 
 // The document with spaces up to a length.
-fn padded(length: usize, fails: bool) -> Padded<'static> {
+fn document_up_to(length: usize, fails: bool) -> Padded<'static> {
     Padded {
         text: DOCUMENT,
         spaces: length.saturating_sub(DOCUMENT.len()),
@@ -46,9 +46,9 @@ fn padded(length: usize, fails: bool) -> Padded<'static> {
 #[test]
 fn the_longest_input_is_read(rt: HostRuntime) -> Result<(), Fail> {
     let words = ["category", "a", "cardinal", "1"];
-    let answer = answered_from(rt.alloc(), &words, &mut padded(MOST, false))?;
+    let answer = answered_from(rt.alloc(), &words, &mut document_up_to(MOST, false))?;
     assert_eq!(rt; answer.as_str(), "one\n");
-    let answer = answered_from(rt.alloc(), &words, &mut padded(MOST + 1, false))?;
+    let answer = answered_from(rt.alloc(), &words, &mut document_up_to(MOST + 1, false))?;
     assert_eq!(rt; answer.as_str(), "1: input too long");
     Ok(())
 }
@@ -56,11 +56,11 @@ fn the_longest_input_is_read(rt: HostRuntime) -> Result<(), Fail> {
 #[test]
 fn what_is_too_long_is_not_read_on(rt: HostRuntime) -> Result<(), Fail> {
     let words = ["print", "b", "cardinal"];
-    let mut reader = padded(MOST + 100, false);
+    let mut reader = document_up_to(MOST + 100, false);
     let answer = answered_from(rt.alloc(), &words, &mut reader)?;
     assert_eq!(rt; answer.as_str(), "1: input too long");
     assert_eq!(rt; reader.spaces, 99);
-    let mut reader = padded(MOST + 1, true);
+    let mut reader = document_up_to(MOST + 1, true);
     let answer = answered_from(rt.alloc(), &words, &mut reader)?;
     assert_eq!(rt; answer.as_str(), "1: input too long");
     Ok(())
@@ -71,7 +71,7 @@ fn a_failing_reader_is_a_fault(rt: HostRuntime) -> Result<(), Fail> {
     let words = ["category", "a", "cardinal", "1"];
     let lengths = [0, 5000, MOST - 1, MOST];
     for length in lengths {
-        let answer = answered_from(rt.alloc(), &words, &mut padded(length, true))?;
+        let answer = answered_from(rt.alloc(), &words, &mut document_up_to(length, true))?;
         assert_eq!(rt; answer.as_str(), "1: cannot read input");
     }
     let mut reader = Padded {

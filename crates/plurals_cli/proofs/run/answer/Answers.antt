@@ -1,5 +1,5 @@
 use Rattle.std.proofs.Common.{Some, sym, subst}
-use Rattle.plurals_cli.specs.Answer.{AnswersCommand, AnswersTest, GivesAfterReading, IsInput, IsNotRead, IsRead, NeedsInput}
+use Rattle.plurals_cli.specs.Answer.{AnswersCommand, AnswersTest, GivesAfterReading, NeedsInput}
 use Rattle.plurals_cli.specs.CommandWords.{seen}
 use Rattle.plurals_cli.specs.declared.command.Command.{Command as Words}
 use Rattle.plurals_cli.proofs.Inputs.{some_input}
@@ -13,7 +13,7 @@ returns-in-Test-clause-answers g c = λ texts tells.
       input.0,
       input.1,
       subst (λ (w : Words). GivesAfterReading (AnswersCommand texts (Some (seen w)) input.0) c.test_line.result) (sym c.in-Test.is)
-      (implied IsAnswer IsAnswer (λ a h. h) c.test_line.result c.test_line.ensures),
+          (implied IsAnswer IsAnswer (λ a h. h) c.test_line.result c.test_line.ensures),
     )
 
 pub returns-in-Category-clause-answers : goal.returns-in-Category-clause-answers

@@ -1,4 +1,4 @@
-use Rattle.std.proofs.Common.{◌≡◌, ℕ, List, Result, Err, inr, refl, sym, ◌∙◌, subst, ap}
+use Rattle.std.proofs.Common.{ℕ, List, Result, inr, refl, sym, subst}
 use Rattle.std.proofs.lemmas.Result.{err_from_is_err_and}
 use Rattle.icu_plurals.specs.FiveRules.{FiveRules}
 use Rattle.plurals_cli.specs.Answer.{AnswersCategory, AnswersRules, Gives}
@@ -16,7 +16,7 @@ returns-in_err-number-clause-answers g c = λ texts tells.
       input.0,
       input.1,
       no_number (rules_in texts c.args.rule_type c.args.locale.now input.0) c.args.word.now c.in_err-number.field-0.0 c.from_residual.result
-      (handed_on _ _ (err_from_is_err_and c.from_residual.result c.from_residual.ensures.1)) c.in_err-number.ensures,
+          (handed_on _ _ (err_from_is_err_and c.from_residual.result c.from_residual.ensures.1)) c.in_err-number.ensures,
     )
 
 pub returns-in_err-input-clause-answers : goal.returns-in_err-input-clause-answers
@@ -33,9 +33,9 @@ returns-clause-answers g c = λ texts tells.
       items,
       c.in_ok-input.ensures.input.0,
       implied (AnswersRules (IsCategoryLine c.in_ok-number.number) rules) (AnswersCategory (rules_in texts c.args.rule_type c.args.locale.now items) c.args.word.now)
-      (λ a h. subst (λ (r : Result FiveRules RunError). AnswersCategory r c.args.word.now a) (sym same) (inr (c.in_ok-number.number, c.in_ok-number.ensures.0, h)))
-      c.category_line.result
-      (subst (λ (bytes : List ℕ). Gives (AnswersRules (IsCategoryLine c.in_ok-number.number) (rules_of texts c.args.rule_type c.args.locale.now bytes)) c.category_line.result) c.as_slice.ensures.value (c.category_line.ensures texts tells)),
+          (λ a h. subst (λ (r : Result FiveRules RunError). AnswersCategory r c.args.word.now a) (sym same) (inr (c.in_ok-number.number, c.in_ok-number.ensures.0, h)))
+          c.category_line.result
+          (subst (λ (bytes : List ℕ). Gives (AnswersRules (IsCategoryLine c.in_ok-number.number) (rules_of texts c.args.rule_type c.args.locale.now bytes)) c.category_line.result) c.as_slice.ensures.value (c.category_line.ensures texts tells)),
     )
 
 pub returns-clause-reads : goal.returns-clause-reads

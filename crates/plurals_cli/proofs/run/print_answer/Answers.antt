@@ -1,4 +1,4 @@
-use Rattle.std.proofs.Common.{◌≡◌, ℕ, List, Result, Err, refl, sym, ◌∙◌, subst, ap}
+use Rattle.std.proofs.Common.{ℕ, List, Result, refl, sym, subst}
 use Rattle.std.proofs.lemmas.Result.{err_from_is_err_and}
 use Rattle.icu_plurals.specs.FiveRules.{FiveRules}
 use Rattle.plurals_cli.specs.Answer.{AnswersRules, Gives}
@@ -24,9 +24,9 @@ returns-clause-answers g c = λ texts tells.
       items,
       c.in_ok-bytes.ensures.input.0,
       implied (AnswersRules AreRuleLines rules) (AnswersRules AreRuleLines (rules_in texts c.args.rule_type c.args.locale.now items))
-      (λ a h. subst (λ (r : Result FiveRules RunError). AnswersRules AreRuleLines r a) (sym same) h)
-      c.rule_lines.result
-      (subst (λ (bytes : List ℕ). Gives (AnswersRules AreRuleLines (rules_of texts c.args.rule_type c.args.locale.now bytes)) c.rule_lines.result) c.as_slice.ensures.value (c.rule_lines.ensures texts tells)),
+          (λ a h. subst (λ (r : Result FiveRules RunError). AnswersRules AreRuleLines r a) (sym same) h)
+          c.rule_lines.result
+          (subst (λ (bytes : List ℕ). Gives (AnswersRules AreRuleLines (rules_of texts c.args.rule_type c.args.locale.now bytes)) c.rule_lines.result) c.as_slice.ensures.value (c.rule_lines.ensures texts tells)),
     )
 
 pub returns-clause-reads : goal.returns-clause-reads

@@ -1,4 +1,4 @@
-use Rattle.std.proofs.Common.{◌≡◌, ℕ, List, Bor, map, Option, Some, None, Result, Ok, Err, refl, sym, ◌∙◌, subst, rules}
+use Rattle.std.proofs.Common.{ℕ, List, Bor, map, Option, Ok, Err, refl, sym, ◌∙◌, subst, rules}
 use Rattle.std.proofs.lemmas.Result.{err_from_is_err_and}
 use Rattle.std.specs.Cow.{cow_str_bytes}
 use Rattle.plurals_cli.specs.Answer.{AnswersCommand, GivesAfterReading}
@@ -24,8 +24,8 @@ returns-in_err-text-clause-answers g c = λ texts tells.
       a.0,
       a.1,
       not_written (AnswersCommand texts (command_of words) a.0) (g.W.Write.contents c.args.writer.now) c.in_err-text.field-0.0 c.from_residual.result
-      (handed_on _ _ (err_from_is_err_and c.from_residual.result c.from_residual.ensures.1))
-      (subst (λ (command : Option Command). GivesAfterReading (AnswersCommand texts command a.0) (Err c.in_err-text.field-0.0)) c.in-Some.ensures a.2),
+          (handed_on _ _ (err_from_is_err_and c.from_residual.result c.from_residual.ensures.1))
+          (subst (λ (command : Option Command). GivesAfterReading (AnswersCommand texts command a.0) (Err c.in_err-text.field-0.0)) c.in-Some.ensures a.2),
     )
 
 pub returns-in-Ok-clause-answers : goal.returns-in-Ok-clause-answers
