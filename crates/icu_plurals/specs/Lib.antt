@@ -49,3 +49,9 @@ pub use Rattle.plural_base.specs.RuleTexts
 pub use Rattle.plural_base.specs.TextAnswers
 pub use Rattle.plural_base.specs.RuleModuli
 pub use Rattle.plural_base.specs.DecimalChoice
+-- JSON and providers
+pub use Rattle.plural_base.specs.TextReaders
+pub use Rattle.plural_base.specs.RulesJson
+pub use Rattle.plural_base.specs.JsonErrorTexts
+pub use Rattle.plural_base.specs.Providers
+pub use Rattle.plural_base.specs.DocumentJson

@@ -29,6 +29,10 @@ fn types_stand_at_their_paths() {
     named::<crate::PluralRulesOptions>();
     named::<crate::PluralRules<'static>>();
     named::<crate::RulesTextError>();
+    named::<crate::JsonError>();
+    named::<crate::ElementsPackError>();
+    named::<crate::DataError>();
+    named::<crate::JsonProvider>();
     named::<crate::PluralElements<u8>>();
     named::<crate::provider::PluralRulesData<'static>>();
     named::<crate::provider::RawPluralCategory>();

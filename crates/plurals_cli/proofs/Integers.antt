@@ -5,8 +5,8 @@ use Rattle.std.specs.Char.{is_ascii_digit}
 use Rattle.std.specs.List.{list_all}
 use Rattle.std.specs.Str.Parse.{digits_value, ParsesUnsigned}
 use Rattle.std.proofs.lemmas.Str.Parse.{IsNumeralModel, numerals_by_value, parse_digits}
-use Rattle.fixed_decimal.specs.declared.DecimalError.{DecimalError}
-use Rattle.fixed_decimal.specs.declared.DecimalError.TheVariants.{Syntax, Limit}
+use Rattle.icu_plurals.specs.declared.DecimalError.{DecimalError}
+use Rattle.icu_plurals.specs.declared.DecimalError.TheVariants.{Syntax, Limit}
 use Rattle.plurals_cli.specs.Answer.{is_numeral, integer_of}
 
 digits : IsNumeralModel (λ ds. list_all is_ascii_digit ds ≡ true) (digits_value 10)

@@ -1,2 +1,6 @@
-pub mod Words
+pub mod TestAnswers
 pub mod Integers
+pub mod Documents
+pub mod Inputs
+pub mod Faults
+pub mod Readings

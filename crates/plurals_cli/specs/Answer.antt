@@ -1,20 +1,31 @@
--- What the program answers to the words of its command line.
-use Rattle.std.specs.Prelude.{◌≡◌, ◌≢◌, ℕ, ◌^◌, List, [], ◌∷◌, ◌++◌, Bool, Option, Result, Ok, Err, ⊤, codes, nat_lt, if◌then◌else◌, not, ◌&&◌, ◌==◌, length}
+-- What the program answers to the words of its command line and its input.
+use Rattle.std.specs.Prelude.{◌≡◌, ◌⊎◌, ℕ, ◌^◌, ◌+◌, List, [], ◌∷◌, ◌++◌, Bool, Option, Some, None, Result, Ok, Err, ⊤, codes, nat_lt, if◌then◌else◌, not, ◌&&◌, ◌==◌, length}
 use Rattle.std.specs.Char.{is_ascii_digit}
 use Rattle.std.specs.List.{list_all}
 use Rattle.std.specs.Str.Parse.{digits_value}
-use Rattle.std.specs.Borrow.{Bor}
-use Rattle.std.specs.Io.KnownBytes.{Appends, Keeps}
-use Rattle.fixed_decimal.specs.declared.DecimalError.{DecimalError}
-use Rattle.fixed_decimal.specs.declared.DecimalError.TheVariants.{Syntax, Limit}
-use Rattle.plural_reference.specs.declared.ast.Condition.{Condition as Tree}
-use Rattle.plural_reference.specs.declared.Token.{Token}
-use Rattle.plural_reference.specs.Lexer.{AreTokensOf}
-use Rattle.plural_reference.specs.Operands.{of_whole}
-use Rattle.plural_reference.specs.Parser.{Reads, Faulty}
-use Rattle.plural_reference.specs.Resolver.{tree_truth}
+use Rattle.std.specs.Cow.{cow_str_bytes}
+use Rattle.std.specs.declared.alloc.Global.{Global}
+use Rattle.std.specs.declared.borrow.CowStr.{CowStr}
+use Rattle.std.specs.Io.KnownBytes.{Appends, Consumes, IsAtEnd, Keeps}
+use Rattle.icu_plurals.specs.declared.DecimalError.{DecimalError}
+use Rattle.icu_plurals.specs.declared.DecimalError.TheVariants.{Syntax, Limit}
+use Rattle.icu_plurals.specs.declared.provider.rules.reference.ast.Condition.{Condition as Tree}
+use Rattle.icu_plurals.specs.declared.provider.rules.reference.Token.{Token}
+use Rattle.icu_plurals.specs.FiveRules.{FiveRules}
+use Rattle.icu_plurals.specs.Compact.{CompactNumber}
+use Rattle.icu_plurals.specs.Lexer.{AreTokensOf}
+use Rattle.icu_plurals.specs.Operands.{of_whole}
+use Rattle.icu_plurals.specs.Parser.{Reads, Faulty}
+use Rattle.icu_plurals.specs.Resolver.{tree_truth}
+use Rattle.icu_plurals.specs.TextReaders.{TextReader}
+use Rattle.plurals_cli.specs.Commands.{Command, test, category, print}
+use Rattle.plurals_cli.specs.InputRules.{most_bytes, rules_in}
+use Rattle.plurals_cli.specs.NumberWords.{HasNoFault, IsNumberFault, IsNumberOf}
+use Rattle.plurals_cli.specs.RuleLines.{AreRuleLines, IsCategoryLine}
 use Rattle.plurals_cli.specs.declared.error.RunError.{RunError}
-use Rattle.plurals_cli.specs.declared.error.RunError.TheVariants.{Usage, Condition, Number, Write, Memory}
+use Rattle.plurals_cli.specs.declared.error.RunError.TheVariants.{Usage, Condition, Number, Read, TooLong, Write, Memory}
+
+-- ---- The command `test`
 
 -- one or more digits
 abbrev pub is_numeral : List ℕ → Bool
@@ -44,40 +55,89 @@ AnswersTokens tokens integer answer = (condition : Tree) × Reads tokens conditi
 abbrev pub AnswersTest : List ℕ → List ℕ → Result (List ℕ) RunError → Type 0
 AnswersTest condition integer answer = (tokens : List Token) × AreTokensOf condition tokens × AnswersTokens tokens integer answer
 
--- the words of `test`
-abbrev pub test_words : List ℕ → List ℕ → List (List ℕ)
-test_words condition integer = codes "test" ∷ condition ∷ integer ∷ []
+-- ---- The commands on rules
 
--- the answer to the words of a command line, which are of no command or of `test`
-abbrev pub AnswersWords : List (List ℕ) → Result (List ℕ) RunError → Type 0
-AnswersWords words (Err Usage) = (condition integer : List ℕ) → words ≢ test_words condition integer
-AnswersWords words answer =
-    (condition : List ℕ) × (integer : List ℕ) × (words ≡ test_words condition integer) × AnswersTest condition integer answer
+-- a text of the rules, or the fault of the input, in which there are none
+abbrev pub AnswersRules : (FiveRules → List ℕ → Type 0) → Result FiveRules RunError → Result (List ℕ) RunError → Type 0
+AnswersRules IsText (Ok rules) (Ok text) = IsText rules text
+AnswersRules IsText (Ok rules) (Err fault) = ⊥
+AnswersRules IsText (Err fault) answer = answer ≡ Err fault
 
--- the answer is given, or memory was wanting; nothing is written yet
-abbrev pub Gives : (Result (List ℕ) RunError → Type 0) → Result (Bor (List ℕ)) RunError → Type 0
-Gives IsAnswer (Ok text) = IsAnswer (Ok text.now)
+-- `category LOCALE TYPE NUMBER`, the rules given: the number's fault comes before the input's
+abbrev pub AnswersCategory : Result FiveRules RunError → List ℕ → Result (List ℕ) RunError → Type 0
+AnswersCategory rules number answer =
+    ((fault : DecimalError) × IsNumberFault number fault × (answer ≡ Err (Number fault)))
+    ⊎ ((x : CompactNumber) × IsNumberOf number x × AnswersRules (IsCategoryLine x) rules answer)
+
+-- ---- The answer
+
+-- The answer to a command and an input: a text, or the first fault. Words that are no command have theirs. `texts` is what every
+-- text gives as a rule.
+abbrev pub AnswersCommand : TextReader → Option Command → List ℕ → Result (List ℕ) RunError → Type 0
+AnswersCommand texts None input answer = answer ≡ Err Usage
+AnswersCommand texts (Some (test condition integer)) input answer = AnswersTest condition integer answer
+AnswersCommand texts (Some (category locale type number)) input answer = AnswersCategory (rules_in texts type locale input) number answer
+AnswersCommand texts (Some (print locale type)) input answer = AnswersRules AreRuleLines (rules_in texts type locale input) answer
+
+-- the answer depends on the input: it isn't that of the words alone
+abbrev pub NeedsInput : Option Command → Type 0
+NeedsInput None = ⊥
+NeedsInput (Some (test condition integer)) = ⊥
+NeedsInput (Some (category locale type number)) = HasNoFault number
+NeedsInput (Some (print locale type)) = ⊤
+
+-- ---- What a call does
+
+-- a text that is lent or owned
+abbrev pub Text : Type 0
+Text = CowStr Global
+
+-- the answer is given, or memory was wanting; nothing is read or written
+abbrev pub Gives : (Result (List ℕ) RunError → Type 0) → Result Text RunError → Type 0
+Gives IsAnswer (Ok text) = IsAnswer (Ok (cow_str_bytes text))
 Gives IsAnswer (Err Memory) = ⊤
+Gives IsAnswer (Err Read) = ⊥
 Gives IsAnswer (Err Write) = ⊥
 Gives IsAnswer (Err fault) = IsAnswer (Err fault)
 
+-- the same of a call that reads, and may fail at it
+abbrev pub GivesAfterReading : (Result (List ℕ) RunError → Type 0) → Result Text RunError → Type 0
+GivesAfterReading IsAnswer (Err Read) = ⊤
+GivesAfterReading IsAnswer result = Gives IsAnswer result
+
 -- the bytes of an answer's text
-abbrev pub said : Result (Bor (List ℕ)) RunError → Result (List ℕ) RunError
-said (Ok text) = Ok text.now
+abbrev pub said : Result Text RunError → Result (List ℕ) RunError
+said (Ok text) = Ok (cow_str_bytes text)
 said (Err fault) = Err fault
 
--- What was answered, and what the writer took: the answer's text and nothing else, or the answer's fault and nothing at
--- all. Want of memory and a failed write come from outside; only the second may have let something out.
-abbrev pub IsAnswered : List (List ℕ) → Option (List ℕ) → Option (List ℕ) → Result ⊤ RunError → Type 0
-IsAnswered words old new (Ok _) = (text : List ℕ) × AnswersWords words (Ok text) × Appends old new text
-IsAnswered words old new (Err Memory) = Keeps old new
-IsAnswered words old new (Err Write) = (text : List ℕ) × AnswersWords words (Ok text)
-IsAnswered words old new (Err fault) = AnswersWords words (Err fault) × Keeps old new
+-- the input is what the reader has left, where that is known
+abbrev pub IsInput : Option (List ℕ) → List ℕ → Type 0
+IsInput None input = ⊤
+IsInput (Some left) input = input ≡ left
+
+-- What was answered, and what the writer took: the answer's text and nothing else, or the answer's fault and nothing at all. Want
+-- of memory, a failed read and a failed write come from outside; only the last may have let something out.
+abbrev pub IsAnswered : (Result (List ℕ) RunError → Type 0) → Option (List ℕ) → Option (List ℕ) → Result ⊤ RunError → Type 0
+IsAnswered IsAnswer old new (Ok _) = (text : List ℕ) × IsAnswer (Ok text) × Appends old new text
+IsAnswered IsAnswer old new (Err Memory) = Keeps old new
+IsAnswered IsAnswer old new (Err Read) = Keeps old new
+IsAnswered IsAnswer old new (Err Write) = (text : List ℕ) × IsAnswer (Ok text)
+IsAnswered IsAnswer old new (Err fault) = IsAnswer (Err fault) × Keeps old new
+
+-- What was read: all of the input; of one that is too long a byte more than it may have. Where the reader failed, or memory was
+-- wanting, it may be anything.
+abbrev pub IsRead : {A : Type 0} → Option (List ℕ) → Option (List ℕ) → Result A RunError → Type 0
+IsRead old new (Err Read) = ⊤
+IsRead old new (Err Memory) = ⊤
+IsRead old new (Err TooLong) = (bytes : List ℕ) × Consumes old new bytes × (length bytes ≡ most_bytes + 1)
+IsRead old new result = IsAtEnd new
+
+-- the reader isn't blamed
+abbrev pub IsNotRead : {A : Type 0} → Result A RunError → Type 0
+IsNotRead (Err Read) = ⊥
+IsNotRead result = ⊤
 
 -- the status that the program ends with
 abbrev pub status_of : RunError → ℕ
 status_of Usage = 2
-status_of (Condition fault) = 1
-status_of (Number fault) = 1
-status_of Write = 1
-status_of Memory = 1
+status_of fault = 1

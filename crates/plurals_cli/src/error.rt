@@ -3,8 +3,8 @@
 ghost use Rattle.plurals_cli.specs.Answer.{status_of};
 ghost use Rattle.std.specs.Prelude.{◌≡◌};
 
-use fixed_decimal::DecimalError;
-use plural_reference::ParseError;
+use icu_plurals::provider::rules::reference::ParseError;
+use icu_plurals::{DecimalError, JsonError};
 use thiserror::Error;
 
 const USAGE: &str =
@@ -13,7 +13,7 @@ const USAGE: &str =
 /// Why the program fails. Faults are looked for in this order.
 #[derive(Debug, Drop, Error)]
 pub enum RunError {
-    /// The words are no command with its count of words.
+    /// The words are no command with its count of words, or name no type.
     #[error("{}", USAGE)]
     Usage,
     /// The condition can't be read.
@@ -22,6 +22,21 @@ pub enum RunError {
     /// The number is out of form, or over its limit.
     #[error("{0}")]
     Number(DecimalError),
+    /// The reader failed.
+    #[error("cannot read input")]
+    Read,
+    /// The input has more than 4194304 bytes.
+    #[error("input too long")]
+    TooLong,
+    /// The input is no JSON text.
+    #[error("input is not JSON")]
+    Json,
+    /// The input is no document of rules.
+    #[error("bad document: {0}")]
+    Document(JsonError),
+    /// The document has no rules of the type for the locale.
+    #[error("locale not found")]
+    Locale,
     /// The writer failed; how much went out isn't told.
     #[error("cannot write output")]
     Write,
@@ -37,7 +52,15 @@ impl RunError {
     {
         match self {
             RunError::Usage => 2,
-            RunError::Condition(_) | RunError::Number(_) | RunError::Write | RunError::Memory => 1,
+            RunError::Condition(_)
+            | RunError::Number(_)
+            | RunError::Read
+            | RunError::TooLong
+            | RunError::Json
+            | RunError::Document(_)
+            | RunError::Locale
+            | RunError::Write
+            | RunError::Memory => 1,
         }
     }
 }

@@ -5,7 +5,7 @@ ghost use Rattle.std.specs.Char.{is_ascii_digit};
 ghost use Rattle.std.specs.List.{list_all};
 ghost use Rattle.plurals_cli.specs.Answer.{integer_of, is_numeral};
 
-use fixed_decimal::DecimalError;
+use icu_plurals::DecimalError;
 
 // The number of a word of one or more digits. The form is decided before the limit.
 pub(crate) fn integer(word: &str) -> Result<u64, DecimalError>

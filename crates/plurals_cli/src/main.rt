@@ -1,8 +1,14 @@
 //! The program `plurals`: plural rules from a command line.
 #![tactic(auto)]
 
+mod category_command;
+mod command;
+mod document;
 mod error;
+mod input;
 mod integer;
+mod number;
+mod print_command;
 mod run;
 mod test_command;
 

@@ -1,45 +1,117 @@
 //! Answers the words of a command line.
 
-ghost use Rattle.std.specs.Prelude.{◌≡◌, map};
-ghost use Rattle.plurals_cli.specs.Answer.{IsAnswered, AnswersWords, Gives};
+ghost use Rattle.std.specs.Prelude.{◌≡◌, List, ℕ, map, Some};
+ghost use Rattle.icu_plurals.specs.TextReaders.{TextReader, TellsTexts};
+ghost use Rattle.plurals_cli.specs.Answer.{AnswersCommand, AnswersCategory, AnswersRules, GivesAfterReading, IsAnswered, IsInput, IsNotRead, IsRead, NeedsInput};
+ghost use Rattle.plurals_cli.specs.CommandWords.{seen};
+ghost use Rattle.plurals_cli.specs.Commands.{command_of};
+ghost use Rattle.plurals_cli.specs.InputRules.{rules_in};
+ghost use Rattle.plurals_cli.specs.NumberWords.{HasNoFault};
+ghost use Rattle.plurals_cli.specs.RuleLines.{AreRuleLines};
 
+use crate::category_command::category_line;
+use crate::command::{Command, command_of};
 use crate::error::RunError;
+use crate::input::read_input;
+use crate::number::number;
+use crate::print_command::rule_lines;
 use crate::test_command::test_line;
+use icu_plurals::PluralRuleType;
+use icu_plurals::laws::texts_give_one_answer;
 use std::alloc::Global;
+use std::borrow::CowStr;
 use std::io::{Read, Write};
 
-/// Writes the answer to the words of a command, one line, and nothing else.
+/// Writes the answer to the words of a command, and nothing else.
 ///
 /// `test CONDITION INTEGER` answers whether the condition (UTS 35 Part 3, Plural Rules Syntax) is true
-/// of the integer, and reads nothing. It takes memory for the condition's tree.
+/// of the integer; it reads nothing. `category LOCALE TYPE NUMBER` answers the name of the number's
+/// category (UTS 35 Part 3, Language Plural Rules) by the rules that the input, a JSON document, has for
+/// the locale and the type; `print LOCALE TYPE` a line for each of these rules. They read the input to its
+/// end, or to the first byte that is too many. All take memory.
 ///
 /// The errors, in the order in which they are looked for: [`RunError::Usage`] where the words are no
 /// command; [`RunError::Condition`] where the condition can't be read; [`RunError::Number`] where the
-/// integer is out of form, or above its limit; [`RunError::Write`] where the writer failed;
-/// [`RunError::Memory`] where memory ran out. Nothing was written then, a failed write aside.
+/// integer or the number is out of form, or above its limit; of the input [`RunError::Read`] where the
+/// reader failed, [`RunError::TooLong`] above 4194304 bytes, [`RunError::Json`] where it is no JSON
+/// text, [`RunError::Document`] where it is no document and [`RunError::Locale`] where the locale has no
+/// rules of the type; [`RunError::Write`] where the writer failed; [`RunError::Memory`] where memory ran
+/// out. Nothing was written then, a failed write aside.
 pub fn run<R: Read, W: Write>(
     alloc: Global,
     words: &[&str],
     reader: &mut R,
     writer: &mut W,
 ) -> Result<(), RunError>
-    ensures answers { let texts = map (λ w. w.now) words.now in
-        IsAnswered texts (W.contents writer.old) (W.contents writer.new) result }
-    ensures reads_nothing { reader.new ≡ reader.old }
+    // The answer is that of some input, which is what the reader had left, where that is known.
+    ensures answers { (texts : TextReader) → TellsTexts texts → (input : List ℕ) × IsInput (R.remaining reader.old) input
+        × IsAnswered (AnswersCommand texts (command_of (map (λ w. w.now) words.now)) input) (W.contents writer.old) (W.contents writer.new) result }
+    ensures reads { NeedsInput (command_of (map (λ w. w.now) words.now)) → IsRead (R.remaining reader.old) (R.remaining reader.new) result }
+    ensures reads_nothing { ¬ (NeedsInput (command_of (map (λ w. w.now) words.now))) → (reader.new ≡ reader.old) × IsNotRead result }
 {
-    let text = line_of(alloc, words)?;
-    match writer.write_all(text.as_bytes()) {
+    let Some(command) = command_of(words) else {
+        return Err(RunError::Usage);
+    };
+    let text = answer(alloc, &command, reader)?;
+    match writer.write_all(text.as_str().as_bytes()) {
         Ok(()) => Ok(()),
         Err(_) => Err(RunError::Write),
     }
 }
 
-// The line that answers the words.
-fn line_of(alloc: Global, words: &[&str]) -> Result<&'static str, RunError>
-    ensures { Gives (AnswersWords (map (λ w. w.now) words.now)) result }
+// The answer to a command.
+fn answer<R: Read>(
+    alloc: Global,
+    command: &Command<'_>,
+    reader: &mut R,
+) -> Result<CowStr<'static>, RunError>
+    ensures answers { (texts : TextReader) → TellsTexts texts → (input : List ℕ) × IsInput (R.remaining reader.old) input
+        × GivesAfterReading (AnswersCommand texts (Some (seen command.now)) input) result }
+    ensures reads { NeedsInput (Some (seen command.now)) → IsRead (R.remaining reader.old) (R.remaining reader.new) result }
+    ensures reads_nothing { ¬ (NeedsInput (Some (seen command.now))) → (reader.new ≡ reader.old) × IsNotRead result }
 {
-    match words {
-        [command, condition, number] if *command == "test" => test_line(alloc, condition, number),
-        _ => Err(RunError::Usage),
+    match command {
+        Command::Test(condition, integer) => test_line(alloc, condition, integer),
+        Command::Category(locale, rule_type, word) => {
+            category_answer(alloc, locale, *rule_type, word, reader)
+        }
+        Command::Print(locale, rule_type) => print_answer(alloc, locale, *rule_type, reader),
     }
+}
+
+// The answer to `category`: the number is looked at before anything is read.
+fn category_answer<R: Read>(
+    alloc: Global,
+    locale: &str,
+    rule_type: PluralRuleType,
+    word: &str,
+    reader: &mut R,
+) -> Result<CowStr<'static>, RunError>
+    ensures answers { (texts : TextReader) → TellsTexts texts → (input : List ℕ) × IsInput (R.remaining reader.old) input
+        × GivesAfterReading (AnswersCategory (rules_in texts rule_type locale.now input) word.now) result }
+    ensures reads { HasNoFault word.now → IsRead (R.remaining reader.old) (R.remaining reader.new) result }
+    ensures reads_nothing { ¬ (HasNoFault word.now) → (reader.new ≡ reader.old) × IsNotRead result }
+{
+    // What a fault of the input tells of reading is told by any texts.
+    texts_give_one_answer();
+    let number = number(alloc, word)?;
+    let input = read_input(alloc, reader)?;
+    category_line(alloc, input.as_slice(), locale, rule_type, &number)
+}
+
+// The answer to `print`.
+fn print_answer<R: Read>(
+    alloc: Global,
+    locale: &str,
+    rule_type: PluralRuleType,
+    reader: &mut R,
+) -> Result<CowStr<'static>, RunError>
+    ensures answers { (texts : TextReader) → TellsTexts texts → (input : List ℕ) × IsInput (R.remaining reader.old) input
+        × GivesAfterReading (AnswersRules AreRuleLines (rules_in texts rule_type locale.now input)) result }
+    ensures reads { IsRead (R.remaining reader.old) (R.remaining reader.new) result }
+{
+    // What a fault of the input tells of reading is told by any texts.
+    texts_give_one_answer();
+    let bytes = read_input(alloc, reader)?;
+    rule_lines(alloc, bytes.as_slice(), locale, rule_type)
 }

@@ -5,17 +5,19 @@ ghost use Rattle.plurals_cli.specs.Answer.{AnswersTest, Gives, said, truth_at, i
 
 use crate::error::RunError;
 use crate::integer::integer;
-use plural_reference::ast::Condition;
-use plural_reference::laws::reading::one_list_of_tokens;
-use plural_reference::{PluralOperands, ReadError, parse_condition, test_condition};
+use icu_plurals::PluralOperands;
+use icu_plurals::laws::one_list_of_tokens;
+use icu_plurals::provider::rules::reference::ast::Condition;
+use icu_plurals::provider::rules::reference::{ReadError, parse_condition, test_condition};
 use std::alloc::Global;
+use std::borrow::CowStr;
 
 // The line for a condition and an integer: whether the condition is true of the integer.
 pub(crate) fn test_line(
     alloc: Global,
     condition: &str,
     number: &str,
-) -> Result<&'static str, RunError>
+) -> Result<CowStr<'static>, RunError>
     ensures { Gives (AnswersTest condition.now number.now) result }
 {
     // The answer is that of the condition's tokens, of which there is one list.
@@ -28,7 +30,7 @@ pub(crate) fn test_line(
 }
 
 // The line for a condition that was read.
-fn truth_line(condition: &Condition, number: &str) -> Result<&'static str, RunError>
+fn truth_line(condition: &Condition, number: &str) -> Result<CowStr<'static>, RunError>
     ensures { said result ≡ truth_at condition.now (integer_of number.now) }
 {
     let number = match integer(number) {
@@ -36,8 +38,8 @@ fn truth_line(condition: &Condition, number: &str) -> Result<&'static str, RunEr
         Err(fault) => return Err(RunError::Number(fault)),
     };
     if test_condition(condition, &PluralOperands::from(number)) {
-        Ok("true\n")
+        Ok(CowStr::Borrowed("true\n"))
     } else {
-        Ok("false\n")
+        Ok(CowStr::Borrowed("false\n"))
     }
 }

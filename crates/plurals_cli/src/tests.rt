@@ -2,11 +2,16 @@
 
 use crate::error::RunError;
 use crate::run::run;
+use icu_plurals::{ElementsPackError, JsonError};
 use std::alloc::Global;
 use std::io;
 use std::io::{Read, Write};
+use std::process::Abort;
 use std::test::Fail;
 
+mod documents;
+mod growth;
+mod inputs;
 mod languages;
 
 // A reader and a writer that refuse each call.
@@ -43,15 +48,46 @@ impl Write for Full {
     }
 }
 
-// What the words give over a reader that fails: the output, and at a fault its status and text too.
-fn answered(alloc: Global, words: &[&str]) -> Result<String, Fail> {
+// A writer that takes one byte at a call, and refuses the call behind so many.
+#[derive(Drop)]
+struct Taking {
+    left: usize,
+}
+
+impl Write for Taking {
+    fn write(&mut self, buf: &[u8]) -> io::Result<usize> {
+        if self.left == 0 {
+            return Err(io::Error::from(io::ErrorKind::BrokenPipe));
+        }
+        self.left -= 1;
+        Ok(buf.len().min(1))
+    }
+
+    fn flush(&mut self) -> io::Result<()> {
+        Ok(())
+    }
+}
+
+// What the words give over a reader: the output, and at a fault its status and text too.
+fn answered_from<R: Read>(alloc: Global, words: &[&str], reader: &mut R) -> Result<String, Fail> {
     let mut written = Vec::new(alloc);
-    let answer = run(alloc, words, &mut Refusing, &mut written);
+    let answer = run(alloc, words, reader, &mut written);
     let output = String::from_utf8(written).ok().ok_or("the output is text")?;
     match answer {
         Ok(()) => Ok(output),
         Err(fault) => Ok(format!(in alloc; "{}{}: {fault}", output.as_str(), fault.status())?),
     }
+}
+
+// What the words give over a reader that fails.
+fn answered(alloc: Global, words: &[&str]) -> Result<String, Fail> {
+    answered_from(alloc, words, &mut Refusing)
+}
+
+// What the words give over an input.
+fn answered_to(alloc: Global, words: &[&str], input: &[u8]) -> Result<String, Fail> {
+    let mut reader = input;
+    answered_from(alloc, words, &mut reader)
 }
 
 #[test]
@@ -95,73 +131,84 @@ fn answers_worked_conditions(rt: HostRuntime) -> Result<(), Fail> {
 fn other_words_are_answered_with_the_usage(rt: HostRuntime) -> Result<(), Fail> {
     let usage =
         "2: usage: test CONDITION INTEGER; category LOCALE TYPE NUMBER; range LOCALE TYPE START END; print LOCALE TYPE; select LOCALE TYPE NUMBER; message LOCALE TYPE NUMBER";
-    assert_eq!(rt; answered(rt.alloc(), &[])?.as_str(), usage);
-    assert_eq!(rt; answered(rt.alloc(), &["test"])?.as_str(), usage);
-    assert_eq!(rt; answered(rt.alloc(), &["test", "i = 1"])?.as_str(), usage);
-    assert_eq!(rt;
-        answered(rt.alloc(), &["test", "i = 1", "1", "1"])?.as_str(),
-        usage
-    );
-    assert_eq!(rt;
-        answered(rt.alloc(), &["Test", "i = 1", "1"])?.as_str(),
-        usage
-    );
-    assert_eq!(rt;
-        answered(rt.alloc(), &["category", "a", "cardinal", "1"])?.as_str(),
-        usage
-    );
+    let rows: [&[&str]; 13] = [
+        &[],
+        &["test"],
+        &["test", "i = 1"],
+        &["test", "i = 1", "1", "1"],
+        &["Test", "i = 1", "1"],
+        &["category", "a", "cardinal"],
+        &["category", "a", "cardinal", "1", "1"],
+        &["category", "a", "cardinals", "1"],
+        &["category", "a", "Ordinal", "x"],
+        &["print", "a"],
+        &["print", "a", "other"],
+        &["print", "a", "cardinal", "1"],
+        &["range", "a", "cardinal", "0", "1"],
+    ];
+    for words in rows {
+        assert_eq!(rt; answered(rt.alloc(), words)?.as_str(), usage);
+    }
     Ok(())
 }
 
 #[test]
 fn a_refused_write_is_a_fault(rt: HostRuntime) -> Result<(), Fail> {
-    let words = ["test", "i = 1", "1"];
-    let mut input: &[u8] = b"";
-    let refused = run(rt.alloc(), &words, &mut input, &mut Refusing)
-        .err()
-        .ok_or("a fault")?;
-    assert_eq!(rt; refused.status(), 1);
-    assert_eq!(rt;
-        refused.to_string(rt.alloc())?.as_str(),
-        "cannot write output"
-    );
-    let full = run(rt.alloc(), &words, &mut input, &mut Full)
-        .err()
-        .ok_or("a fault")?;
-    assert!(rt; matches!(&full, RunError::Write));
-    Ok(())
-}
-
-#[test]
-fn want_of_memory_has_its_text(rt: HostRuntime) -> Result<(), Fail> {
-    assert_eq!(rt; RunError::Memory.status(), 1);
-    assert_eq!(rt;
-        RunError::Memory.to_string(rt.alloc())?.as_str(),
-        "out of memory"
-    );
-    Ok(())
-}
-
-// With a growth refused the answer is want of memory, and the same words are answered again.
-#[test]
-fn a_refused_growth_is_want_of_memory(rt: HostRuntime) -> Result<(), Fail> {
-    let mut is_answered = false;
-    for _ in 0..2 {
-        let mut input: &[u8] = b"";
-        let mut output = [0u8; 8];
-        let mut writer: &mut [u8] = &mut output;
-        let words = ["test", "i = 1 and v = 0", "1"];
-        match run(rt.alloc(), &words, &mut input, &mut writer) {
-            Ok(()) => {
-                assert_eq!(rt; writer.len(), 3);
-                is_answered = true;
-            }
-            Err(fault) => {
-                assert!(rt; matches!(&fault, RunError::Memory));
-                assert_eq!(rt; writer.len(), 8);
-            }
+    let rows: [(&[&str], usize); 3] = [
+        (&["test", "i = 1", "1"], 5),
+        (&["category", "a", "cardinal", "1"], 4),
+        (&["print", "a", "cardinal"], 11),
+    ];
+    for (words, length) in rows {
+        for count in 0..length {
+            let mut input: &[u8] = br#"{"cardinal":{"a":{"one":"i = 1"}}}"#;
+            let refused = run(rt.alloc(), words, &mut input, &mut Taking { left: count })
+                .err()
+                .ok_or("a fault")?;
+            assert_eq!(rt; refused.status(), 1);
+            assert_eq!(rt;
+                refused.to_string(rt.alloc())?.as_str(),
+                "cannot write output"
+            );
         }
+        let mut input: &[u8] = br#"{"cardinal":{"a":{"one":"i = 1"}}}"#;
+        let full = run(rt.alloc(), words, &mut input, &mut Full)
+            .err()
+            .ok_or("a fault")?;
+        assert!(rt; matches!(&full, RunError::Write));
+        let mut input: &[u8] = br#"{"cardinal":{"a":{"one":"i = 1"}}}"#;
+        assert!(rt; run(rt.alloc(), words, &mut input, &mut Taking { left: length }).is_ok());
     }
-    assert!(rt; is_answered);
     Ok(())
+}
+
+// The fault has this text, and the common status.
+fn has_text(rt: &impl Abort, alloc: Global, fault: &RunError, text: &str) -> Result<(), Fail> {
+    assert_eq!(rt; fault.status(), 1);
+    assert_eq!(rt; fault.to_string(alloc)?.as_str(), text);
+    Ok(())
+}
+
+#[test]
+fn faults_that_no_command_shows_have_their_texts(rt: HostRuntime) -> Result<(), Fail> {
+    let alloc = rt.alloc();
+    has_text(&rt, alloc, &RunError::Memory, "out of memory")?;
+    has_text(
+        &rt,
+        alloc,
+        &RunError::Document(JsonError::RangeKey),
+        "bad document: range key",
+    )?;
+    has_text(
+        &rt,
+        alloc,
+        &RunError::Document(JsonError::RangeValue),
+        "bad document: range value",
+    )?;
+    has_text(
+        &rt,
+        alloc,
+        &RunError::Document(JsonError::Pack(ElementsPackError::StartLimit)),
+        "bad document: elements too long",
+    )
 }

@@ -1,7 +1,7 @@
 use Rattle.std.proofs.Common.{ℕ, List, subst}
-use Rattle.plural_reference.specs.Lexer.{AreTokensOf}
+use Rattle.icu_plurals.specs.Lexer.{AreTokensOf}
 use Rattle.plurals_cli.specs.Answer.{AnswersTest, Gives}
-use Rattle.plurals_cli.proofs.Words.{tested}
+use Rattle.plurals_cli.proofs.TestAnswers.{tested}
 use Rattle.plurals_cli.proofs.test_command.test_line.Goals as goal
 
 pub returns-in-Ok : goal.returns-in-Ok

@@ -1,0 +1,45 @@
+-- What was read is the input, or the beginning of one that is too long.
+use Rattle.std.proofs.Common.{◌≡◌, ℕ, ◌<◌, ◌≤◌, ◌+◌, List, [], ◌++◌, length, true, false, Option, Some, None, Err, Bool, arith, refl, sym, ◌∙◌, ap, cond}
+use Rattle.std.proofs.lemmas.Bool.{le-ltb, lt-ltb}
+use Rattle.std.proofs.lemmas.List.{append-nil, length-append}
+use Rattle.std.specs.Io.KnownBytes.{Consumes, IsAtEnd}
+use Rattle.icu_plurals.specs.declared.PluralRuleType.{PluralRuleType}
+use Rattle.icu_plurals.specs.TextReaders.{TextReader}
+use Rattle.plurals_cli.specs.Answer.{IsInput}
+use Rattle.plurals_cli.specs.InputRules.{most_bytes, rules_in, rules_of}
+use Rattle.plurals_cli.specs.declared.error.RunError.TheVariants.{TooLong}
+
+-- all of it
+pub whole : (old new : Option (List ℕ)) (bs : List ℕ) → Consumes old new bs → IsAtEnd new → IsInput old bs
+whole None new bs read end = tt
+whole (Some xs) None bs read end = absurd read
+whole (Some xs) (Some ys) bs read end = sym (read ∙ ap (λ rest. bs ++ rest) end ∙ append-nil bs)
+
+-- a beginning
+pub longer : (old new : Option (List ℕ)) (bs : List ℕ) (most : ℕ) → Consumes old new bs → most < length bs → (input : List ℕ) × IsInput old input × (most < length input)
+longer None new bs most read long = (bs, tt, long)
+longer (Some xs) None bs most read long = absurd read
+longer (Some xs) (Some ys) bs most read long = (bs ++ ys, sym read, longer_with bs ys most long)
+  where
+    longer_with : (bs ys : List ℕ) (most : ℕ) → most < length bs → most < length (bs ++ ys)
+    longer_with bs ys most long = rw (length-append bs ys) (omega arith)
+
+-- there is one
+pub some_input : (old : Option (List ℕ)) → (input : List ℕ) × IsInput old input
+some_input None = ([], tt)
+some_input (Some xs) = (xs, refl)
+
+first_arm : {A : Type 0} (b : Bool) (x y : A) → b ≡ true → cond b x y ≡ x
+first_arm b x y h = rw h refl
+
+second_arm : {A : Type 0} (b : Bool) (x y : A) → b ≡ false → cond b x y ≡ y
+second_arm b x y h = rw h refl
+
+pub rules_within : (texts : TextReader) (type : PluralRuleType) (locale input : List ℕ) → length input ≤ most_bytes → rules_in texts type locale input ≡ rules_of texts type locale input
+rules_within texts type locale input h = second_arm _ _ _ (le-ltb most_bytes (length input) h)
+
+pub rules_beyond : (texts : TextReader) (type : PluralRuleType) (locale input : List ℕ) → most_bytes < length input → rules_in texts type locale input ≡ Err TooLong
+rules_beyond texts type locale input h = first_arm _ _ _ (lt-ltb most_bytes (length input) h)
+
+pub long_by_one : (n m : ℕ) → m ≡ n + 1 → n < m
+long_by_one n m h = omega arith

@@ -1,0 +1,37 @@
+use Rattle.std.proofs.Common.{ℕ, List, Result, refl, sym, subst}
+use Rattle.std.proofs.lemmas.Result.{err_from_is_err_and}
+use Rattle.icu_plurals.specs.FiveRules.{FiveRules}
+use Rattle.plurals_cli.specs.Answer.{AnswersRules, Gives}
+use Rattle.plurals_cli.specs.InputRules.{rules_in, rules_of}
+use Rattle.plurals_cli.specs.RuleLines.{AreRuleLines}
+use Rattle.plurals_cli.specs.declared.error.RunError.{RunError}
+use Rattle.plurals_cli.proofs.Faults.{handed_on, not_too_long}
+use Rattle.plurals_cli.proofs.Inputs.{rules_within}
+use Rattle.plurals_cli.proofs.Readings.{implied, no_input, to_the_end}
+use Rattle.plurals_cli.proofs.run.print_answer.Goals as goal
+
+pub returns-in_err-bytes-clause-answers : goal.returns-in_err-bytes-clause-answers
+returns-in_err-bytes-clause-answers g c = λ texts tells.
+    no_input (AnswersRules AreRuleLines) refl texts c.args.rule_type c.args.locale.now (g.R.Read.remaining c.args.reader.now)
+    c.in_err-bytes.field-0.0 c.from_residual.result
+    (handed_on _ _ (err_from_is_err_and c.from_residual.result c.from_residual.ensures.1)) c.in_err-bytes.ensures.input
+
+pub returns-clause-answers : goal.returns-clause-answers
+returns-clause-answers g c = λ texts tells.
+    let items = c.in_ok-bytes.bytes.items in
+    let rules = rules_of texts c.args.rule_type c.args.locale.now items in
+    let same = rules_within texts c.args.rule_type c.args.locale.now items c.in_ok-bytes.ensures.input.1 in (
+      items,
+      c.in_ok-bytes.ensures.input.0,
+      implied (AnswersRules AreRuleLines rules) (AnswersRules AreRuleLines (rules_in texts c.args.rule_type c.args.locale.now items))
+          (λ a h. subst (λ (r : Result FiveRules RunError). AnswersRules AreRuleLines r a) (sym same) h)
+          c.rule_lines.result
+          (subst (λ (bytes : List ℕ). Gives (AnswersRules AreRuleLines (rules_of texts c.args.rule_type c.args.locale.now bytes)) c.rule_lines.result) c.as_slice.ensures.value (c.rule_lines.ensures texts tells)),
+    )
+
+pub returns-clause-reads : goal.returns-clause-reads
+returns-clause-reads g c =
+    let texts = c.texts_give_one_answer.ensures.0 in
+    let rules = rules_of texts c.args.rule_type c.args.locale.now c.as_slice.result.now in
+    to_the_end AreRuleLines (g.R.Read.remaining c.args.reader.now) (g.R.Read.remaining c.read_input.new.reader) rules
+    (not_too_long texts c.args.rule_type c.args.locale.now c.as_slice.result.now) c.in_ok-bytes.ensures.read c.rule_lines.result (c.rule_lines.ensures texts c.texts_give_one_answer.ensures.1)

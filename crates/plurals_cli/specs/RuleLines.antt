@@ -1,0 +1,36 @@
+-- The lines that are printed of rules.
+use Rattle.std.specs.Prelude.{◌≡◌, ℕ, List, [], ◌∷◌, ◌++◌, codes, Option, Some, None}
+use Rattle.icu_plurals.specs.declared.PluralCategory.{PluralCategory}
+use Rattle.icu_plurals.specs.declared.PluralCategory.TheVariants.{Zero, One, Two, Few, Many}
+use Rattle.icu_plurals.specs.CategoryNames.{name_of}
+use Rattle.icu_plurals.specs.Compact.{CompactNumber}
+use Rattle.icu_plurals.specs.DecimalChoice.{IsExactChoice, IsKeptChoice}
+use Rattle.icu_plurals.specs.FiveRules.{FiveRules}
+use Rattle.icu_plurals.specs.PackedRelations.{PackedRelation}
+use Rattle.icu_plurals.specs.PackedTree.{unpacked}
+use Rattle.icu_plurals.specs.Serializer.{condition_text}
+
+-- a text and a newline
+abbrev pub line : List ℕ → List ℕ
+line text = text ++ 10 ∷ []
+
+-- The line with the name of a number's category: that of the operands that are kept of it, and within the exactness bound that of
+-- the number itself (docs/EXACTNESS.md).
+abbrev pub IsCategoryLine : CompactNumber → FiveRules → List ℕ → Type 0
+IsCategoryLine x rules text =
+    (category : PluralCategory) × (text ≡ line (name_of category))
+    × IsKeptChoice rules x.significand.absolute x.exponent category
+    × IsExactChoice rules x.significand.absolute x.exponent category
+
+-- a rule that is there is a line: its category's name, a colon, a space and its text
+abbrev pub rule_line : PluralCategory → Option (List PackedRelation) → List ℕ
+rule_line category None = []
+rule_line category (Some rule) = name_of category ++ codes ": " ++ condition_text (unpacked rule) ++ codes "\n"
+
+-- the rules that are there, from zero to many
+abbrev pub rule_lines : FiveRules → List ℕ
+rule_lines rules =
+    rule_line Zero rules.zero ++ rule_line One rules.one ++ rule_line Two rules.two ++ rule_line Few rules.few ++ rule_line Many rules.many
+
+abbrev pub AreRuleLines : FiveRules → List ℕ → Type 0
+AreRuleLines rules text = text ≡ rule_lines rules

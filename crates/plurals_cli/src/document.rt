@@ -1,0 +1,59 @@
+//! The rules that a document has for a locale.
+
+ghost use Rattle.serde_json.specs.View.{view};
+ghost use Rattle.icu_plurals.specs.RulesData.{rules_of as data_of};
+ghost use Rattle.icu_plurals.specs.TextReaders.{TextReader, TellsTexts};
+ghost use Rattle.plurals_cli.specs.InputRules.{GivesValue, document_of, or_fault, rules_for, value_of};
+ghost use Rattle.plurals_cli.specs.declared.error.RunError.TheVariants.{Json};
+
+use crate::error::RunError;
+use icu_plurals::provider::PluralRulesData;
+use icu_plurals::{JsonError, JsonProvider, PluralRuleType, PluralsProvider};
+use serde_json::Value;
+use std::alloc::Global;
+
+// The JSON value that the bytes write.
+fn value_of(alloc: Global, bytes: &[u8]) -> Result<Value, RunError>
+    ensures { GivesValue view (or_fault Json (value_of bytes.now)) result }
+{
+    match Value::from_slice(alloc, bytes) {
+        Ok(value) => Ok(value),
+        Err(fault) => {
+            if fault.is_memory() {
+                Err(RunError::Memory)
+            } else {
+                Err(RunError::Json)
+            }
+        }
+    }
+}
+
+// The document that the bytes write.
+pub(crate) fn document_of(alloc: Global, bytes: &[u8]) -> Result<JsonProvider, RunError>
+    ensures { (texts : TextReader) → TellsTexts texts → GivesValue (λ document. document) (document_of texts bytes.now) result }
+{
+    let value = value_of(alloc, bytes)?;
+    match JsonProvider::from_value(alloc, &value) {
+        Ok(document) => Ok(document),
+        Err(JsonError::Memory) => Err(RunError::Memory),
+        Err(refusal) => Err(RunError::Document(refusal)),
+    }
+}
+
+// The rules of a type that the document has for a locale.
+pub(crate) fn rules_for<'a>(
+    document: &'a JsonProvider,
+    locale: &str,
+    rule_type: PluralRuleType,
+) -> Result<PluralRulesData<'a>, RunError>
+    ensures { GivesValue data_of (rules_for rule_type locale.now document.now) result }
+{
+    let found = match rule_type {
+        PluralRuleType::Cardinal => document.load_cardinal(locale),
+        PluralRuleType::Ordinal => document.load_ordinal(locale),
+    };
+    match found {
+        Ok(rules) => Ok(rules),
+        Err(_) => Err(RunError::Locale),
+    }
+}

@@ -1,0 +1,72 @@
+//! Refused growths.
+
+use crate::error::RunError;
+use crate::run::run;
+use crate::tests::documents::DOCUMENT;
+use std::alloc::Global;
+use std::process::Abort;
+use std::test::Fail;
+
+// With a growth refused the answer is want of memory and nothing is written; the same words over the same
+// input are answered again.
+fn is_answered_again(
+    rt: &impl Abort,
+    alloc: Global,
+    words: &[&str],
+    line: &[u8],
+) -> Result<(), Fail> {
+    let mut is_answered = false;
+    for _ in 0..2 {
+        let mut input = DOCUMENT;
+        let mut output = [0u8; 128];
+        let mut writer: &mut [u8] = &mut output;
+        let answer = run(alloc, words, &mut input, &mut writer);
+        let left = writer.len();
+        match answer {
+            Ok(()) => {
+                assert_eq!(rt; Some(left), output.len().checked_sub(line.len()));
+                assert!(rt; output.starts_with(line));
+                is_answered = true;
+            }
+            Err(fault) => {
+                assert!(rt; matches!(&fault, RunError::Memory));
+                assert_eq!(rt; left, 128);
+            }
+        }
+    }
+    assert!(rt; is_answered);
+    Ok(())
+}
+
+#[test]
+fn growth_of_test(rt: HostRuntime) -> Result<(), Fail> {
+    is_answered_again(
+        &rt,
+        rt.alloc(),
+        &["test", "i = 1 and v = 0", "1"],
+        b"true\n",
+    )
+}
+
+#[test]
+fn growth_of_category(rt: HostRuntime) -> Result<(), Fail> {
+    is_answered_again(
+        &rt,
+        rt.alloc(),
+        &["category", "a", "cardinal", "1"],
+        b"one\n",
+    )?;
+    is_answered_again(
+        &rt,
+        rt.alloc(),
+        &["category", "a", "ordinal", "103"],
+        b"few\n",
+    )
+}
+
+#[test]
+fn growth_of_print(rt: HostRuntime) -> Result<(), Fail> {
+    let lines =
+        b"one: n % 10 = 1 and n % 100 != 11\ntwo: n % 10 = 2 and n % 100 != 12\nfew: n % 10 = 3 and n % 100 != 13\n";
+    is_answered_again(&rt, rt.alloc(), &["print", "a", "ordinal"], lines)
+}
