@@ -1,2 +1,4 @@
 pub mod ReferenceCalls
 pub mod Stops
+pub mod ElementsAgain
+pub mod ElementsOneFault

@@ -53,8 +53,10 @@ impl<'a> PluralElementsPackedULE<'a> {
     {
         read_again();
         let parts = parts_of(bytes)?;
-        check_parts(&parts)?;
-        Ok(PluralElementsPackedULE::from_checked(bytes))
+        match check_parts(&parts) {
+            Ok(()) => Ok(PluralElementsPackedULE::from_checked(bytes)),
+            Err(fault) => Err(fault),
+        }
     }
 
     // The elements in bytes that are known to be some.
