@@ -5,7 +5,9 @@
 //! [`provider::rules::runtime`], and all else at the root.
 #![tactic(auto)]
 
+mod cow;
 mod elements;
+mod encode;
 pub mod laws;
 mod packed;
 pub mod provider;

@@ -4,7 +4,7 @@ ghost use Rattle.icu_plurals.specs.ElementsReading.{AreElements, ElementsBytes-p
 
 pub(crate) mod error;
 mod items;
-mod keys;
+pub(crate) mod keys;
 pub(crate) mod metadata;
 mod parts;
 mod values;
