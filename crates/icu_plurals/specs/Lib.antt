@@ -1,6 +1,16 @@
 -- elements
 pub mod Elements
 pub mod ElementCalls
+-- packed elements
+pub mod PackedElements
+pub mod ElementsFaults
+pub mod ElementsReading
+pub mod ElementsPartsView
+pub mod ElementsViews
+pub mod ElementsErrorTexts
+pub mod ElementsPacking
+pub mod PlainElements
+pub mod ItemBytes
 -- the written numbers
 pub use Rattle.fixed_decimal.specs.Digits
 pub use Rattle.fixed_decimal.specs.Places

@@ -23,6 +23,7 @@ mod tests;
 
 pub use categories::Categories;
 pub use category::{AllCategories, PluralCategory};
+pub use float::holds_float;
 pub use json_error::{ElementsPackError, JsonError};
 pub use json_provider::JsonProvider;
 pub use options::{PluralRuleType, PluralRulesOptions};
