@@ -1,0 +1,3 @@
+-- messages
+pub mod Filling
+pub mod FillingLaws
