@@ -1,2 +1,3 @@
 pub mod ReferenceCalls
 pub mod Stops
+pub mod ExplicitNumbers

@@ -1,6 +1,7 @@
 -- elements
 pub mod Elements
 pub mod ElementCalls
+pub mod ElementChoice
 -- the written numbers
 pub use Rattle.fixed_decimal.specs.Digits
 pub use Rattle.fixed_decimal.specs.Places
