@@ -1,3 +1,6 @@
 pub mod ReferenceCalls
 pub mod Stops
 pub mod ExplicitNumbers
+pub mod ElementsAgain
+pub mod ElementsOneFault
+pub mod WorkedElements

@@ -1,6 +1,14 @@
 -- elements
 pub mod Elements
 pub mod ElementCalls
+-- packed elements
+pub mod PackedElements
+pub mod ElementsFaults
+pub mod ElementsReading
+pub mod ElementsPartsView
+pub mod ElementsViews
+pub mod ElementsErrorTexts
+-- the element of a number
 pub mod ElementChoice
 -- the written numbers
 pub use Rattle.fixed_decimal.specs.Digits

@@ -7,12 +7,14 @@
 
 mod elements;
 pub mod laws;
+mod packed;
 pub mod provider;
 #[cfg(test)]
 mod tests;
 
 pub use elements::PluralElements;
 pub use fixed_decimal::{CompactDecimal, Decimal, DecimalError, Sign, UnsignedDecimal};
+pub use packed::error::ElementsBytesError;
 pub use packed_list::{Items, ListError, PackError, PackedList};
 pub use plural_base::{
     AllCategories, Categories, DataError, ElementsPackError, JsonError, JsonProvider,

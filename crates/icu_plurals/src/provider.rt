@@ -2,4 +2,6 @@
 
 pub mod rules;
 
+pub use crate::packed::PluralElementsPackedULE;
+pub use crate::packed::metadata::FourBitMetadata;
 pub use plural_base::{PluralRulesData, RawPluralCategory};

@@ -111,6 +111,7 @@ cut-character o c x text begins_none cut =
     lacks_at : (a b : List ℕ) → x ∷ cut.first ≡ a ++ (mark o c ++ b) → ⊥
     lacks_at [] b e = begins_none (b ++ flat_map (λ q. mark o c ++ q) cut.rest) (ap (λ l. x ∷ l) cut.whole ∙ ap (λ l. l ++ flat_map (λ q. mark o c ++ q) cut.rest) e)
     lacks_at (y ∷ a) b e = cut.uncut.0 (a, b, cc)
+
     lacks_more : Lacks o c (x ∷ cut.first)
     lacks_more h = lacks_at h.0 h.1 h.2
 
@@ -131,8 +132,7 @@ apart e = omega (arith, e)
 pub one_filling : OneFilling
 one_filling number text =
     let cut = every_cut 123 125 text in
-    let pieces = cut.first ∷ cut.rest in
-    (
+    let pieces = cut.first ∷ cut.rest in (
       joined number pieces,
       record { pieces = pieces; uncut = cut.uncut; cut = cut.whole; filled_is = refl },
       λ other filling.

@@ -7,7 +7,7 @@ use Rattle.icu_plurals.proofs.ExplicitNumbers.{explicit_at-exact}
 use Rattle.icu_plurals.proofs.laws.kept_element_is_exact.Goals as goal
 
 pub returns : goal.returns
-returns g c = λ elements rules x exponent value written choice texts conditions exact read no_zero within are_exact.
+returns c = λ elements rules x exponent value written choice texts conditions exact read no_zero within are_exact.
     let kept : IsKept x exponent (moduli_of rules) choice.0 exact =
     record { written = written; within = within; are_cut = choice.1; are_exact = are_exact } in
     let explicit = explicit_at-exact c.kept_operands_agree.ensures.relations x exponent (moduli_of rules) choice.0 exact kept elements in
