@@ -2,8 +2,8 @@
 
 use crate::{Message, MessageError};
 use fixed_decimal::DecimalError;
-use icu_plurals::PluralRules;
 use icu_plurals::provider::{PluralElementsPackedULE, PluralRulesData};
+use icu_plurals::{PluralRules, RulesTextError};
 use std::alloc::Global;
 use std::test::Fail;
 
@@ -14,7 +14,7 @@ const ITEMS: &[u8] = b"\x80\x08{} items\x01\0\x10{} item";
 const NONE_AT_ZERO: &[u8] = b"\x80\x08{} items\x01\0\x50none";
 
 // Rules with one alone.
-fn rules(alloc: Global, one: &str) -> Result<PluralRules<'static>, Fail> {
+fn rules(alloc: Global, one: &str) -> Result<PluralRules<'static>, RulesTextError> {
     let rules = PluralRulesData::from_texts(alloc, None, Some(one), None, None, None)?;
     Ok(PluralRules::from_data(rules))
 }
