@@ -1,8 +1,10 @@
 pub mod ReferenceCalls
 pub mod Stops
+pub mod ExplicitNumbers
 pub mod ElementsAgain
 pub mod ElementsOneFault
 mod HighItems
 pub mod PackedAgain
 pub mod CheckedElements
 pub mod Encoded
+pub mod WorkedElements

@@ -29,12 +29,6 @@ IsShort [] = ⊥
 IsShort (first ∷ []) = 128 ≤ first
 IsShort (first ∷ len ∷ bytes) = (128 ≤ first) × (length bytes < len)
 
--- there is no byte, or the text is cut short
-abbrev pub HasPlaceFault : List ℕ → ElementsBytesError → Type 0
-HasPlaceFault bytes errors.Empty = bytes ≡ []
-HasPlaceFault bytes errors.Short = IsShort bytes
-HasPlaceFault bytes fault = ⊥
-
 -- ---- the items
 
 -- what is wrong with the item at a place: no byte, a key above the last one, or a text that isn't UTF-8

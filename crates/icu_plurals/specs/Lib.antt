@@ -11,6 +11,8 @@ pub mod ElementsErrorTexts
 pub mod ElementsPacking
 pub mod PlainElements
 pub mod ItemBytes
+-- the element of a number
+pub mod ElementChoice
 -- the written numbers
 pub use Rattle.fixed_decimal.specs.Digits
 pub use Rattle.fixed_decimal.specs.Places

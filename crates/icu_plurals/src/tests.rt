@@ -1,4 +1,5 @@
 mod elements;
+mod packed;
 
 use crate::provider::rules::{reference, runtime};
 use crate::*;
@@ -36,6 +37,9 @@ fn types_stand_at_their_paths() {
     named::<crate::PluralElements<u8>>();
     named::<crate::provider::PluralRulesData<'static>>();
     named::<crate::provider::RawPluralCategory>();
+    named::<crate::provider::FourBitMetadata>();
+    named::<crate::provider::PluralElementsPackedULE<'static>>();
+    named::<crate::ElementsBytesError>();
 }
 
 #[test]

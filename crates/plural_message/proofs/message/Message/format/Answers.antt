@@ -1,0 +1,20 @@
+use Rattle.std.proofs.Common.{◌≡◌, ◌↔◌, Result, Err, ◌∙◌, ap}
+use Rattle.std.proofs.lemmas.Result.{err_from_is_err_and}
+use Rattle.fixed_decimal.specs.declared.error.DecimalError.{DecimalError}
+use Rattle.fixed_decimal.specs.declared.error.DecimalError.TheVariants.{Syntax, Limit, Memory as no_memory}
+use Rattle.plural_message.specs.declared.error.MessageError.{MessageError}
+use Rattle.plural_message.specs.declared.error.MessageError.TheVariants.{Number, Memory}
+use Rattle.plural_message.specs.MessageErrors.{number_error}
+use Rattle.plural_message.proofs.message.Message.format.Goals as goal
+
+-- a fault of the form is handed on, and nothing else looks like one
+handed_on : {T U P : Type 0} (r : Result T DecimalError) (answer : Result U MessageError) (fault : DecimalError)
+    → r ≡ Err fault → answer ≡ Err (number_error fault) → (r ≡ Err Syntax) ↔ P → (answer ≡ Err (Number Syntax)) ↔ P
+handed_on r answer Syntax was is told = (λ _. told.0 was, λ _. is)
+handed_on r answer Limit was is told = (λ e. absurd cc, λ p. (let e : r ≡ Err Syntax = told.1 p in absurd cc))
+handed_on r answer no_memory was is told = (λ e. absurd cc, λ p. (let e : r ≡ Err Syntax = told.1 p in absurd cc))
+
+pub returns-in_err-compact-clause-syntax : goal.returns-in_err-compact-clause-syntax
+returns-in_err-compact-clause-syntax c =
+    let p = err_from_is_err_and c.from_residual.result c.from_residual.ensures.1 in
+    handed_on c.from_str.result c.from_residual.result c.in_err-compact.field-0.0 c.in_err-compact.was (p.1 ∙ ap Err p.2) c.from_str.ensures.syntax
