@@ -11,3 +11,7 @@ pub mod RuleRefusals
 pub mod Rows
 pub mod RowsRead
 pub mod RulesRead
+pub mod RawCategories
+pub mod RangeNames
+pub mod FirstHyphens
+pub mod RangeTexts

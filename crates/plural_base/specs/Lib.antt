@@ -20,6 +20,9 @@ pub use Rattle.plural_runtime.specs.RuleErrorTexts
 -- categories
 pub mod CategoryNames
 pub mod FiveRules
+pub mod ByCategory
+pub mod RangeKeys
+pub mod RangeTable
 pub mod RulesData
 pub mod RuleTexts
 pub mod TextAnswers

@@ -1,6 +1,7 @@
 //! Plural categories, the rules that choose them, and when the choice is exact.
 #![tactic(auto)]
 
+mod by_category;
 mod categories;
 mod category;
 mod decimal_choice;
@@ -12,6 +13,8 @@ mod json_provider;
 pub mod laws;
 mod options;
 mod provider;
+mod range_key;
+mod ranges;
 mod raw_category;
 mod rule_json;
 mod rules;
@@ -27,6 +30,8 @@ pub use json_error::{ElementsPackError, JsonError};
 pub use json_provider::JsonProvider;
 pub use options::{PluralRuleType, PluralRulesOptions};
 pub use provider::{DataError, PluralsProvider};
+pub use range_key::UnvalidatedPluralRange;
+pub use ranges::PluralRanges;
 pub use raw_category::RawPluralCategory;
 pub use rule_json::{rule_from_json, rule_to_json};
 pub use rules::PluralRules;
