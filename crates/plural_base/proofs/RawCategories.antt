@@ -1,11 +1,12 @@
 -- Categories by their numbers, and what stands at each.
-use Rattle.std.proofs.Common.{◌≡◌, ℕ, zero, suc, ◌==◌, ◌≢◌, ◌⊎◌, Bool, true, false, if◌then◌else◌, Some, refl, sym, ap, inl, inr, ◌∙◌}
+use Rattle.std.proofs.Common.{◌≡◌, ℕ, zero, suc, ◌==◌, ◌≢◌, ◌⊎◌, Bool, true, false, if◌then◌else◌, Some, refl, sym, ap, inl, inr, ◌∙◌, ◌<◌, arith, lit<}
 use Rattle.std.proofs.lemmas.Bool.{eqb-true, ne_eqb}
 use Rattle.plural_base.specs.declared.by_category.ByCategory.{ByCategory}
 use Rattle.plural_base.specs.declared.raw_category.RawPluralCategory.{RawPluralCategory}
 use Rattle.plural_base.specs.declared.raw_category.RawPluralCategory.TheVariants.{Other, Zero, One, Two, Few, Many}
 use Rattle.plural_base.specs.ByCategory.{each, at, put_at}
 use Rattle.plural_base.specs.CategoryNames.{number_of}
+use Rattle.plural_base.specs.RangeKeys.{range_byte}
 
 -- what holds of each of the six holds of all
 pub by_category : (P : RawPluralCategory → Type 0) → P Other → P Zero → P One → P Two → P Few → P Many → (c : RawPluralCategory) → P c
@@ -32,7 +33,20 @@ numbered_back = by_category (λ c. numbered (number_of c) ≡ c) refl refl refl 
 pub same_number : (c d : RawPluralCategory) → number_of c ≡ number_of d → c ≡ d
 same_number c d same = sym (numbered_back c) ∙ ap numbered same ∙ numbered_back d
 
+number_below : (c : RawPluralCategory) → number_of c < 6
+number_below = by_category (λ c. number_of c < 6) (lit< tt) (lit< tt) (lit< tt) (lit< tt) (lit< tt) (lit< tt)
+
+-- nor have two ranges one byte
+pub same_byte : (start end start' end' : RawPluralCategory) → range_byte start end ≡ range_byte start' end' → (start ≡ start') × (end ≡ end')
+same_byte start end start' end' same = (
+  same_number start start' (omega (arith, number_below end, number_below end')),
+  same_number end end' (omega (arith, number_below end, number_below end')),
+)
+
 -- ---- What stands at each
+
+pub same_things : {A : Type 0} (x y : ByCategory A) → ((c : RawPluralCategory) → at x c ≡ at y c) → x ≡ y
+same_things x y same = λ i. record { other = same Other i; zero = same Zero i; one = same One i; two = same Two i; few = same Few i; many = same Many i }
 
 pub at-each : {A : Type 0} (f : RawPluralCategory → A) (c : RawPluralCategory) → at (each f) c ≡ f c
 at-each f = by_category (λ c. at (each f) c ≡ f c) refl refl refl refl refl refl

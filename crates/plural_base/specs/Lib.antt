@@ -29,6 +29,7 @@ pub mod TextAnswers
 pub mod TextReaders
 pub mod JsonErrorTexts
 pub mod RulesJson
+pub mod RangesJson
 pub mod Providers
 pub mod DocumentJson
 pub mod RuleModuli

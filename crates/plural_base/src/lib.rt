@@ -15,6 +15,7 @@ mod options;
 mod provider;
 mod range_key;
 mod ranges;
+mod ranges_json;
 mod raw_category;
 mod rule_json;
 mod rules;
