@@ -2,4 +2,6 @@
 
 pub mod rules;
 
-pub use plural_base::{PluralRulesData, RawPluralCategory};
+pub use plural_base::{
+    PluralRanges, PluralRulesData, RawPluralCategory, UnvalidatedPluralRange,
+};

@@ -34,8 +34,11 @@ fn types_stand_at_their_paths() {
     named::<crate::DataError>();
     named::<crate::JsonProvider>();
     named::<crate::PluralElements<u8>>();
+    named::<crate::PluralRulesWithRanges<crate::PluralRules<'static>>>();
     named::<crate::provider::PluralRulesData<'static>>();
     named::<crate::provider::RawPluralCategory>();
+    named::<crate::provider::UnvalidatedPluralRange>();
+    named::<crate::provider::PluralRanges>();
 }
 
 #[test]

@@ -15,3 +15,5 @@ pub mod RawCategories
 pub mod RangeNames
 pub mod FirstHyphens
 pub mod RangeTexts
+pub mod RangesWritten
+pub mod RangeRefusals

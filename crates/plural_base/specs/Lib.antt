@@ -31,6 +31,7 @@ pub mod JsonErrorTexts
 pub mod RulesJson
 pub mod RangesJson
 pub mod Providers
+pub mod RulesWithRanges
 pub mod DocumentJson
 pub mod RuleModuli
 pub mod DecimalChoice

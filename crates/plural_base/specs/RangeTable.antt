@@ -3,11 +3,13 @@
 --     no_ranges      no pair has a category
 --     with_range ranges start end category      the same, but this pair has this category
 --     size_of ranges      how many pairs have a category
-use Rattle.std.specs.Prelude.{◌≡◌, ℕ, Option, Some, None, is_some, count_by, sum_by}
+--     resolved ranges start end      the category of a range: the pair's, where it has one, else the end's
+use Rattle.std.specs.Prelude.{◌≡◌, ℕ, Option, Some, None, is_some, option_map, unwrap_or, count_by, sum_by}
+use Rattle.plural_base.specs.declared.category.PluralCategory.{PluralCategory}
 use Rattle.plural_base.specs.declared.ranges.PluralRanges.{PluralRanges}
 use Rattle.plural_base.specs.declared.raw_category.RawPluralCategory.{RawPluralCategory}
 use Rattle.plural_base.specs.ByCategory.{each, at, put_at}
-use Rattle.plural_base.specs.CategoryNames.{all_raw_categories}
+use Rattle.plural_base.specs.CategoryNames.{category_of, raw_category_of, all_raw_categories}
 
 abbrev pub category_at : PluralRanges → RawPluralCategory → RawPluralCategory → Option RawPluralCategory
 category_at ranges start end = at (at ranges.rows start) end
@@ -24,6 +26,10 @@ row_size ranges start = count_by (λ end. is_some (category_at ranges start end)
 
 abbrev pub size_of : PluralRanges → ℕ
 size_of ranges = sum_by (row_size ranges) all_raw_categories
+
+-- an absent pair has its end's category
+abbrev pub resolved : PluralRanges → PluralCategory → PluralCategory → PluralCategory
+resolved ranges start end = unwrap_or (option_map category_of (category_at ranges (raw_category_of start) (raw_category_of end))) end
 
 -- Tables are equal where they have the same category at each pair.
 abbrev pub RangesAreTheirMaps : Type 0

@@ -73,5 +73,9 @@ put_row ranges members start = fold (λ ms end. put_range start end ms (category
 abbrev pub range_members : PluralRanges → Members
 range_members ranges = fold (put_row ranges) no_members all_raw_categories
 
+-- an object with `ranges` alone
+abbrev pub object_under : Data → Data
+object_under table = object (member (codes "ranges") table no_members)
+
 abbrev pub ranges_json : PluralRanges → Data
-ranges_json ranges = object (member (codes "ranges") (object (range_members ranges)) no_members)
+ranges_json ranges = object_under (object (range_members ranges))

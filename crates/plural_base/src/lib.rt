@@ -1,6 +1,7 @@
 //! Plural categories, the rules that choose them, and when the choice is exact.
 #![tactic(auto)]
 
+mod as_plural_rules;
 mod by_category;
 mod categories;
 mod category;
@@ -14,6 +15,7 @@ pub mod laws;
 mod options;
 mod provider;
 mod range_key;
+mod range_rows;
 mod ranges;
 mod ranges_json;
 mod raw_category;
@@ -22,9 +24,11 @@ mod rules;
 mod rules_data;
 mod rules_json;
 mod rules_text;
+mod rules_with_ranges;
 #[cfg(test)]
 mod tests;
 
+pub use as_plural_rules::AsPluralRules;
 pub use categories::Categories;
 pub use category::{AllCategories, PluralCategory};
 pub use json_error::{ElementsPackError, JsonError};
@@ -38,3 +42,4 @@ pub use rule_json::{rule_from_json, rule_to_json};
 pub use rules::PluralRules;
 pub use rules_data::PluralRulesData;
 pub use rules_text::RulesTextError;
+pub use rules_with_ranges::PluralRulesWithRanges;

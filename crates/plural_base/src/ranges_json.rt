@@ -3,7 +3,7 @@
 ghost use Rattle.std.specs.Prelude.{◌≡◌, ◌≢◌, ◌↔◌, ◌⊎◌, Err, IfOk, IfErr, OnOk, string_bytes};
 ghost use Rattle.plural_base.specs.declared.raw_category.RawPluralCategory.{RawPluralCategory as Category};
 ghost use Rattle.plural_base.specs.RangeKeys.{range_byte, range_text};
-ghost use Rattle.plural_base.specs.RangesJson.{category_shape, key_of_json, key_json, key_shape, members_shape, put_row, ranges_json, ranges_of_json, ranges_shape};
+ghost use Rattle.plural_base.specs.RangesJson.{category_shape, key_of_json, key_json, key_shape, members_shape, object_under, put_row, range_members, ranges_json, ranges_of_json, ranges_shape};
 ghost use Rattle.plural_base.specs.RangesJson as json;
 ghost use Rattle.plural_base.specs.RangeTable.{no_ranges};
 ghost use Rattle.serde_json.specs.View.{view, members_view};
@@ -55,11 +55,8 @@ impl PluralRanges {
         ensures written { IfOk result (λ value. view value ≡ ranges_json self.now) }
         ensures memory { IfErr result (λ error. error ≡ JsonError.Memory) }
     {
-        let mut members = Map::new(alloc);
-        for start in &ALL {
-            write_row(alloc, self, *start, &mut members)?;
-        }
-        Ok(json!(in alloc; {"ranges": Value::Object(members)})?)
+        let members = write_members(alloc, self)?;
+        Ok(under_ranges(alloc, Value::Object(members))?)
     }
 
     /// The ranges of a JSON value: an object with an object under `ranges`, from texts of ranges to names
@@ -132,6 +129,24 @@ fn read_category(value: &Value) -> Result<RawPluralCategory, JsonError>
         Some(category) => Ok(category),
         None => Err(JsonError::RangeValue),
     }
+}
+
+// The object with this value under `ranges`.
+fn under_ranges(alloc: Global, table: Value) -> Result<Value, AllocError>
+    ensures { IfOk result (λ value. view value ≡ object_under (view table)) }
+{
+    json!(in alloc; {"ranges": table})
+}
+
+// The ranges that have a category.
+fn write_members(alloc: Global, ranges: &PluralRanges) -> Result<Map<String, Value>, AllocError>
+    ensures { IfOk result (λ members. members_view members.entries ≡ range_members ranges.now) }
+{
+    let mut members = Map::new(alloc);
+    for start in &ALL {
+        write_row(alloc, ranges, *start, &mut members)?;
+    }
+    Ok(members)
 }
 
 // Puts the ranges with a start that have a category.
