@@ -61,9 +61,15 @@ pub use Rattle.plural_base.specs.RuleTexts
 pub use Rattle.plural_base.specs.TextAnswers
 pub use Rattle.plural_base.specs.RuleModuli
 pub use Rattle.plural_base.specs.DecimalChoice
+-- ranges
+pub use Rattle.plural_base.specs.ByCategory
+pub use Rattle.plural_base.specs.RangeKeys
+pub use Rattle.plural_base.specs.RangeTable
+pub use Rattle.plural_base.specs.RulesWithRanges
 -- JSON and providers
 pub use Rattle.plural_base.specs.TextReaders
 pub use Rattle.plural_base.specs.RulesJson
+pub use Rattle.plural_base.specs.RangesJson
 pub use Rattle.plural_base.specs.JsonErrorTexts
 pub use Rattle.plural_base.specs.Providers
 pub use Rattle.plural_base.specs.DocumentJson

@@ -19,8 +19,8 @@ pub use fixed_decimal::{CompactDecimal, Decimal, DecimalError, Sign, UnsignedDec
 pub use packed::error::ElementsBytesError;
 pub use packed_list::{Items, ListError, PackError, PackedList};
 pub use plural_base::{
-    AllCategories, Categories, DataError, ElementsPackError, JsonError, JsonProvider,
-    PluralCategory, PluralRuleType, PluralRules, PluralRulesOptions, PluralsProvider,
-    RulesTextError, rule_from_json, rule_to_json,
+    AllCategories, AsPluralRules, Categories, DataError, ElementsPackError, JsonError,
+    JsonProvider, PluralCategory, PluralRuleType, PluralRules, PluralRulesOptions,
+    PluralRulesWithRanges, PluralsProvider, RulesTextError, rule_from_json, rule_to_json,
 };
 pub use plural_reference::{OperandsError, PluralOperands, RawPluralOperands, Sequence};

@@ -35,11 +35,14 @@ fn types_stand_at_their_paths() {
     named::<crate::DataError>();
     named::<crate::JsonProvider>();
     named::<crate::PluralElements<u8>>();
+    named::<crate::PluralRulesWithRanges<crate::PluralRules<'static>>>();
     named::<crate::provider::PluralRulesData<'static>>();
     named::<crate::provider::RawPluralCategory>();
     named::<crate::provider::FourBitMetadata>();
     named::<crate::provider::PluralElementsPackedULE<'static>>();
     named::<crate::ElementsBytesError>();
+    named::<crate::provider::UnvalidatedPluralRange>();
+    named::<crate::provider::PluralRanges>();
 }
 
 #[test]

@@ -1,6 +1,8 @@
-//! What is true of all rules.
+//! What is true of all rules and ranges.
 
 ghost use Rattle.plural_base.specs.ChoiceLaws.{BoundIsWidestForChoice, KeptChoiceIsExact};
+ghost use Rattle.plural_base.specs.RangeKeys.{RangeBytesDiffer};
+ghost use Rattle.plural_base.specs.RangeTable.{RangesAreTheirMaps};
 ghost use Rattle.plural_base.specs.TextReaders.{TextsGiveOneAnswer};
 
 use plural_reference::laws::exactness;
@@ -30,4 +32,18 @@ pub fn texts_give_one_answer()
 {
     one_list_of_tokens();
     one_rule();
+}
+
+/// No two ranges have one byte: [`UnvalidatedPluralRange::from_range`] is injective.
+///
+/// [`UnvalidatedPluralRange::from_range`]: crate::UnvalidatedPluralRange::from_range
+pub fn range_bytes_differ()
+    ensures { RangeBytesDiffer }
+{
+}
+
+/// Tables of ranges that have the same category at each pair are equal.
+pub fn ranges_are_their_maps()
+    ensures { RangesAreTheirMaps }
+{
 }
