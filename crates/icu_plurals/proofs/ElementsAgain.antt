@@ -214,28 +214,30 @@ no_padding first n = lt_of_not-le n
 
 good_with : (first : ℕ) (text : List ℕ) (rest : Option (List ℕ)) (bytes : List ℕ) → AreBytes bytes → PartsWith first text rest bytes → first % 128 < 16 → IsTrue (is_utf8 text) → IsGoodRest rest
     → (packed : PackedElements) × ElementsBytes packed bytes
-good_with first text None bytes are parts low utf8 good =
-    (record { default = record { metadata = first; text = text }; items = None },
-    record {
-      default = record { metadata = omega (arith, low, parts.0); text = utf8 };
-      items = tt;
-      can_pack = tt;
-      spelled = parts.1;
-    })
+good_with first text None bytes are parts low utf8 good = (
+  record { default = record { metadata = first; text = text }; items = None },
+  record {
+    default = record { metadata = omega (arith, low, parts.0); text = utf8 };
+    items = tt;
+    can_pack = tt;
+    spelled = parts.1;
+  },
+)
 good_with first text (Some rest) bytes are parts low utf8 good =
     let pass = items_pass 0 good.0 good.2 in
     let same = items_spelled good.0 pass in
     let small : first < 256 = subst (λ bs. slice_index bs 0 < 256) parts.1 (are 0) in
     let short : length text < 256 = subst (λ bs. slice_index bs 1 < 256) parts.1 (are 1) in
     let head : first ≡ 128 + first % 16 = omega (arith, parts.0, small, low) in
-    let list : list_bytes (map item_bytes (map item_in good.0)) ≡ rest = ap list_bytes same ∙ sym good.1.spelled in
-    (record { default = record { metadata = first % 16; text = text }; items = Some (map item_in good.0) },
-    record {
-      default = record { metadata = omega arith; text = utf8 };
-      items = items-fit good.0 pass;
-      can_pack = record { length = omega (arith, short); list = subst CanPack (sym same) good.1.can_pack };
-      spelled = parts.1 ∙ ap (λ n. n ∷ length text ∷ (text ++ rest)) head ∙ ap (λ l. (128 + first % 16) ∷ length text ∷ (text ++ l)) (sym list);
-    })
+    let list : list_bytes (map item_bytes (map item_in good.0)) ≡ rest = ap list_bytes same ∙ sym good.1.spelled in (
+      record { default = record { metadata = first % 16; text = text }; items = Some (map item_in good.0) },
+      record {
+        default = record { metadata = omega arith; text = utf8 };
+        items = items-fit good.0 pass;
+        can_pack = record { length = omega (arith, short); list = subst CanPack (sym same) good.1.can_pack };
+        spelled = parts.1 ∙ ap (λ n. n ∷ length text ∷ (text ++ rest)) head ∙ ap (λ l. (128 + first % 16) ∷ length text ∷ (text ++ l)) (sym list);
+      },
+    )
 
 -- bytes with good parts are those of the packed elements that they hold
 pub good_are_elements : PackedItems → (parts : ElementsParts) (bytes : List ℕ) → AreBytes bytes → ArePartsOf parts bytes → AreGoodParts parts → AreElements bytes
@@ -245,9 +247,11 @@ good_are_elements law parts bytes are of good =
 
 rest_with : (default : PackedValue) (items : Option (List PackedItem)) → IsPackedValue default → AllByRecursion IsPackedItem (unwrap_or items []) → CanPackItems default items → AreGoodParts (parts_with default items)
 rest_with default None is are can = ((λ h. omega (arith, h, is.metadata)), is.text, tt)
-rest_with default (Some items) is are can =
-    ((λ h. omega (arith, h, is.metadata)), is.text,
-    (map item_bytes items, list_is (map item_bytes items) can.list, first_fault-none 0 (map item_bytes items) (packed_are_items items are)))
+rest_with default (Some items) is are can = (
+  (λ h. omega (arith, h, is.metadata)),
+  is.text,
+  (map item_bytes items, list_is (map item_bytes items) can.list, first_fault-none 0 (map item_bytes items) (packed_are_items items are)),
+)
 
 -- the parts of packed elements are good
 pub elements_are_good : (packed : PackedElements) (parts : ElementsParts) (bytes : List ℕ) → ElementsBytes packed bytes → ArePartsOf parts bytes → AreGoodParts parts

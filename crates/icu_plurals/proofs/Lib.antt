@@ -2,6 +2,7 @@ pub mod ReferenceCalls
 pub mod Stops
 pub mod ElementsAgain
 pub mod ElementsOneFault
+pub mod WorkedElements
 mod HighItems
 pub mod PackedAgain
 pub mod CheckedElements

@@ -7,7 +7,9 @@ use Rattle.packed_list.specs.ListBytes.{ListBytes}
 use Rattle.packed_list.specs.ListReading.{items_in}
 use Rattle.plural_base.specs.declared.category.PluralCategory.{PluralCategory}
 use Rattle.plural_base.specs.declared.category.PluralCategory.TheVariants.{Zero, One, Two, Few, Many, Other}
-use Rattle.icu_plurals.specs.ElementsFaults.{ElementsParts, HasPadding, first_fault}
+use Rattle.icu_plurals.specs.declared.packed.error.ElementsBytesError.{ElementsBytesError}
+use Rattle.icu_plurals.specs.declared.packed.error.ElementsBytesError.TheVariants as errors
+use Rattle.icu_plurals.specs.ElementsFaults.{ElementsParts, IsShort, HasPadding, first_fault}
 use Rattle.icu_plurals.specs.PackedElements.{PackedValue, PackedItem, PackedElements, IsPackedItem, CanPackItems, ElementsBytes, items_of, item_bytes, zero_key, one_key, two_key, few_key, many_key}
 
 -- the item that bytes hold
@@ -43,7 +45,13 @@ IsPackedItems-prop items = AllByRecursion-prop IsPackedItem (λ item. hlevel pro
 pub ElementsBytes-prop : (packed : PackedElements) (bytes : List ℕ) → IsProp (ElementsBytes packed bytes)
 ElementsBytes-prop packed bytes = hlevel (props, IsPackedItems-prop (items_of packed), CanPackItems-prop packed.default packed.items)
 
--- ---- what is found good
+-- ---- what is found on the way
+
+-- there is no byte, or the text is cut short
+abbrev pub HasPlaceFault : List ℕ → ElementsBytesError → Type 0
+HasPlaceFault bytes errors.Empty = bytes ≡ []
+HasPlaceFault bytes errors.Short = IsShort bytes
+HasPlaceFault bytes fault = ⊥
 
 -- an item has a key of the seven, and a text that is UTF-8
 abbrev pub is_item : List ℕ → Bool

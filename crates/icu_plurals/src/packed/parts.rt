@@ -1,8 +1,8 @@
 //! Where the parts of packed elements stand, and whether they are good.
 
 ghost use Rattle.std.specs.Prelude.{◌≡◌, MatchResult, IsOk, Err};
-ghost use Rattle.icu_plurals.specs.ElementsFaults.{ArePartsOf, HasPlaceFault, HasPartsFault};
-ghost use Rattle.icu_plurals.specs.ElementsReading.{AreGoodParts};
+ghost use Rattle.icu_plurals.specs.ElementsFaults.{ArePartsOf, HasPartsFault};
+ghost use Rattle.icu_plurals.specs.ElementsReading.{AreGoodParts, HasPlaceFault};
 ghost use Rattle.icu_plurals.specs.ElementsPartsView.{lent_parts};
 
 use crate::packed::error::ElementsBytesError;

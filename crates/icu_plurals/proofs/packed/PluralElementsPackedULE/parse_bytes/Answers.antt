@@ -17,10 +17,12 @@ pub returns-in-Err-clause-refused : goal.returns-in-Err-clause-refused
 returns-in-Err-clause-refused c = λ fault.
     let bytes = c.args.bytes.now in
     let parts = lent_parts c.in_ok-parts.parts in
-    let here = parts_fault_is bytes parts c.in-Err.fault c.in_ok-parts.ensures c.in-Err.ensures.sound in
-    (
+    let here = parts_fault_is bytes parts c.in-Err.fault c.in_ok-parts.ensures c.in-Err.ensures.sound in (
       (λ same. let e : c.in-Err.fault ≡ fault = cc in subst (HasElementsFault bytes) e here),
-      (λ other. c.in-Err.ensures.only fault (fault_of_parts bytes parts fault c.in_ok-parts.ensures other)),
+      (λ other.
+          let only = c.in-Err.ensures.only fault (fault_of_parts bytes parts fault c.in_ok-parts.ensures other) in
+          let same : c.in-Err.fault ≡ fault = cc in
+          ap Err same),
     )
 
 pub from_checked-requires : goal.from_checked-requires
