@@ -84,7 +84,16 @@ fn read_elements(value: &Value) -> Option<PluralElements<(FourBitMetadata, &str)
     let many = read_optional(value.get("many"));
     let explicit_zero = read_optional(value.get("explicit_zero"));
     let explicit_one = read_optional(value.get("explicit_one"));
-    match (other, zero, one, two, few, many, explicit_zero, explicit_one) {
+    match (
+        other,
+        zero,
+        one,
+        two,
+        few,
+        many,
+        explicit_zero,
+        explicit_one,
+    ) {
         (
             Some(other),
             Some(zero),
@@ -131,7 +140,10 @@ fn read_value(value: &Value) -> Option<(FourBitMetadata, &str)>
     if value.get(2usize).is_some() {
         return None;
     }
-    match (read_metadata(value.get(0usize)), read_text(value.get(1usize))) {
+    match (
+        read_metadata(value.get(0usize)),
+        read_text(value.get(1usize)),
+    ) {
         (Some(metadata), Some(text)) => Some((metadata, text)),
         _ => None,
     }
@@ -170,7 +182,12 @@ fn written(
     put_value(alloc, &mut members, "two", &elements.two)?;
     put_value(alloc, &mut members, "few", &elements.few)?;
     put_value(alloc, &mut members, "many", &elements.many)?;
-    put_value(alloc, &mut members, "explicit_zero", &elements.explicit_zero)?;
+    put_value(
+        alloc,
+        &mut members,
+        "explicit_zero",
+        &elements.explicit_zero,
+    )?;
     put_value(alloc, &mut members, "explicit_one", &elements.explicit_one)?;
     Ok(Value::Object(members))
 }

@@ -82,7 +82,10 @@ fn refuses_what_are_no_elements(rt: HostRuntime) -> Result<(), Fail> {
         ("{\"other\":[\"x\",0]}", Some(JsonError::Shape)),
         ("{\"other\":\"x\"}", Some(JsonError::Shape)),
         ("{\"other\":{\"0\":\"x\"}}", Some(JsonError::Shape)),
-        ("{\"other\":[0,\"x\"],\"many\":[0,5]}", Some(JsonError::Shape)),
+        (
+            "{\"other\":[0,\"x\"],\"many\":[0,5]}",
+            Some(JsonError::Shape),
+        ),
         ("[[0,\"x\"]]", Some(JsonError::Shape)),
         ("null", Some(JsonError::Shape)),
         ("0.5", Some(JsonError::Float)),
@@ -112,8 +115,10 @@ fn form_is_told_before_what_is_too_long(rt: HostRuntime) -> Result<(), Fail> {
 fn growth_may_be_refused_in_reading_elements(rt: HostRuntime) {
     let mut refused = 0u8;
     for _ in 0..2u8 {
-        let Ok(value) = Value::from_str(rt.alloc(), "{\"one\":[0,\"item\"],\"other\":[0,\"items\"]}")
-        else {
+        let Ok(value) = Value::from_str(
+            rt.alloc(),
+            "{\"one\":[0,\"item\"],\"other\":[0,\"items\"]}",
+        ) else {
             refused = refused.saturating_add(1);
             continue;
         };

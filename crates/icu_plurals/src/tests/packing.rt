@@ -111,10 +111,13 @@ fn leaves_out_what_equals_other(rt: HostRuntime) -> Result<(), Fail> {
     let equal = texts.map(|_| plain("x"));
     assert!(rt; equal.as_ref().try_into_other().is_none());
     let bytes = PluralElementsPackedULE::encode(rt.alloc(), &equal)?;
-    assert!(rt; bytes.as_slice() == b"\0x", "{bytes:?}");
+    assert!(rt; bytes.as_slice() == b"\0x".as_slice(), "{bytes:?}");
     let marks = PluralElements::new(plain("x")).with_one_value(Some(marked(1, "x")));
     let bytes = PluralElementsPackedULE::encode(rt.alloc(), &marks)?;
-    assert!(rt; bytes.as_slice() == b"\x80\x01x\x01\0\x11x", "{bytes:?}");
+    assert!(rt;
+        bytes.as_slice() == b"\x80\x01x\x01\0\x11x".as_slice(),
+        "{bytes:?}"
+    );
     Ok(())
 }
 
@@ -154,15 +157,22 @@ fn decoded_elements_pack_again(rt: HostRuntime) -> Result<(), Fail> {
 fn default_fits_a_byte_beside_items(rt: HostRuntime) -> Result<(), Fail> {
     let (short, text) = (long(rt.alloc(), 255)?, long(rt.alloc(), 256)?);
     let alone = PluralElements::new(plain(text.as_str()));
-    assert_eq!(rt; PluralElementsPackedULE::encode(rt.alloc(), &alone)?.len(), 257);
+    assert_eq!(rt;
+        PluralElementsPackedULE::encode(rt.alloc(), &alone)?.len(),
+        257
+    );
     let one = PluralElements::new(plain(text.as_str())).with_one_value(Some(plain("x")));
     let refused = PluralElementsPackedULE::encode(rt.alloc(), &one);
     assert_eq!(rt; refused.err(), Some(ElementsPackError::DefaultLimit));
     let one = PluralElements::new(plain(short.as_str())).with_one_value(Some(plain("x")));
-    assert_eq!(rt; PluralElementsPackedULE::encode(rt.alloc(), &one)?.len(), 261);
+    assert_eq!(rt;
+        PluralElementsPackedULE::encode(rt.alloc(), &one)?.len(),
+        261
+    );
     // An explicit value is packed though it equals other's.
-    let explicit = PluralElements::new(plain(text.as_str()))
-        .with_explicit_zero_value(Some(plain(text.as_str())));
+    let explicit = PluralElements::new(plain(text.as_str())).with_explicit_zero_value(Some(plain(
+        text.as_str(),
+    )));
     let refused = PluralElementsPackedULE::encode(rt.alloc(), &explicit);
     assert_eq!(rt; refused.err(), Some(ElementsPackError::DefaultLimit));
     Ok(())
@@ -175,7 +185,10 @@ fn starts_fit_two_bytes(rt: HostRuntime) -> Result<(), Fail> {
     let packs = PluralElements::new(plain(""))
         .with_zero_value(Some(plain(shorter.as_str())))
         .with_one_value(Some(plain("b")));
-    assert_eq!(rt; PluralElementsPackedULE::encode(rt.alloc(), &packs)?.len(), 65543);
+    assert_eq!(rt;
+        PluralElementsPackedULE::encode(rt.alloc(), &packs)?.len(),
+        65543
+    );
     let late = PluralElements::new(plain(""))
         .with_zero_value(Some(plain(text.as_str())))
         .with_one_value(Some(plain("b")));
@@ -190,7 +203,10 @@ fn starts_fit_two_bytes(rt: HostRuntime) -> Result<(), Fail> {
     assert_eq!(rt; refused.err(), Some(ElementsPackError::DefaultLimit));
     // The last item may be of any length.
     let last = PluralElements::new(plain("")).with_one_value(Some(plain(text.as_str())));
-    assert_eq!(rt; PluralElementsPackedULE::encode(rt.alloc(), &last)?.len(), 65540);
+    assert_eq!(rt;
+        PluralElementsPackedULE::encode(rt.alloc(), &last)?.len(),
+        65540
+    );
     Ok(())
 }
 
@@ -199,10 +215,10 @@ fn texts_are_packed_with_metadata_0(rt: HostRuntime) -> Result<(), Fail> {
     let rules = rules(rt.alloc())?;
     let alone = PluralElements::new("abc");
     let alone = PluralElementsPackedCow::from_elements(rt.alloc(), &alone)?;
-    assert!(rt; alone.as_packed().as_bytes() == b"\0abc");
+    assert!(rt; alone.as_packed().as_bytes() == b"\0abc".as_slice());
     let one = PluralElements::new("abc").with_one_value(Some("defg"));
     let one = PluralElementsPackedCow::from_elements(rt.alloc(), &one)?;
-    assert!(rt; one.as_packed().as_bytes() == b"\x80\x03abc\x01\0\x10defg");
+    assert!(rt; one.as_packed().as_bytes() == b"\x80\x03abc\x01\0\x10defg".as_slice());
     assert_eq!(rt; one.get(PluralOperands::from(1u8), &rules), "defg");
     assert_eq!(rt; one.get(PluralOperands::from(2u8), &rules), "abc");
     assert!(rt; alone != one);
@@ -217,7 +233,7 @@ fn lent_bytes_keep_their_metadata(rt: HostRuntime) -> Result<(), Fail> {
     assert_eq!(rt; packed.get(PluralOperands::from(1u8), &rules), "y");
     assert_eq!(rt; packed.get(PluralOperands::from(0u8), &rules), "x");
     assert_eq!(rt; packed.as_packed().get_default().0.get(), 15);
-    assert!(rt; packed.as_packed().as_bytes() == b"\x8f\x01x\x01\0\x13y");
+    assert!(rt; packed.as_packed().as_bytes() == b"\x8f\x01x\x01\0\x13y".as_slice());
     assert!(rt; packed.try_clone()? == packed);
     let alone = PluralElementsPackedCow::from_bytes(b"\0")?;
     assert!(rt; alone != PluralElementsPackedCow::from_bytes(b"\x80\0")?);
