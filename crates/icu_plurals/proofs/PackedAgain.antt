@@ -64,29 +64,29 @@ record AreAt (v0 v1 v2 v3 v4 v5 v6 : Option PackedValue) (items : List PackedIte
 are_at : (v0 v1 v2 v3 v4 v5 v6 : Option PackedValue) → AreAt v0 v1 v2 v3 v4 v5 v6 (seven v0 v1 v2 v3 v4 v5 v6)
 are_at v0 v1 v2 v3 v4 v5 v6 = record {
   at0 =
-    take_it 0 v0 _ refl
-    (skip 0 1 v1 (behind2 v2 v3 v4 v5 v6) refl ∙ skip 0 2 v2 (behind3 v3 v4 v5 v6) refl ∙ skip 0 3 v3 (behind4 v4 v5 v6) refl ∙ skip 0 4 v4 (behind5 v5 v6) refl ∙ skip 0 5 v5 (item_at 6 v6) refl ∙ skip_last 0 6 v6 refl);
+      take_it 0 v0 _ refl
+      (skip 0 1 v1 (behind2 v2 v3 v4 v5 v6) refl ∙ skip 0 2 v2 (behind3 v3 v4 v5 v6) refl ∙ skip 0 3 v3 (behind4 v4 v5 v6) refl ∙ skip 0 4 v4 (behind5 v5 v6) refl ∙ skip 0 5 v5 (item_at 6 v6) refl ∙ skip_last 0 6 v6 refl);
   at1 =
-    skip 1 0 v0 (behind1 v1 v2 v3 v4 v5 v6) refl
-    ∙ take_it 1 v1 _ refl
-    (skip 1 2 v2 (behind3 v3 v4 v5 v6) refl ∙ skip 1 3 v3 (behind4 v4 v5 v6) refl ∙ skip 1 4 v4 (behind5 v5 v6) refl ∙ skip 1 5 v5 (item_at 6 v6) refl ∙ skip_last 1 6 v6 refl);
+      skip 1 0 v0 (behind1 v1 v2 v3 v4 v5 v6) refl
+      ∙ take_it 1 v1 _ refl
+      (skip 1 2 v2 (behind3 v3 v4 v5 v6) refl ∙ skip 1 3 v3 (behind4 v4 v5 v6) refl ∙ skip 1 4 v4 (behind5 v5 v6) refl ∙ skip 1 5 v5 (item_at 6 v6) refl ∙ skip_last 1 6 v6 refl);
   at2 =
-    skip 2 0 v0 (behind1 v1 v2 v3 v4 v5 v6) refl ∙ skip 2 1 v1 (behind2 v2 v3 v4 v5 v6) refl
-    ∙ take_it 2 v2 _ refl
-    (skip 2 3 v3 (behind4 v4 v5 v6) refl ∙ skip 2 4 v4 (behind5 v5 v6) refl ∙ skip 2 5 v5 (item_at 6 v6) refl ∙ skip_last 2 6 v6 refl);
+      skip 2 0 v0 (behind1 v1 v2 v3 v4 v5 v6) refl ∙ skip 2 1 v1 (behind2 v2 v3 v4 v5 v6) refl
+      ∙ take_it 2 v2 _ refl
+      (skip 2 3 v3 (behind4 v4 v5 v6) refl ∙ skip 2 4 v4 (behind5 v5 v6) refl ∙ skip 2 5 v5 (item_at 6 v6) refl ∙ skip_last 2 6 v6 refl);
   at3 =
-    skip 3 0 v0 (behind1 v1 v2 v3 v4 v5 v6) refl ∙ skip 3 1 v1 (behind2 v2 v3 v4 v5 v6) refl ∙ skip 3 2 v2 (behind3 v3 v4 v5 v6) refl
-    ∙ take_it 3 v3 _ refl
-    (skip 3 4 v4 (behind5 v5 v6) refl ∙ skip 3 5 v5 (item_at 6 v6) refl ∙ skip_last 3 6 v6 refl);
+      skip 3 0 v0 (behind1 v1 v2 v3 v4 v5 v6) refl ∙ skip 3 1 v1 (behind2 v2 v3 v4 v5 v6) refl ∙ skip 3 2 v2 (behind3 v3 v4 v5 v6) refl
+      ∙ take_it 3 v3 _ refl
+      (skip 3 4 v4 (behind5 v5 v6) refl ∙ skip 3 5 v5 (item_at 6 v6) refl ∙ skip_last 3 6 v6 refl);
   at4 =
-    skip 4 0 v0 (behind1 v1 v2 v3 v4 v5 v6) refl ∙ skip 4 1 v1 (behind2 v2 v3 v4 v5 v6) refl ∙ skip 4 2 v2 (behind3 v3 v4 v5 v6) refl
-    ∙ skip 4 3 v3 (behind4 v4 v5 v6) refl ∙ take_it 4 v4 _ refl (skip 4 5 v5 (item_at 6 v6) refl ∙ skip_last 4 6 v6 refl);
+      skip 4 0 v0 (behind1 v1 v2 v3 v4 v5 v6) refl ∙ skip 4 1 v1 (behind2 v2 v3 v4 v5 v6) refl ∙ skip 4 2 v2 (behind3 v3 v4 v5 v6) refl
+      ∙ skip 4 3 v3 (behind4 v4 v5 v6) refl ∙ take_it 4 v4 _ refl (skip 4 5 v5 (item_at 6 v6) refl ∙ skip_last 4 6 v6 refl);
   at5 =
-    skip 5 0 v0 (behind1 v1 v2 v3 v4 v5 v6) refl ∙ skip 5 1 v1 (behind2 v2 v3 v4 v5 v6) refl ∙ skip 5 2 v2 (behind3 v3 v4 v5 v6) refl
-    ∙ skip 5 3 v3 (behind4 v4 v5 v6) refl ∙ skip 5 4 v4 (behind5 v5 v6) refl ∙ take_it 5 v5 (item_at 6 v6) refl (skip_last 5 6 v6 refl);
+      skip 5 0 v0 (behind1 v1 v2 v3 v4 v5 v6) refl ∙ skip 5 1 v1 (behind2 v2 v3 v4 v5 v6) refl ∙ skip 5 2 v2 (behind3 v3 v4 v5 v6) refl
+      ∙ skip 5 3 v3 (behind4 v4 v5 v6) refl ∙ skip 5 4 v4 (behind5 v5 v6) refl ∙ take_it 5 v5 (item_at 6 v6) refl (skip_last 5 6 v6 refl);
   at6 =
-    skip 6 0 v0 (behind1 v1 v2 v3 v4 v5 v6) refl ∙ skip 6 1 v1 (behind2 v2 v3 v4 v5 v6) refl ∙ skip 6 2 v2 (behind3 v3 v4 v5 v6) refl
-    ∙ skip 6 3 v3 (behind4 v4 v5 v6) refl ∙ skip 6 4 v4 (behind5 v5 v6) refl ∙ skip 6 5 v5 (item_at 6 v6) refl ∙ take_last 6 v6 refl;
+      skip 6 0 v0 (behind1 v1 v2 v3 v4 v5 v6) refl ∙ skip 6 1 v1 (behind2 v2 v3 v4 v5 v6) refl ∙ skip 6 2 v2 (behind3 v3 v4 v5 v6) refl
+      ∙ skip 6 3 v3 (behind4 v4 v5 v6) refl ∙ skip 6 4 v4 (behind5 v5 v6) refl ∙ skip 6 5 v5 (item_at 6 v6) refl ∙ take_last 6 v6 refl;
 }
 
 -- ---- the elements again

@@ -9,6 +9,7 @@ pub mod ElementsPartsView
 pub mod ElementsViews
 pub mod ElementsErrorTexts
 pub mod ElementsPacking
+pub mod ElementsJson
 pub mod PlainElements
 pub mod ItemBytes
 -- the element of a number

@@ -15,17 +15,6 @@ pub use plural_base::laws::texts_give_one_answer;
 use plural_reference::laws::exactness::kept_operands_agree;
 pub use plural_reference::laws::reading::one_list_of_tokens;
 
-/// What elements are packed as has their values, without those of the five categories that equal other's in metadata
-/// and text.
-pub fn packed_values_again()
-    ensures { (e : Elements PackedValue) → elements_of (packed_of e) ≡ without_repeats e }
-{}
-
-/// What elements are packed as gives every number the elements' own value, under all rules.
-pub fn packed_elements_answer()
-    ensures { (e : Elements PackedValue) (op : Operands) (rules : FiveRules) → element_at (elements_of (packed_of e)) op rules ≡ element_at e op rules }
-{}
-
 /// Packed elements are the same bytes exactly if they are the same default and items.
 pub fn one_encoding_of_elements()
     ensures { (elements others : PackedElements) (a b : List ℕ) → ElementsBytes elements a → ElementsBytes others b
@@ -40,6 +29,17 @@ pub fn elements_read_again()
 {
     read_again();
 }
+
+/// What elements are packed as has their values, without those of the five categories that equal other's in metadata
+/// and text.
+pub fn packed_values_again()
+    ensures { (e : Elements PackedValue) → elements_of (packed_of e) ≡ without_repeats e }
+{}
+
+/// What elements are packed as gives every number the elements' own value, under all rules.
+pub fn packed_elements_answer()
+    ensures { (e : Elements PackedValue) (op : Operands) (rules : FiveRules) → element_at (elements_of (packed_of e)) op rules ≡ element_at e op rules }
+{}
 
 /// Within the bound, under rules that are read from texts without a modulus 0, the value that the kept
 /// operands of a number choose among packed elements is the one that the exact number has.

@@ -7,6 +7,7 @@
 
 mod cow;
 mod elements;
+mod elements_json;
 mod encode;
 pub mod laws;
 mod packed;

@@ -1,5 +1,7 @@
 mod elements;
+mod elements_json;
 mod packed;
+mod packing;
 
 use crate::provider::rules::{reference, runtime};
 use crate::*;
@@ -39,6 +41,7 @@ fn types_stand_at_their_paths() {
     named::<crate::provider::PluralRulesData<'static>>();
     named::<crate::provider::RawPluralCategory>();
     named::<crate::provider::FourBitMetadata>();
+    named::<crate::provider::PluralElementsPackedCow<'static>>();
     named::<crate::provider::PluralElementsPackedULE<'static>>();
     named::<crate::ElementsBytesError>();
     named::<crate::provider::UnvalidatedPluralRange>();
