@@ -1,10 +1,10 @@
 -- How a text is filled: without a `{}` it stays, else the first one is replaced and the rest filled.
-use Rattle.std.proofs.Common.{◌≡◌, ℕ, zero, suc, ◌+◌, ◌<◌, ◌≤◌, List, [], ◌∷◌, ◌++◌, flat_map, length, take, drop, refl, ap, subst, sym, ◌∙◌, append_assoc, append-nil, arith, length-append, length-take, Option, Some, None, true, false, ⊎_elim}
+use Rattle.std.proofs.Common.{◌≡◌, ℕ, zero, suc, ◌<◌, List, [], ◌∷◌, ◌++◌, flat_map, length, take, drop, refl, ap, subst, sym, ◌∙◌, append_assoc, append-nil, arith, length-append, length-take, Some, None, true, false, ⊎_elim}
 use Rattle.std.specs.Borrow.{Bor}
-use Rattle.std.specs.List.{AllByRecursion, join_by}
+use Rattle.std.specs.List.{AllByRecursion}
 use Rattle.std.specs.Str.Iter.{HasSubslice}
 use Rattle.std.specs.Str.Pattern.{FindsText, HasTextAt, LacksTextAt}
-use Rattle.std.specs.Str.Replace.{ContinuesAfterMatch, ReplacesMatches}
+use Rattle.std.specs.Str.Replace.{ReplacesMatches}
 use Rattle.std.proofs.lemmas.List.{drop_at, take-append-drop}
 use Rattle.std.proofs.lemmas.Str.Pattern.{contains_text}
 use Rattle.plural_message.specs.Filling.{place, joined, IsFilling}

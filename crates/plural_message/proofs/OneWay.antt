@@ -4,7 +4,7 @@ use Rattle.std.proofs.Common.{◌≡◌, ℕ, ◌≤◌, List, [], ◌∷◌, �
 use Rattle.std.specs.List.{AllByRecursion}
 use Rattle.std.specs.Str.Iter.{HasSubslice}
 use Rattle.std.proofs.lemmas.Bool.Decides.{eqb_tells}
-use Rattle.plural_message.specs.Filling.{place, joined, IsFilling}
+use Rattle.plural_message.specs.Filling.{joined}
 use Rattle.plural_message.specs.FillingLaws.{OneFilling}
 
 abbrev mark : ℕ → ℕ → List ℕ

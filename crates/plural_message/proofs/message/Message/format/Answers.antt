@@ -11,7 +11,7 @@ use Rattle.icu_plurals.specs.FiveRules.{FiveRules}
 use Rattle.icu_plurals.specs.Operands.{Operands}
 use Rattle.icu_plurals.specs.PackedElements.{PackedValue}
 use Rattle.plural_message.specs.declared.error.MessageError.{MessageError}
-use Rattle.plural_message.specs.declared.error.MessageError.TheVariants.{Number, Memory}
+use Rattle.plural_message.specs.declared.error.MessageError.TheVariants.{Number}
 use Rattle.plural_message.specs.MessageErrors.{number_error}
 use Rattle.plural_message.proofs.message.Message.format.Goals as goal
 
