@@ -15,11 +15,12 @@ pub record ElementsParts : Type 0 where
   pub text : List ℕ
   pub rest : Option (List ℕ)
 
+-- bytes are made of a first byte, a text and what is left
 abbrev pub PartsWith : ℕ → List ℕ → Option (List ℕ) → List ℕ → Type 0
 PartsWith first text None bytes = (first < 128) × (bytes ≡ first ∷ text)
 PartsWith first text (Some rest) bytes = (128 ≤ first) × (bytes ≡ first ∷ length text ∷ (text ++ rest))
 
--- the bytes are made of the parts
+-- bytes are made of the parts
 abbrev pub ArePartsOf : ElementsParts → List ℕ → Type 0
 ArePartsOf parts bytes = PartsWith parts.first parts.text parts.rest bytes
 
@@ -49,6 +50,7 @@ abbrev pub HasItemsFault : List ℕ → ElementsBytesError → Type 0
 HasItemsFault rest (errors.List fault) = HasFault rest fault
 HasItemsFault rest fault = (items : List (List ℕ)) × ListBytes items rest × (first_fault 0 items ≡ Some fault)
 
+-- the same, where something is left
 abbrev pub HasRestFault : Option (List ℕ) → ElementsBytesError → Type 0
 HasRestFault None fault = ⊥
 HasRestFault (Some rest) fault = HasItemsFault rest fault

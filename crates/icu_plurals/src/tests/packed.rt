@@ -35,6 +35,19 @@ fn numbers() -> [PluralOperands; 4] {
     ]
 }
 
+// A value's metadata as a number, and its text.
+fn shown<'a>(value: &(FourBitMetadata, &'a str)) -> (u8, &'a str) {
+    (value.0.get(), value.1)
+}
+
+// The same, and an empty value where there is none.
+fn shown_if_there<'a>(value: Option<&(FourBitMetadata, &'a str)>) -> (u8, &'a str) {
+    match value {
+        Some(value) => shown(value),
+        None => (0, ""),
+    }
+}
+
 #[test]
 fn metadata_has_four_bits(rt: HostRuntime) {
     assert_eq!(rt; FourBitMetadata::zero().get(), 0);
@@ -72,10 +85,11 @@ fn chooses_an_item_or_the_default(rt: HostRuntime) -> Result<(), Fail> {
     for (bytes, wanted) in rows {
         let elements = PluralElementsPackedULE::parse_bytes(bytes)?;
         assert!(rt; elements.as_bytes() == bytes, "{bytes:?}");
-        for (number, (metadata, text)) in numbers().into_iter().zip(wanted) {
-            let (found, shown) = elements.get(number, &rules);
-            assert_eq!(rt; (found.get(), shown), (metadata, text), "{bytes:?}");
-        }
+        let found = numbers().map(|number| {
+            let (metadata, text) = elements.get(number, &rules);
+            (metadata.get(), text)
+        });
+        assert_eq!(rt; found, wanted, "{bytes:?}");
     }
     Ok(())
 }
@@ -85,15 +99,14 @@ fn decodes_every_key(rt: HostRuntime) -> Result<(), Fail> {
     let bytes =
         b"\x82\x01o\x07\0\x02\0\x04\0\x06\0\x08\0\x0a\0\x0c\0\x03z\x14a\x25b\x36c\x47d\x58e\x69f";
     let elements = PluralElementsPackedULE::parse_bytes(bytes)?.decode();
-    let texts = elements.map(|(metadata, text)| (metadata.get(), text));
-    assert_eq!(rt; *texts.other(), (2, "o"));
-    assert_eq!(rt; *texts.zero(), (3, "z"));
-    assert_eq!(rt; *texts.one(), (4, "a"));
-    assert_eq!(rt; *texts.two(), (5, "b"));
-    assert_eq!(rt; *texts.few(), (6, "c"));
-    assert_eq!(rt; *texts.many(), (7, "d"));
-    assert_eq!(rt; texts.explicit_zero(), Some(&(8, "e")));
-    assert_eq!(rt; texts.explicit_one(), Some(&(9, "f")));
+    assert_eq!(rt; shown(elements.other()), (2, "o"));
+    assert_eq!(rt; shown(elements.zero()), (3, "z"));
+    assert_eq!(rt; shown(elements.one()), (4, "a"));
+    assert_eq!(rt; shown(elements.two()), (5, "b"));
+    assert_eq!(rt; shown(elements.few()), (6, "c"));
+    assert_eq!(rt; shown(elements.many()), (7, "d"));
+    assert_eq!(rt; shown_if_there(elements.explicit_zero()), (8, "e"));
+    assert_eq!(rt; shown_if_there(elements.explicit_one()), (9, "f"));
     Ok(())
 }
 
@@ -109,10 +122,7 @@ fn decodes_the_first_of_a_key_and_equal_values(rt: HostRuntime) -> Result<(), Fa
     let (metadata, text) = alone.get_default();
     assert_eq!(rt; (metadata.get(), text), (7, "abc"));
     let other = alone.decode().try_into_other();
-    assert_eq!(rt;
-        other.map(|(metadata, text)| (metadata.get(), text)),
-        Some((7, "abc"))
-    );
+    assert_eq!(rt; shown_if_there(other.as_ref()), (7, "abc"));
     Ok(())
 }
 
