@@ -1,16 +1,16 @@
 -- A text is cut at its places in one way, so it is filled in one.
--- The two characters of a place are o and c, which differ: `{` and `}`.
+-- The two characters of a placeholder are o and c, which differ: `{` and `}`.
 use Rattle.std.proofs.Common.{◌≡◌, ℕ, ◌≤◌, List, [], ◌∷◌, ◌++◌, flat_map, length, refl, ap, sym, ◌∙◌, append_assoc, append-nil, arith, length-append, ⊎_elim}
 use Rattle.std.specs.List.{AllByRecursion}
 use Rattle.std.specs.Str.Iter.{HasSubslice}
 use Rattle.std.proofs.lemmas.Bool.Decides.{eqb_tells}
-use Rattle.plural_message.specs.Filling.{place, joined, IsFilling}
+use Rattle.plural_message.specs.Filling.{joined}
 use Rattle.plural_message.specs.FillingLaws.{OneFilling}
 
 abbrev mark : ℕ → ℕ → List ℕ
 mark o c = o ∷ c ∷ []
 
--- no place stands in the list
+-- no placeholder stands in the list
 abbrev Lacks : ℕ → ℕ → List ℕ → Type 0
 Lacks o c piece = ¬ (HasSubslice piece (mark o c))
 
@@ -26,7 +26,7 @@ lacks_behind o c x xs none h = none (x ∷ h.0, h.1, ap (λ l. x ∷ l) h.2)
 
 -- ---- One cut at most
 
--- what stands before the first place of a text, and what stands behind it
+-- what stands before the first placeholder of a text, and what stands behind it
 same_cut : (o c : ℕ) → ¬ (o ≡ c) → (a b xs ys : List ℕ) → Lacks o c a → Lacks o c b
     → a ++ (mark o c ++ xs) ≡ b ++ (mark o c ++ ys) → (a ≡ b) × (xs ≡ ys)
 same_cut o c apart [] [] xs ys none other e = (refl, cc)
@@ -42,7 +42,7 @@ same_cut o c apart (x ∷ a) (y ∷ b) xs ys none other e =
 joined-cons : (separator p q : List ℕ) (ps : List (List ℕ)) → joined separator (p ∷ q ∷ ps) ≡ p ++ (separator ++ joined separator (q ∷ ps))
 joined-cons separator p q ps = ap (λ l. p ++ l) (append_assoc separator q (flat_map (λ r. separator ++ r) ps))
 
--- a piece without a place is no text with one
+-- a piece without a placeholder is no text with one
 no_more : (o c : ℕ) (p q r : List ℕ) (ps : List (List ℕ)) → Lacks o c p → joined (mark o c) (p ∷ []) ≡ joined (mark o c) (q ∷ r ∷ ps) → ⊥
 no_more o c p q r ps none e = none (q, joined (mark o c) (r ∷ ps), sym (append-nil p) ∙ e ∙ joined-cons (mark o c) q r ps)
 
@@ -88,9 +88,9 @@ record IsCut (o c : ℕ) (text : List ℕ) : Type 0 where
   uncut : AreUncut o c (first ∷ rest)
   whole : text ≡ joined (mark o c) (first ∷ rest)
 
--- a place in front
-cut-place : (o c x y : ℕ) (text : List ℕ) → x ≡ o → y ≡ c → IsCut o c text → IsCut o c (x ∷ y ∷ text)
-cut-place o c x y text is_o is_c cut =
+-- a placeholder in front
+cut-placeholder : (o c x y : ℕ) (text : List ℕ) → x ≡ o → y ≡ c → IsCut o c text → IsCut o c (x ∷ y ∷ text)
+cut-placeholder o c x y text is_o is_c cut =
     record {
       first = [];
       rest = cut.first ∷ cut.rest;
@@ -98,7 +98,7 @@ cut-place o c x y text is_o is_c cut =
       whole = λ k. is_o k ∷ is_c k ∷ cut.whole k;
     }
 
--- a character in front that begins no place
+-- a character in front that begins no placeholder
 cut-character : (o c x : ℕ) (text : List ℕ) → ((rest : List ℕ) → x ∷ text ≡ mark o c ++ rest → ⊥) → IsCut o c text → IsCut o c (x ∷ text)
 cut-character o c x text begins_none cut =
     record {
@@ -120,7 +120,7 @@ every_cut o c [] = record { first = []; rest = []; uncut = (lacks_short o c [] (
 every_cut o c (x ∷ []) = cut-character o c x [] (λ rest e. omega (arith, ap length e)) (every_cut o c [])
 every_cut o c (x ∷ y ∷ text) =
     ⊎_elim
-    (λ is_o. ⊎_elim (λ is_c. cut-place o c x y text is_o.1 is_c.1 (every_cut o c text))
+    (λ is_o. ⊎_elim (λ is_c. cut-placeholder o c x y text is_o.1 is_c.1 (every_cut o c text))
     (λ isnt. cut-character o c x (y ∷ text) (λ rest e. isnt.1 (cc)) (every_cut o c (y ∷ text))) (eqb_tells y c))
     (λ isnt. cut-character o c x (y ∷ text) (λ rest e. isnt.1 (cc)) (every_cut o c (y ∷ text))) (eqb_tells x o)
 

@@ -1,4 +1,4 @@
-use Rattle.std.proofs.Common.{◌≡◌, refl, ◌∙◌}
+use Rattle.std.proofs.Common.{refl, ◌∙◌}
 use Rattle.std.specs.Prelude.{unwrap_or}
 use Rattle.plural_reference.specs.ExactnessLaws.{IsKept}
 use Rattle.plural_base.specs.RuleModuli.{moduli_of}

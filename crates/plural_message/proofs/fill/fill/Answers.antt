@@ -1,4 +1,4 @@
-use Rattle.std.proofs.Common.{List, refl, string_bytes}
+use Rattle.std.proofs.Common.{refl, string_bytes}
 use Rattle.std.proofs.lemmas.Result.{IfOk-weaker}
 use Rattle.plural_message.proofs.Fillings.{replaced}
 use Rattle.plural_message.proofs.fill.fill.Goals as goal
