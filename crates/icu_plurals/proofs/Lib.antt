@@ -1,2 +1,10 @@
 pub mod ReferenceCalls
 pub mod Stops
+pub mod ExplicitNumbers
+pub mod ElementsAgain
+pub mod ElementsOneFault
+pub mod WorkedElements
+mod HighItems
+pub mod PackedAgain
+pub mod CheckedElements
+pub mod Encoded

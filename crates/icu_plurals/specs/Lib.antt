@@ -1,6 +1,19 @@
 -- elements
 pub mod Elements
 pub mod ElementCalls
+-- packed elements
+pub mod PackedElements
+pub mod ElementsFaults
+pub mod ElementsReading
+pub mod ElementsPartsView
+pub mod ElementsViews
+pub mod ElementsErrorTexts
+pub mod ElementsPacking
+pub mod ElementsJson
+pub mod PlainElements
+pub mod ItemBytes
+-- the element of a number
+pub mod ElementChoice
 -- the written numbers
 pub use Rattle.fixed_decimal.specs.Digits
 pub use Rattle.fixed_decimal.specs.Places
@@ -49,9 +62,15 @@ pub use Rattle.plural_base.specs.RuleTexts
 pub use Rattle.plural_base.specs.TextAnswers
 pub use Rattle.plural_base.specs.RuleModuli
 pub use Rattle.plural_base.specs.DecimalChoice
+-- ranges
+pub use Rattle.plural_base.specs.ByCategory
+pub use Rattle.plural_base.specs.RangeKeys
+pub use Rattle.plural_base.specs.RangeTable
+pub use Rattle.plural_base.specs.RulesWithRanges
 -- JSON and providers
 pub use Rattle.plural_base.specs.TextReaders
 pub use Rattle.plural_base.specs.RulesJson
+pub use Rattle.plural_base.specs.RangesJson
 pub use Rattle.plural_base.specs.JsonErrorTexts
 pub use Rattle.plural_base.specs.Providers
 pub use Rattle.plural_base.specs.DocumentJson

@@ -21,14 +21,14 @@ use std::marker::Model;
 /// [`get`]: PluralElements::get
 #[derive(Debug, Drop, PartialEq, Eq)]
 pub struct PluralElements<T> {
-    other: T,
-    zero: Option<T>,
-    one: Option<T>,
-    two: Option<T>,
-    few: Option<T>,
-    many: Option<T>,
-    explicit_zero: Option<T>,
-    explicit_one: Option<T>,
+    pub(crate) other: T,
+    pub(crate) zero: Option<T>,
+    pub(crate) one: Option<T>,
+    pub(crate) two: Option<T>,
+    pub(crate) few: Option<T>,
+    pub(crate) many: Option<T>,
+    pub(crate) explicit_zero: Option<T>,
+    pub(crate) explicit_one: Option<T>,
 }
 
 impl<T> Model for PluralElements<T> {

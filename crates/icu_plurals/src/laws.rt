@@ -1,4 +1,51 @@
-//! What is true of all texts and rules.
+//! What is true of all texts, rules and packed elements.
 
+ghost use Rattle.std.specs.Prelude.{◌≡◌, ◌↔◌, ℕ, List};
+ghost use Rattle.plural_reference.specs.Operands.{Operands};
+ghost use Rattle.plural_base.specs.FiveRules.{FiveRules};
+ghost use Rattle.icu_plurals.specs.ElementChoice.{KeptElementIsExact};
+ghost use Rattle.icu_plurals.specs.Elements.{Elements, element_at};
+ghost use Rattle.icu_plurals.specs.ElementsPacking.{without_repeats};
+ghost use Rattle.icu_plurals.specs.ElementsReading.{elements_in};
+ghost use Rattle.icu_plurals.specs.PackedElements.{PackedElements, PackedValue, ElementsBytes, elements_of, packed_of};
+
+use packed_list::laws::read_again;
+use plural_base::laws::kept_choice_is_exact;
 pub use plural_base::laws::texts_give_one_answer;
+use plural_reference::laws::exactness::kept_operands_agree;
 pub use plural_reference::laws::reading::one_list_of_tokens;
+
+/// Packed elements are the same bytes exactly if they are the same default and items.
+pub fn one_encoding_of_elements()
+    ensures { (elements others : PackedElements) (a b : List ℕ) → ElementsBytes elements a → ElementsBytes others b
+        → (a ≡ b) ↔ (elements ≡ others) }
+{
+    read_again();
+}
+
+/// What the reader of bytes gives is the elements that they are packed from.
+pub fn elements_read_again()
+    ensures { (elements : PackedElements) (bytes : List ℕ) → ElementsBytes elements bytes → elements_in bytes ≡ elements }
+{
+    read_again();
+}
+
+/// What elements are packed as has their values, without those of the five categories that equal other's in metadata
+/// and text.
+pub fn packed_values_again()
+    ensures { (e : Elements PackedValue) → elements_of (packed_of e) ≡ without_repeats e }
+{}
+
+/// What elements are packed as gives every number the elements' own value, under all rules.
+pub fn packed_elements_answer()
+    ensures { (e : Elements PackedValue) (op : Operands) (rules : FiveRules) → element_at (elements_of (packed_of e)) op rules ≡ element_at e op rules }
+{}
+
+/// Within the bound, under rules that are read from texts without a modulus 0, the value that the kept
+/// operands of a number choose among packed elements is the one that the exact number has.
+pub fn kept_element_is_exact()
+    ensures { KeptElementIsExact PackedValue }
+{
+    kept_operands_agree();
+    kept_choice_is_exact();
+}

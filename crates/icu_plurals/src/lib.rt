@@ -5,18 +5,23 @@
 //! [`provider::rules::runtime`], and all else at the root.
 #![tactic(auto)]
 
+mod cow;
 mod elements;
+mod elements_json;
+mod encode;
 pub mod laws;
+mod packed;
 pub mod provider;
 #[cfg(test)]
 mod tests;
 
 pub use elements::PluralElements;
 pub use fixed_decimal::{CompactDecimal, Decimal, DecimalError, Sign, UnsignedDecimal};
+pub use packed::error::ElementsBytesError;
 pub use packed_list::{Items, ListError, PackError, PackedList};
 pub use plural_base::{
-    AllCategories, Categories, DataError, ElementsPackError, JsonError, JsonProvider,
-    PluralCategory, PluralRuleType, PluralRules, PluralRulesOptions, PluralsProvider,
-    RulesTextError, rule_from_json, rule_to_json,
+    AllCategories, AsPluralRules, Categories, DataError, ElementsPackError, JsonError,
+    JsonProvider, PluralCategory, PluralRuleType, PluralRules, PluralRulesOptions,
+    PluralRulesWithRanges, PluralsProvider, RulesTextError, rule_from_json, rule_to_json,
 };
 pub use plural_reference::{OperandsError, PluralOperands, RawPluralOperands, Sequence};

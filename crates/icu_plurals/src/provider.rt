@@ -2,4 +2,9 @@
 
 pub mod rules;
 
-pub use plural_base::{PluralRulesData, RawPluralCategory};
+pub use crate::cow::PluralElementsPackedCow;
+pub use crate::packed::PluralElementsPackedULE;
+pub use crate::packed::metadata::FourBitMetadata;
+pub use plural_base::{
+    PluralRanges, PluralRulesData, RawPluralCategory, UnvalidatedPluralRange,
+};

@@ -1,4 +1,7 @@
 mod elements;
+mod elements_json;
+mod packed;
+mod packing;
 
 use crate::provider::rules::{reference, runtime};
 use crate::*;
@@ -34,8 +37,15 @@ fn types_stand_at_their_paths() {
     named::<crate::DataError>();
     named::<crate::JsonProvider>();
     named::<crate::PluralElements<u8>>();
+    named::<crate::PluralRulesWithRanges<crate::PluralRules<'static>>>();
     named::<crate::provider::PluralRulesData<'static>>();
     named::<crate::provider::RawPluralCategory>();
+    named::<crate::provider::FourBitMetadata>();
+    named::<crate::provider::PluralElementsPackedCow<'static>>();
+    named::<crate::provider::PluralElementsPackedULE<'static>>();
+    named::<crate::ElementsBytesError>();
+    named::<crate::provider::UnvalidatedPluralRange>();
+    named::<crate::provider::PluralRanges>();
 }
 
 #[test]

@@ -11,3 +11,9 @@ pub mod RuleRefusals
 pub mod Rows
 pub mod RowsRead
 pub mod RulesRead
+pub mod RawCategories
+pub mod RangeNames
+pub mod FirstHyphens
+pub mod RangeTexts
+pub mod RangesWritten
+pub mod RangeRefusals

@@ -8,22 +8,18 @@ use Rattle.std.specs.List.{AllByRecursion}
 use Rattle.std.specs.List.Sorted.{IsStrictlySortedBy}
 use Rattle.std.specs.Map.{keys_of, lookup}
 use Rattle.std.specs.BTreeMap.{insert_entry, is_at}
-use Rattle.plural_base.specs.declared.rules_data.PluralRulesData.{PluralRulesData}
 use Rattle.plural_base.specs.DocumentJson.{Rows, found}
-use Rattle.plural_base.specs.ProviderRows.{rows_of}
-use Rattle.plural_base.specs.RulesData.{rules_of}
+use Rattle.plural_base.specs.ProviderRows.{rows_by}
 
-abbrev pub Entry : Type 0
-Entry = String Global × PluralRulesData
+module _ {V A : Type 0} (seen : V → A) where
+  rows_by-match_ordering : (o : Ordering) (a b c : List (String Global × V)) → rows_by seen (match_ordering o a b c) ≡ match_ordering o (rows_by seen a) (rows_by seen b) (rows_by seen c)
+  rows_by-match_ordering Less a b c = refl
+  rows_by-match_ordering Equal a b c = refl
+  rows_by-match_ordering Greater a b c = refl
 
-rows_of-match_ordering : (o : Ordering) (a b c : List Entry) → rows_of (match_ordering o a b c) ≡ match_ordering o (rows_of a) (rows_of b) (rows_of c)
-rows_of-match_ordering Less a b c = refl
-rows_of-match_ordering Equal a b c = refl
-rows_of-match_ordering Greater a b c = refl
-
-pub rows_of-insert_entry : (es : List Entry) (k : String Global) (v : PluralRulesData) → rows_of (insert_entry string_cmp es k v) ≡ insert_entry (slice_cmp nat_cmp) (rows_of es) (string_bytes k) (rules_of v)
-rows_of-insert_entry [] k v = refl
-rows_of-insert_entry (e ∷ es) k v = rows_of-match_ordering (string_cmp k e.0) _ _ _ ∙ rw (rows_of-insert_entry es k v) refl
+  pub rows_by-insert_entry : (es : List (String Global × V)) (k : String Global) (v : V) → rows_by seen (insert_entry string_cmp es k v) ≡ insert_entry (slice_cmp nat_cmp) (rows_by seen es) (string_bytes k) (seen v)
+  rows_by-insert_entry [] k v = refl
+  rows_by-insert_entry (e ∷ es) k v = rows_by-match_ordering (string_cmp k e.0) _ _ _ ∙ rw (rows_by-insert_entry es k v) refl
 
 -- ---- A key above those before it
 
@@ -71,9 +67,9 @@ found_or : {A B : Type 0} (f : A → B) (b : Bool) (x : A) (rest : Option A) (re
 found_or f true x rest rest' h = refl
 found_or f false x rest rest' h = h
 
--- the rules of a key are those under it
-pub found_rows : (locale : List ℕ) (es : List Entry) → found locale (rows_of es) ≡ option_map rules_of (lookup (is_at (λ k. slice_cmp nat_cmp locale (string_bytes k))) es)
-found_rows locale [] = refl
-found_rows locale (e ∷ es) =
+-- what is found of a key is what stands under it
+pub found_rows : {V A : Type 0} (seen : V → A) (locale : List ℕ) (es : List (String Global × V)) → found locale (rows_by seen es) ≡ option_map seen (lookup (is_at (λ k. slice_cmp nat_cmp locale (string_bytes k))) es)
+found_rows seen locale [] = refl
+found_rows seen locale (e ∷ es) =
     rw (is_eq-slice_cmp locale (string_bytes e.0))
-    (found_or rules_of (bytes_eq locale (string_bytes e.0)) e.1 _ _ (found_rows locale es))
+    (found_or seen (bytes_eq locale (string_bytes e.0)) e.1 _ _ (found_rows seen locale es))

@@ -9,8 +9,10 @@ use Rattle.plural_base.specs.declared.category.PluralCategory.{PluralCategory}
 use Rattle.plural_base.specs.declared.category.PluralCategory.TheVariants.{Zero, One, Two, Few, Many}
 use Rattle.plural_base.specs.declared.json_error.JsonError.{JsonError}
 use Rattle.plural_base.specs.declared.json_error.JsonError.TheVariants.{Shape}
-use Rattle.plural_base.specs.DocumentJson.{Rows, Document, found, rows_shape, map_shape, both_maps, document_shape, value_at, IsReadAt}
+use Rattle.plural_base.specs.DocumentJson.{Rows, Document, found, rows_shape, map_shape, all_maps, document_shape, value_at, IsThereAs, IsReadAt, AreRangesAt}
+use Rattle.plural_base.specs.declared.ranges.PluralRanges.{PluralRanges}
 use Rattle.plural_base.specs.FiveRules.{Five, FiveRules}
+use Rattle.plural_base.specs.RangesJson.{ranges_shape}
 use Rattle.plural_base.specs.RulesJson.{Stands, ◌>>=◌, named, optional_shape, member_shape, rules_shape, all_five, texts_in, Answers}
 use Rattle.plural_base.specs.RuleTexts.{AreRulesOf}
 use Rattle.plural_base.specs.TextAnswers.{IsTakenAs}
@@ -85,60 +87,72 @@ rules_taken texts tells value rules h = taken_members texts tells value rules (a
 
 -- ---- A map
 
-at_key : (o : Ordering) (value : Data) (rules : FiveRules) (there : Option Data) (there' : Option FiveRules) → AreRulesOf (texts_in value) rules → IsReadAt there there'
-    → IsReadAt (match_ordering o there (Some value) there) (cond (is_eq o) (Some rules) there')
-at_key Less value rules there there' h g = g
-at_key Equal value rules there there' h g = h
-at_key Greater value rules there there' h g = g
+module _ {A : Type 0} (shape : Data → Stands A) (Reads : Data → A → Type 0) (taken : (value : Data) (thing : A) → shape value ≡ Ok thing → Reads value thing) (locale : List ℕ) where
+  at_key : (o : Ordering) (value : Data) (thing : A) (there : Option Data) (there' : Option A) → Reads value thing → IsThereAs Reads there there'
+      → IsThereAs Reads (match_ordering o there (Some value) there) (cond (is_eq o) (Some thing) there')
+  at_key Less value thing there there' h g = g
+  at_key Equal value thing there there' h g = h
+  at_key Greater value thing there there' h g = g
 
-row_read : (texts : TextReader) → TellsTexts texts → (locale k : List ℕ) (value : Data) (ms : Members) (first : Stands FiveRules) (more : Stands (Rows FiveRules)) (rows : Rows FiveRules)
-    → rules_shape texts value ≡ first → ((rest : Rows FiveRules) → more ≡ Ok rest → IsReadAt (get_member locale ms) (found locale rest))
-    → (first >>= λ x. (more >>= λ rest. Ok ((k, x) ∷ rest))) ≡ Ok rows → IsReadAt (get_member locale (member k value ms)) (found locale rows)
-row_read texts tells locale k value ms (Err e) more rows read others h = absurd cc
-row_read texts tells locale k value ms (Ok x) (Err e) rows read others h = absurd cc
-row_read texts tells locale k value ms (Ok x) (Ok rest) rows read others h =
-    subst (λ r. IsReadAt (get_member locale (member k value ms)) (found locale r)) (same_ok _ _ h)
-    (subst (λ b. IsReadAt (get_member locale (member k value ms)) (cond b (Some x) (found locale rest))) (is_eq-slice_cmp locale k)
-    (at_key (slice_cmp nat_cmp locale k) value x _ _ (rules_taken texts tells value x read) (others rest refl)))
+  row_read : (k : List ℕ) (value : Data) (ms : Members) (first : Stands A) (more : Stands (Rows A)) (rows : Rows A)
+      → shape value ≡ first → ((rest : Rows A) → more ≡ Ok rest → IsThereAs Reads (get_member locale ms) (found locale rest))
+      → (first >>= λ x. (more >>= λ rest. Ok ((k, x) ∷ rest))) ≡ Ok rows → IsThereAs Reads (get_member locale (member k value ms)) (found locale rows)
+  row_read k value ms (Err e) more rows read others h = absurd cc
+  row_read k value ms (Ok x) (Err e) rows read others h = absurd cc
+  row_read k value ms (Ok x) (Ok rest) rows read others h =
+      subst (λ r. IsThereAs Reads (get_member locale (member k value ms)) (found locale r)) (same_ok _ _ h)
+      (subst (λ b. IsThereAs Reads (get_member locale (member k value ms)) (cond b (Some x) (found locale rest))) (is_eq-slice_cmp locale k)
+      (at_key (slice_cmp nat_cmp locale k) value x _ _ (taken value x read) (others rest refl)))
 
--- a row is read where its key is there
-rows_read : (texts : TextReader) → TellsTexts texts → (locale : List ℕ) (ms : Members) (rows : Rows FiveRules) → rows_shape (rules_shape texts) ms ≡ Ok rows
-    → IsReadAt (get_member locale ms) (found locale rows)
-rows_read texts tells locale no_members rows h = subst (λ r. IsReadAt None (found locale r)) (same_ok _ _ h) tt
-rows_read texts tells locale (member k value ms) rows h =
-    row_read texts tells locale k value ms _ _ rows refl (λ rest read. rows_read texts tells locale ms rest read) h
+  -- a row is read where its key is there
+  rows_read : (ms : Members) (rows : Rows A) → rows_shape shape ms ≡ Ok rows → IsThereAs Reads (get_member locale ms) (found locale rows)
+  rows_read no_members rows h = subst (λ r. IsThereAs Reads None (found locale r)) (same_ok _ _ h) tt
+  rows_read (member k value ms) rows h = row_read k value ms _ _ rows refl (λ rest read. rows_read ms rest read) h
 
-map_read : (texts : TextReader) → TellsTexts texts → (locale : List ℕ) (value : Option Data) (rows : Rows FiveRules) → map_shape (rules_shape texts) value ≡ Ok rows
-    → IsReadAt (option_and_then (get locale) value) (found locale rows)
-map_read texts tells locale None rows h = subst (λ r. IsReadAt None (found locale r)) (same_ok _ _ h) tt
-map_read texts tells locale (Some null) rows h = subst (λ r. IsReadAt None (found locale r)) (same_ok _ _ h) tt
-map_read texts tells locale (Some (boolean b)) rows h = absurd cc
-map_read texts tells locale (Some (number n)) rows h = absurd cc
-map_read texts tells locale (Some (string s)) rows h = absurd cc
-map_read texts tells locale (Some (array items)) rows h = absurd cc
-map_read texts tells locale (Some (object ms)) rows h = rows_read texts tells locale ms rows h
+  map_read : (value : Option Data) (rows : Rows A) → map_shape shape value ≡ Ok rows → IsThereAs Reads (option_and_then (get locale) value) (found locale rows)
+  map_read None rows h = subst (λ r. IsThereAs Reads None (found locale r)) (same_ok _ _ h) tt
+  map_read (Some null) rows h = subst (λ r. IsThereAs Reads None (found locale r)) (same_ok _ _ h) tt
+  map_read (Some (boolean b)) rows h = absurd cc
+  map_read (Some (number n)) rows h = absurd cc
+  map_read (Some (string s)) rows h = absurd cc
+  map_read (Some (array items)) rows h = absurd cc
+  map_read (Some (object ms)) rows h = rows_read ms rows h
 
 -- ---- A document
 
-cardinal_is : (cardinal ordinal : Stands (Rows FiveRules)) (document : Document) → both_maps cardinal ordinal ≡ Ok document → cardinal ≡ Ok document.cardinal
-cardinal_is (Err e) ordinal document h = absurd cc
-cardinal_is (Ok rows) (Err e) document h = absurd cc
-cardinal_is (Ok rows) (Ok others) document h = ap (λ d. Ok d.cardinal) (same_ok _ _ h)
+-- three maps that are all there
+record AreMaps (cardinal ordinal : Stands (Rows FiveRules)) (ranges : Stands (Rows PluralRanges)) (document : Document) : Type 0 where
+  pub cardinal_is : cardinal ≡ Ok document.cardinal
+  pub ordinal_is : ordinal ≡ Ok document.ordinal
+  pub ranges_are : ranges ≡ Ok document.ranges
 
-ordinal_is : (cardinal ordinal : Stands (Rows FiveRules)) (document : Document) → both_maps cardinal ordinal ≡ Ok document → ordinal ≡ Ok document.ordinal
-ordinal_is (Err e) ordinal document h = absurd cc
-ordinal_is (Ok rows) (Err e) document h = absurd cc
-ordinal_is (Ok rows) (Ok others) document h = ap (λ d. Ok d.ordinal) (same_ok _ _ h)
+are_maps : (cardinal ordinal : Stands (Rows FiveRules)) (ranges : Stands (Rows PluralRanges)) (document : Document) → all_maps cardinal ordinal ranges ≡ Ok document
+    → AreMaps cardinal ordinal ranges document
+are_maps (Err e) ordinal ranges document h = absurd cc
+are_maps (Ok c) (Err e) ranges document h = absurd cc
+are_maps (Ok c) (Ok o) (Err e) document h = absurd cc
+are_maps (Ok c) (Ok o) (Ok r) document h = subst (AreMaps (Ok c) (Ok o) (Ok r)) (same_ok _ _ h) (record { cardinal_is = refl; ordinal_is = refl; ranges_are = refl })
 
--- each map of a document is read from the texts under its key
-pub cardinal_read : (texts : TextReader) → TellsTexts texts → (value : Data) (read : Result Document JsonError) → Answers (λ d. d) read (document_shape texts value)
-    → IfOk read (λ d. (locale : List ℕ) → IsReadAt (value_at (codes "cardinal") locale value) (found locale d.cardinal))
-cardinal_read texts tells value (Err e) h = tt
-cardinal_read texts tells value (Ok document) h = λ locale.
-    map_read texts tells locale _ document.cardinal (cardinal_is _ _ document (if_read (is_some (as_object value)) Shape _ document h))
+-- each map of a document is read from what stands under its key
+module _ (texts : TextReader) (tells : TellsTexts texts) (value : Data) where
+  maps_of : (document : Document) → document_shape texts value ≡ Ok document
+      → AreMaps (map_shape (rules_shape texts) (get (codes "cardinal") value)) (map_shape (rules_shape texts) (get (codes "ordinal") value)) (map_shape ranges_shape (get (codes "ranges") value)) document
+  maps_of document h = are_maps _ _ _ document (if_read (is_some (as_object value)) Shape _ document h)
 
-pub ordinal_read : (texts : TextReader) → TellsTexts texts → (value : Data) (read : Result Document JsonError) → Answers (λ d. d) read (document_shape texts value)
-    → IfOk read (λ d. (locale : List ℕ) → IsReadAt (value_at (codes "ordinal") locale value) (found locale d.ordinal))
-ordinal_read texts tells value (Err e) h = tt
-ordinal_read texts tells value (Ok document) h = λ locale.
-    map_read texts tells locale _ document.ordinal (ordinal_is _ _ document (if_read (is_some (as_object value)) Shape _ document h))
+  pub cardinal_read : (read : Result Document JsonError) → Answers (λ d. d) read (document_shape texts value)
+      → IfOk read (λ d. (locale : List ℕ) → IsReadAt (value_at (codes "cardinal") locale value) (found locale d.cardinal))
+  cardinal_read (Err e) h = tt
+  cardinal_read (Ok document) h = λ locale.
+      map_read (rules_shape texts) (λ v rules. AreRulesOf (texts_in v) rules) (rules_taken texts tells) locale _ document.cardinal (maps_of document h).cardinal_is
+
+  pub ordinal_read : (read : Result Document JsonError) → Answers (λ d. d) read (document_shape texts value)
+      → IfOk read (λ d. (locale : List ℕ) → IsReadAt (value_at (codes "ordinal") locale value) (found locale d.ordinal))
+  ordinal_read (Err e) h = tt
+  ordinal_read (Ok document) h = λ locale.
+      map_read (rules_shape texts) (λ v rules. AreRulesOf (texts_in v) rules) (rules_taken texts tells) locale _ document.ordinal (maps_of document h).ordinal_is
+
+  pub ranges_read : (read : Result Document JsonError) → Answers (λ d. d) read (document_shape texts value)
+      → IfOk read (λ d. (locale : List ℕ) → AreRangesAt (value_at (codes "ranges") locale value) (found locale d.ranges))
+  ranges_read (Err e) h = tt
+  ranges_read (Ok document) h = λ locale.
+      map_read ranges_shape (λ v ranges. ranges_shape v ≡ Ok ranges) (λ v ranges read. read) locale _ document.ranges (maps_of document h).ranges_are

@@ -1,4 +1,4 @@
--- The six plural categories (UTS 35 Part 3, Language Plural Rules): their names and their orders.
+-- The six plural categories (UTS 35 Part 3, Language Plural Rules): their names, their orders and their numbers.
 use Rattle.std.specs.Prelude.{ℕ, List, [], ◌∷◌, codes}
 use Rattle.plural_base.specs.declared.category.PluralCategory.{PluralCategory}
 use Rattle.plural_base.specs.declared.category.PluralCategory.TheVariants.{Zero, One, Two, Few, Many, Other}
@@ -35,3 +35,20 @@ raw_category_of Two = raw.Two
 raw_category_of Few = raw.Few
 raw_category_of Many = raw.Many
 raw_category_of Other = raw.Other
+
+-- its name
+abbrev pub raw_name_of : RawPluralCategory → List ℕ
+raw_name_of raw = name_of (category_of raw)
+
+-- its number
+abbrev pub number_of : RawPluralCategory → ℕ
+number_of raw.Other = 0
+number_of raw.Zero = 1
+number_of raw.One = 2
+number_of raw.Two = 3
+number_of raw.Few = 4
+number_of raw.Many = 5
+
+-- all six, in the order of their numbers
+abbrev pub all_raw_categories : List RawPluralCategory
+all_raw_categories = raw.Other ∷ raw.Zero ∷ raw.One ∷ raw.Two ∷ raw.Few ∷ raw.Many ∷ []

@@ -1,7 +1,8 @@
--- The bound on moduli is the widest for the choice of a category too.
+-- The choice of a category by the operands that are kept of a number: within the bound it is that of the number itself, and no
+-- wider bound on moduli would do.
 use Rattle.std.specs.Prelude.{◌≡◌, ℕ, ◌*◌, ◌%◌, ◌^◌, ◌<◌, List, [], ◌∷◌, Option, Some, None, Ok}
 use Rattle.std.specs.Int.{◌∣◌}
-use Rattle.fixed_decimal.specs.Places.{Places}
+use Rattle.fixed_decimal.specs.Places.{Places, IsWritten}
 use Rattle.plural_reference.specs.declared.ast.Condition.{Condition}
 use Rattle.plural_reference.specs.declared.ast.Relation.{Relation}
 use Rattle.plural_reference.specs.declared.ast.Operand.TheVariants.{I}
@@ -15,8 +16,20 @@ use Rattle.plural_runtime.specs.PackedRelations.{PackedRelation}
 use Rattle.plural_runtime.specs.PackedTree.{packed, condition_of}
 use Rattle.plural_runtime.specs.PackedTruth.{packed_truth}
 use Rattle.plural_runtime.specs.Packing.{packing}
+use Rattle.plural_base.specs.declared.category.PluralCategory.{PluralCategory}
 use Rattle.plural_base.specs.declared.category.PluralCategory.TheVariants.{One, Other}
-use Rattle.plural_base.specs.FiveRules.{Five, five, first_category}
+use Rattle.plural_base.specs.DecimalChoice.{IsExactChoice, IsKeptChoice}
+use Rattle.plural_base.specs.FiveRules.{Five, FiveRules, five, first_category}
+
+-- ---- Within the bound
+
+-- the category that the kept operands of a number choose is the one that the exact number has
+abbrev pub KeptChoiceIsExact : Type 0
+KeptChoiceIsExact =
+    (rules : FiveRules) (x : Places) (exponent : ℕ) (category : PluralCategory)
+    → IsWritten x → IsKeptChoice rules x exponent category → IsExactChoice rules x exponent category
+
+-- ---- The bound is the widest
 
 -- a thing for one, and none for the others
 abbrev pub only_one : {A : Type 0} → A → Five (Option A)

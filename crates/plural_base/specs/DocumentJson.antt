@@ -1,12 +1,15 @@
--- What a JSON document stands for: maps from locales to rules (docs/JSON.md).
---     found locale rows      the rules of the first row of the locale
+-- What a JSON document stands for: maps from locales to rules and to ranges (docs/JSON.md).
+--     found locale rows      what stands in the first row of the locale
 --     document_of_json texts value      the maps of a document, or its first refusal
 --     IsReadAt value rules      nothing on both sides, or the rules of the texts in the value
-use Rattle.std.specs.Prelude.{ℕ, List, [], ◌∷◌, codes, ⊤, Option, Some, None, is_some, Ok, Err, bytes_eq, if◌then◌else◌}
+--     AreRangesAt value ranges      nothing on both sides, or the ranges that the value stands for
+use Rattle.std.specs.Prelude.{◌≡◌, ℕ, List, [], ◌∷◌, codes, ⊤, Option, Some, None, is_some, Ok, Err, bytes_eq, if◌then◌else◌}
 use Rattle.std.specs.Map.{lookup}
 use Rattle.std.specs.Option.{option_and_then}
 use Rattle.plural_base.specs.declared.json_error.JsonError.TheVariants.{Shape}
+use Rattle.plural_base.specs.declared.ranges.PluralRanges.{PluralRanges}
 use Rattle.plural_base.specs.FiveRules.{FiveRules}
+use Rattle.plural_base.specs.RangesJson.{ranges_shape}
 use Rattle.plural_base.specs.RuleTexts.{AreRulesOf}
 use Rattle.plural_base.specs.RulesJson.{Stands, ◌>>=◌, rules_shape, texts_in, unless_float}
 use Rattle.plural_base.specs.TextReaders.{TextReader}
@@ -26,6 +29,7 @@ found locale rows = lookup (bytes_eq locale) rows
 pub record Document : Type 0 where
   pub cardinal : Rows FiveRules
   pub ordinal : Rows FiveRules
+  pub ranges : Rows PluralRanges
 
 -- ---- Reading
 
@@ -46,18 +50,20 @@ abbrev pub map_shape : {A : Type 0} → (Data → Stands A) → Option Data → 
 map_shape shape None = Ok []
 map_shape shape (Some value) = if is_some (as_null value) then Ok [] else object_shape shape (as_object value)
 
--- both maps, or the first refusal
-abbrev pub both_maps : Stands (Rows FiveRules) → Stands (Rows FiveRules) → Stands Document
-both_maps cardinal ordinal = do
+-- all three maps, or the first refusal
+abbrev pub all_maps : Stands (Rows FiveRules) → Stands (Rows FiveRules) → Stands (Rows PluralRanges) → Stands Document
+all_maps cardinal ordinal ranges = do
   rows ← cardinal
   others ← ordinal
-  Ok (record { cardinal = rows; ordinal = others })
+  tables ← ranges
+  Ok (record { cardinal = rows; ordinal = others; ranges = tables })
 
--- a document is an object with two maps; its other keys are not looked at
+-- a document is an object with three maps; its other keys are not looked at
 abbrev pub document_shape : TextReader → Data → Stands Document
 document_shape texts value =
     if is_some (as_object value)
-    then both_maps (map_shape (rules_shape texts) (get (codes "cardinal") value)) (map_shape (rules_shape texts) (get (codes "ordinal") value))
+    then all_maps (map_shape (rules_shape texts) (get (codes "cardinal") value)) (map_shape (rules_shape texts) (get (codes "ordinal") value))
+    (map_shape ranges_shape (get (codes "ranges") value))
     else Err Shape
 
 abbrev pub document_of_json : TextReader → Data → Stands Document
@@ -69,8 +75,16 @@ document_of_json texts = unless_float (document_shape texts)
 abbrev pub value_at : List ℕ → List ℕ → Data → Option Data
 value_at key locale value = option_and_then (get locale) (get key value)
 
--- neither is there, or the rules are those of the texts in the value
+-- neither is there, or what is there is read from the value
+abbrev pub IsThereAs : {A : Type 0} → (Data → A → Type 0) → Option Data → Option A → Type 0
+IsThereAs Reads None None = ⊤
+IsThereAs Reads (Some value) (Some thing) = Reads value thing
+IsThereAs Reads _ _ = ⊥
+
+-- the rules are those of the texts in the value
 abbrev pub IsReadAt : Option Data → Option FiveRules → Type 0
-IsReadAt None None = ⊤
-IsReadAt (Some value) (Some rules) = AreRulesOf (texts_in value) rules
-IsReadAt _ _ = ⊥
+IsReadAt = IsThereAs (λ value rules. AreRulesOf (texts_in value) rules)
+
+-- the ranges are those that the value stands for
+abbrev pub AreRangesAt : Option Data → Option PluralRanges → Type 0
+AreRangesAt = IsThereAs (λ value ranges. ranges_shape value ≡ Ok ranges)

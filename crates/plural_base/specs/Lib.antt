@@ -20,13 +20,18 @@ pub use Rattle.plural_runtime.specs.RuleErrorTexts
 -- categories
 pub mod CategoryNames
 pub mod FiveRules
+pub mod ByCategory
+pub mod RangeKeys
+pub mod RangeTable
 pub mod RulesData
 pub mod RuleTexts
 pub mod TextAnswers
 pub mod TextReaders
 pub mod JsonErrorTexts
 pub mod RulesJson
+pub mod RangesJson
 pub mod Providers
+pub mod RulesWithRanges
 pub mod DocumentJson
 pub mod RuleModuli
 pub mod DecimalChoice

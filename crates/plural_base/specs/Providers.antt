@@ -1,8 +1,9 @@
--- What a provider of rules answers: two maps from locales, texts that are compared byte by byte.
+-- What a provider answers: three maps from locales, texts that are compared byte by byte: to cardinal rules, to ordinal rules and to ranges.
 use Rattle.std.specs.Prelude.{◌≡◌, Option, Some, None, Result, Ok, Err}
 use Rattle.plural_base.specs.declared.options.PluralRuleType.{PluralRuleType}
 use Rattle.plural_base.specs.declared.options.PluralRuleType.TheVariants.{Cardinal, Ordinal}
 use Rattle.plural_base.specs.declared.provider.DataError.{DataError}
+use Rattle.plural_base.specs.declared.ranges.PluralRanges.{PluralRanges}
 use Rattle.plural_base.specs.declared.rules.PluralRules.{PluralRules}
 use Rattle.plural_base.specs.declared.rules_data.PluralRulesData.{PluralRulesData}
 use Rattle.plural_base.specs.FiveRules.{FiveRules}
@@ -17,6 +18,11 @@ Loads there (Err error) = there ≡ None
 abbrev pub Makes : Option FiveRules → Result PluralRules DataError → Type 0
 Makes there (Ok rules) = there ≡ Some rules
 Makes there (Err error) = there ≡ None
+
+-- the same of ranges
+abbrev pub LoadsRanges : Option PluralRanges → Result PluralRanges DataError → Type 0
+LoadsRanges there (Ok ranges) = there ≡ Some ranges
+LoadsRanges there (Err error) = there ≡ None
 
 -- the thing of a type; none means cardinal
 abbrev pub of_type : {A : Type 0} → Option PluralRuleType → A → A → A

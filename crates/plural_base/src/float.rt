@@ -6,9 +6,9 @@ ghost use Rattle.serde_json.specs.Written.{has_float, items_have_float, members_
 
 use serde_json::{Map, Value};
 
-// Whether a float stands anywhere in the value: a number for which `as_u64` and `as_i64` both answer `None`.
+/// Whether a float stands anywhere in the value: a number for which `as_u64` and `as_i64` both answer `None`. It takes no memory.
 #[cycle(float)]
-pub(crate) fn holds_float(value: &Value) -> bool
+pub fn holds_float(value: &Value) -> bool
     ensures { result ≡ has_float (view value.now) }
 {
     match value {

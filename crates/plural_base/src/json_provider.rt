@@ -1,4 +1,4 @@
-//! Rules by locale from a JSON document.
+//! Rules and ranges by locale from a JSON document.
 
 ghost use Rattle.std.specs.Prelude.{◌≡◌, ◌≢◌, Option, Err, OnOk, IfOk, List, ℕ, codes, option_map, string_bytes};
 ghost use Rattle.std.specs.BTreeMap.{insert_entry};
@@ -6,8 +6,8 @@ ghost use Rattle.std.specs.Cmp.Lexicographic.{slice_cmp};
 ghost use Rattle.std.specs.Ordering.{nat_cmp};
 ghost use Rattle.plural_base.specs.declared.category.PluralCategory.{PluralCategory};
 ghost use Rattle.plural_base.specs.DocumentJson.{document_shape, found, map_shape, rows_shape};
-ghost use Rattle.plural_base.specs.ProviderRows.{rows_of};
-ghost use Rattle.plural_base.specs.Providers.{Loads};
+ghost use Rattle.plural_base.specs.ProviderRows.{range_rows_of, rows_of};
+ghost use Rattle.plural_base.specs.Providers.{Loads, LoadsRanges};
 ghost use Rattle.plural_base.specs.RulesData.{rules_of};
 ghost use Rattle.plural_base.specs.RulesJson.{rules_shape, Answers};
 ghost use Rattle.plural_base.specs.TextReaders.{TextReader, TellsTexts};
@@ -17,6 +17,8 @@ use crate::float::holds_float;
 use crate::json_error::JsonError;
 use crate::laws::texts_give_one_answer;
 use crate::provider::{DataError, PluralsProvider};
+use crate::range_rows::read_range_map;
+use crate::ranges::PluralRanges;
 use crate::rules_data::PluralRulesData;
 use crate::rules_json::read_rules;
 use plural_runtime::RuleError;
@@ -25,39 +27,47 @@ use std::alloc::{AllocError, Global};
 use std::collections::BTreeMap;
 use std::marker::Model;
 
-/// Rules by locale that were read from a JSON document. It owns them.
+/// Rules and ranges by locale that were read from a JSON document. It owns them.
 #[derive(Debug, Drop)]
 pub struct JsonProvider {
     cardinal: BTreeMap<String, PluralRulesData<'static>>,
     ordinal: BTreeMap<String, PluralRulesData<'static>>,
+    ranges: BTreeMap<String, PluralRanges>,
 }
 
 impl Model for JsonProvider {
     ghost use Rattle.plural_base.specs.DocumentJson.{Document};
-    ghost use Rattle.plural_base.specs.ProviderRows.{rows_of};
+    ghost use Rattle.plural_base.specs.ProviderRows.{range_rows_of, rows_of};
 
     ghost Value = { Document };
 
-    ghost view = { λ p. record { cardinal = rows_of p.cardinal.entries; ordinal = rows_of p.ordinal.entries } };
+    ghost view = { λ p. record {
+      cardinal = rows_of p.cardinal.entries;
+      ordinal = rows_of p.ordinal.entries;
+      ranges = range_rows_of p.ranges.entries;
+    } };
 }
 
 impl JsonProvider {
-    ghost use Rattle.plural_base.specs.DocumentJson.{found, document_of_json, value_at, IsReadAt};
+    ghost use Rattle.plural_base.specs.DocumentJson.{found, document_of_json, value_at, AreRangesAt, IsReadAt};
 
     /// The provider of a document: an object with an object from locales to rules, as
-    /// [`PluralRulesData::from_json`] reads them, under each of `cardinal` and `ordinal`, or null or
-    /// nothing where there are none. Other keys are not looked at.
+    /// [`PluralRulesData::from_json`] reads them, under each of `cardinal` and `ordinal`, and one to
+    /// ranges, as [`PluralRanges::from_json`] reads them, under `ranges`, or null or nothing where there
+    /// are none. Other keys are not looked at.
     ///
     /// [`JsonError::Float`] where a float stands anywhere in the document, else [`JsonError::Shape`] where
-    /// it is no object; else the refusal of the first place: cardinal before ordinal, in each first
-    /// [`JsonError::Shape`] where it is neither null nor an object, then its locales in the order of their
-    /// bytes, each as [`PluralRulesData::from_json`] refuses it. It takes memory; want of it is
-    /// [`JsonError::Memory`].
+    /// it is no object; else the refusal of the first place: cardinal before ordinal before ranges, in
+    /// each first [`JsonError::Shape`] where it is neither null nor an object, then its locales in the
+    /// order of their bytes, each as [`PluralRulesData::from_json`] or [`PluralRanges::from_json`] refuses
+    /// it. It takes memory; want of it is [`JsonError::Memory`].
     pub fn from_value(alloc: Global, value: &Value) -> Result<JsonProvider, JsonError>
         ensures answers { (texts : TextReader) → TellsTexts texts → Answers (λ provider. provider) result (document_of_json texts (view value.now)) }
         // A locale has rules exactly where its key is there, and they are those of the texts under it.
         ensures cardinal { IfOk result (λ provider. (locale : List ℕ) → IsReadAt (value_at (codes "cardinal") locale (view value.now)) (found locale provider.cardinal)) }
         ensures ordinal { IfOk result (λ provider. (locale : List ℕ) → IsReadAt (value_at (codes "ordinal") locale (view value.now)) (found locale provider.ordinal)) }
+        // A locale has ranges exactly where its key is there, and they are those that the value under it stands for.
+        ensures ranges { IfOk result (λ provider. (locale : List ℕ) → AreRangesAt (value_at (codes "ranges") locale (view value.now)) (found locale provider.ranges)) }
         ensures memory { (category : Option PluralCategory) → result ≢ Err (JsonError.Rule category RuleError.Memory) }
     {
         texts_give_one_answer();
@@ -75,12 +85,18 @@ impl PluralsProvider for JsonProvider {
 
     ghost ordinal = { λ p locale. found locale p.ordinal };
 
+    ghost ranges = { λ p locale. found locale p.ranges };
+
     fn load_cardinal(&self, locale: &str) -> Result<PluralRulesData<'_>, DataError> {
         load(&self.cardinal, locale)
     }
 
     fn load_ordinal(&self, locale: &str) -> Result<PluralRulesData<'_>, DataError> {
         load(&self.ordinal, locale)
+    }
+
+    fn load_ranges(&self, locale: &str) -> Result<PluralRanges, DataError> {
+        load_copied(&self.ranges, locale)
     }
 }
 
@@ -97,6 +113,19 @@ fn load<'a>(
     }
 }
 
+// The locale's ranges of a map.
+fn load_copied(
+    tables: &BTreeMap<String, PluralRanges>,
+    locale: &str,
+) -> Result<PluralRanges, DataError>
+    ensures { LoadsRanges (found locale.now (range_rows_of tables.now.entries)) result }
+{
+    match tables.get(locale) {
+        Some(ranges) => Ok(*ranges),
+        None => Err(DataError::NotFound),
+    }
+}
+
 // The provider of a document without floats.
 fn read_document(alloc: Global, value: &Value) -> Result<JsonProvider, JsonError>
     ensures answers { (texts : TextReader) → TellsTexts texts → Answers (λ provider. provider) result (document_shape texts (view value.now)) }
@@ -108,6 +137,7 @@ fn read_document(alloc: Global, value: &Value) -> Result<JsonProvider, JsonError
     Ok(JsonProvider {
         cardinal: read_map(alloc, value.get("cardinal"))?,
         ordinal: read_map(alloc, value.get("ordinal"))?,
+        ranges: read_range_map(alloc, value.get("ranges"))?,
     })
 }
 

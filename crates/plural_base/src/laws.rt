@@ -1,10 +1,20 @@
-//! What is true of all rules.
+//! What is true of all rules and ranges.
 
-ghost use Rattle.plural_base.specs.ChoiceLaws.{BoundIsWidestForChoice};
+ghost use Rattle.plural_base.specs.ChoiceLaws.{BoundIsWidestForChoice, KeptChoiceIsExact};
+ghost use Rattle.plural_base.specs.RangeKeys.{RangeBytesDiffer};
+ghost use Rattle.plural_base.specs.RangeTable.{RangesAreTheirMaps};
 ghost use Rattle.plural_base.specs.TextReaders.{TextsGiveOneAnswer};
 
 use plural_reference::laws::exactness;
 use plural_reference::laws::reading::{one_list_of_tokens, one_rule};
+
+/// Within the bound, under rules that are read from texts without a modulus 0, the category that the kept
+/// operands of a number choose is the one that the exact number has.
+pub fn kept_choice_is_exact()
+    ensures { KeptChoiceIsExact }
+{
+    exactness::kept_operands_agree();
+}
 
 /// The bound on moduli is the widest: for each modulus `m` up to 4294967295 that doesn't divide
 /// `10^18`, the rules with `i % m = r` alone, for one, where `r` is what `m` leaves of `2 * 10^18`,
@@ -22,4 +32,18 @@ pub fn texts_give_one_answer()
 {
     one_list_of_tokens();
     one_rule();
+}
+
+/// No two ranges have one byte: [`UnvalidatedPluralRange::from_range`] is injective.
+///
+/// [`UnvalidatedPluralRange::from_range`]: crate::UnvalidatedPluralRange::from_range
+pub fn range_bytes_differ()
+    ensures { RangeBytesDiffer }
+{
+}
+
+/// Tables of ranges that have the same category at each pair are equal.
+pub fn ranges_are_their_maps()
+    ensures { RangesAreTheirMaps }
+{
 }

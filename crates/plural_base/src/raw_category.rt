@@ -24,6 +24,16 @@ pub enum RawPluralCategory {
     Many = 5,
 }
 
+// All six, in the order of their numbers.
+pub(crate) const ALL: [RawPluralCategory; 6] = [
+    RawPluralCategory::Other,
+    RawPluralCategory::Zero,
+    RawPluralCategory::One,
+    RawPluralCategory::Two,
+    RawPluralCategory::Few,
+    RawPluralCategory::Many,
+];
+
 impl RawPluralCategory {
     /// The name in lower case, as CLDR writes it.
     pub fn as_str(self) -> &'static str

@@ -2,4 +2,5 @@ mod categories;
 mod exact;
 mod json;
 mod provider;
+mod ranges;
 mod texts;

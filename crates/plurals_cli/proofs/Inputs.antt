@@ -1,12 +1,11 @@
 -- What was read is the input, or the beginning of one that is too long.
-use Rattle.std.proofs.Common.{◌≡◌, ℕ, ◌<◌, ◌≤◌, ◌+◌, List, [], ◌++◌, length, true, false, Option, Some, None, Err, Bool, arith, refl, sym, ◌∙◌, ap, cond}
+use Rattle.std.proofs.Common.{◌≡◌, ℕ, ◌<◌, ◌≤◌, ◌+◌, List, [], ◌++◌, length, true, false, Option, Some, None, Result, Err, Bool, arith, refl, sym, ◌∙◌, ap, cond}
 use Rattle.std.proofs.lemmas.Bool.{le-ltb, lt-ltb}
 use Rattle.std.proofs.lemmas.List.{append-nil, length-append}
 use Rattle.std.specs.Io.KnownBytes.{Consumes, IsAtEnd}
-use Rattle.icu_plurals.specs.declared.PluralRuleType.{PluralRuleType}
-use Rattle.icu_plurals.specs.TextReaders.{TextReader}
 use Rattle.plurals_cli.specs.Answer.{IsInput}
-use Rattle.plurals_cli.specs.InputRules.{most_bytes, rules_in, rules_of}
+use Rattle.plurals_cli.specs.InputRules.{most_bytes, unless_long}
+use Rattle.plurals_cli.specs.declared.error.RunError.{RunError}
 use Rattle.plurals_cli.specs.declared.error.RunError.TheVariants.{TooLong}
 
 -- all of it
@@ -35,11 +34,12 @@ first_arm b x y h = rw h refl
 second_arm : {A : Type 0} (b : Bool) (x y : A) → b ≡ false → cond b x y ≡ y
 second_arm b x y h = rw h refl
 
-pub rules_within : (texts : TextReader) (type : PluralRuleType) (locale input : List ℕ) → length input ≤ most_bytes → rules_in texts type locale input ≡ rules_of texts type locale input
-rules_within texts type locale input h = second_arm _ _ _ (le-ltb most_bytes (length input) h)
+-- the length is no fault, or the only one
+pub within : {A : Type 0} (of_bytes : List ℕ → Result A RunError) (input : List ℕ) → length input ≤ most_bytes → unless_long of_bytes input ≡ of_bytes input
+within of_bytes input h = second_arm _ _ _ (le-ltb most_bytes (length input) h)
 
-pub rules_beyond : (texts : TextReader) (type : PluralRuleType) (locale input : List ℕ) → most_bytes < length input → rules_in texts type locale input ≡ Err TooLong
-rules_beyond texts type locale input h = first_arm _ _ _ (lt-ltb most_bytes (length input) h)
+pub beyond : {A : Type 0} (of_bytes : List ℕ → Result A RunError) (input : List ℕ) → most_bytes < length input → unless_long of_bytes input ≡ Err TooLong
+beyond of_bytes input h = first_arm _ _ _ (lt-ltb most_bytes (length input) h)
 
 pub long_by_one : (n m : ℕ) → m ≡ n + 1 → n < m
 long_by_one n m h = omega arith

@@ -55,19 +55,23 @@ AnswersTokens tokens integer answer = (condition : Tree) × Reads tokens conditi
 abbrev pub AnswersTest : List ℕ → List ℕ → Result (List ℕ) RunError → Type 0
 AnswersTest condition integer answer = (tokens : List Token) × AreTokensOf condition tokens × AnswersTokens tokens integer answer
 
--- ---- The commands on rules
+-- ---- The commands that read
 
--- a text of the rules, or the fault of the input, in which there are none
-abbrev pub AnswersRules : (FiveRules → List ℕ → Type 0) → Result FiveRules RunError → Result (List ℕ) RunError → Type 0
-AnswersRules IsText (Ok rules) (Ok text) = IsText rules text
-AnswersRules IsText (Ok rules) (Err fault) = ⊥
-AnswersRules IsText (Err fault) answer = answer ≡ Err fault
+-- a text of what the input gives, or the fault of the input, which gives nothing
+abbrev pub AnswersFrom : {A : Type 0} → (A → List ℕ → Type 0) → Result A RunError → Result (List ℕ) RunError → Type 0
+AnswersFrom IsText (Ok given) (Ok text) = IsText given text
+AnswersFrom IsText (Ok given) (Err fault) = ⊥
+AnswersFrom IsText (Err fault) answer = answer ≡ Err fault
+
+-- the fault of a word that is to be a number, or an answer for the number
+abbrev pub AnswersNumber : List ℕ → (CompactNumber → Result (List ℕ) RunError → Type 0) → Result (List ℕ) RunError → Type 0
+AnswersNumber word IsAnswer answer =
+    ((fault : DecimalError) × IsNumberFault word fault × (answer ≡ Err (Number fault)))
+    ⊎ ((x : CompactNumber) × IsNumberOf word x × IsAnswer x answer)
 
 -- `category LOCALE TYPE NUMBER`, the rules given: the number's fault comes before the input's
 abbrev pub AnswersCategory : Result FiveRules RunError → List ℕ → Result (List ℕ) RunError → Type 0
-AnswersCategory rules number answer =
-    ((fault : DecimalError) × IsNumberFault number fault × (answer ≡ Err (Number fault)))
-    ⊎ ((x : CompactNumber) × IsNumberOf number x × AnswersRules (IsCategoryLine x) rules answer)
+AnswersCategory rules number = AnswersNumber number (λ x. AnswersFrom (IsCategoryLine x) rules)
 
 -- ---- The answer
 
@@ -77,7 +81,7 @@ abbrev pub AnswersCommand : TextReader → Option Command → List ℕ → Resul
 AnswersCommand texts None input answer = answer ≡ Err Usage
 AnswersCommand texts (Some (test condition integer)) input answer = AnswersTest condition integer answer
 AnswersCommand texts (Some (category locale type number)) input answer = AnswersCategory (rules_in texts type locale input) number answer
-AnswersCommand texts (Some (print locale type)) input answer = AnswersRules AreRuleLines (rules_in texts type locale input) answer
+AnswersCommand texts (Some (print locale type)) input answer = AnswersFrom AreRuleLines (rules_in texts type locale input) answer
 
 -- the answer depends on the input: it isn't that of the words alone
 abbrev pub NeedsInput : Option Command → Type 0

@@ -53,9 +53,13 @@ rules_of texts type locale bytes = document_of texts bytes >>= rules_for type lo
 abbrev pub most_bytes : ℕ
 most_bytes = 4194304
 
--- the same of an input, whose length comes first
+-- what the bytes of an input give; its length comes first
+abbrev pub unless_long : {A : Type 0} → (List ℕ → Result A RunError) → List ℕ → Result A RunError
+unless_long of_bytes input = if nat_lt most_bytes (length input) then Err TooLong else of_bytes input
+
+-- the rules of a locale in the document of an input
 abbrev pub rules_in : TextReader → PluralRuleType → List ℕ → List ℕ → Result FiveRules RunError
-rules_in texts type locale input = if nat_lt most_bytes (length input) then Err TooLong else rules_of texts type locale input
+rules_in texts type locale = unless_long (rules_of texts type locale)
 
 -- what a call answers: the value, or its fault, or want of memory; nothing is read or written
 abbrev pub GivesValue : {A B : Type 0} → (A → B) → Result B RunError → Result A RunError → Type 0

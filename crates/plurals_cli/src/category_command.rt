@@ -3,7 +3,7 @@
 ghost use Rattle.icu_plurals.specs.TextReaders.{TextReader, TellsTexts};
 ghost use Rattle.icu_plurals.specs.CategoryNames.{name_of};
 ghost use Rattle.std.specs.Prelude.{◌≡◌};
-ghost use Rattle.plurals_cli.specs.Answer.{AnswersRules, Gives};
+ghost use Rattle.plurals_cli.specs.Answer.{AnswersFrom, Gives};
 ghost use Rattle.plurals_cli.specs.InputRules.{rules_of};
 ghost use Rattle.plurals_cli.specs.RuleLines.{IsCategoryLine, line};
 
@@ -21,7 +21,7 @@ pub(crate) fn category_line(
     rule_type: PluralRuleType,
     number: &CompactDecimal,
 ) -> Result<CowStr<'static>, RunError>
-    ensures { (texts : TextReader) → TellsTexts texts → Gives (AnswersRules (IsCategoryLine number.now) (rules_of texts rule_type locale.now bytes.now)) result }
+    ensures { (texts : TextReader) → TellsTexts texts → Gives (AnswersFrom (IsCategoryLine number.now) (rules_of texts rule_type locale.now bytes.now)) result }
 {
     let document = document_of(alloc, bytes)?;
     let rules = PluralRules::from_data(rules_for(&document, locale, rule_type)?);

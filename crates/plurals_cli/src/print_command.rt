@@ -3,7 +3,7 @@
 ghost use Rattle.std.specs.Prelude.{◌≡◌, ◌++◌, OnOk, IfOk, string_bytes};
 ghost use Rattle.icu_plurals.specs.RulesData.{rules_of as data_of};
 ghost use Rattle.icu_plurals.specs.TextReaders.{TextReader, TellsTexts};
-ghost use Rattle.plurals_cli.specs.Answer.{AnswersRules, Gives};
+ghost use Rattle.plurals_cli.specs.Answer.{AnswersFrom, Gives};
 ghost use Rattle.plurals_cli.specs.InputRules.{rules_of};
 ghost use Rattle.plurals_cli.specs.RuleLines.{AreRuleLines, rule_line, rule_lines};
 
@@ -22,7 +22,7 @@ pub(crate) fn rule_lines(
     locale: &str,
     rule_type: PluralRuleType,
 ) -> Result<CowStr<'static>, RunError>
-    ensures { (texts : TextReader) → TellsTexts texts → Gives (AnswersRules AreRuleLines (rules_of texts rule_type locale.now bytes.now)) result }
+    ensures { (texts : TextReader) → TellsTexts texts → Gives (AnswersFrom AreRuleLines (rules_of texts rule_type locale.now bytes.now)) result }
 {
     let document = document_of(alloc, bytes)?;
     let rules = rules_for(&document, locale, rule_type)?;

@@ -2,7 +2,7 @@
 
 ghost use Rattle.std.specs.Prelude.{◌≡◌, List, ℕ, map, Some};
 ghost use Rattle.icu_plurals.specs.TextReaders.{TextReader, TellsTexts};
-ghost use Rattle.plurals_cli.specs.Answer.{AnswersCommand, AnswersCategory, AnswersRules, GivesAfterReading, IsAnswered, IsInput, IsNotRead, IsRead, NeedsInput};
+ghost use Rattle.plurals_cli.specs.Answer.{AnswersCommand, AnswersCategory, AnswersFrom, GivesAfterReading, IsAnswered, IsInput, IsNotRead, IsRead, NeedsInput};
 ghost use Rattle.plurals_cli.specs.CommandWords.{seen};
 ghost use Rattle.plurals_cli.specs.Commands.{command_of};
 ghost use Rattle.plurals_cli.specs.InputRules.{rules_in};
@@ -107,7 +107,7 @@ fn print_answer<R: Read>(
     reader: &mut R,
 ) -> Result<CowStr<'static>, RunError>
     ensures answers { (texts : TextReader) → TellsTexts texts → (input : List ℕ) × IsInput (R.remaining reader.old) input
-        × GivesAfterReading (AnswersRules AreRuleLines (rules_in texts rule_type locale.now input)) result }
+        × GivesAfterReading (AnswersFrom AreRuleLines (rules_in texts rule_type locale.now input)) result }
     ensures reads { IsRead (R.remaining reader.old) (R.remaining reader.new) result }
 {
     // What a fault of the input tells of reading is told by any texts.

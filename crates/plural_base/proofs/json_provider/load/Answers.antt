@@ -5,10 +5,10 @@ use Rattle.plural_base.proofs.json_provider.load.Goals as goal
 
 pub returns-in-Some : goal.returns-in-Some
 returns-in-Some c =
-    found_rows c.args.locale.now c.args.rows.now.entries
+    found_rows rules_of c.args.locale.now c.args.rows.now.entries
     ∙ ap (option_map rules_of) (sym c.in-Some.ensures.value)
     ∙ ap (λ rules. Some (rules_of rules)) (sym c.as_borrowed.ensures)
 
 pub returns-in-None : goal.returns-in-None
 returns-in-None c =
-    found_rows c.args.locale.now c.args.rows.now.entries ∙ ap (option_map rules_of) (sym c.in-None.ensures.value)
+    found_rows rules_of c.args.locale.now c.args.rows.now.entries ∙ ap (option_map rules_of) (sym c.in-None.ensures.value)

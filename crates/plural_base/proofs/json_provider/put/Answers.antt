@@ -1,7 +1,8 @@
 use Rattle.std.proofs.Common.{ap, ◌∙◌}
 use Rattle.plural_base.specs.ProviderRows.{rows_of}
-use Rattle.plural_base.proofs.Rows.{rows_of-insert_entry}
+use Rattle.plural_base.specs.RulesData.{rules_of}
+use Rattle.plural_base.proofs.Rows.{rows_by-insert_entry}
 use Rattle.plural_base.proofs.json_provider.put.Goals as goal
 
 pub returns : goal.returns
-returns c = ap rows_of c.in_ok-insert.ensures.entries ∙ rows_of-insert_entry c.args.rows.now.entries c.args.locale c.args.rules
+returns c = ap rows_of c.in_ok-insert.ensures.entries ∙ rows_by-insert_entry rules_of c.args.rows.now.entries c.args.locale c.args.rules

@@ -1,13 +1,11 @@
-use Rattle.std.proofs.Common.{ℕ, List, Result, inr, refl, sym, subst}
+use Rattle.std.proofs.Common.{inr, refl}
 use Rattle.std.proofs.lemmas.Result.{err_from_is_err_and}
-use Rattle.icu_plurals.specs.FiveRules.{FiveRules}
-use Rattle.plurals_cli.specs.Answer.{AnswersCategory, AnswersRules, Gives}
+use Rattle.plurals_cli.specs.Answer.{AnswersCategory, AnswersFrom}
 use Rattle.plurals_cli.specs.InputRules.{rules_in, rules_of}
 use Rattle.plurals_cli.specs.RuleLines.{IsCategoryLine}
-use Rattle.plurals_cli.specs.declared.error.RunError.{RunError}
 use Rattle.plurals_cli.proofs.Faults.{handed_on, not_too_long}
-use Rattle.plurals_cli.proofs.Inputs.{rules_within, some_input}
-use Rattle.plurals_cli.proofs.Readings.{implied, no_input, no_number, to_the_end}
+use Rattle.plurals_cli.proofs.Inputs.{some_input}
+use Rattle.plurals_cli.proofs.Readings.{no_input, no_number, of_all, to_the_end}
 use Rattle.plurals_cli.proofs.run.category_answer.Goals as goal
 
 pub returns-in_err-number-clause-answers : goal.returns-in_err-number-clause-answers
@@ -15,27 +13,23 @@ returns-in_err-number-clause-answers g c = λ texts tells.
     let input = some_input (g.R.Read.remaining c.args.reader.now) in (
       input.0,
       input.1,
-      no_number (rules_in texts c.args.rule_type c.args.locale.now input.0) c.args.word.now c.in_err-number.field-0.0 c.from_residual.result
+      no_number (λ x. AnswersFrom (IsCategoryLine x) (rules_in texts c.args.rule_type c.args.locale.now input.0)) c.args.word.now c.in_err-number.field-0.0 c.from_residual.result
           (handed_on _ _ (err_from_is_err_and c.from_residual.result c.from_residual.ensures.1)) c.in_err-number.ensures,
     )
 
 pub returns-in_err-input-clause-answers : goal.returns-in_err-input-clause-answers
 returns-in_err-input-clause-answers g c = λ texts tells.
-    no_input (λ rules. AnswersCategory rules c.args.word.now) (inr (c.in_ok-number.number, c.in_ok-number.ensures.0, refl)) texts c.args.rule_type c.args.locale.now (g.R.Read.remaining c.args.reader.now)
-    c.in_err-input.field-0.0 c.from_residual-in_err-input.result
+    no_input (rules_of texts c.args.rule_type c.args.locale.now) (λ rules. AnswersCategory rules c.args.word.now) (inr (c.in_ok-number.number, c.in_ok-number.ensures.0, refl))
+    (g.R.Read.remaining c.args.reader.now) c.in_err-input.field-0.0 c.from_residual-in_err-input.result
     (handed_on _ _ (err_from_is_err_and c.from_residual-in_err-input.result c.from_residual-in_err-input.ensures.1)) c.in_err-input.ensures.input
 
 pub returns-clause-answers : goal.returns-clause-answers
-returns-clause-answers g c = λ texts tells.
-    let items = c.in_ok-input.input.items in
-    let rules = rules_of texts c.args.rule_type c.args.locale.now items in
-    let same = rules_within texts c.args.rule_type c.args.locale.now items c.in_ok-input.ensures.input.1 in (
-      items,
+returns-clause-answers g c = λ texts tells. (
+      c.in_ok-input.input.items,
       c.in_ok-input.ensures.input.0,
-      implied (AnswersRules (IsCategoryLine c.in_ok-number.number) rules) (AnswersCategory (rules_in texts c.args.rule_type c.args.locale.now items) c.args.word.now)
-          (λ a h. subst (λ (r : Result FiveRules RunError). AnswersCategory r c.args.word.now a) (sym same) (inr (c.in_ok-number.number, c.in_ok-number.ensures.0, h)))
-          c.category_line.result
-          (subst (λ (bytes : List ℕ). Gives (AnswersRules (IsCategoryLine c.in_ok-number.number) (rules_of texts c.args.rule_type c.args.locale.now bytes)) c.category_line.result) c.as_slice.ensures.value (c.category_line.ensures texts tells)),
+      of_all (rules_of texts c.args.rule_type c.args.locale.now) (IsCategoryLine c.in_ok-number.number) (λ rules. AnswersCategory rules c.args.word.now)
+          (λ rules a h. inr (c.in_ok-number.number, c.in_ok-number.ensures.0, h))
+          c.in_ok-input.input.items c.as_slice.result.now c.in_ok-input.ensures.input.1 c.as_slice.ensures.value c.category_line.result (c.category_line.ensures texts tells),
     )
 
 pub returns-clause-reads : goal.returns-clause-reads

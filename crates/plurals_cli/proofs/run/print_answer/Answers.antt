@@ -1,32 +1,24 @@
-use Rattle.std.proofs.Common.{ℕ, List, Result, refl, sym, subst}
+use Rattle.std.proofs.Common.{refl}
 use Rattle.std.proofs.lemmas.Result.{err_from_is_err_and}
-use Rattle.icu_plurals.specs.FiveRules.{FiveRules}
-use Rattle.plurals_cli.specs.Answer.{AnswersRules, Gives}
-use Rattle.plurals_cli.specs.InputRules.{rules_in, rules_of}
+use Rattle.plurals_cli.specs.Answer.{AnswersFrom}
+use Rattle.plurals_cli.specs.InputRules.{rules_of}
 use Rattle.plurals_cli.specs.RuleLines.{AreRuleLines}
-use Rattle.plurals_cli.specs.declared.error.RunError.{RunError}
 use Rattle.plurals_cli.proofs.Faults.{handed_on, not_too_long}
-use Rattle.plurals_cli.proofs.Inputs.{rules_within}
-use Rattle.plurals_cli.proofs.Readings.{implied, no_input, to_the_end}
+use Rattle.plurals_cli.proofs.Readings.{no_input, of_all, to_the_end}
 use Rattle.plurals_cli.proofs.run.print_answer.Goals as goal
 
 pub returns-in_err-bytes-clause-answers : goal.returns-in_err-bytes-clause-answers
 returns-in_err-bytes-clause-answers g c = λ texts tells.
-    no_input (AnswersRules AreRuleLines) refl texts c.args.rule_type c.args.locale.now (g.R.Read.remaining c.args.reader.now)
-    c.in_err-bytes.field-0.0 c.from_residual.result
+    no_input (rules_of texts c.args.rule_type c.args.locale.now) (AnswersFrom AreRuleLines) refl
+    (g.R.Read.remaining c.args.reader.now) c.in_err-bytes.field-0.0 c.from_residual.result
     (handed_on _ _ (err_from_is_err_and c.from_residual.result c.from_residual.ensures.1)) c.in_err-bytes.ensures.input
 
 pub returns-clause-answers : goal.returns-clause-answers
-returns-clause-answers g c = λ texts tells.
-    let items = c.in_ok-bytes.bytes.items in
-    let rules = rules_of texts c.args.rule_type c.args.locale.now items in
-    let same = rules_within texts c.args.rule_type c.args.locale.now items c.in_ok-bytes.ensures.input.1 in (
-      items,
+returns-clause-answers g c = λ texts tells. (
+      c.in_ok-bytes.bytes.items,
       c.in_ok-bytes.ensures.input.0,
-      implied (AnswersRules AreRuleLines rules) (AnswersRules AreRuleLines (rules_in texts c.args.rule_type c.args.locale.now items))
-          (λ a h. subst (λ (r : Result FiveRules RunError). AnswersRules AreRuleLines r a) (sym same) h)
-          c.rule_lines.result
-          (subst (λ (bytes : List ℕ). Gives (AnswersRules AreRuleLines (rules_of texts c.args.rule_type c.args.locale.now bytes)) c.rule_lines.result) c.as_slice.ensures.value (c.rule_lines.ensures texts tells)),
+      of_all (rules_of texts c.args.rule_type c.args.locale.now) AreRuleLines (AnswersFrom AreRuleLines) (λ rules a h. h)
+          c.in_ok-bytes.bytes.items c.as_slice.result.now c.in_ok-bytes.ensures.input.1 c.as_slice.ensures.value c.rule_lines.result (c.rule_lines.ensures texts tells),
     )
 
 pub returns-clause-reads : goal.returns-clause-reads

@@ -1,0 +1,105 @@
+-- The bytes that are written are those that elements are packed as.
+use Rattle.std.proofs.Common.{◌≡◌, ◌↔◌, ℕ, ◌<◌, ◌≤◌, List, [], ◌∷◌, length, Bool, true, false, cond, Option, Some, None, refl, sym, ap, subst, ◌∙◌, arith, append-nil}
+use Rattle.std.specs.Prelude.{IsTrue, map, nat_lt, unwrap_or}
+use Rattle.std.specs.List.{AllByRecursion}
+use Rattle.std.proofs.lemmas.Bool.{lt-ltb, le-ltb, ltb-true, ltb-false}
+use Rattle.packed_list.specs.ListBytes.{CanPack, has_high_start}
+use Rattle.plural_base.specs.declared.json_error.ElementsPackError.TheVariants.{DefaultLimit, StartLimit}
+use Rattle.icu_plurals.specs.declared.encode.items.Item.{Item}
+use Rattle.icu_plurals.specs.Elements.{Elements, element_at}
+use Rattle.icu_plurals.specs.ElementsPacking.{AnswersAs, fault_beside, pack_fault}
+use Rattle.icu_plurals.specs.ItemBytes.{bytes_with_items, lent_bytes}
+use Rattle.icu_plurals.specs.PackedElements.{PackedValue, PackedItem, IsPackedValue, IsPackedItem, CanPackItems, ElementsBytes, bytes_with, elements_of, item_bytes, none_if_empty, packed_items, packed_of}
+use Rattle.icu_plurals.proofs.ElementsAgain.{PackedItems}
+use Rattle.icu_plurals.proofs.CheckedElements.{same_elements}
+use Rattle.icu_plurals.proofs.PackedAgain.{answers_again}
+
+-- as many items are lent as are packed
+pub as_many : (lent : List Item) (items : List PackedItem) → lent_bytes lent ≡ map item_bytes items → length lent ≡ length items
+as_many [] [] h = refl
+as_many [] (item ∷ items) h = cc
+as_many (x ∷ lent) [] h = cc
+as_many (x ∷ lent) (item ∷ items) h = let rest : lent_bytes lent ≡ map item_bytes items = cc in omega (arith, as_many lent items rest)
+
+-- ---- the first of two faults, by their tests
+
+first_fault : (long high : Bool) → (cond long (Some DefaultLimit) (cond high (Some StartLimit) None) ≡ Some DefaultLimit) ↔ (long ≡ true)
+first_fault true high = ((λ h. refl), (λ h. refl))
+first_fault false true = ((λ h. absurd cc), (λ h. cc))
+first_fault false false = ((λ h. absurd cc), (λ h. cc))
+
+second_fault : (long high : Bool) → (cond long (Some DefaultLimit) (cond high (Some StartLimit) None) ≡ Some StartLimit) ↔ ((long ≡ false) × (high ≡ true))
+second_fault true high = ((λ h. absurd cc), (λ h. absurd (let e : true ≡ false = h.0 in cc)))
+second_fault false true = ((λ h. (refl, refl)), (λ h. refl))
+second_fault false false = ((λ h. absurd cc), (λ h. absurd (let e : false ≡ true = h.1 in cc)))
+
+-- a default is too long where there are items beside it
+long_beside : (default : PackedValue) (items : List PackedItem) → (fault_beside default (none_if_empty items) ≡ Some DefaultLimit) ↔ ((0 < length items) × (255 < length default.text))
+long_beside default [] = ((λ h. absurd cc), (λ h. absurd (omega (arith, h.0))))
+long_beside default (item ∷ items) =
+    let told = first_fault (nat_lt 255 (length default.text)) (has_high_start (map item_bytes (item ∷ items))) in
+    ((λ h. (omega arith, ltb-true 255 (length default.text) (told.0 h))), (λ h. told.1 (lt-ltb 255 (length default.text) h.1)))
+
+high_beside : (default : PackedValue) (items : List PackedItem)
+    → (fault_beside default (none_if_empty items) ≡ Some StartLimit) ↔ ((length default.text ≤ 255) × IsTrue (has_high_start (map item_bytes items)))
+high_beside default [] = ((λ h. absurd cc), (λ h. absurd (let e : false ≡ true = h.1 in cc)))
+high_beside default (item ∷ items) =
+    let told = second_fault (nat_lt 255 (length default.text)) (has_high_start (map item_bytes (item ∷ items))) in
+    ((λ h. let both = told.0 h in (ltb-false 255 (length default.text) both.0, both.1)), (λ h. told.1 (le-ltb 255 (length default.text) h.0, h.1)))
+
+-- ---- the bytes
+
+can_pack_items : (default : PackedValue) (items : List PackedItem) → (0 < length items → length default.text ≤ 255) → CanPack (map item_bytes items) → CanPackItems default (none_if_empty items)
+can_pack_items default [] short can = tt
+can_pack_items default (item ∷ items) short can = record { length = short (omega arith); list = can }
+
+spelled_with : (default : PackedValue) (items : List PackedItem) → bytes_with_items default (map item_bytes items) ≡ bytes_with default (none_if_empty items)
+spelled_with default [] = ap (λ text. default.metadata ∷ text) (append-nil default.text)
+spelled_with default (item ∷ items) = refl
+
+all_items : (items : List PackedItem) → AllByRecursion IsPackedItem items → AllByRecursion IsPackedItem (unwrap_or (none_if_empty items) [])
+all_items [] are = tt
+all_items (item ∷ items) are = are
+
+-- what is written are the bytes of what elements are packed as
+pub encoded : (e : Elements PackedValue) (lent : List Item) (bytes : List ℕ) → lent_bytes lent ≡ map item_bytes (packed_items e) → AllByRecursion IsPackedItem (packed_items e)
+    → IsPackedValue e.other → (0 < length lent → length e.other.text ≤ 255) → CanPack (lent_bytes lent) → bytes ≡ bytes_with_items e.other (lent_bytes lent)
+    → ElementsBytes (packed_of e) bytes
+encoded e lent bytes same are valid short can spelled =
+    let count = as_many lent (packed_items e) same in record {
+      default = valid;
+      items = all_items (packed_items e) are;
+      can_pack = can_pack_items e.other (packed_items e) (λ some. short (omega arith)) (subst CanPack same can);
+      spelled = spelled ∙ ap (bytes_with_items e.other) same ∙ spelled_with e.other (packed_items e);
+    }
+
+-- what has the bytes of what elements are packed as answers as they do
+pub answers_as : (again : PackedItems) (e : Elements PackedValue) (bytes : List ℕ) → ElementsBytes (packed_of e) bytes → AnswersAs e bytes
+answers_as again e bytes h = λ packed are op rules.
+    let same : packed ≡ packed_of e = same_elements again packed (packed_of e) bytes are h in
+    ap (λ p. element_at (elements_of p) op rules) same ∙ answers_again e op rules
+
+-- the refusals, as they are told of the default and the items that are lent
+pub default_refused : (e : Elements PackedValue) (default : PackedValue) (lent : List Item) → default ≡ e.other → lent_bytes lent ≡ map item_bytes (packed_items e)
+    → ((0 < length lent) × (255 < length default.text)) ↔ (pack_fault (packed_of e) ≡ Some DefaultLimit)
+default_refused e default lent other same =
+    let count = as_many lent (packed_items e) same in
+    let text = ap (λ (value : PackedValue). length value.text) other in
+    let beside = long_beside e.other (packed_items e) in
+    ((λ h. beside.1 (omega (arith, h.0), omega (arith, h.1))), (λ h. let told = beside.0 h in (omega (arith, told.0), omega (arith, told.1))))
+
+pub start_refused : (e : Elements PackedValue) (default : PackedValue) (lent : List Item) → default ≡ e.other → lent_bytes lent ≡ map item_bytes (packed_items e)
+    → ((length default.text ≤ 255) × IsTrue (has_high_start (lent_bytes lent))) ↔ (pack_fault (packed_of e) ≡ Some StartLimit)
+start_refused e default lent other same =
+    let beside = high_beside e.other (packed_items e) in
+    let text = ap (λ (value : PackedValue). length value.text) other in
+    let high = ap has_high_start same in
+    ((λ h. beside.1 (omega (arith, h.0), sym high ∙ h.1)), (λ h. let told = beside.0 h in (omega (arith, told.0), high ∙ told.1)))
+
+fault_free : (default : PackedValue) (items : Option (List PackedItem)) → CanPackItems default items → fault_beside default items ≡ None
+fault_free default None can = refl
+fault_free default (Some items) can = rw (le-ltb 255 (length default.text) can.length, can.list.starts) refl
+
+-- what has bytes has no fault
+pub no_fault : (e : Elements PackedValue) (bytes : List ℕ) → ElementsBytes (packed_of e) bytes → pack_fault (packed_of e) ≡ None
+no_fault e bytes h = fault_free e.other (none_if_empty (packed_items e)) h.can_pack

@@ -1,0 +1,95 @@
+-- The definitions at worked examples.
+use Rattle.std.proofs.Common.{◌≡◌, ℕ, List, [], ◌∷◌, refl, Some, None, codes}
+use Rattle.std.specs.Prelude.{Option}
+use Rattle.packed_list.specs.ListReading.{items_in}
+use Rattle.icu_plurals.specs.declared.packed.error.ElementsBytesError.TheVariants as errors
+use Rattle.icu_plurals.specs.Elements.{Elements, only_other}
+use Rattle.icu_plurals.specs.PackedElements.{PackedValue, PackedItem, PackedElements, elements_bytes, elements_of, packed_of}
+use Rattle.icu_plurals.specs.ElementsFaults.{first_fault}
+use Rattle.icu_plurals.specs.ElementsReading.{elements_in}
+
+-- a text without metadata
+abbrev plain : List ℕ → PackedValue
+plain text = record { metadata = 0; text = text }
+
+abbrev item : ℕ → List ℕ → PackedItem
+item key text = record { key = key; value = plain text }
+
+-- ---- "abc" alone
+
+abbrev abc : PackedElements
+abc = record { default = plain (codes "abc"); items = None }
+
+abc_bytes : elements_bytes abc ≡ 0 ∷ 97 ∷ 98 ∷ 99 ∷ []
+abc_bytes = refl
+
+abc_read : elements_in (0 ∷ 97 ∷ 98 ∷ 99 ∷ []) ≡ abc
+unfolding elements_in
+abc_read = refl
+
+abc_packed : packed_of (only_other (plain (codes "abc"))) ≡ abc
+abc_packed = refl
+
+-- ---- other "abc", one "defg"
+
+abbrev abc_defg : PackedElements
+abc_defg = record { default = plain (codes "abc"); items = Some (item 1 (codes "defg") ∷ []) }
+
+abc_defg_bytes : elements_bytes abc_defg ≡ 128 ∷ 3 ∷ 97 ∷ 98 ∷ 99 ∷ 1 ∷ 0 ∷ 16 ∷ 100 ∷ 101 ∷ 102 ∷ 103 ∷ []
+abc_defg_bytes = refl
+
+abc_defg_read : elements_in (128 ∷ 3 ∷ 97 ∷ 98 ∷ 99 ∷ 1 ∷ 0 ∷ 16 ∷ 100 ∷ 101 ∷ 102 ∷ 103 ∷ []) ≡ abc_defg
+unfolding elements_in items_in
+abc_defg_read = refl
+
+-- ---- other "items", one "item", explicit one "items"
+
+abbrev items : Elements PackedValue
+items = record (only_other (plain (codes "items"))) { one = Some (plain (codes "item")); explicit_one = Some (plain (codes "items")) }
+
+-- an explicit value that equals other's is packed
+items_bytes : elements_bytes (packed_of items) ≡ 128 ∷ 5 ∷ 105 ∷ 116 ∷ 101 ∷ 109 ∷ 115 ∷ 2 ∷ 0 ∷ 5 ∷ 0 ∷ 16 ∷ 105 ∷ 116 ∷ 101 ∷ 109 ∷ 96 ∷ 105 ∷ 116 ∷ 101 ∷ 109 ∷ 115 ∷ []
+items_bytes = refl
+
+items_again : elements_of (packed_of items) ≡ items
+items_again = refl
+
+-- a category's value that equals other's isn't, unless its metadata differs
+equal_bytes : elements_bytes (packed_of (record (only_other (plain (codes "a"))) { one = Some (plain (codes "a")) })) ≡ 0 ∷ 97 ∷ []
+equal_bytes = refl
+
+metadata_bytes : elements_bytes (packed_of (record (only_other (plain (codes "a"))) { one = Some (record { metadata = 3; text = codes "a" }) })) ≡ 128 ∷ 1 ∷ 97 ∷ 1 ∷ 0 ∷ 19 ∷ 97 ∷ []
+metadata_bytes = refl
+
+-- ---- one twice
+
+abbrev one_twice : PackedElements
+one_twice = record { default = plain (codes "a"); items = Some (item 1 (codes "b") ∷ item 1 (codes "c") ∷ []) }
+
+one_twice_read : elements_in (128 ∷ 1 ∷ 97 ∷ 2 ∷ 0 ∷ 2 ∷ 0 ∷ 16 ∷ 98 ∷ 16 ∷ 99 ∷ []) ≡ one_twice
+unfolding elements_in items_in
+one_twice_read = refl
+
+one_twice_values : elements_of one_twice ≡ record (only_other (plain (codes "a"))) { one = Some (plain (codes "b")) }
+one_twice_values = refl
+
+one_twice_again : elements_bytes (packed_of (elements_of one_twice)) ≡ 128 ∷ 1 ∷ 97 ∷ 1 ∷ 0 ∷ 16 ∷ 98 ∷ []
+one_twice_again = refl
+
+-- ---- no items, and a list without items
+
+nothing_read : elements_in (0 ∷ []) ≡ record { default = plain []; items = None }
+unfolding elements_in
+nothing_read = refl
+
+no_items_read : elements_in (128 ∷ 0 ∷ []) ≡ record { default = plain []; items = Some [] }
+unfolding elements_in items_in
+no_items_read = refl
+
+-- ---- refusals
+
+empty_item : first_fault 0 ([] ∷ []) ≡ Some (errors.ItemEmpty 0)
+empty_item = refl
+
+seventh_key : first_fault 0 ((112 ∷ 255 ∷ []) ∷ []) ≡ Some (errors.Key 0)
+seventh_key = refl

@@ -1,0 +1,72 @@
+-- What is wrong with bytes that are no packed elements, in the order in which it is looked for.
+use Rattle.std.specs.Prelude.{◌≡◌, ℕ, ◌+◌, ◌/◌, ◌%◌, ◌<◌, ◌≤◌, List, [], ◌∷◌, ◌++◌, length, if◌then◌else◌, nat_lt, IsTrue, IsFalse, Option, Some, None}
+use Rattle.std.specs.Option.{option_or}
+use Rattle.std.specs.Str.{is_utf8}
+use Rattle.packed_list.specs.ListBytes.{ListBytes}
+use Rattle.packed_list.specs.ListFaults.{HasFault}
+use Rattle.icu_plurals.specs.declared.packed.error.ElementsBytesError.{ElementsBytesError}
+use Rattle.icu_plurals.specs.declared.packed.error.ElementsBytesError.TheVariants as errors
+
+-- ---- what stands where
+
+-- the first byte, the default's text, and what is left behind it where bit 7 of the first byte says that there are items
+pub record ElementsParts : Type 0 where
+  pub first : ℕ
+  pub text : List ℕ
+  pub rest : Option (List ℕ)
+
+-- bytes are made of a first byte, a text and what is left
+abbrev pub PartsWith : ℕ → List ℕ → Option (List ℕ) → List ℕ → Type 0
+PartsWith first text None bytes = (first < 128) × (bytes ≡ first ∷ text)
+PartsWith first text (Some rest) bytes = (128 ≤ first) × (bytes ≡ first ∷ length text ∷ (text ++ rest))
+
+-- bytes are made of the parts
+abbrev pub ArePartsOf : ElementsParts → List ℕ → Type 0
+ArePartsOf parts bytes = PartsWith parts.first parts.text parts.rest bytes
+
+-- bit 7 of the first byte is set, and there is no byte for the length of the text, or there are fewer bytes behind it than it says
+abbrev pub IsShort : List ℕ → Type 0
+IsShort [] = ⊥
+IsShort (first ∷ []) = 128 ≤ first
+IsShort (first ∷ len ∷ bytes) = (128 ≤ first) × (length bytes < len)
+
+-- ---- the items
+
+-- what is wrong with the item at a place: no byte, a key above the last one, or a text that isn't UTF-8
+abbrev pub item_fault : ℕ → List ℕ → Option ElementsBytesError
+item_fault place [] = Some (errors.ItemEmpty place)
+item_fault place (byte ∷ text) =
+    if nat_lt 6 (byte / 16) then Some (errors.Key place) else (if is_utf8 text then None else Some (errors.ItemText place))
+
+-- what is wrong with the first bad item, if there is one; the first item stands at the given place
+abbrev pub first_fault : ℕ → List (List ℕ) → Option ElementsBytesError
+first_fault place [] = None
+first_fault place (item ∷ items) = option_or (item_fault place item) (first_fault (place + 1) items)
+
+-- ---- the faults
+
+-- what is left is no list, or a list with a bad item
+abbrev pub HasItemsFault : List ℕ → ElementsBytesError → Type 0
+HasItemsFault rest (errors.List fault) = HasFault rest fault
+HasItemsFault rest fault = (items : List (List ℕ)) × ListBytes items rest × (first_fault 0 items ≡ Some fault)
+
+-- the same, where something is left
+abbrev pub HasRestFault : Option (List ℕ) → ElementsBytesError → Type 0
+HasRestFault None fault = ⊥
+HasRestFault (Some rest) fault = HasItemsFault rest fault
+
+-- a bit of 4 to 6 of the first byte is set
+abbrev pub HasPadding : ℕ → Type 0
+HasPadding first = 16 ≤ first % 128
+
+-- what is wrong with the parts: first the padding, then the default's text, then what is left
+abbrev pub HasPartsFault : ElementsParts → ElementsBytesError → Type 0
+HasPartsFault parts errors.Padding = HasPadding parts.first
+HasPartsFault parts errors.DefaultText = (¬ (HasPadding parts.first)) × IsFalse (is_utf8 parts.text)
+HasPartsFault parts fault = (¬ (HasPadding parts.first)) × IsTrue (is_utf8 parts.text) × HasRestFault parts.rest fault
+
+-- bytes are refused with a fault
+abbrev pub HasElementsFault : List ℕ → ElementsBytesError → Type 0
+HasElementsFault bytes errors.Empty = bytes ≡ []
+HasElementsFault bytes errors.Short = IsShort bytes
+HasElementsFault bytes fault = (parts : ElementsParts) × ArePartsOf parts bytes × HasPartsFault parts fault

@@ -1,0 +1,144 @@
+-- Packed elements: a default, and either nothing else or a list of items beside it. A value is four bits of metadata and a text.
+--     PackedElements      the default and its items
+--     ElementsBytes packed bytes      the bytes are those of packed elements
+--     elements_of packed      the values by key: of a key that stands twice the first item's
+--     packed_of elements      what elements are packed as
+use Rattle.std.specs.Prelude.{◌≡◌, ℕ, ◌+◌, ◌*◌, ◌<◌, ◌≤◌, ◌==◌, ◌&&◌, List, [], ◌∷◌, ◌++◌, length, map, Bool, IsTrue, Option, Some, None, option_map, unwrap_or, ⊤}
+use Rattle.std.specs.List.{AllByRecursion, find}
+use Rattle.std.specs.Str.{is_utf8, bytes_eq}
+use Rattle.packed_list.specs.ListBytes.{CanPack, list_bytes}
+use Rattle.icu_plurals.specs.Elements.{Elements, unless_equal}
+
+-- metadata, and the bytes of a text
+pub record PackedValue : Type 0 where
+  pub metadata : ℕ
+  pub text : List ℕ
+
+-- a value beside the default, and its key
+pub record PackedItem : Type 0 where
+  pub key : ℕ
+  pub value : PackedValue
+
+-- the default, and the items beside it. No items and a list without items are two things.
+pub record PackedElements : Type 0 where
+  pub default : PackedValue
+  pub items : Option (List PackedItem)
+
+-- ---- the keys
+
+abbrev pub zero_key : ℕ
+zero_key = 0
+
+abbrev pub one_key : ℕ
+one_key = 1
+
+abbrev pub two_key : ℕ
+two_key = 2
+
+abbrev pub few_key : ℕ
+few_key = 3
+
+abbrev pub many_key : ℕ
+many_key = 4
+
+abbrev pub explicit_zero_key : ℕ
+explicit_zero_key = 5
+
+abbrev pub explicit_one_key : ℕ
+explicit_one_key = 6
+
+-- ---- the bytes
+
+-- metadata has four bits, and the text is UTF-8
+pub record IsPackedValue (value : PackedValue) : Type 0 where
+  pub metadata : value.metadata < 16
+  pub text : IsTrue (is_utf8 value.text)
+
+-- the key is one of the seven, and the value is one
+pub record IsPackedItem (item : PackedItem) : Type 0 where
+  pub key : item.key ≤ explicit_one_key
+  pub value : IsPackedValue item.value
+
+-- the key in bits 4 to 7 of a byte, the metadata in bits 0 to 3, and the text
+abbrev pub item_bytes : PackedItem → List ℕ
+item_bytes item = (16 * item.key + item.value.metadata) ∷ item.value.text
+
+-- beside items the default's length fits a byte, and they fit a packed list
+pub record CanStandBeside (default : PackedValue) (items : List PackedItem) : Type 0 where
+  pub length : length default.text ≤ 255
+  pub list : CanPack (map item_bytes items)
+
+abbrev pub CanPackItems : PackedValue → Option (List PackedItem) → Type 0
+CanPackItems default None = ⊤
+CanPackItems default (Some items) = CanStandBeside default items
+
+-- the items, where there are any
+abbrev pub items_of : PackedElements → List PackedItem
+items_of packed = unwrap_or packed.items []
+
+-- without items the default's metadata and text; else bit 7 with the metadata, the length of the text, the text, and the packed list of the items
+abbrev pub bytes_with : PackedValue → Option (List PackedItem) → List ℕ
+bytes_with default None = default.metadata ∷ default.text
+bytes_with default (Some items) = (128 + default.metadata) ∷ length default.text ∷ (default.text ++ list_bytes (map item_bytes items))
+
+abbrev pub elements_bytes : PackedElements → List ℕ
+elements_bytes packed = bytes_with packed.default packed.items
+
+-- the bytes are those of the packed elements
+pub record ElementsBytes (packed : PackedElements) (bytes : List ℕ) : Type 0 where
+  pub default : IsPackedValue packed.default
+  pub items : AllByRecursion IsPackedItem (items_of packed)
+  pub can_pack : CanPackItems packed.default packed.items
+  pub spelled : bytes ≡ elements_bytes packed
+
+-- ---- the values by key
+
+-- the value of a key: that of the first item that has it
+abbrev pub value_at : ℕ → List PackedItem → Option PackedValue
+value_at key items = option_map (λ item. item.value) (find (λ item. item.key == key) items)
+
+abbrev pub elements_of : PackedElements → Elements PackedValue
+elements_of packed = record {
+  other = packed.default;
+  zero = value_at zero_key (items_of packed);
+  one = value_at one_key (items_of packed);
+  two = value_at two_key (items_of packed);
+  few = value_at few_key (items_of packed);
+  many = value_at many_key (items_of packed);
+  explicit_zero = value_at explicit_zero_key (items_of packed);
+  explicit_one = value_at explicit_one_key (items_of packed);
+}
+
+-- ---- what elements are packed as
+
+-- whether metadata and text are the same
+abbrev pub is_same_value : PackedValue → PackedValue → Bool
+is_same_value value other = (value.metadata == other.metadata) && bytes_eq value.text other.text
+
+-- the item of a key, where its value is there
+abbrev pub item_at : ℕ → Option PackedValue → List PackedItem
+item_at key None = []
+item_at key (Some value) = record { key = key; value = value } ∷ []
+
+-- the item of a category's key, where its value is there and differs from other's
+abbrev pub category_item : ℕ → PackedValue → Option PackedValue → List PackedItem
+category_item key other value = item_at key (unless_equal is_same_value other value)
+
+-- in the order of the keys, the category values that differ from other's, and the explicit values
+abbrev pub packed_items : Elements PackedValue → List PackedItem
+packed_items e =
+    category_item zero_key e.other e.zero
+    ++ (category_item one_key e.other e.one
+    ++ (category_item two_key e.other e.two
+    ++ (category_item few_key e.other e.few
+    ++ (category_item many_key e.other e.many
+    ++ (item_at explicit_zero_key e.explicit_zero
+    ++ item_at explicit_one_key e.explicit_one)))))
+
+-- none where there are none
+abbrev pub none_if_empty : List PackedItem → Option (List PackedItem)
+none_if_empty [] = None
+none_if_empty (item ∷ items) = Some (item ∷ items)
+
+abbrev pub packed_of : Elements PackedValue → PackedElements
+packed_of e = record { default = e.other; items = none_if_empty (packed_items e) }

@@ -1,0 +1,180 @@
+//! Packed elements that own or borrow their bytes.
+
+ghost use Rattle.std.specs.Prelude.{◌≡◌, ◌↔◌, Err, Ok, Some, IfOk, option_map};
+ghost use Rattle.icu_plurals.specs.Elements.{each_by, element_at};
+ghost use Rattle.icu_plurals.specs.ElementsFaults.{HasElementsFault};
+ghost use Rattle.icu_plurals.specs.ElementsPacking.{pack_fault};
+ghost use Rattle.icu_plurals.specs.ElementsReading.{AreElements};
+ghost use Rattle.icu_plurals.specs.ElementsViews.{lent_elements, lent_value};
+ghost use Rattle.icu_plurals.specs.PackedElements.{PackedElements, ElementsBytes, elements_of, packed_of};
+ghost use Rattle.icu_plurals.specs.PlainElements.{plain_value};
+
+use crate::elements::PluralElements;
+use crate::packed::PluralElementsPackedULE;
+use crate::packed::error::ElementsBytesError;
+use crate::packed::metadata::FourBitMetadata;
+use packed_list::laws::read_again;
+use plural_base::{ElementsPackError, PluralRules};
+use plural_reference::PluralOperands;
+use std::alloc::{AllocError, Global};
+use std::borrow::CowSlice;
+use std::marker::Model;
+
+/// Packed elements, as checked bytes that are lent or owned.
+#[derive(Debug, Drop)]
+pub struct PluralElementsPackedCow<'data> {
+    bytes: CowSlice<'data, u8>,
+}
+
+impl<'data> Model for PluralElementsPackedCow<'data> {
+    ghost use Rattle.std.specs.Cow.{cow_slice_items};
+    ghost use Rattle.icu_plurals.specs.PackedElements.{PackedElements};
+
+    ghost Value = { PackedElements };
+
+    ghost use Rattle.icu_plurals.specs.ElementsReading.{AreElements, elements_in};
+
+    ghost view = { λ packed. elements_in (cow_slice_items packed.bytes) };
+
+    ghost invariant = { λ packed. AreElements (cow_slice_items packed.bytes) };
+}
+
+impl PluralElementsPackedCow<'static> {
+    /// Packs texts with metadata 0, by one allocation.
+    ///
+    /// [`ElementsPackError::DefaultLimit`] where other's text has more than 255 bytes and another one is packed beside
+    /// it, else [`ElementsPackError::StartLimit`] where one of these would start behind place 65535 of the data; want
+    /// of memory is [`ElementsPackError::Memory`].
+    pub fn from_elements(
+        alloc: Global,
+        elements: &PluralElements<&str>,
+    ) -> Result<PluralElementsPackedCow<'static>, ElementsPackError>
+        ensures ok { IfOk result (λ packed. packed ≡ packed_of (each_by plain_value elements.now)) }
+        ensures default_limit { (result ≡ Err ElementsPackError.DefaultLimit) ↔ (pack_fault (packed_of (each_by plain_value elements.now)) ≡ Some ElementsPackError.DefaultLimit) }
+        ensures start_limit { (result ≡ Err ElementsPackError.StartLimit) ↔ (pack_fault (packed_of (each_by plain_value elements.now)) ≡ Some ElementsPackError.StartLimit) }
+    {
+        read_again();
+        match PluralElementsPackedULE::encode(alloc, &plain(elements)) {
+            Ok(bytes) => Ok(PluralElementsPackedCow::owned(bytes)),
+            Err(fault) => Err(fault),
+        }
+    }
+
+    // The elements in owned bytes that are known to be some.
+    pub(crate) fn owned(bytes: Vec<u8>) -> PluralElementsPackedCow<'static>
+        requires { AreElements bytes.items }
+        ensures { ElementsBytes result bytes.items }
+    {
+        PluralElementsPackedCow {
+            bytes: CowSlice::Owned(bytes),
+        }
+    }
+}
+
+impl<'data> PluralElementsPackedCow<'data> {
+    /// Packed elements in bytes that are lent. It takes no memory.
+    ///
+    /// Bytes are refused as [`PluralElementsPackedULE::parse_bytes`] refuses them.
+    pub fn from_bytes(
+        bytes: &'data [u8],
+    ) -> Result<PluralElementsPackedCow<'data>, ElementsBytesError>
+        ensures ok { IfOk result (λ packed. ElementsBytes packed bytes.now) }
+        ensures accepted { (packed : PackedElements) → ElementsBytes packed bytes.now → result ≡ Ok packed }
+        ensures refused { (fault : ElementsBytesError) → (result ≡ Err fault) ↔ HasElementsFault bytes.now fault }
+    {
+        read_again();
+        match PluralElementsPackedULE::parse_bytes(bytes) {
+            Ok(_) => Ok(PluralElementsPackedCow::lent(bytes)),
+            Err(fault) => Err(fault),
+        }
+    }
+
+    // The elements in bytes that are known to be some.
+    fn lent(bytes: &'data [u8]) -> PluralElementsPackedCow<'data>
+        requires { AreElements bytes.now }
+        ensures { ElementsBytes result bytes.now }
+    {
+        PluralElementsPackedCow {
+            bytes: CowSlice::Borrowed(bytes),
+        }
+    }
+
+    /// The same elements, lent from these.
+    #[inline]
+    pub fn as_packed(&self) -> PluralElementsPackedULE<'_>
+        ensures { lent_elements result ≡ self.now }
+    {
+        read_again();
+        PluralElementsPackedULE::from_checked(self.bytes.as_slice())
+    }
+
+    /// The text for a number, as [`PluralElementsPackedULE::get`] gives it. It takes no memory.
+    pub fn get(&self, op: PluralOperands, rules: &PluralRules<'_>) -> &str
+        ensures { result.now ≡ (element_at (elements_of self.now) op rules.now).text }
+    {
+        let (_, text) = self.as_packed().get(op, rules);
+        text
+    }
+
+    /// Packed elements of the same bytes: lent where these are lent, else a copy. Its only fault is want of memory.
+    pub fn try_clone(&self) -> Result<PluralElementsPackedCow<'data>, AllocError>
+        ensures { IfOk result (λ packed. packed ≡ self.now) }
+    {
+        Ok(PluralElementsPackedCow {
+            bytes: self.bytes.clone()?,
+        })
+    }
+}
+
+// The texts, each with metadata 0.
+fn plain<'a>(elements: &PluralElements<&'a str>) -> PluralElements<(FourBitMetadata, &'a str)>
+    ensures { each_by lent_value result ≡ each_by plain_value elements.now }
+{
+    PluralElements {
+        other: plain_text(elements.other),
+        zero: plain_option(&elements.zero),
+        one: plain_option(&elements.one),
+        two: plain_option(&elements.two),
+        few: plain_option(&elements.few),
+        many: plain_option(&elements.many),
+        explicit_zero: plain_option(&elements.explicit_zero),
+        explicit_one: plain_option(&elements.explicit_one),
+    }
+}
+
+// A text with metadata 0.
+fn plain_text(text: &str) -> (FourBitMetadata, &str)
+    ensures { lent_value result ≡ plain_value text.entry }
+{
+    (FourBitMetadata::zero(), text)
+}
+
+// The same of a text that may be absent.
+fn plain_option<'a>(text: &Option<&'a str>) -> Option<(FourBitMetadata, &'a str)>
+    ensures { option_map lent_value result ≡ option_map plain_value text.now }
+{
+    match text {
+        Some(text) => Some(plain_text(text)),
+        None => None,
+    }
+}
+
+impl<'data> PartialEq for PluralElementsPackedCow<'data> {
+    ghost use Rattle.std.specs.Prelude.{◌≡◌, ◌↔◌, IsTrue, nat_eq};
+    ghost use Rattle.std.specs.Cmp.{on_per, partial_equiv_from_equiv};
+    ghost use Rattle.std.specs.Cmp.Lexicographic.{pointwise, nat_list_eq_equiv};
+    ghost use Rattle.icu_plurals.specs.PackedElements.{elements_bytes};
+
+    ghost eq = { λ packed other. pointwise nat_eq (elements_bytes packed) (elements_bytes other) };
+
+    ghost laws = { on_per elements_bytes (partial_equiv_from_equiv nat_list_eq_equiv) };
+
+    // Whether the bytes are the same.
+    fn eq(&self, other: &Self) -> bool
+        ensures same { result ≡ pointwise nat_eq (elements_bytes self.now) (elements_bytes other.now) }
+        ensures equal { IsTrue result ↔ (self.now ≡ other.now) }
+    {
+        read_again();
+        self.bytes.as_slice() == other.bytes.as_slice()
+    }
+}

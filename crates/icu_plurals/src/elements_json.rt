@@ -1,0 +1,217 @@
+//! Packed elements as JSON.
+
+ghost use Rattle.std.specs.Prelude.{◌≡◌, ◌≢◌, Err, IfErr, IfOk, OnOk, option_map};
+ghost use Rattle.std.specs.Option.{option_and_then};
+ghost use Rattle.plural_base.specs.RulesJson.{Answers};
+ghost use Rattle.serde_json.specs.Find.{as_str};
+ghost use Rattle.serde_json.specs.View.{view, members_view};
+ghost use Rattle.icu_plurals.specs.Elements.{each_by};
+ghost use Rattle.icu_plurals.specs.ElementsJson.{elements_in_json, elements_json, metadata_in, optional_in, packed_of_json, packs, value_in, value_json, with_value};
+ghost use Rattle.icu_plurals.specs.ElementsViews.{lent_value};
+ghost use Rattle.icu_plurals.specs.PackedElements.{elements_of};
+
+use crate::cow::PluralElementsPackedCow;
+use crate::elements::PluralElements;
+use crate::packed::PluralElementsPackedULE;
+use crate::packed::metadata::FourBitMetadata;
+use packed_list::laws::read_again;
+use plural_base::{ElementsPackError, JsonError, holds_float};
+use serde_json::{Map, Value, json};
+use std::alloc::{AllocError, Global};
+
+impl PluralElementsPackedCow<'static> {
+    /// The packed elements of a JSON value: an object with a list of metadata, from 0 to 15, and a text under `other`,
+    /// and the same, null or nothing under each of `zero`, `one`, `two`, `few`, `many`, `explicit_zero` and
+    /// `explicit_one`. Other keys are not looked at. A category's value that equals other's isn't packed.
+    ///
+    /// [`JsonError::Float`] where a float stands anywhere in the value, else [`JsonError::Shape`] where something has
+    /// not its form, else [`JsonError::Pack`] where the elements can't be packed. It takes memory for the bytes; want
+    /// of it is [`JsonError::Memory`].
+    pub fn from_json(
+        alloc: Global,
+        value: &Value,
+    ) -> Result<PluralElementsPackedCow<'static>, JsonError>
+        ensures answers { Answers (λ packed. packed) result (packed_of_json (view value.now)) }
+        ensures memory { result ≢ Err (JsonError.Pack ElementsPackError.Memory) }
+    {
+        if holds_float(value) {
+            return Err(JsonError::Float);
+        }
+        match read_elements(value) {
+            Some(elements) => packed(alloc, &elements),
+            None => Err(JsonError::Shape),
+        }
+    }
+}
+
+impl<'data> PluralElementsPackedCow<'data> {
+    /// The JSON value of the elements, as [`PluralElementsPackedULE::decode`] gives them: an object with a list of
+    /// metadata and text under the key of each value that is there. It takes memory; the only error is
+    /// [`JsonError::Memory`].
+    pub fn to_json(&self, alloc: Global) -> Result<Value, JsonError>
+        ensures written { IfOk result (λ value. view value ≡ elements_json (elements_of self.now)) }
+        ensures memory { IfErr result (λ error. error ≡ JsonError.Memory) }
+    {
+        Ok(written(alloc, &self.as_packed().decode())?)
+    }
+}
+
+// The elements of a value, packed.
+fn packed(
+    alloc: Global,
+    elements: &PluralElements<(FourBitMetadata, &str)>,
+) -> Result<PluralElementsPackedCow<'static>, JsonError>
+    ensures answers { Answers (λ packed. packed) result (packs (each_by lent_value elements.now)) }
+    ensures memory { result ≢ Err (JsonError.Pack ElementsPackError.Memory) }
+{
+    read_again();
+    match PluralElementsPackedULE::encode(alloc, elements) {
+        Ok(bytes) => Ok(PluralElementsPackedCow::owned(bytes)),
+        Err(ElementsPackError::Memory) => Err(JsonError::Memory),
+        Err(fault) => Err(JsonError::Pack(fault)),
+    }
+}
+
+// The elements of a value, if it is of their form.
+fn read_elements(value: &Value) -> Option<PluralElements<(FourBitMetadata, &str)>>
+    ensures { option_map (each_by lent_value) result ≡ elements_in_json (view value.now) }
+{
+    let other = read_value(value.get("other")?);
+    let zero = read_optional(value.get("zero"));
+    let one = read_optional(value.get("one"));
+    let two = read_optional(value.get("two"));
+    let few = read_optional(value.get("few"));
+    let many = read_optional(value.get("many"));
+    let explicit_zero = read_optional(value.get("explicit_zero"));
+    let explicit_one = read_optional(value.get("explicit_one"));
+    match (
+        other,
+        zero,
+        one,
+        two,
+        few,
+        many,
+        explicit_zero,
+        explicit_one,
+    ) {
+        (
+            Some(other),
+            Some(zero),
+            Some(one),
+            Some(two),
+            Some(few),
+            Some(many),
+            Some(explicit_zero),
+            Some(explicit_one),
+        ) => Some(PluralElements {
+            other,
+            zero,
+            one,
+            two,
+            few,
+            many,
+            explicit_zero,
+            explicit_one,
+        }),
+        _ => None,
+    }
+}
+
+// A value that may be absent or null.
+fn read_optional(value: Option<&Value>) -> Option<Option<(FourBitMetadata, &str)>>
+    ensures { option_map (option_map lent_value) result ≡ optional_in (option_map (λ v. view v.now) value.entry) }
+{
+    let Some(value) = value else {
+        return Some(None);
+    };
+    if value.is_null() {
+        return Some(None);
+    }
+    match read_value(value) {
+        Some(pair) => Some(Some(pair)),
+        None => None,
+    }
+}
+
+// A list of metadata and a text.
+fn read_value(value: &Value) -> Option<(FourBitMetadata, &str)>
+    ensures { option_map lent_value result ≡ value_in (view value.now) }
+{
+    if value.get(2usize).is_some() {
+        return None;
+    }
+    match (
+        read_metadata(value.get(0usize)),
+        read_text(value.get(1usize)),
+    ) {
+        (Some(metadata), Some(text)) => Some((metadata, text)),
+        _ => None,
+    }
+}
+
+// A number from 0 to 15.
+fn read_metadata(value: Option<&Value>) -> Option<FourBitMetadata>
+    ensures { result ≡ option_and_then metadata_in (option_map (λ v. view v.now) value.entry) }
+{
+    let number = value?.as_u64()?;
+    if number > 15 {
+        return None;
+    }
+    FourBitMetadata::try_from_byte(number as u8)
+}
+
+// A text.
+fn read_text(value: Option<&Value>) -> Option<&str>
+    ensures { option_map (λ text. text.now) result ≡ option_and_then as_str (option_map (λ v. view v.now) value.entry) }
+{
+    value?.as_str()
+}
+
+// The value of elements.
+fn written(
+    alloc: Global,
+    elements: &PluralElements<(FourBitMetadata, &str)>,
+) -> Result<Value, AllocError>
+    ensures { IfOk result (λ value. view value ≡ elements_json (each_by lent_value elements.now)) }
+{
+    let mut members = Map::new(alloc);
+    let other = value_of(alloc, &elements.other)?;
+    serde_json::put(&mut members, alloc, "other", other)?;
+    put_value(alloc, &mut members, "zero", &elements.zero)?;
+    put_value(alloc, &mut members, "one", &elements.one)?;
+    put_value(alloc, &mut members, "two", &elements.two)?;
+    put_value(alloc, &mut members, "few", &elements.few)?;
+    put_value(alloc, &mut members, "many", &elements.many)?;
+    put_value(
+        alloc,
+        &mut members,
+        "explicit_zero",
+        &elements.explicit_zero,
+    )?;
+    put_value(alloc, &mut members, "explicit_one", &elements.explicit_one)?;
+    Ok(Value::Object(members))
+}
+
+// Puts a value that is there under its key.
+fn put_value(
+    alloc: Global,
+    members: &mut Map<String, Value>,
+    key: &str,
+    value: &Option<(FourBitMetadata, &str)>,
+) -> Result<(), AllocError>
+    ensures { OnOk result (members_view members.new.entries ≡ with_value key.now (option_map lent_value value.now) (members_view members.old.entries)) }
+{
+    let Some(value) = value else {
+        return Ok(());
+    };
+    let pair = value_of(alloc, value)?;
+    serde_json::put(members, alloc, key, pair)
+}
+
+// The list of metadata and a text.
+fn value_of(alloc: Global, value: &(FourBitMetadata, &str)) -> Result<Value, AllocError>
+    ensures { IfOk result (λ pair. view pair ≡ value_json (lent_value value.now)) }
+{
+    let (metadata, text) = *value;
+    json!(in alloc; [metadata.get(), text])
+}

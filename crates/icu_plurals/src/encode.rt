@@ -1,0 +1,101 @@
+//! Packs elements.
+
+ghost use Rattle.std.specs.Prelude.{◌≡◌, ◌≢◌, ◌↔◌, ◌^◌, ◌<◌, ◌≤◌, Err, Some, IfOk, IsTrue, length};
+ghost use Rattle.packed_list.specs.ListBytes.{CanPack, has_high_start};
+ghost use Rattle.icu_plurals.specs.Elements.{each_by};
+ghost use Rattle.icu_plurals.specs.ElementsPacking.{AnswersAs, pack_fault};
+ghost use Rattle.icu_plurals.specs.ElementsViews.{lent_value};
+ghost use Rattle.icu_plurals.specs.ItemBytes.{bytes_with_items, lent_bytes};
+ghost use Rattle.icu_plurals.specs.PackedElements.{ElementsBytes, IsPackedValue, packed_of};
+
+mod items;
+mod list;
+
+use crate::elements::PluralElements;
+use crate::packed::PluralElementsPackedULE;
+use crate::packed::metadata::FourBitMetadata;
+use items::{Item, items_of};
+use list::{data_length, push_list};
+use packed_list::laws::read_again;
+use plural_base::ElementsPackError;
+use std::alloc::{AllocError, Global};
+
+impl PluralElementsPackedULE<'_> {
+    /// The bytes of elements, made by one allocation. The explicit values are packed, and those of the categories that
+    /// differ from other's in metadata or text; other's is the default.
+    ///
+    /// Refused are, looked for in this order: a default of more than 255 bytes beside an item that is packed
+    /// ([`ElementsPackError::DefaultLimit`]); an item that would start behind place 65535 of the data
+    /// ([`ElementsPackError::StartLimit`]); want of memory ([`ElementsPackError::Memory`]).
+    pub fn encode(
+        alloc: Global,
+        elements: &PluralElements<(FourBitMetadata, &str)>,
+    ) -> Result<Vec<u8>, ElementsPackError>
+        ensures ok { IfOk result (λ bytes. ElementsBytes (packed_of (each_by lent_value elements.now)) bytes.items) }
+        // What was packed answers every number as before.
+        ensures answers { IfOk result (λ bytes. AnswersAs (each_by lent_value elements.now) bytes.items) }
+        ensures default_limit { (result ≡ Err ElementsPackError.DefaultLimit) ↔ (pack_fault (packed_of (each_by lent_value elements.now)) ≡ Some ElementsPackError.DefaultLimit) }
+        ensures start_limit { (result ≡ Err ElementsPackError.StartLimit) ↔ (pack_fault (packed_of (each_by lent_value elements.now)) ≡ Some ElementsPackError.StartLimit) }
+    {
+        read_again();
+        let default = elements.other();
+        let items = items_of(elements);
+        let items = items.as_slice();
+        let size = packed_size(default, items)?;
+        match written(alloc, size, default, items) {
+            Ok(bytes) => Ok(bytes),
+            Err(AllocError) => Err(ElementsPackError::Memory),
+        }
+    }
+}
+
+// How many bytes a default and the items beside it take, if they can be packed.
+fn packed_size(
+    default: &(FourBitMetadata, &str),
+    items: &[Item<'_>],
+) -> Result<usize, ElementsPackError>
+    requires { length items.now ≤ 7 }
+    ensures starts { IfOk result (λ _. CanPack (lent_bytes items.now)) }
+    ensures default { IfOk result (λ _. 0 < length items.now → length default.now.1.now ≤ 255) }
+    ensures default_limit { (result ≡ Err ElementsPackError.DefaultLimit) ↔ ((0 < length items.now) × (255 < length default.now.1.now)) }
+    ensures start_limit { (result ≡ Err ElementsPackError.StartLimit) ↔ ((length default.now.1.now ≤ 255) × IsTrue (has_high_start (lent_bytes items.now))) }
+    ensures memory { result ≢ Err ElementsPackError.Memory }
+{
+    let text = default.1;
+    if items.is_empty() {
+        return Ok(1 + text.len());
+    }
+    if text.len() > 255 {
+        return Err(ElementsPackError::DefaultLimit);
+    }
+    match data_length(items) {
+        Some(data) => Ok(2 + text.len() + 2 * items.len() + data),
+        None => Err(ElementsPackError::StartLimit),
+    }
+}
+
+// The bytes of a default and the items beside it, of which there are so many.
+fn written(
+    alloc: Global,
+    size: usize,
+    default: &(FourBitMetadata, &str),
+    items: &[Item<'_>],
+) -> Result<Vec<u8>, AllocError>
+    requires default { 0 < length items.now → length default.now.1.now ≤ 255 }
+    requires can_pack { CanPack (lent_bytes items.now) }
+    ensures valid { IfOk result (λ _. IsPackedValue (lent_value default.now)) }
+    ensures bytes { IfOk result (λ bytes. bytes.items ≡ bytes_with_items (lent_value default.now) (lent_bytes items.now)) }
+{
+    let (metadata, text) = *default;
+    let metadata = metadata.get();
+    let mut bytes = Vec::with_capacity(alloc, size)?;
+    if items.is_empty() {
+        bytes.push(metadata)?;
+    } else {
+        bytes.push(128 + metadata)?;
+        bytes.push(text.len() as u8)?;
+    }
+    bytes.extend_from_slice(text.as_bytes())?;
+    push_list(&mut bytes, items)?;
+    Ok(bytes)
+}

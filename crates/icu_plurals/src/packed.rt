@@ -1,0 +1,195 @@
+//! Elements as packed bytes.
+
+ghost use Rattle.icu_plurals.specs.ElementsReading.{AreElements, ElementsBytes-prop, elements_in};
+
+pub(crate) mod error;
+mod items;
+pub(crate) mod keys;
+pub(crate) mod metadata;
+mod parts;
+mod values;
+
+use crate::elements::PluralElements;
+use crate::packed::values::{find_value, value_of};
+use error::ElementsBytesError;
+use metadata::FourBitMetadata;
+use packed_list::PackedList;
+use packed_list::laws::read_again;
+use parts::{Parts, check_parts, parts_of};
+use plural_base::{PluralCategory, PluralRules};
+use plural_reference::PluralOperands;
+
+/// Elements as checked bytes: a default, and either nothing else or a packed list of items beside it. Each value is
+/// metadata and a text. They are the same exactly if their bytes are.
+#[derive(Clone, Copy, Debug)]
+pub struct PluralElementsPackedULE<'a> {
+    bytes: &'a [u8],
+    ghost checked: { AreElements bytes.now } by { ElementsBytes-prop (elements_in bytes.now) bytes.now },
+}
+
+impl<'a> PluralElementsPackedULE<'a> {
+    ghost use Rattle.std.specs.Prelude.{◌≡◌, ◌↔◌, IfOk, IsTrue, MatchResult, Err, map, option_map};
+    ghost use Rattle.std.specs.List.{list_all};
+    ghost use Rattle.icu_plurals.specs.Elements.{each_by, element_at, explicit_at, of_category};
+    ghost use Rattle.icu_plurals.specs.PackedElements.{PackedElements, ElementsBytes, elements_of, items_of, value_at};
+    ghost use Rattle.icu_plurals.specs.ElementsFaults.{HasElementsFault};
+    ghost use Rattle.icu_plurals.specs.ElementsReading.{AreElements, AreShown, is_item, item_in};
+    ghost use Rattle.icu_plurals.specs.ElementsPartsView.{lent_parts};
+    ghost use Rattle.icu_plurals.specs.ElementsViews.{lent_value, lent_elements};
+
+    /// Reads bytes as packed elements. It takes no memory.
+    ///
+    /// Refused are, looked for in this order: no byte ([`ElementsBytesError::Empty`]); items that are said to follow,
+    /// without the length of the default's text or with fewer bytes than it says ([`ElementsBytesError::Short`]); a
+    /// bit of 4 to 6 of the first byte ([`ElementsBytesError::Padding`]); a default that isn't UTF-8
+    /// ([`ElementsBytesError::DefaultText`]); what is no packed list behind it ([`ElementsBytesError::List`]). Then the
+    /// first bad item: it has no byte ([`ElementsBytesError::ItemEmpty`]), its key is above 6
+    /// ([`ElementsBytesError::Key`]), or its text isn't UTF-8 ([`ElementsBytesError::ItemText`]).
+    pub fn parse_bytes(bytes: &'a [u8]) -> Result<PluralElementsPackedULE<'a>, ElementsBytesError>
+        ensures ok { IfOk result (λ elements. ElementsBytes (lent_elements elements) bytes.now) }
+        ensures accepted { (elements : PackedElements) → ElementsBytes elements bytes.now
+            → MatchResult result (λ found. lent_elements found ≡ elements) (λ _. ⊥) }
+        ensures refused { (fault : ElementsBytesError) → (result ≡ Err fault) ↔ HasElementsFault bytes.now fault }
+    {
+        read_again();
+        let parts = parts_of(bytes)?;
+        match check_parts(&parts) {
+            Ok(()) => Ok(PluralElementsPackedULE::from_checked(bytes)),
+            Err(fault) => Err(fault),
+        }
+    }
+
+    // The elements in bytes that are known to be some.
+    #[inline]
+    pub(crate) fn from_checked(bytes: &'a [u8]) -> PluralElementsPackedULE<'a>
+        requires { AreElements bytes.now }
+        ensures { ElementsBytes (lent_elements result) bytes.now }
+    {
+        PluralElementsPackedULE { bytes }
+    }
+
+    /// The bytes of the elements.
+    #[inline]
+    pub fn as_bytes(&self) -> &'a [u8]
+        ensures { ElementsBytes (lent_elements self.now) result.now }
+    {
+        self.bytes
+    }
+
+    /// The value for a number: the explicit one where the operands are exactly 0 or 1 and it is there, else that of
+    /// the category that the rules choose, else the default. Of a key that stands twice the first item answers. The
+    /// item is looked for in the bytes; no memory is taken.
+    pub fn get(&self, op: PluralOperands, rules: &PluralRules<'_>) -> (FourBitMetadata, &'a str)
+        ensures { lent_value result ≡ element_at (elements_of (lent_elements self.now)) op rules.now }
+    {
+        match self.explicit_at(op) {
+            Some(value) => value,
+            None => self.of_category(rules.category_for(op)),
+        }
+    }
+
+    /// All values by key, lent from the bytes. Of a key that stands twice the first item's value is given, and a
+    /// category's value is given where it equals the default too. It takes no memory.
+    pub fn decode(&self) -> PluralElements<(FourBitMetadata, &'a str)>
+        ensures { each_by lent_value result ≡ elements_of (lent_elements self.now) }
+    {
+        PluralElements {
+            other: self.get_default(),
+            zero: self.value_at(keys::ZERO),
+            one: self.value_at(keys::ONE),
+            two: self.value_at(keys::TWO),
+            few: self.value_at(keys::FEW),
+            many: self.value_at(keys::MANY),
+            explicit_zero: self.value_at(keys::EXPLICIT_ZERO),
+            explicit_one: self.value_at(keys::EXPLICIT_ONE),
+        }
+    }
+
+    /// The default.
+    pub fn get_default(&self) -> (FourBitMetadata, &'a str)
+        ensures { lent_value result ≡ (lent_elements self.now).default }
+    {
+        let parts = self.parts();
+        value_of(parts.first, parts.text)
+    }
+
+    // The explicit value at exactly 0 or 1, where it is there.
+    fn explicit_at(&self, op: PluralOperands) -> Option<(FourBitMetadata, &'a str)>
+        ensures { option_map lent_value result ≡ explicit_at (elements_of (lent_elements self.now)) op }
+    {
+        if op.is_exactly_zero() {
+            self.value_at(keys::EXPLICIT_ZERO)
+        } else if op.is_exactly_one() {
+            self.value_at(keys::EXPLICIT_ONE)
+        } else {
+            None
+        }
+    }
+
+    // The value of a category, or the default.
+    fn of_category(&self, category: PluralCategory) -> (FourBitMetadata, &'a str)
+        ensures { lent_value result ≡ of_category (elements_of (lent_elements self.now)) category }
+    {
+        let Some(key) = keys::key_of(category) else {
+            return self.get_default();
+        };
+        match self.value_at(key) {
+            Some(value) => value,
+            None => self.get_default(),
+        }
+    }
+
+    // The value of the first item that has a key.
+    fn value_at(&self, key: u8) -> Option<(FourBitMetadata, &'a str)>
+        ensures { option_map lent_value result ≡ value_at key (items_of (lent_elements self.now)) }
+    {
+        find_value(&self.list(), key)
+    }
+
+    // The list of items; without items it is empty.
+    fn list(&self) -> PackedList<'a>
+        ensures items { map item_in result ≡ items_of (lent_elements self.now) }
+        ensures good { IsTrue (list_all is_item result) }
+    {
+        read_again();
+        match self.parts().rest {
+            Some(rest) => PackedList::from_checked(rest),
+            None => PackedList::from_checked(&[]),
+        }
+    }
+
+    // The parts of the bytes.
+    fn parts(&self) -> Parts<'a>
+        ensures { AreShown (lent_parts result) (lent_elements self.now) }
+    {
+        let Ok(parts) = parts_of(self.bytes) else {
+            unreachable!();
+        };
+        parts
+    }
+}
+
+impl<'a> PartialEq for PluralElementsPackedULE<'a> {
+    ghost use Rattle.std.specs.Prelude.{◌≡◌, ◌↔◌, IsTrue, nat_eq};
+    ghost use Rattle.std.specs.Cmp.{on_per, partial_equiv_from_equiv};
+    ghost use Rattle.std.specs.Cmp.Lexicographic.{pointwise, nat_list_eq_equiv};
+    ghost use Rattle.icu_plurals.specs.ElementsViews.{lent_elements};
+
+    ghost eq = { λ elements other. pointwise nat_eq elements.bytes.now other.bytes.now };
+
+    ghost laws = { on_per (λ elements. elements.bytes.now) (partial_equiv_from_equiv nat_list_eq_equiv) };
+
+    fn eq(&self, other: &Self) -> bool
+        ensures same { result ≡ pointwise nat_eq self.now.bytes.now other.now.bytes.now }
+        ensures equal { IsTrue result ↔ (lent_elements self.now ≡ lent_elements other.now) }
+    {
+        self.bytes == other.bytes
+    }
+}
+
+impl<'a> Eq for PluralElementsPackedULE<'a> {
+    ghost use Rattle.std.specs.Cmp.{on_equiv};
+    ghost use Rattle.std.specs.Cmp.Lexicographic.{nat_list_eq_equiv};
+
+    ghost laws = { on_equiv (λ elements. elements.bytes.now) nat_list_eq_equiv };
+}

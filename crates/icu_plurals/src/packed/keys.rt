@@ -1,0 +1,34 @@
+//! The keys of the items beside the default of packed elements.
+
+ghost use Rattle.std.specs.Prelude.{◌≡◌};
+ghost use Rattle.icu_plurals.specs.ElementsReading.{category_key};
+
+use plural_base::PluralCategory;
+
+pub(crate) const ZERO: u8 = 0;
+
+pub(crate) const ONE: u8 = 1;
+
+pub(crate) const TWO: u8 = 2;
+
+pub(crate) const FEW: u8 = 3;
+
+pub(crate) const MANY: u8 = 4;
+
+pub(crate) const EXPLICIT_ZERO: u8 = 5;
+
+pub(crate) const EXPLICIT_ONE: u8 = 6;
+
+// The key of a category's value: other's is the default.
+pub(crate) fn key_of(category: PluralCategory) -> Option<u8>
+    ensures { result ≡ category_key category }
+{
+    match category {
+        PluralCategory::Zero => Some(ZERO),
+        PluralCategory::One => Some(ONE),
+        PluralCategory::Two => Some(TWO),
+        PluralCategory::Few => Some(FEW),
+        PluralCategory::Many => Some(MANY),
+        PluralCategory::Other => None,
+    }
+}

@@ -1,0 +1,81 @@
+-- What a JSON value stands for as a range or as the categories of ranges, or why it stands for none, and the one JSON value that is
+-- written for them (docs/JSON.md). Values are what serde_json's accessors show of them.
+use Rattle.std.specs.Prelude.{ℕ, ◌++◌, codes, List, fold, Option, Some, None, Ok, Err}
+use Rattle.std.specs.Option.{option_and_then}
+use Rattle.plural_base.specs.declared.json_error.JsonError.{JsonError}
+use Rattle.plural_base.specs.declared.json_error.JsonError.TheVariants.{Shape, RangeKey, RangeValue}
+use Rattle.plural_base.specs.declared.range_key.UnvalidatedPluralRange.{UnvalidatedPluralRange}
+use Rattle.plural_base.specs.declared.ranges.PluralRanges.{PluralRanges}
+use Rattle.plural_base.specs.declared.raw_category.RawPluralCategory.{RawPluralCategory}
+use Rattle.plural_base.specs.CategoryNames.{raw_name_of, all_raw_categories}
+use Rattle.plural_base.specs.RangeKeys.{range_key, range_named, range_text, category_named}
+use Rattle.plural_base.specs.RangeTable.{category_at, no_ranges, with_range}
+use Rattle.plural_base.specs.RulesJson.{Stands, ◌>>=◌, unless_float}
+use Rattle.serde_json.specs.Data.{Data, string, object, Members, no_members, member, put}
+use Rattle.serde_json.specs.Find.{get, as_str, as_object}
+
+-- what is there, or the refusal
+abbrev pub there_or : {A : Type 0} → JsonError → Option A → Stands A
+there_or refusal None = Err refusal
+there_or refusal (Some x) = Ok x
+
+-- ---- Reading
+
+-- a range is the text of one
+abbrev pub key_shape : Data → Stands UnvalidatedPluralRange
+key_shape value = do
+  text ← there_or Shape (as_str value)
+  range ← there_or RangeKey (range_named text)
+  Ok (range_key range.0 range.1)
+
+-- a range's category is its name
+abbrev pub category_shape : Data → Stands RawPluralCategory
+category_shape value = do
+  text ← there_or Shape (as_str value)
+  there_or RangeValue (category_named text)
+
+-- each member gives its range its category; the members stand in the order of the keys' bytes, and a key is looked at before its value
+abbrev pub members_shape : PluralRanges → Members → Stands PluralRanges
+members_shape ranges no_members = Ok ranges
+members_shape ranges (member key value members) = do
+  range ← there_or RangeKey (range_named key)
+  category ← category_shape value
+  members_shape (with_range ranges range.0 range.1 category) members
+
+-- categories of ranges are an object with an object under `ranges`; its other keys are not looked at
+abbrev pub ranges_shape : Data → Stands PluralRanges
+ranges_shape value = there_or Shape (option_and_then as_object (get (codes "ranges") value)) >>= members_shape no_ranges
+
+-- the range of a value
+abbrev pub key_of_json : Data → Stands UnvalidatedPluralRange
+key_of_json = unless_float key_shape
+
+-- the categories of ranges of a value
+abbrev pub ranges_of_json : Data → Stands PluralRanges
+ranges_of_json = unless_float ranges_shape
+
+-- ---- Writing
+
+-- a range is its text
+abbrev pub key_json : RawPluralCategory → RawPluralCategory → Data
+key_json start end = string (range_text start end)
+
+-- a range that has a category is a member: its text and the category's name
+abbrev pub put_range : RawPluralCategory → RawPluralCategory → Members → Option RawPluralCategory → Members
+put_range start end members None = members
+put_range start end members (Some category) = put (range_text start end) (string (raw_name_of category)) members
+
+-- those with this start
+abbrev pub put_row : PluralRanges → Members → RawPluralCategory → Members
+put_row ranges members start = fold (λ ms end. put_range start end ms (category_at ranges start end)) members all_raw_categories
+
+-- all of them, and no other member
+abbrev pub range_members : PluralRanges → Members
+range_members ranges = fold (put_row ranges) no_members all_raw_categories
+
+-- an object with `ranges` alone
+abbrev pub object_under : Data → Data
+object_under table = object (member (codes "ranges") table no_members)
+
+abbrev pub ranges_json : PluralRanges → Data
+ranges_json ranges = object_under (object (range_members ranges))

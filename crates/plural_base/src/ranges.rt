@@ -1,0 +1,83 @@
+//! The categories of ranges.
+
+ghost use Rattle.std.specs.Prelude.{◌≡◌, ◌≢◌, ◌≤◌, ◌⊎◌, Some, None};
+ghost use Rattle.plural_base.specs.declared.raw_category.RawPluralCategory.{RawPluralCategory as Category};
+ghost use Rattle.plural_base.specs.RangeTable.{category_at, no_ranges, row_size, size_of, with_range};
+
+use crate::by_category::ByCategory;
+use crate::raw_category::{ALL, RawPluralCategory};
+
+/// The categories that ranges of numbers have, by the categories of their starts and their ends (UTS 35
+/// Part 3, Plural Ranges): a map from pairs of categories to categories. A pair that is absent has its
+/// end's category. Two are equal where they are the same map. None of its calls but
+/// [`PluralRanges::to_json`] takes memory.
+#[derive(Clone, Copy, Debug, PartialEq)]
+pub struct PluralRanges {
+    rows: ByCategory<ByCategory<Option<RawPluralCategory>>>,
+}
+
+impl PluralRanges {
+    /// The map without a pair.
+    pub fn new() -> PluralRanges
+        ensures { result ≡ no_ranges }
+    {
+        PluralRanges {
+            rows: ByCategory::all(ByCategory::all(None)),
+        }
+    }
+
+    /// The category of a pair, where it has one.
+    #[inline]
+    pub fn get(
+        &self,
+        start: RawPluralCategory,
+        end: RawPluralCategory,
+    ) -> Option<RawPluralCategory>
+        ensures { result ≡ category_at self.now start end }
+    {
+        self.rows.get(start).get(end)
+    }
+
+    /// Gives a pair a category, and answers the one that it had before.
+    pub fn insert(
+        &mut self,
+        start: RawPluralCategory,
+        end: RawPluralCategory,
+        category: RawPluralCategory,
+    ) -> Option<RawPluralCategory>
+        ensures before { result ≡ category_at self.old start end }
+        ensures put { self.new ≡ with_range self.old start end category }
+        // The pair has the category, and all others are as they were.
+        ensures there { category_at self.new start end ≡ Some category }
+        ensures others { (s : Category) (e : Category) → (s ≢ start) ⊎ (e ≢ end) → category_at self.new s e ≡ category_at self.old s e }
+    {
+        let mut row = self.rows.get(start);
+        let before = row.get(end);
+        row.set(end, Some(category));
+        self.rows.set(start, row);
+        before
+    }
+
+    /// How many pairs have a category, 36 at most.
+    pub fn len(&self) -> usize
+        ensures value { result ≡ size_of self.now }
+        ensures bound { result ≤ 36 }
+    {
+        self.row_len(RawPluralCategory::Other)
+            + self.row_len(RawPluralCategory::Zero)
+            + self.row_len(RawPluralCategory::One)
+            + self.row_len(RawPluralCategory::Two)
+            + self.row_len(RawPluralCategory::Few)
+            + self.row_len(RawPluralCategory::Many)
+    }
+
+    // How many ends have a category with a start.
+    fn row_len(&self, start: RawPluralCategory) -> usize
+        ensures value { result ≡ row_size self.now start }
+        ensures bound { result ≤ 6 }
+    {
+        ALL.iter()
+            .filter(|end| self.get(start, **end).is_some())
+            .count()
+    }
+}

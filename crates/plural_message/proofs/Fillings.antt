@@ -1,0 +1,87 @@
+-- How a text is filled: without a `{}` it stays, else the first one is replaced and the rest filled.
+use Rattle.std.proofs.Common.{◌≡◌, ℕ, zero, suc, ◌<◌, List, [], ◌∷◌, ◌++◌, flat_map, length, take, drop, refl, ap, subst, sym, ◌∙◌, append_assoc, append-nil, arith, length-append, length-take, Some, None, true, false, ⊎_elim}
+use Rattle.std.specs.Borrow.{Bor}
+use Rattle.std.specs.List.{AllByRecursion}
+use Rattle.std.specs.Str.Iter.{HasSubslice}
+use Rattle.std.specs.Str.Pattern.{FindsText, HasTextAt, LacksTextAt}
+use Rattle.std.specs.Str.Replace.{ReplacesMatches}
+use Rattle.std.proofs.lemmas.List.{drop_at, take-append-drop}
+use Rattle.std.proofs.lemmas.Str.Pattern.{contains_text}
+use Rattle.plural_message.specs.Filling.{placeholder, joined, IsFilling}
+
+-- ---- A piece more
+
+-- no placeholder stands in the empty text
+pub none_in_empty : ¬ (HasSubslice [] placeholder)
+none_in_empty h = omega (arith, ap length h.2, length-append h.0 (placeholder ++ h.1))
+
+-- a text without a placeholder is one piece
+pub filling-plain : (number text : List ℕ) → ¬ (HasSubslice text placeholder) → IsFilling number text text
+filling-plain number text none =
+    record { pieces = text ∷ []; uncut = (none, tt); cut = sym (append-nil text); filled_is = sym (append-nil text) }
+
+-- one piece more before others, or before nothing, which is an empty piece
+joined-more : (separator piece : List ℕ) (p : List ℕ) (ps : List (List ℕ)) → piece ++ (separator ++ joined separator (p ∷ ps)) ≡ joined separator (piece ∷ p ∷ ps)
+joined-more separator piece p ps = ap (λ l. piece ++ l) (sym (append_assoc separator p (flat_map (λ q. separator ++ q) ps)))
+
+more : (number before after rest : List ℕ) (pieces : List (List ℕ)) → ¬ (HasSubslice before placeholder)
+    → AllByRecursion (λ piece. ¬ (HasSubslice piece placeholder)) pieces → after ≡ joined placeholder pieces → rest ≡ joined number pieces
+    → IsFilling number (before ++ (placeholder ++ after)) (before ++ (number ++ rest))
+more number before after rest [] none uncut cut filled =
+    record {
+      pieces = before ∷ [] ∷ [];
+      uncut = (none, (none_in_empty, tt));
+      cut = ap (λ l. before ++ (placeholder ++ l)) cut ∙ joined-more placeholder before [] [];
+      filled_is = ap (λ l. before ++ (number ++ l)) filled ∙ joined-more number before [] [];
+    }
+more number before after rest (p ∷ ps) none uncut cut filled =
+    record {
+      pieces = before ∷ p ∷ ps;
+      uncut = (none, uncut);
+      cut = ap (λ l. before ++ (placeholder ++ l)) cut ∙ joined-more placeholder before p ps;
+      filled_is = ap (λ l. before ++ (number ++ l)) filled ∙ joined-more number before p ps;
+    }
+
+-- what stands before the first placeholder, the number, and the rest filled
+pub filling-placeholder : (number before after rest : List ℕ) → ¬ (HasSubslice before placeholder) → IsFilling number after rest
+    → IsFilling number (before ++ (placeholder ++ after)) (before ++ (number ++ rest))
+filling-placeholder number before after rest none filling =
+    more number before after rest filling.pieces none filling.uncut filling.cut filling.filled_is
+
+-- ---- What `replace` makes
+
+-- the text is not found
+none_found : (text : List ℕ) → FindsText placeholder text None → ¬ (HasSubslice text placeholder)
+none_found text none h = let found : false ≡ true = (contains_text false placeholder text none).1 h in cc
+
+-- it is not found before the placeholder where it is found first
+none_before : (text : List ℕ) (i : ℕ) → ((k : ℕ) → k < i → LacksTextAt placeholder text k) → ¬ (HasSubslice (take i text) placeholder)
+none_before text i lacks h =
+    let a = h.0 in
+    let b = h.1 in
+    let whole : text ≡ a ++ (placeholder ++ (b ++ drop i text)) =
+    sym (take-append-drop i text) ∙ ap (λ l. l ++ drop i text) h.2 ∙ append_assoc a (placeholder ++ b) (drop i text) in
+    let inside : length a < i = omega (arith, ap length h.2, length-take i text, length-append a (placeholder ++ b)) in
+    lacks (length a) inside (b ++ drop i text) (ap (drop (length a)) whole ∙ drop_at a (placeholder ++ (b ++ drop i text)) (length a) refl)
+
+-- the text at a placeholder, cut there
+cut_at : (text : List ℕ) (i j : ℕ) → HasTextAt placeholder text i j → text ≡ take i text ++ (placeholder ++ drop j text)
+cut_at text i j found = sym (take-append-drop i text) ∙ ap (λ l. take i text ++ l) found.split
+
+-- Each match of the placeholder is replaced, and the rest stays.
+pub replaced : (number : List ℕ) (n : ℕ) (p : Bor (List ℕ)) (text out : List ℕ) → p.now ≡ placeholder
+    → ReplacesMatches (λ q. FindsText q.now) (λ q r. r.now ≡ q.now) number n p text out → IsFilling number text out
+replaced number zero p text out is h =
+    let none : FindsText placeholder text None = subst (λ q. FindsText q text None) is h.0 in
+    subst (λ l. IsFilling number text l) (sym h.1) (filling-plain number text (none_found text none))
+replaced number (suc n) p text out is h =
+    let i = h.0 in
+    let j = h.1 in
+    let rest = h.3 in
+    let found : FindsText placeholder text (Some (i, j)) = subst (λ q. FindsText q text (Some (i, j))) is h.4 in
+    let same : h.2.now ≡ placeholder = h.5 ∙ is in
+    let filled : IsFilling number (drop j text) rest =
+    ⊎_elim (λ on. replaced number n h.2 (drop j text) rest same on.1) (λ empty. absurd (omega (arith, found.1.ends, empty.0))) h.6 in
+    subst (λ l. IsFilling number l out) (sym (cut_at text i j found.1))
+    (subst (λ l. IsFilling number (take i text ++ (placeholder ++ drop j text)) l) (sym h.7)
+    (filling-placeholder number (take i text) (drop j text) rest (none_before text i found.0) filled))

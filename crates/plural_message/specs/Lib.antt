@@ -1,0 +1,5 @@
+-- messages
+pub mod Filling
+pub mod Messages
+pub mod MessageErrors
+pub mod FillingLaws

@@ -1,0 +1,57 @@
+//! Why there is no message.
+
+use fixed_decimal::DecimalError;
+use std::alloc::AllocError;
+use std::error::Error;
+use std::fmt;
+
+/// Why there is no message of a number.
+#[derive(Clone, Copy, Debug, PartialEq, Eq)]
+pub enum MessageError {
+    /// The number's text isn't one, or is over a limit. It is never want of memory.
+    Number(DecimalError),
+    /// There is no memory for the number or for the message.
+    Memory,
+}
+
+impl fmt::Display for MessageError {
+    ghost use Rattle.std.specs.Prelude.{Some};
+    ghost use Rattle.plural_message.specs.MessageErrors.{message_error_text};
+
+    ghost output = { λ error. Some (message_error_text error) };
+
+    fn fmt<W: fmt::Write>(&self, f: &mut fmt::Formatter<W>) -> fmt::Result {
+        match self {
+            MessageError::Number(fault) => write!(f, "{fault}"),
+            MessageError::Memory => f.write_str("out of memory"),
+        }
+    }
+}
+
+impl Error for MessageError {}
+
+/// `Number`, but `Memory` where memory was wanting.
+impl From<DecimalError> for MessageError {
+    ghost use Rattle.std.specs.Prelude.{◌≡◌};
+    ghost use Rattle.plural_message.specs.MessageErrors.{number_error};
+
+    ghost from_gives = { λ fault error. error ≡ number_error fault };
+
+    fn from(fault: DecimalError) -> MessageError {
+        match fault {
+            DecimalError::Syntax | DecimalError::Limit => MessageError::Number(fault),
+            DecimalError::Memory => MessageError::Memory,
+        }
+    }
+}
+
+impl From<AllocError> for MessageError {
+    ghost use Rattle.std.specs.Prelude.{◌≡◌};
+    ghost use Rattle.plural_message.specs.declared.error.MessageError.TheVariants.{Memory};
+
+    ghost from_gives = { λ _ error. error ≡ Memory };
+
+    fn from(_error: AllocError) -> MessageError {
+        MessageError::Memory
+    }
+}

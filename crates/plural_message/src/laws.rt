@@ -1,0 +1,8 @@
+//! What is true of all messages.
+
+ghost use Rattle.plural_message.specs.FillingLaws.{OneFilling};
+
+/// A number's text gives one filling of an element's text.
+pub fn one_filling()
+    ensures { OneFilling }
+{}
