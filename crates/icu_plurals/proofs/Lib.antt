@@ -7,3 +7,4 @@ mod HighItems
 pub mod PackedAgain
 pub mod CheckedElements
 pub mod Encoded
+pub mod WorkedPacking
