@@ -13,11 +13,11 @@ use crate::elements::PluralElements;
 use crate::packed::PluralElementsPackedULE;
 use crate::packed::metadata::FourBitMetadata;
 use packed_list::laws::read_again;
+pub use plural_base::laws::texts_give_one_answer;
 use plural_base::{ElementsPackError, PluralRules};
 use plural_reference::PluralOperands;
-use std::alloc::Global;
-pub use plural_base::laws::texts_give_one_answer;
 pub use plural_reference::laws::reading::one_list_of_tokens;
+use std::alloc::Global;
 
 /// Packed elements are the same bytes exactly if they are the same default and items.
 pub fn one_encoding_of_elements()

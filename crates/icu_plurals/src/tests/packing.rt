@@ -115,12 +115,7 @@ fn packs_elements(rt: HostRuntime) -> Result<(), Fail> {
         ),
         // One equals other, but for its metadata in the last row.
         ((0, "x"), Some((0, "x")), None, b"\0x"),
-        (
-            (0, "x"),
-            Some((1, "x")),
-            None,
-            b"\x80\x01x\x01\0\x11x",
-        ),
+        ((0, "x"), Some((1, "x")), None, b"\x80\x01x\x01\0\x11x"),
     ];
     for (other, one, explicit_one, wanted) in rows {
         let bytes = packed(rt.alloc(), other, one, explicit_one)?;
