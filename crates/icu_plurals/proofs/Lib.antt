@@ -8,3 +8,4 @@ mod HighItems
 pub mod PackedAgain
 pub mod CheckedElements
 pub mod Encoded
+pub mod WorkedPacking

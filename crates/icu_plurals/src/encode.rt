@@ -74,7 +74,7 @@ fn packed_size(
     }
 }
 
-// The bytes of a default and the items beside it, of which there are so many.
+// The bytes of a default and the items beside it, which are so many bytes.
 fn written(
     alloc: Global,
     size: usize,

@@ -13,24 +13,53 @@ use std::test::Fail;
 // Other "items", one "item", explicit one "items".
 const ITEMS: &[u8] = b"\x80\x05items\x02\0\x05\0\x10item\x60items";
 
-// A text with metadata 0.
-fn plain(text: &str) -> (FourBitMetadata, &str) {
-    (FourBitMetadata::zero(), text)
+// Metadata, 0 where the number is too large, and a text.
+fn value<'a>(pair: (u8, &'a str)) -> (FourBitMetadata, &'a str) {
+    match FourBitMetadata::try_from_byte(pair.0) {
+        Some(metadata) => (metadata, pair.1),
+        None => (FourBitMetadata::zero(), pair.1),
+    }
 }
 
-// A text with metadata, which is 0 where the number is too large.
-fn marked(metadata: u8, text: &str) -> (FourBitMetadata, &str) {
-    match FourBitMetadata::try_from_byte(metadata) {
-        Some(metadata) => (metadata, text),
-        None => plain(text),
+// The same of a pair that may be absent.
+fn optional<'a>(pair: Option<(u8, &'a str)>) -> Option<(FourBitMetadata, &'a str)> {
+    match pair {
+        Some(pair) => Some(value(pair)),
+        None => None,
+    }
+}
+
+// The elements with these values and no others.
+fn elements<'a>(
+    other: (u8, &'a str),
+    one: Option<(u8, &'a str)>,
+    explicit_one: Option<(u8, &'a str)>,
+) -> PluralElements<(FourBitMetadata, &'a str)> {
+    PluralElements {
+        other: value(other),
+        zero: None,
+        one: optional(one),
+        two: None,
+        few: None,
+        many: None,
+        explicit_zero: None,
+        explicit_one: optional(explicit_one),
     }
 }
 
 // The elements of a text that shows a number.
 fn items() -> PluralElements<(FourBitMetadata, &'static str)> {
-    PluralElements::new(plain("items"))
-        .with_one_value(Some(plain("item")))
-        .with_explicit_one_value(Some(plain("items")))
+    elements((0, "items"), Some((0, "item")), Some((0, "items")))
+}
+
+// The bytes that elements with these values are packed as.
+fn packed(
+    alloc: Global,
+    other: (u8, &str),
+    one: Option<(u8, &str)>,
+    explicit_one: Option<(u8, &str)>,
+) -> Result<Vec<u8>, ElementsPackError> {
+    PluralElementsPackedULE::encode(alloc, &elements(other, one, explicit_one))
 }
 
 // The rule `i = 1 and v = 0` for one.
@@ -68,19 +97,28 @@ fn long(alloc: Global, count: usize) -> Result<String, AllocError> {
 
 #[test]
 fn packs_elements(rt: HostRuntime) -> Result<(), Fail> {
-    let alone = PluralElements::new(plain("abc"));
-    let one = PluralElements::new(plain("abc")).with_one_value(Some(plain("defg")));
-    let marks = PluralElements::new(marked(15, "x"))
-        .with_one_value(Some(marked(3, "y")))
-        .with_explicit_zero_value(Some(marked(12, "z")));
-    let rows: [(&PluralElements<(FourBitMetadata, &str)>, &[u8]); 4] = [
-        (&alone, b"\0abc"),
-        (&one, b"\x80\x03abc\x01\0\x10defg"),
-        (&items(), ITEMS),
-        (&marks, b"\x8f\x01x\x02\0\x02\0\x13y\x5cz"),
+    // Other, one and explicit one, and the bytes.
+    let rows: [((u8, &str), Option<(u8, &str)>, Option<(u8, &str)>, &[u8]); 6] = [
+        ((0, "abc"), None, None, b"\0abc"),
+        (
+            (0, "abc"),
+            Some((0, "defg")),
+            None,
+            b"\x80\x03abc\x01\0\x10defg",
+        ),
+        ((0, "items"), Some((0, "item")), Some((0, "items")), ITEMS),
+        (
+            (15, "x"),
+            Some((3, "y")),
+            Some((12, "z")),
+            b"\x8f\x01x\x02\0\x02\0\x13y\x6cz",
+        ),
+        // One equals other, but for its metadata in the last row.
+        ((0, "x"), Some((0, "x")), None, b"\0x"),
+        ((0, "x"), Some((1, "x")), None, b"\x80\x01x\x01\0\x11x"),
     ];
-    for (elements, wanted) in rows {
-        let bytes = PluralElementsPackedULE::encode(rt.alloc(), elements)?;
+    for (other, one, explicit_one, wanted) in rows {
+        let bytes = packed(rt.alloc(), other, one, explicit_one)?;
         assert!(rt; bytes.as_slice() == wanted, "{bytes:?}");
     }
     Ok(())
@@ -88,36 +126,20 @@ fn packs_elements(rt: HostRuntime) -> Result<(), Fail> {
 
 #[test]
 fn packs_every_key_in_order(rt: HostRuntime) -> Result<(), Fail> {
-    let elements = PluralElements::new(marked(2, "o"))
-        .with_explicit_one_value(Some(marked(9, "f")))
-        .with_explicit_zero_value(Some(marked(8, "e")))
-        .with_many_value(Some(marked(7, "d")))
-        .with_few_value(Some(marked(6, "c")))
-        .with_two_value(Some(marked(5, "b")))
-        .with_one_value(Some(marked(4, "a")))
-        .with_zero_value(Some(marked(3, "z")));
+    let elements = PluralElements {
+        other: value((2, "o")),
+        zero: optional(Some((3, "z"))),
+        one: optional(Some((4, "a"))),
+        two: optional(Some((5, "b"))),
+        few: optional(Some((6, "c"))),
+        many: optional(Some((7, "d"))),
+        explicit_zero: optional(Some((8, "e"))),
+        explicit_one: optional(Some((9, "f"))),
+    };
     let bytes = PluralElementsPackedULE::encode(rt.alloc(), &elements)?;
     let wanted: &[u8] =
         b"\x82\x01o\x07\0\x02\0\x04\0\x06\0\x08\0\x0a\0\x0c\0\x03z\x14a\x25b\x36c\x47d\x58e\x69f";
     assert!(rt; bytes.as_slice() == wanted, "{bytes:?}");
-    assert!(rt; PluralElementsPackedULE::parse_bytes(&bytes)?.decode() == elements);
-    Ok(())
-}
-
-#[test]
-fn leaves_out_what_equals_other(rt: HostRuntime) -> Result<(), Fail> {
-    // Closures may make a category's value equal other's; metadata tell values apart.
-    let texts = PluralElements::new(plain("a")).with_one_value(Some(plain("b")));
-    let equal = texts.map(|_| plain("x"));
-    assert!(rt; equal.as_ref().try_into_other().is_none());
-    let bytes = PluralElementsPackedULE::encode(rt.alloc(), &equal)?;
-    assert!(rt; bytes.as_slice() == b"\0x".as_slice(), "{bytes:?}");
-    let marks = PluralElements::new(plain("x")).with_one_value(Some(marked(1, "x")));
-    let bytes = PluralElementsPackedULE::encode(rt.alloc(), &marks)?;
-    assert!(rt;
-        bytes.as_slice() == b"\x80\x01x\x01\0\x11x".as_slice(),
-        "{bytes:?}"
-    );
     Ok(())
 }
 
@@ -155,58 +177,47 @@ fn decoded_elements_pack_again(rt: HostRuntime) -> Result<(), Fail> {
 
 #[test]
 fn default_fits_a_byte_beside_items(rt: HostRuntime) -> Result<(), Fail> {
-    let (short, text) = (long(rt.alloc(), 255)?, long(rt.alloc(), 256)?);
-    let alone = PluralElements::new(plain(text.as_str()));
-    assert_eq!(rt;
-        PluralElementsPackedULE::encode(rt.alloc(), &alone)?.len(),
-        257
-    );
-    let one = PluralElements::new(plain(text.as_str())).with_one_value(Some(plain("x")));
-    let refused = PluralElementsPackedULE::encode(rt.alloc(), &one);
-    assert_eq!(rt; refused.err(), Some(ElementsPackError::DefaultLimit));
-    let one = PluralElements::new(plain(short.as_str())).with_one_value(Some(plain("x")));
-    assert_eq!(rt;
-        PluralElementsPackedULE::encode(rt.alloc(), &one)?.len(),
-        261
-    );
-    // An explicit value is packed though it equals other's.
-    let explicit = PluralElements::new(plain(text.as_str())).with_explicit_zero_value(Some(plain(
-        text.as_str(),
-    )));
-    let refused = PluralElementsPackedULE::encode(rt.alloc(), &explicit);
-    assert_eq!(rt; refused.err(), Some(ElementsPackError::DefaultLimit));
+    let text = long(rt.alloc(), 256)?;
+    let long = (0, text.as_str());
+    let one = Some((0, "x"));
+    assert_eq!(rt; packed(rt.alloc(), long, None, None)?.len(), 257);
+    let refused = Some(ElementsPackError::DefaultLimit);
+    assert_eq!(rt; packed(rt.alloc(), long, one, None).err(), refused);
+    // A value that equals other isn't packed, an explicit one is.
+    assert_eq!(rt; packed(rt.alloc(), long, Some(long), None)?.len(), 257);
+    assert_eq!(rt; packed(rt.alloc(), long, None, Some(long)).err(), refused);
+    Ok(())
+}
+
+#[test]
+fn a_default_of_255_bytes_stands_beside_items(rt: HostRuntime) -> Result<(), Fail> {
+    let text = long(rt.alloc(), 255)?;
+    let bytes = packed(rt.alloc(), (0, text.as_str()), Some((0, "x")), None)?;
+    assert_eq!(rt; bytes.len(), 261);
     Ok(())
 }
 
 #[test]
 fn starts_fit_two_bytes(rt: HostRuntime) -> Result<(), Fail> {
+    let text = long(rt.alloc(), 65534)?;
+    let one = Some((0, text.as_str()));
+    let bytes = packed(rt.alloc(), (0, ""), one, Some((0, "b")))?;
+    assert_eq!(rt; bytes.len(), 65543);
+    Ok(())
+}
+
+#[test]
+fn a_start_behind_65535_is_refused(rt: HostRuntime) -> Result<(), Fail> {
     let text = long(rt.alloc(), 65535)?;
-    let shorter = long(rt.alloc(), 65534)?;
-    let packs = PluralElements::new(plain(""))
-        .with_zero_value(Some(plain(shorter.as_str())))
-        .with_one_value(Some(plain("b")));
-    assert_eq!(rt;
-        PluralElementsPackedULE::encode(rt.alloc(), &packs)?.len(),
-        65543
-    );
-    let late = PluralElements::new(plain(""))
-        .with_zero_value(Some(plain(text.as_str())))
-        .with_one_value(Some(plain("b")));
-    let refused = PluralElementsPackedULE::encode(rt.alloc(), &late);
-    assert_eq!(rt; refused.err(), Some(ElementsPackError::StartLimit));
+    let long = (0, text.as_str());
+    let last = Some((0, "b"));
+    let refused = packed(rt.alloc(), (0, ""), Some(long), last).err();
+    assert_eq!(rt; refused, Some(ElementsPackError::StartLimit));
     // The default is looked at first.
-    let both = PluralElements::new(plain(text.as_str()))
-        .with_zero_value(Some(plain(shorter.as_str())))
-        .with_one_value(Some(plain(shorter.as_str())))
-        .with_two_value(Some(plain("b")));
-    let refused = PluralElementsPackedULE::encode(rt.alloc(), &both);
-    assert_eq!(rt; refused.err(), Some(ElementsPackError::DefaultLimit));
+    let refused = packed(rt.alloc(), long, Some((1, text.as_str())), last).err();
+    assert_eq!(rt; refused, Some(ElementsPackError::DefaultLimit));
     // The last item may be of any length.
-    let last = PluralElements::new(plain("")).with_one_value(Some(plain(text.as_str())));
-    assert_eq!(rt;
-        PluralElementsPackedULE::encode(rt.alloc(), &last)?.len(),
-        65540
-    );
+    assert_eq!(rt; packed(rt.alloc(), (0, ""), None, Some(long))?.len(), 65540);
     Ok(())
 }
 
