@@ -1,6 +1,6 @@
 -- The bytes of packed elements read again, and their parts.
 use Rattle.std.proofs.Common.{◌≡◌, ℕ, ◌+◌, ◌*◌, ◌/◌, ◌%◌, ◌<◌, ◌≤◌, List, [], ◌∷◌, ◌++◌, length, take, drop, map, refl, sym, ap, ◌∙◌, subst, arith, Bool, true, false, Some, None}
-use Rattle.std.specs.Prelude.{Option, nat_lt, nat_le, if◌then◌else◌, ◌&&◌, unwrap_or, option_map, slice_index, IsTrue}
+use Rattle.std.specs.Prelude.{Option, nat_lt, nat_le, if◌then◌else◌, unwrap_or, option_map, slice_index, IsTrue}
 use Rattle.std.specs.List.{AllByRecursion, list_all}
 use Rattle.std.specs.Str.{is_utf8}
 use Rattle.std.proofs.Math.Nat.{lt_of_not-le}
@@ -10,7 +10,7 @@ use Rattle.std.specs.Cmp.{first_so, second_so}
 use Rattle.std.proofs.lemmas.Bool.{le-ltb, lt-ltb, le-leb, leb-true, ltb-false}
 use Rattle.packed_list.specs.ListBytes.{CanPack, ListBytes, list_bytes}
 use Rattle.packed_list.specs.ListReading.{items_in, AreBytes}
-use Rattle.icu_plurals.specs.PackedElements.{PackedValue, PackedItem, PackedElements, IsPackedItem, IsPackedValue, CanPackItems, ElementsBytes, item_bytes, items_of, elements_bytes, bytes_with}
+use Rattle.icu_plurals.specs.PackedElements.{PackedValue, PackedItem, PackedElements, IsPackedItem, IsPackedValue, CanPackItems, ElementsBytes, item_bytes, bytes_with}
 use Rattle.icu_plurals.specs.declared.packed.error.ElementsBytesError.{ElementsBytesError}
 use Rattle.icu_plurals.specs.declared.packed.error.ElementsBytesError.TheVariants as errors
 use Rattle.icu_plurals.specs.ElementsFaults.{ElementsParts, PartsWith, ArePartsOf, HasPadding, item_fault, first_fault}

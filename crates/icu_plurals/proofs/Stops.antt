@@ -1,5 +1,5 @@
 -- Calls up to the first that answers an Err, one place at a time.
-use Rattle.std.proofs.Common.{◌≡◌, List, [], ◌∷◌, Option, Some, None, Result, Ok, Err, refl, ap}
+use Rattle.std.proofs.Common.{List, [], ◌∷◌, Option, Some, None, Result, Ok, refl, ap}
 use Rattle.icu_plurals.specs.ElementCalls.{CallsAt, VisitsAt, RefusesAt, StopsAt, RefusesChanging, ChangesTo, StopsAtChanging}
 
 -- the call at the first place

@@ -1,6 +1,5 @@
 -- The definitions at worked examples.
 use Rattle.std.proofs.Common.{◌≡◌, ℕ, List, [], ◌∷◌, refl, Some, None, codes}
-use Rattle.std.specs.Prelude.{Option}
 use Rattle.packed_list.specs.ListReading.{items_in}
 use Rattle.icu_plurals.specs.declared.packed.error.ElementsBytesError.TheVariants as errors
 use Rattle.icu_plurals.specs.Elements.{Elements, only_other}

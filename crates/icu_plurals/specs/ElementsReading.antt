@@ -1,7 +1,7 @@
 -- A reader of the bytes of packed elements, for the view of checked bytes, the laws and private contracts. Not a definition of the subject.
-use Rattle.std.specs.Prelude.{◌≡◌, ℕ, ◌+◌, ◌/◌, ◌%◌, List, [], ◌∷◌, map, take, drop, Bool, false, ◌&&◌, nat_le, if◌then◌else◌, nat_lt, IsTrue, Option, Some, None, unwrap_or, ⊤}
+use Rattle.std.specs.Prelude.{◌≡◌, ℕ, ◌/◌, ◌%◌, List, [], ◌∷◌, map, take, drop, Bool, false, ◌&&◌, nat_le, if◌then◌else◌, nat_lt, IsTrue, Option, Some, None, unwrap_or, ⊤}
 use Rattle.std.proofs.Props.{props}
-use Rattle.std.specs.List.{AllByRecursion, AllByRecursion-prop, list_all}
+use Rattle.std.specs.List.{AllByRecursion, AllByRecursion-prop}
 use Rattle.std.specs.Str.{is_utf8}
 use Rattle.packed_list.specs.ListBytes.{ListBytes}
 use Rattle.packed_list.specs.ListReading.{items_in}

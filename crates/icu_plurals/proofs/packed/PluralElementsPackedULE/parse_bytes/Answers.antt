@@ -1,6 +1,5 @@
 use Rattle.std.proofs.Common.{◌≡◌, ◌∙◌, arith, ap, sym, subst}
-use Rattle.std.specs.Prelude.{Ok, Err, MatchResult}
-use Rattle.icu_plurals.specs.ElementsReading.{elements_in}
+use Rattle.std.specs.Prelude.{Err}
 use Rattle.icu_plurals.specs.ElementsPartsView.{lent_parts}
 use Rattle.icu_plurals.specs.ElementsViews.{lent_elements}
 use Rattle.icu_plurals.specs.ElementsFaults.{HasElementsFault}
