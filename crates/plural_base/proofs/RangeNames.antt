@@ -1,5 +1,5 @@
 -- Categories and ranges by their names.
-use Rattle.std.proofs.Common.{◌≡◌, ℕ, List, [], ◌∷◌, Bool, true, false, cond, find, bytes_eq, Option, Some, None, refl, sym, subst, ◌∙◌}
+use Rattle.std.proofs.Common.{◌≡◌, ℕ, List, [], ◌∷◌, Bool, true, false, cond, find, bytes_eq, Option, Some, None, refl, sym, subst}
 use Rattle.std.proofs.lemmas.Slice.Eq.{bytes_eq-Decides}
 use Rattle.plural_base.specs.declared.raw_category.RawPluralCategory.{RawPluralCategory}
 use Rattle.plural_base.specs.declared.raw_category.RawPluralCategory.TheVariants.{Other, Zero, One, Two, Few, Many}

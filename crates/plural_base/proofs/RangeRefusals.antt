@@ -1,12 +1,12 @@
 -- What ranges are never refused by.
-use Rattle.std.proofs.Common.{◌≡◌, ◌≢◌, ℕ, List, Option, Some, None, Ok, Err, codes}
+use Rattle.std.proofs.Common.{◌≢◌, Option, Some, None, Ok, Err, codes}
 use Rattle.std.specs.Option.{option_and_then}
 use Rattle.plural_runtime.specs.declared.error.RuleError.{RuleError}
 use Rattle.plural_base.specs.declared.category.PluralCategory.{PluralCategory}
 use Rattle.plural_base.specs.declared.json_error.JsonError.{JsonError}
 use Rattle.plural_base.specs.declared.json_error.JsonError.TheVariants.{Float, Shape, Rule, RangeKey, RangeValue, Pack, Memory}
 use Rattle.plural_base.specs.declared.ranges.PluralRanges.{PluralRanges}
-use Rattle.plural_base.specs.DocumentJson.{Rows, rows_shape, map_shape}
+use Rattle.plural_base.specs.DocumentJson.{rows_shape, map_shape}
 use Rattle.plural_base.specs.RangeKeys.{range_named, category_named}
 use Rattle.plural_base.specs.RangesJson.{there_or, category_shape, members_shape, ranges_shape}
 use Rattle.plural_base.specs.RangeTable.{no_ranges, with_range}

@@ -1,5 +1,5 @@
 -- Categories by their numbers, and what stands at each.
-use Rattle.std.proofs.Common.{◌≡◌, ℕ, zero, suc, ◌==◌, ◌≢◌, ◌⊎◌, Bool, true, false, if◌then◌else◌, Some, refl, sym, ap, inl, inr, ◌∙◌, ◌<◌, arith, lit<}
+use Rattle.std.proofs.Common.{◌≡◌, ℕ, zero, suc, ◌==◌, ◌≢◌, ◌⊎◌, Bool, true, false, if◌then◌else◌, refl, sym, ap, inl, inr, ◌∙◌, ◌<◌, arith, lit<}
 use Rattle.std.proofs.lemmas.Bool.{eqb-true, ne_eqb}
 use Rattle.plural_base.specs.declared.by_category.ByCategory.{ByCategory}
 use Rattle.plural_base.specs.declared.raw_category.RawPluralCategory.{RawPluralCategory}

@@ -1,5 +1,5 @@
 -- Rules that a value stands for are those of the texts in it.
-use Rattle.std.proofs.Common.{◌≡◌, ℕ, List, ◌∷◌, Bool, true, false, cond, Option, Some, None, is_some, Result, Ok, Err, codes, if◌then◌else◌, IfOk, refl, sym, ap, subst, inl, inr, Ordering, Less, Equal, Greater, is_eq, nat_cmp}
+use Rattle.std.proofs.Common.{◌≡◌, ℕ, List, ◌∷◌, Bool, true, false, cond, Option, Some, None, is_some, Result, Ok, Err, codes, if◌then◌else◌, IfOk, refl, sym, subst, inl, inr, Ordering, Less, Equal, Greater, is_eq, nat_cmp}
 use Rattle.std.proofs.lemmas.Map.Text.{is_eq-slice_cmp}
 use Rattle.std.specs.Cmp.Lexicographic.{slice_cmp}
 use Rattle.std.specs.Option.{option_and_then}

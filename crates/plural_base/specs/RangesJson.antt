@@ -1,6 +1,6 @@
 -- What a JSON value stands for as a range or as the categories of ranges, or why it stands for none, and the one JSON value that is
 -- written for them (docs/JSON.md). Values are what serde_json's accessors show of them.
-use Rattle.std.specs.Prelude.{ℕ, ◌++◌, codes, List, fold, Option, Some, None, Ok, Err}
+use Rattle.std.specs.Prelude.{codes, fold, Option, Some, None, Ok, Err}
 use Rattle.std.specs.Option.{option_and_then}
 use Rattle.plural_base.specs.declared.json_error.JsonError.{JsonError}
 use Rattle.plural_base.specs.declared.json_error.JsonError.TheVariants.{Shape, RangeKey, RangeValue}

@@ -39,11 +39,9 @@ pub fn texts_give_one_answer()
 /// [`UnvalidatedPluralRange::from_range`]: crate::UnvalidatedPluralRange::from_range
 pub fn range_bytes_differ()
     ensures { RangeBytesDiffer }
-{
-}
+{}
 
 /// Tables of ranges that have the same category at each pair are equal.
 pub fn ranges_are_their_maps()
     ensures { RangesAreTheirMaps }
-{
-}
+{}

@@ -19,10 +19,7 @@ pub struct UnvalidatedPluralRange(pub u8);
 
 impl UnvalidatedPluralRange {
     /// The byte of a start and an end.
-    pub fn from_range(
-        start: RawPluralCategory,
-        end: RawPluralCategory,
-    ) -> UnvalidatedPluralRange
+    pub fn from_range(start: RawPluralCategory, end: RawPluralCategory) -> UnvalidatedPluralRange
         ensures { result ≡ range_key start end }
     {
         UnvalidatedPluralRange(16 * (start as u8) + end as u8)

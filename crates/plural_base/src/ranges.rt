@@ -28,11 +28,7 @@ impl PluralRanges {
 
     /// The category of a pair, where it has one.
     #[inline]
-    pub fn get(
-        &self,
-        start: RawPluralCategory,
-        end: RawPluralCategory,
-    ) -> Option<RawPluralCategory>
+    pub fn get(&self, start: RawPluralCategory, end: RawPluralCategory) -> Option<RawPluralCategory>
         ensures { result ≡ category_at self.now start end }
     {
         self.rows.get(start).get(end)

@@ -43,11 +43,7 @@ impl<'data, R: AsPluralRules<'data>> PluralRulesWithRanges<R> {
     }
 
     /// The category of a range of numbers, by the operands of its start and its end. It takes no memory.
-    pub fn category_for_range(
-        &self,
-        start: PluralOperands,
-        end: PluralOperands,
-    ) -> PluralCategory
+    pub fn category_for_range(&self, start: PluralOperands, end: PluralOperands) -> PluralCategory
         ensures { result ≡ resolved self.now.ranges
             (first_category (packed_truth start) (R.rules self.now.rules))
             (first_category (packed_truth end) (R.rules self.now.rules)) }
@@ -63,10 +59,7 @@ impl<'data, R: AsPluralRules<'data>> PluralRulesWithRanges<R> {
     pub fn resolve_range(&self, start: PluralCategory, end: PluralCategory) -> PluralCategory
         ensures { result ≡ resolved self.now.ranges start end }
     {
-        let found = self.ranges.get(
-            RawPluralCategory::from(start),
-            RawPluralCategory::from(end),
-        );
+        let found = self.ranges.get(RawPluralCategory::from(start), RawPluralCategory::from(end));
         match found {
             Some(category) => PluralCategory::from(category),
             None => end,

@@ -108,6 +108,14 @@ fn a_locale_is_an_exact_text(rt: HostRuntime) -> Result<(), Fail> {
         );
     }
     assert_eq!(rt; provider.load_ordinal("b").err(), Some(DataError::NotFound));
+    assert_eq!(rt; provider.load_ranges("a")?.len(), 1);
+    for locale in ["b", "A", "a ", "", "ranges"] {
+        assert_eq!(rt;
+            provider.load_ranges(locale).err(),
+            Some(DataError::NotFound),
+            "{locale}"
+        );
+    }
     let printed = format!(in rt.alloc(); "{}", DataError::NotFound)?;
     assert_eq!(rt; printed.as_str(), "locale not found");
     Ok(())
@@ -117,8 +125,8 @@ fn a_locale_is_an_exact_text(rt: HostRuntime) -> Result<(), Fail> {
 fn maps_may_be_absent_or_null(rt: HostRuntime) -> Result<(), Fail> {
     for text in [
         "{}",
-        "{\"cardinal\":null,\"ordinal\":null}",
-        "{\"cardinal\":{},\"x\":[]}",
+        "{\"cardinal\":null,\"ordinal\":null,\"ranges\":null}",
+        "{\"cardinal\":{},\"ranges\":{},\"x\":[]}",
     ] {
         let provider = provider(rt.alloc(), text)?;
         assert_eq!(rt;
@@ -128,6 +136,11 @@ fn maps_may_be_absent_or_null(rt: HostRuntime) -> Result<(), Fail> {
         );
         assert_eq!(rt;
             provider.load_ordinal("a").err(),
+            Some(DataError::NotFound),
+            "{text}"
+        );
+        assert_eq!(rt;
+            provider.load_ranges("a").err(),
             Some(DataError::NotFound),
             "{text}"
         );
@@ -178,6 +191,51 @@ fn the_first_place_is_refused(rt: HostRuntime) -> Result<(), Fail> {
     Ok(())
 }
 
+#[test]
+fn the_first_place_of_ranges_is_refused(rt: HostRuntime) -> Result<(), Fail> {
+    let operator = RuleError::Parse(ParseError::ExpectedOperator);
+    let two = Some(JsonError::Rule(Some(PluralCategory::Two), operator));
+    let rows = [
+        ("{\"ranges\":[]}", Some(JsonError::Shape)),
+        ("{\"ranges\":{\"a\":null}}", Some(JsonError::Shape)),
+        ("{\"ranges\":{\"a\":{}}}", Some(JsonError::Shape)),
+        (
+            "{\"ranges\":{\"a\":{\"ranges\":null}}}",
+            Some(JsonError::Shape),
+        ),
+        (
+            "{\"ranges\":{\"a\":{\"ranges\":{\"one\":\"few\"}},\"b\":5}}",
+            Some(JsonError::RangeKey),
+        ),
+        (
+            "{\"ranges\":{\"b\":{\"ranges\":{\"one\":\"few\"}},\"a\":{\"ranges\":{\"one--two\":\"some\"}}}}",
+            Some(JsonError::RangeValue),
+        ),
+        (
+            "{\"ranges\":{\"é\":{},\"z\":{\"ranges\":{\"one--two\":\"some\"}}}}",
+            Some(JsonError::RangeValue),
+        ),
+        (
+            "{\"ordinal\":{\"z\":{\"two\":\"i 1\"}},\"ranges\":{\"a\":{\"ranges\":{\"one\":\"few\"}}}}",
+            two,
+        ),
+        ("{\"ranges\":5,\"cardinal\":{\"a\":{\"two\":\"i 1\"}}}", two),
+        (
+            "{\"cardinal\":5,\"ranges\":{\"a\":{\"ranges\":{\"one\":\"few\"}}}}",
+            Some(JsonError::Shape),
+        ),
+        (
+            "{\"ranges\":{\"a\":{\"ranges\":{\"one\":0.5}}}}",
+            Some(JsonError::Float),
+        ),
+        ("{\"ranges\":{\"a\":{\"ranges\":{},\"x\":5}}}", None),
+    ];
+    for (text, wanted) in rows {
+        assert_eq!(rt; refusal(rt.alloc(), text)?, wanted, "{text}");
+    }
+    Ok(())
+}
+
 // Where a growth is refused, reading answers want of memory, and answers again with memory.
 #[test]
 fn growth_may_be_refused_in_reading_a_document(rt: HostRuntime) {
@@ -188,7 +246,11 @@ fn growth_may_be_refused_in_reading_a_document(rt: HostRuntime) {
             continue;
         };
         match JsonProvider::from_value(rt.alloc(), &value) {
-            Ok(provider) => assert!(rt; provider.load_ordinal("a").is_ok()),
+            Ok(provider) => {
+                assert!(rt;
+                    provider.load_ordinal("a").is_ok() && provider.load_ranges("a").is_ok()
+                );
+            }
             Err(error) => {
                 assert_eq!(rt; error, JsonError::Memory);
                 refused = refused.saturating_add(1);

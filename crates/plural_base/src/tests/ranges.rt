@@ -41,7 +41,12 @@ fn a_range_has_a_byte_and_a_text(rt: HostRuntime) -> Result<(), Fail> {
         (OTHER, ONE, 2, "other--one"),
         (MANY, MANY, 85, "many--many"),
         (OTHER, OTHER, 0, "other--other"),
-        (RawPluralCategory::Zero, RawPluralCategory::Two, 19, "zero--two"),
+        (
+            RawPluralCategory::Zero,
+            RawPluralCategory::Two,
+            19,
+            "zero--two",
+        ),
         (FEW, RawPluralCategory::Zero, 65, "few--zero"),
     ];
     for (start, end, byte, text) in rows {
@@ -143,7 +148,9 @@ fn a_full_table_is_written_and_read(rt: HostRuntime) -> Result<(), Fail> {
     let written = two.to_json(rt.alloc())?.to_string(rt.alloc())?;
     let wanted = "{\"ranges\":{\"few--many\":\"other\",\"one--two\":\"few\"}}";
     assert_eq!(rt; written.as_str(), wanted);
-    let written = PluralRanges::new().to_json(rt.alloc())?.to_string(rt.alloc())?;
+    let written = PluralRanges::new()
+        .to_json(rt.alloc())?
+        .to_string(rt.alloc())?;
     assert_eq!(rt; written.as_str(), "{\"ranges\":{}}");
     Ok(())
 }
@@ -152,10 +159,16 @@ fn a_full_table_is_written_and_read(rt: HostRuntime) -> Result<(), Fail> {
 fn the_first_member_is_refused(rt: HostRuntime) -> Result<(), Fail> {
     let rows = [
         ("{\"ranges\":{\"one\":\"few\"}}", JsonError::RangeKey),
-        ("{\"ranges\":{\"one--two\":\"some\"}}", JsonError::RangeValue),
+        (
+            "{\"ranges\":{\"one--two\":\"some\"}}",
+            JsonError::RangeValue,
+        ),
         ("{\"ranges\":{\"one--two\":5}}", JsonError::Shape),
         ("{\"ranges\":{\"one--two\":null}}", JsonError::Shape),
-        ("{\"ranges\":{\"one--two\":{\"few\":null}}}", JsonError::Shape),
+        (
+            "{\"ranges\":{\"one--two\":{\"few\":null}}}",
+            JsonError::Shape,
+        ),
         ("{\"ranges\":{\"one\":5}}", JsonError::RangeKey),
         (
             "{\"ranges\":{\"one\":\"few\",\"few--few\":\"some\"}}",
@@ -244,9 +257,15 @@ fn rules_come_before_ranges(rt: HostRuntime) -> Result<(), Fail> {
     let two = PluralOperands::from(2u64);
     let cardinal = PluralRulesWithRanges::try_new_cardinal_unstable(&provider, "a")?;
     assert_eq!(rt; cardinal.category_for_range(zero, one), PluralCategory::Few);
-    assert_eq!(rt; cardinal.category_for_range(two, two), PluralCategory::Other);
+    assert_eq!(rt;
+        cardinal.category_for_range(two, two),
+        PluralCategory::Other
+    );
     let ordinal = PluralRulesWithRanges::try_new_ordinal_unstable(&provider, "a")?;
-    assert_eq!(rt; ordinal.category_for_range(zero, one), PluralCategory::Other);
+    assert_eq!(rt;
+        ordinal.category_for_range(zero, one),
+        PluralCategory::Other
+    );
     assert_eq!(rt; ordinal.category_for_range(two, two), PluralCategory::One);
     let rows = [
         (PluralRulesOptions::default(), PluralCategory::Few),

@@ -1,4 +1,4 @@
-use Rattle.std.proofs.Common.{◌≡◌, Some, None, sym, ap, ◌∙◌}
+use Rattle.std.proofs.Common.{◌∙◌}
 use Rattle.plural_base.proofs.RangeTexts.{not_split, start_unnamed, end_unnamed, both_named}
 use Rattle.plural_base.proofs.range_key.range_of_text.Goals as goal
 

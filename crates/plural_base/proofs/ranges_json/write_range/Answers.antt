@@ -1,4 +1,4 @@
-use Rattle.std.proofs.Common.{◌≡◌, string_bytes, ap, ◌∙◌, rules}
+use Rattle.std.proofs.Common.{◌≡◌, string_bytes, ap, ◌∙◌}
 use Rattle.plural_base.specs.CategoryNames.{raw_name_of}
 use Rattle.plural_base.specs.RangeKeys.{range_text}
 use Rattle.serde_json.specs.Data.{string, put}
