@@ -4,3 +4,5 @@ pub mod Documents
 pub mod Inputs
 pub mod Faults
 pub mod Readings
+pub mod Lines
+pub mod MessageFaults

@@ -44,6 +44,24 @@ pub no_number : (IsAnswer : CompactNumber → Result (List ℕ) RunError → Typ
     → r ≡ Err e → GivesNumber word (Err e) → GivesAfterReading (AnswersNumber word IsAnswer) r
 no_number IsAnswer word e r is h = rw is (of_number IsAnswer word e h)
 
+-- the second of two has one
+of_second_number : (IsAnswer : CompactNumber → CompactNumber → Result (List ℕ) RunError → Type 0) (first : List ℕ) (x : CompactNumber) → IsNumberOf first x
+    → (word : List ℕ) (e : RunError) → GivesNumber word (Err e) → GivesAfterReading (AnswersNumber first (λ x. AnswersNumber word (IsAnswer x))) (Err e)
+of_second_number IsAnswer first x is word Usage h = absurd h
+of_second_number IsAnswer first x is word (Condition k) h = absurd h
+of_second_number IsAnswer first x is word (Number f) h = inr (x, is, inl (f, h, refl))
+of_second_number IsAnswer first x is word Read h = tt
+of_second_number IsAnswer first x is word TooLong h = absurd h
+of_second_number IsAnswer first x is word Json h = absurd h
+of_second_number IsAnswer first x is word (Document k) h = absurd h
+of_second_number IsAnswer first x is word Locale h = absurd h
+of_second_number IsAnswer first x is word Write h = absurd h
+of_second_number IsAnswer first x is word Memory h = tt
+
+pub no_second_number : (IsAnswer : CompactNumber → CompactNumber → Result (List ℕ) RunError → Type 0) (first : List ℕ) (x : CompactNumber) → IsNumberOf first x
+    → (word : List ℕ) (e : RunError) (r : Result Text RunError) → r ≡ Err e → GivesNumber word (Err e) → GivesAfterReading (AnswersNumber first (λ x. AnswersNumber word (IsAnswer x))) r
+no_second_number IsAnswer first x is word e r same h = rw same (of_second_number IsAnswer first x is word e h)
+
 -- ---- The input isn't there
 
 of_input : {A : Type 0} (of_bytes : List ℕ → Result A RunError) (IsAnswer : Result A RunError → Result (List ℕ) RunError → Type 0) → IsAnswer (Err TooLong) (Err TooLong)

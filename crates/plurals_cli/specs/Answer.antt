@@ -18,10 +18,12 @@ use Rattle.icu_plurals.specs.Operands.{of_whole}
 use Rattle.icu_plurals.specs.Parser.{Reads, Faulty}
 use Rattle.icu_plurals.specs.Resolver.{tree_truth}
 use Rattle.icu_plurals.specs.TextReaders.{TextReader}
-use Rattle.plurals_cli.specs.Commands.{Command, test, category, print}
-use Rattle.plurals_cli.specs.InputRules.{most_bytes, rules_in}
+use Rattle.plurals_cli.specs.Commands.{Command, test, category, range, print, select, message}
+use Rattle.plurals_cli.specs.ElementLines.{IsElementLine, IsMessageLine}
+use Rattle.plurals_cli.specs.InputElements.{ElementsAndRules, elements_in}
+use Rattle.plurals_cli.specs.InputRules.{RangedRules, most_bytes, ranged_in, rules_in}
 use Rattle.plurals_cli.specs.NumberWords.{HasNoFault, IsNumberFault, IsNumberOf}
-use Rattle.plurals_cli.specs.RuleLines.{AreRuleLines, IsCategoryLine}
+use Rattle.plurals_cli.specs.RuleLines.{AreRuleLines, IsCategoryLine, IsRangeLine}
 use Rattle.plurals_cli.specs.declared.error.RunError.{RunError}
 use Rattle.plurals_cli.specs.declared.error.RunError.TheVariants.{Usage, Condition, Number, Read, TooLong, Write, Memory}
 
@@ -73,6 +75,18 @@ AnswersNumber word IsAnswer answer =
 abbrev pub AnswersCategory : Result FiveRules RunError → List ℕ → Result (List ℕ) RunError → Type 0
 AnswersCategory rules number = AnswersNumber number (λ x. AnswersFrom (IsCategoryLine x) rules)
 
+-- `range LOCALE TYPE START END`, the rules and the ranges given: the start's fault comes before the end's, and both before the input's
+abbrev pub AnswersRange : Result RangedRules RunError → List ℕ → List ℕ → Result (List ℕ) RunError → Type 0
+AnswersRange rules start end = AnswersNumber start (λ x. AnswersNumber end (λ y. AnswersFrom (IsRangeLine x y) rules))
+
+-- `select LOCALE TYPE NUMBER`, the elements and the rules given: the number's fault comes before the input's
+abbrev pub AnswersSelect : Result ElementsAndRules RunError → List ℕ → Result (List ℕ) RunError → Type 0
+AnswersSelect given number = AnswersNumber number (λ x. AnswersFrom (IsElementLine x) given)
+
+-- `message LOCALE TYPE NUMBER`, likewise
+abbrev pub AnswersMessage : Result ElementsAndRules RunError → List ℕ → Result (List ℕ) RunError → Type 0
+AnswersMessage given number = AnswersNumber number (λ x. AnswersFrom (IsMessageLine number) given)
+
 -- ---- The answer
 
 -- The answer to a command and an input: a text, or the first fault. Words that are no command have theirs. `texts` is what every
@@ -81,14 +95,20 @@ abbrev pub AnswersCommand : TextReader → Option Command → List ℕ → Resul
 AnswersCommand texts None input answer = answer ≡ Err Usage
 AnswersCommand texts (Some (test condition integer)) input answer = AnswersTest condition integer answer
 AnswersCommand texts (Some (category locale type number)) input answer = AnswersCategory (rules_in texts type locale input) number answer
+AnswersCommand texts (Some (range locale type start end)) input answer = AnswersRange (ranged_in texts type locale input) start end answer
 AnswersCommand texts (Some (print locale type)) input answer = AnswersFrom AreRuleLines (rules_in texts type locale input) answer
+AnswersCommand texts (Some (select locale type number)) input answer = AnswersSelect (elements_in texts type locale input) number answer
+AnswersCommand texts (Some (message locale type number)) input answer = AnswersMessage (elements_in texts type locale input) number answer
 
 -- the answer depends on the input: it isn't that of the words alone
 abbrev pub NeedsInput : Option Command → Type 0
 NeedsInput None = ⊥
 NeedsInput (Some (test condition integer)) = ⊥
 NeedsInput (Some (category locale type number)) = HasNoFault number
+NeedsInput (Some (range locale type start end)) = HasNoFault start × HasNoFault end
 NeedsInput (Some (print locale type)) = ⊤
+NeedsInput (Some (select locale type number)) = HasNoFault number
+NeedsInput (Some (message locale type number)) = HasNoFault number
 
 -- ---- What a call does
 

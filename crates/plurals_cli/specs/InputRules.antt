@@ -1,4 +1,4 @@
--- The document that an input is, and the rules that it has for a locale (docs/JSON.md).
+-- The document that an input is, and the rules and ranges that it has for a locale (docs/JSON.md).
 use Rattle.std.specs.Prelude.{◌≡◌, ℕ, List, length, ⊤, Option, Some, None, Result, Ok, Err, nat_lt, if◌then◌else◌}
 use Rattle.std.specs.Str.{is_utf8}
 use Rattle.serde_json.specs.Data.{Data}
@@ -8,9 +8,14 @@ use Rattle.icu_plurals.specs.declared.PluralRuleType.TheVariants.{Cardinal, Ordi
 use Rattle.icu_plurals.specs.declared.JsonError.{JsonError}
 use Rattle.icu_plurals.specs.DocumentJson.{Document, Rows, found, document_of_json}
 use Rattle.icu_plurals.specs.FiveRules.{FiveRules}
+use Rattle.icu_plurals.specs.RulesWithRanges.{WithRanges}
 use Rattle.icu_plurals.specs.TextReaders.{TextReader}
 use Rattle.plurals_cli.specs.declared.error.RunError.{RunError}
 use Rattle.plurals_cli.specs.declared.error.RunError.TheVariants.{Read, TooLong, Json, Document as BadDocument, Locale, Write, Memory}
+
+-- five rules, and categories of ranges
+abbrev pub RangedRules : Type 0
+RangedRules = WithRanges FiveRules
 
 -- the second after the first: a fault of the first is the answer
 infixl 10 ◌>>=◌
@@ -45,9 +50,20 @@ rows_for Ordinal document = document.ordinal
 abbrev pub rules_for : PluralRuleType → List ℕ → Document → Result FiveRules RunError
 rules_for type locale document = or_fault Locale (found locale (rows_for type document))
 
+-- the rules of a locale, and its ranges
+abbrev pub ranged_for : PluralRuleType → List ℕ → Document → Result RangedRules RunError
+ranged_for type locale document = do
+  rules ← rules_for type locale document
+  ranges ← or_fault Locale (found locale document.ranges)
+  Ok (record { rules = rules; ranges = ranges })
+
 -- the rules of a locale in the document of the bytes
 abbrev pub rules_of : TextReader → PluralRuleType → List ℕ → List ℕ → Result FiveRules RunError
 rules_of texts type locale bytes = document_of texts bytes >>= rules_for type locale
+
+-- the same with its ranges
+abbrev pub ranged_of : TextReader → PluralRuleType → List ℕ → List ℕ → Result RangedRules RunError
+ranged_of texts type locale bytes = document_of texts bytes >>= ranged_for type locale
 
 -- so many bytes an input may have
 abbrev pub most_bytes : ℕ
@@ -60,6 +76,9 @@ unless_long of_bytes input = if nat_lt most_bytes (length input) then Err TooLon
 -- the rules of a locale in the document of an input
 abbrev pub rules_in : TextReader → PluralRuleType → List ℕ → List ℕ → Result FiveRules RunError
 rules_in texts type locale = unless_long (rules_of texts type locale)
+
+abbrev pub ranged_in : TextReader → PluralRuleType → List ℕ → List ℕ → Result RangedRules RunError
+ranged_in texts type locale = unless_long (ranged_of texts type locale)
 
 -- what a call answers: the value, or its fault, or want of memory; nothing is read or written
 abbrev pub GivesValue : {A B : Type 0} → (A → B) → Result B RunError → Result A RunError → Type 0

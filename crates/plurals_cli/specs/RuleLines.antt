@@ -8,19 +8,30 @@ use Rattle.icu_plurals.specs.DecimalChoice.{IsExactChoice, IsKeptChoice}
 use Rattle.icu_plurals.specs.FiveRules.{FiveRules}
 use Rattle.icu_plurals.specs.PackedRelations.{PackedRelation}
 use Rattle.icu_plurals.specs.PackedTree.{unpacked}
+use Rattle.icu_plurals.specs.RangeTable.{resolved}
 use Rattle.icu_plurals.specs.Serializer.{condition_text}
+use Rattle.plurals_cli.specs.InputRules.{RangedRules}
 
 -- a text and a newline
 abbrev pub line : List ℕ → List ℕ
 line text = text ++ 10 ∷ []
 
--- The line with the name of a number's category: that of the operands that are kept of it, and within the exactness bound that of
--- the number itself (docs/EXACTNESS.md).
-abbrev pub IsCategoryLine : CompactNumber → FiveRules → List ℕ → Type 0
-IsCategoryLine x rules text =
-    (category : PluralCategory) × (text ≡ line (name_of category))
-    × IsKeptChoice rules x.significand.absolute x.exponent category
+-- The category of a number: that of the operands that are kept of it, and within the exactness bound that of the number itself
+-- (docs/EXACTNESS.md).
+abbrev pub IsCategoryOf : CompactNumber → FiveRules → PluralCategory → Type 0
+IsCategoryOf x rules category =
+    IsKeptChoice rules x.significand.absolute x.exponent category
     × IsExactChoice rules x.significand.absolute x.exponent category
+
+-- the line with the name of a number's category
+abbrev pub IsCategoryLine : CompactNumber → FiveRules → List ℕ → Type 0
+IsCategoryLine x rules text = (category : PluralCategory) × (text ≡ line (name_of category)) × IsCategoryOf x rules category
+
+-- The line with the name of the category of a range: that which the ranges have for the categories of its start and its end, else the end's.
+abbrev pub IsRangeLine : CompactNumber → CompactNumber → RangedRules → List ℕ → Type 0
+IsRangeLine x y ranged text =
+    (start : PluralCategory) × (end : PluralCategory) × (text ≡ line (name_of (resolved ranged.ranges start end)))
+    × IsCategoryOf x ranged.rules start × IsCategoryOf y ranged.rules end
 
 -- a rule that is there is a line: its category's name, a colon, a space and its text
 abbrev pub rule_line : PluralCategory → Option (List PackedRelation) → List ℕ

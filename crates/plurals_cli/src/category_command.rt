@@ -30,7 +30,7 @@ pub(crate) fn category_line(
 }
 
 // The line with a category's name.
-fn line_of(category: PluralCategory) -> &'static str
+pub(crate) fn line_of(category: PluralCategory) -> &'static str
     ensures { result.now ≡ line (name_of category) }
 {
     match category {

@@ -1,7 +1,7 @@
 //! The words of a command.
 
 ghost use Rattle.std.specs.Prelude.{◌≡◌, map, option_map};
-ghost use Rattle.plurals_cli.specs.Commands.{command_of, of_two, of_three, type_of};
+ghost use Rattle.plurals_cli.specs.Commands.{command_of, of_two, of_three, of_four, type_of};
 ghost use Rattle.plurals_cli.specs.CommandWords.{seen};
 
 use icu_plurals::PluralRuleType;
@@ -13,8 +13,14 @@ pub(crate) enum Command<'a> {
     Test(&'a str, &'a str),
     // Locale, type and number.
     Category(&'a str, PluralRuleType, &'a str),
+    // Locale, type, start and end.
+    Range(&'a str, PluralRuleType, &'a str, &'a str),
     // Locale and type.
     Print(&'a str, PluralRuleType),
+    // Locale, type and number.
+    Select(&'a str, PluralRuleType, &'a str),
+    // Locale, type and number.
+    Message(&'a str, PluralRuleType, &'a str),
 }
 
 // The command of the words, if they are one.
@@ -24,6 +30,7 @@ pub(crate) fn command_of<'a>(words: &[&'a str]) -> Option<Command<'a>>
     match words {
         [command, first, second] => of_two(command, first, second),
         [command, locale, rule_type, number] => of_three(command, locale, rule_type, number),
+        [command, locale, rule_type, start, end] => of_four(command, locale, rule_type, start, end),
         _ => None,
     }
 }
@@ -52,6 +59,27 @@ fn of_three<'a>(
 {
     if command == "category" {
         Some(Command::Category(locale, type_of(rule_type)?, number))
+    } else if command == "select" {
+        Some(Command::Select(locale, type_of(rule_type)?, number))
+    } else if command == "message" {
+        Some(Command::Message(locale, type_of(rule_type)?, number))
+    } else {
+        None
+    }
+}
+
+// A command with four words behind it.
+fn of_four<'a>(
+    command: &str,
+    locale: &'a str,
+    rule_type: &str,
+    start: &'a str,
+    end: &'a str,
+) -> Option<Command<'a>>
+    ensures { option_map seen result ≡ of_four command.now locale.now rule_type.now start.now end.now }
+{
+    if command == "range" {
+        Some(Command::Range(locale, type_of(rule_type)?, start, end))
     } else {
         None
     }

@@ -1,19 +1,23 @@
-//! The rules that a document has for a locale.
+//! The rules and ranges that a document has for a locale.
 
 ghost use Rattle.serde_json.specs.View.{view};
+ghost use Rattle.icu_plurals.specs.DocumentJson.{document_of_json};
 ghost use Rattle.icu_plurals.specs.RulesData.{rules_of as data_of};
 ghost use Rattle.icu_plurals.specs.TextReaders.{TextReader, TellsTexts};
-ghost use Rattle.plurals_cli.specs.InputRules.{GivesValue, document_of, or_fault, rules_for, value_of};
+ghost use Rattle.plurals_cli.specs.InputRules.{GivesValue, document_of, or_bad, or_fault, ranged_for, rules_for, value_of};
 ghost use Rattle.plurals_cli.specs.declared.error.RunError.TheVariants.{Json};
 
 use crate::error::RunError;
 use icu_plurals::provider::PluralRulesData;
-use icu_plurals::{JsonError, JsonProvider, PluralRuleType, PluralsProvider};
+use icu_plurals::{
+    JsonError, JsonProvider, PluralRuleType, PluralRules, PluralRulesOptions, PluralRulesWithRanges,
+    PluralsProvider,
+};
 use serde_json::Value;
 use std::alloc::Global;
 
 // The JSON value that the bytes write.
-fn value_of(alloc: Global, bytes: &[u8]) -> Result<Value, RunError>
+pub(crate) fn value_of(alloc: Global, bytes: &[u8]) -> Result<Value, RunError>
     ensures { GivesValue view (or_fault Json (value_of bytes.now)) result }
 {
     match Value::from_slice(alloc, bytes) {
@@ -33,7 +37,14 @@ pub(crate) fn document_of(alloc: Global, bytes: &[u8]) -> Result<JsonProvider, R
     ensures { (texts : TextReader) → TellsTexts texts → GivesValue (λ document. document) (document_of texts bytes.now) result }
 {
     let value = value_of(alloc, bytes)?;
-    match JsonProvider::from_value(alloc, &value) {
+    document_in(alloc, &value)
+}
+
+// The document that a JSON value is.
+pub(crate) fn document_in(alloc: Global, value: &Value) -> Result<JsonProvider, RunError>
+    ensures { (texts : TextReader) → TellsTexts texts → GivesValue (λ document. document) (or_bad (document_of_json texts (view value.now))) result }
+{
+    match JsonProvider::from_value(alloc, value) {
         Ok(document) => Ok(document),
         Err(JsonError::Memory) => Err(RunError::Memory),
         Err(refusal) => Err(RunError::Document(refusal)),
@@ -56,4 +67,19 @@ pub(crate) fn rules_for<'a>(
         Ok(rules) => Ok(rules),
         Err(_) => Err(RunError::Locale),
     }
+}
+
+// The same with the ranges that the document has for the locale.
+pub(crate) fn ranged_for<'a>(
+    document: &'a JsonProvider,
+    locale: &str,
+    rule_type: PluralRuleType,
+) -> Result<PluralRulesWithRanges<PluralRules<'a>>, RunError>
+    ensures { GivesValue (λ ranged. ranged) (ranged_for rule_type locale.now document.now) result }
+{
+    let options = PluralRulesOptions::from(rule_type);
+    let Ok(ranged) = PluralRulesWithRanges::try_new_unstable(document, locale, options) else {
+        return Err(RunError::Locale);
+    };
+    Ok(ranged)
 }

@@ -4,12 +4,17 @@
 mod category_command;
 mod command;
 mod document;
+mod elements;
 mod error;
 mod input;
 mod integer;
+mod line;
+mod message_command;
 mod number;
 mod print_command;
+mod range_command;
 mod run;
+mod select_command;
 mod test_command;
 
 use error::RunError;

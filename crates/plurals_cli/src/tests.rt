@@ -2,6 +2,7 @@
 
 use crate::error::RunError;
 use crate::run::run;
+use crate::tests::documents::DOCUMENT;
 use icu_plurals::{ElementsPackError, JsonError};
 use std::alloc::Global;
 use std::io;
@@ -10,9 +11,11 @@ use std::process::Abort;
 use std::test::Fail;
 
 mod documents;
+mod elements;
 mod growth;
 mod inputs;
 mod languages;
+mod ranges;
 
 // A reader and a writer that refuse each call.
 #[derive(Drop)]
@@ -131,7 +134,7 @@ fn answers_worked_conditions(rt: HostRuntime) -> Result<(), Fail> {
 fn other_words_are_answered_with_the_usage(rt: HostRuntime) -> Result<(), Fail> {
     let usage =
         "2: usage: test CONDITION INTEGER; category LOCALE TYPE NUMBER; range LOCALE TYPE START END; print LOCALE TYPE; select LOCALE TYPE NUMBER; message LOCALE TYPE NUMBER";
-    let rows: [&[&str]; 13] = [
+    let rows: [&[&str]; 18] = [
         &[],
         &["test"],
         &["test", "i = 1"],
@@ -144,7 +147,12 @@ fn other_words_are_answered_with_the_usage(rt: HostRuntime) -> Result<(), Fail> 
         &["print", "a"],
         &["print", "a", "other"],
         &["print", "a", "cardinal", "1"],
-        &["range", "a", "cardinal", "0", "1"],
+        &["range", "a", "cardinal", "0"],
+        &["range", "a", "cardinal", "0", "1", "2"],
+        &["range", "a", "x", "y", "z"],
+        &["select", "a", "cardinal"],
+        &["select", "a", "cardinal", "0", "1"],
+        &["message", "a", "Cardinal", "x"],
     ];
     for words in rows {
         assert_eq!(rt; answered(rt.alloc(), words)?.as_str(), usage);
@@ -154,14 +162,17 @@ fn other_words_are_answered_with_the_usage(rt: HostRuntime) -> Result<(), Fail> 
 
 #[test]
 fn a_refused_write_is_a_fault(rt: HostRuntime) -> Result<(), Fail> {
-    let rows: [(&[&str], usize); 3] = [
+    let rows: [(&[&str], usize); 6] = [
         (&["test", "i = 1", "1"], 5),
         (&["category", "a", "cardinal", "1"], 4),
-        (&["print", "a", "cardinal"], 11),
+        (&["range", "a", "cardinal", "0", "1"], 4),
+        (&["print", "b", "cardinal"], 11),
+        (&["select", "a", "cardinal", "1"], 5),
+        (&["message", "a", "cardinal", "0"], 5),
     ];
     for (words, length) in rows {
         for count in 0..length {
-            let mut input: &[u8] = br#"{"cardinal":{"a":{"one":"i = 1"}}}"#;
+            let mut input = DOCUMENT;
             let refused = run(rt.alloc(), words, &mut input, &mut Taking { left: count })
                 .err()
                 .ok_or("a fault")?;
@@ -171,12 +182,12 @@ fn a_refused_write_is_a_fault(rt: HostRuntime) -> Result<(), Fail> {
                 "cannot write output"
             );
         }
-        let mut input: &[u8] = br#"{"cardinal":{"a":{"one":"i = 1"}}}"#;
+        let mut input = DOCUMENT;
         let full = run(rt.alloc(), words, &mut input, &mut Full)
             .err()
             .ok_or("a fault")?;
         assert!(rt; matches!(&full, RunError::Write));
-        let mut input: &[u8] = br#"{"cardinal":{"a":{"one":"i = 1"}}}"#;
+        let mut input = DOCUMENT;
         assert!(rt; run(rt.alloc(), words, &mut input, &mut Taking { left: length }).is_ok());
     }
     Ok(())
@@ -193,18 +204,6 @@ fn has_text(rt: &impl Abort, alloc: Global, fault: &RunError, text: &str) -> Res
 fn faults_that_no_command_shows_have_their_texts(rt: HostRuntime) -> Result<(), Fail> {
     let alloc = rt.alloc();
     has_text(&rt, alloc, &RunError::Memory, "out of memory")?;
-    has_text(
-        &rt,
-        alloc,
-        &RunError::Document(JsonError::RangeKey),
-        "bad document: range key",
-    )?;
-    has_text(
-        &rt,
-        alloc,
-        &RunError::Document(JsonError::RangeValue),
-        "bad document: range value",
-    )?;
     has_text(
         &rt,
         alloc,

@@ -3,7 +3,7 @@
 use crate::tests::{answered_from, answered_to};
 use std::test::Fail;
 
-// Rules of two locales; ranges and elements are other keys.
+// Rules of two locales, ranges of one, and elements.
 pub(crate) const DOCUMENT: &[u8] =
     br#"{"cardinal":{"a":{"one":"i = 1 and v = 0","other":"@integer 0, 2~16"},
              "b":{"one":"i = 1"}},

@@ -70,3 +70,39 @@ fn growth_of_print(rt: HostRuntime) -> Result<(), Fail> {
         b"one: n % 10 = 1 and n % 100 != 11\ntwo: n % 10 = 2 and n % 100 != 12\nfew: n % 10 = 3 and n % 100 != 13\n";
     is_answered_again(&rt, rt.alloc(), &["print", "a", "ordinal"], lines)
 }
+
+#[test]
+fn growth_of_range(rt: HostRuntime) -> Result<(), Fail> {
+    is_answered_again(
+        &rt,
+        rt.alloc(),
+        &["range", "a", "cardinal", "0", "1"],
+        b"few\n",
+    )
+}
+
+#[test]
+fn growth_of_select(rt: HostRuntime) -> Result<(), Fail> {
+    is_answered_again(
+        &rt,
+        rt.alloc(),
+        &["select", "a", "cardinal", "1"],
+        b"item\n",
+    )?;
+    is_answered_again(
+        &rt,
+        rt.alloc(),
+        &["select", "a", "cardinal", "0"],
+        b"none\n",
+    )
+}
+
+#[test]
+fn growth_of_message(rt: HostRuntime) -> Result<(), Fail> {
+    is_answered_again(
+        &rt,
+        rt.alloc(),
+        &["message", "a", "cardinal", "0.0"],
+        b"items\n",
+    )
+}

@@ -21,4 +21,4 @@ pub returns : goal.returns
 returns c = λ texts tells.
     both (IsCategoryLine c.args.number.now) (document_of texts c.args.bytes.now) c.in_ok-document.document (rules_for c.args.rule_type c.args.locale.now) c.from_data-rules.result c.line_of.result.now
     (c.in_ok-document.ensures texts tells) (c.in_ok-rules_for.ensures ∙ ap Ok (sym c.from_data-rules.ensures))
-    (c.category_for_compact-category.result, c.line_of.ensures, c.category_for_compact-category.ensures.kept, c.category_for_compact-category.ensures.exact)
+    (c.category_for_compact-category.result, c.line_of.ensures, (c.category_for_compact-category.ensures.kept, c.category_for_compact-category.ensures.exact))
