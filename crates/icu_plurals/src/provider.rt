@@ -5,6 +5,4 @@ pub mod rules;
 pub use crate::cow::PluralElementsPackedCow;
 pub use crate::packed::PluralElementsPackedULE;
 pub use crate::packed::metadata::FourBitMetadata;
-pub use plural_base::{
-    PluralRanges, PluralRulesData, RawPluralCategory, UnvalidatedPluralRange,
-};
+pub use plural_base::{PluralRanges, PluralRulesData, RawPluralCategory, UnvalidatedPluralRange};
