@@ -137,7 +137,7 @@ fn elements_stand_between_the_maps_and_the_locale(rt: HostRuntime) -> Result<(),
 fn a_long_default_stands_alone(rt: HostRuntime) -> Result<(), Fail> {
     let rows = [(255usize, true, true), (256, true, false), (256, false, true)];
     for (length, has_other, is_packed) in rows {
-        let mut input = String::from(rt.alloc(), r#"{"cardinal":{"a":{}},"elements":{"other":[0,""#)?;
+        let mut input = String::from_str(rt.alloc(), r#"{"cardinal":{"a":{}},"elements":{"other":[0,""#)?;
         for _ in 0..length {
             input.push_str("x")?;
         }
