@@ -93,7 +93,7 @@ pub of_all : {A : Type 0} (of_bytes : List ℕ → Result A RunError) (IsText : 
 of_all {A} of_bytes IsText IsAnswer answers input bytes short same r h =
     let all = subst (λ (given : Result A RunError). Gives (AnswersFrom IsText given) r) (ap of_bytes same) h in
     subst (λ (given : Result A RunError). GivesAfterReading (IsAnswer given) r) (sym (within of_bytes input short))
-        (implied (AnswersFrom IsText (of_bytes input)) (IsAnswer (of_bytes input)) (answers (of_bytes input)) r all)
+    (implied (AnswersFrom IsText (of_bytes input)) (IsAnswer (of_bytes input)) (answers (of_bytes input)) r all)
 
 long_given : {A : Type 0} (IsText : A → List ℕ → Type 0) (given : Result A RunError) → AnswersFrom IsText given (Err TooLong) → given ≡ Err TooLong
 long_given IsText (Ok x) h = absurd h

@@ -10,8 +10,8 @@ ghost use Rattle.plurals_cli.specs.declared.error.RunError.TheVariants.{Json};
 use crate::error::RunError;
 use icu_plurals::provider::PluralRulesData;
 use icu_plurals::{
-    JsonError, JsonProvider, PluralRuleType, PluralRules, PluralRulesOptions, PluralRulesWithRanges,
-    PluralsProvider,
+    JsonError, JsonProvider, PluralRuleType, PluralRules, PluralRulesOptions,
+    PluralRulesWithRanges, PluralsProvider,
 };
 use serde_json::Value;
 use std::alloc::Global;

@@ -32,10 +32,7 @@ pub(crate) fn document_with(alloc: Global, bytes: &[u8]) -> Result<WithElements,
 }
 
 // The elements of the document that a JSON value is.
-fn elements_of(
-    alloc: Global,
-    value: &Value,
-) -> Result<PluralElementsPackedCow<'static>, RunError>
+fn elements_of(alloc: Global, value: &Value) -> Result<PluralElementsPackedCow<'static>, RunError>
     ensures { GivesValue (λ elements. elements) (or_bad (elements_of_json (get (codes "elements") (view value.now)))) result }
 {
     let Some(elements) = value.get("elements") else {

@@ -44,7 +44,11 @@ fn messages_hold_the_number_as_it_is_written(rt: HostRuntime) -> Result<(), Fail
         ("-1", "{} item\n", "-1 item\n"),
         ("+01", "{} item\n", "+01 item\n"),
         ("x", "1: bad number", "1: bad number"),
-        ("1c256", "1: number out of limits", "1: number out of limits"),
+        (
+            "1c256",
+            "1: number out of limits",
+            "1: number out of limits",
+        ),
     ];
     for (number, element, text) in rows {
         let chosen = answered_to(rt.alloc(), &["select", "a", "cardinal", number], input)?;
@@ -106,10 +110,7 @@ fn elements_stand_between_the_maps_and_the_locale(rt: HostRuntime) -> Result<(),
             br#"{"cardinal":{"a":{}},"elements":{"other":[16,"x"]}}"#,
             "1: bad document: shape",
         ),
-        (
-            br#"{"elements":{"other":[0,"x"]}}"#,
-            "1: locale not found",
-        ),
+        (br#"{"elements":{"other":[0,"x"]}}"#, "1: locale not found"),
         (
             br#"{"cardinal":{"a":{"one":"i 1"}},"elements":5}"#,
             "1: bad document: rule one: expected operator",
@@ -135,13 +136,24 @@ fn elements_stand_between_the_maps_and_the_locale(rt: HostRuntime) -> Result<(),
 
 #[test]
 fn a_long_default_stands_alone(rt: HostRuntime) -> Result<(), Fail> {
-    let rows = [(255usize, true, true), (256, true, false), (256, false, true)];
+    let rows = [
+        (255usize, true, true),
+        (256, true, false),
+        (256, false, true),
+    ];
     for (length, has_other, is_packed) in rows {
-        let mut input = String::from_str(rt.alloc(), r#"{"cardinal":{"a":{}},"elements":{"other":[0,""#)?;
+        let mut input = String::from_str(
+            rt.alloc(),
+            r#"{"cardinal":{"a":{}},"elements":{"other":[0,""#,
+        )?;
         for _ in 0..length {
             input.push_str("x")?;
         }
-        input.push_str(if has_other { r#""],"one":[0,"y"]}}"# } else { r#""]}}"# })?;
+        input.push_str(if has_other {
+            r#""],"one":[0,"y"]}}"#
+        } else {
+            r#""]}}"#
+        })?;
         let words = ["select", "a", "cardinal", "1"];
         let answer = answered_to(rt.alloc(), &words, input.as_str().as_bytes())?;
         if is_packed {

@@ -16,7 +16,13 @@ fn ranges_have_their_categories(rt: HostRuntime) -> Result<(), Fail> {
         ("a", "cardinal", "0.1c1", "0", "other\n"),
         ("a", "ordinal", "0", "1", "few\n"),
         ("a", "ordinal", "1", "3", "few\n"),
-        ("a", "ordinal", "3", "1000000000000000000000000000022", "two\n"),
+        (
+            "a",
+            "ordinal",
+            "3",
+            "1000000000000000000000000000022",
+            "two\n",
+        ),
         ("b", "cardinal", "0", "1", "1: locale not found"),
         ("b", "ordinal", "0", "1", "1: locale not found"),
         ("c", "cardinal", "0", "1", "1: locale not found"),
@@ -54,10 +60,7 @@ fn the_start_is_looked_at_before_the_end(rt: HostRuntime) -> Result<(), Fail> {
 fn a_range_needs_rules_and_ranges(rt: HostRuntime) -> Result<(), Fail> {
     let rows: [(&[u8], &str); 7] = [
         (br#"{"cardinal":{"a":{}}}"#, "1: locale not found"),
-        (
-            br#"{"ranges":{"a":{"ranges":{}}}}"#,
-            "1: locale not found",
-        ),
+        (br#"{"ranges":{"a":{"ranges":{}}}}"#, "1: locale not found"),
         (
             br#"{"cardinal":{"a":{}},"ranges":{"b":{"ranges":{}}}}"#,
             "1: locale not found",

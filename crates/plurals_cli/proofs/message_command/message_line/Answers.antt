@@ -41,8 +41,7 @@ returns-in-Ok c = λ texts tells.
     of_line (IsMessageLine c.args.word.now) (elements_of texts c.args.rule_type c.args.locale.now c.args.bytes.now)
     (record { elements = given.elements; rules = rules }) (line text)
     (after (document_with texts c.args.bytes.now) given (elements_for c.args.rule_type c.args.locale.now) _ (c.in_ok-given.ensures texts tells)
-    (rw (c.in_ok-rules_for.ensures ∙ ap Ok (sym c.from_data-rules.ensures)) refl))
-    (
+    (rw (c.in_ok-rules_for.ensures ∙ ap Ok (sym c.from_data-rules.ensures)) refl)) (
       text,
       refl,
       subst (λ (e : Elements PackedValue). IsMessageOf (IsKeptElement e rules) c.args.word.now text) same c.in-Ok.ensures.kept,
@@ -51,6 +50,6 @@ returns-in-Ok c = λ texts tells.
     c.ended.result c.ended.ensures
 
 pub returns-in-Err-Number : goal.returns-in-Err-Number
-returns-in-Err-Number c = 
+returns-in-Err-Number c =
     absurd (no_number_fault c.args.word.now (Err c.in-Err-Number.field-0) c.in-Err-Number.fault (rw c.in-Err-Number.field-0-is refl) c.requires
     c.in-Err-Number.ensures.syntax.0 c.in-Err-Number.ensures.limit.0 c.in-Err-Number.ensures.memory)

@@ -23,8 +23,7 @@ pub returns : goal.returns
 returns c = λ texts tells.
     let ranged = c.in_ok-ranged.ranged in
     both (IsRangeLine c.args.start.now c.args.end.now) (document_of texts c.args.bytes.now) c.in_ok-document.document (ranged_for c.args.rule_type c.args.locale.now) ranged c.line_of.result.now
-    (c.in_ok-document.ensures texts tells) c.in_ok-ranged.ensures
-    (
+    (c.in_ok-document.ensures texts tells) c.in_ok-ranged.ensures (
       c.category_for_compact-start.result,
       c.category_for_compact-end.result,
       c.line_of.ensures ∙ ap (λ (category : PluralCategory). line (name_of category)) c.resolve_range.ensures,

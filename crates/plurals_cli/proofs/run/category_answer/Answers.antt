@@ -25,12 +25,12 @@ returns-in_err-input-clause-answers g c = λ texts tells.
 
 pub returns-clause-answers : goal.returns-clause-answers
 returns-clause-answers g c = λ texts tells. (
-      c.in_ok-input.input.items,
-      c.in_ok-input.ensures.input.0,
-      of_all (rules_of texts c.args.rule_type c.args.locale.now) (IsCategoryLine c.in_ok-number.number) (λ rules. AnswersCategory rules c.args.word.now)
-          (λ rules a h. inr (c.in_ok-number.number, c.in_ok-number.ensures.0, h))
-          c.in_ok-input.input.items c.as_slice.result.now c.in_ok-input.ensures.input.1 c.as_slice.ensures.value c.category_line.result (c.category_line.ensures texts tells),
-    )
+  c.in_ok-input.input.items,
+  c.in_ok-input.ensures.input.0,
+  of_all (rules_of texts c.args.rule_type c.args.locale.now) (IsCategoryLine c.in_ok-number.number) (λ rules. AnswersCategory rules c.args.word.now)
+      (λ rules a h. inr (c.in_ok-number.number, c.in_ok-number.ensures.0, h))
+      c.in_ok-input.input.items c.as_slice.result.now c.in_ok-input.ensures.input.1 c.as_slice.ensures.value c.category_line.result (c.category_line.ensures texts tells),
+)
 
 pub returns-clause-reads : goal.returns-clause-reads
 returns-clause-reads g c = λ no_fault.

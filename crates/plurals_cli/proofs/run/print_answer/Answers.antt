@@ -15,11 +15,11 @@ returns-in_err-bytes-clause-answers g c = λ texts tells.
 
 pub returns-clause-answers : goal.returns-clause-answers
 returns-clause-answers g c = λ texts tells. (
-      c.in_ok-bytes.bytes.items,
-      c.in_ok-bytes.ensures.input.0,
-      of_all (rules_of texts c.args.rule_type c.args.locale.now) AreRuleLines (AnswersFrom AreRuleLines) (λ rules a h. h)
-          c.in_ok-bytes.bytes.items c.as_slice.result.now c.in_ok-bytes.ensures.input.1 c.as_slice.ensures.value c.rule_lines.result (c.rule_lines.ensures texts tells),
-    )
+  c.in_ok-bytes.bytes.items,
+  c.in_ok-bytes.ensures.input.0,
+  of_all (rules_of texts c.args.rule_type c.args.locale.now) AreRuleLines (AnswersFrom AreRuleLines) (λ rules a h. h)
+      c.in_ok-bytes.bytes.items c.as_slice.result.now c.in_ok-bytes.ensures.input.1 c.as_slice.ensures.value c.rule_lines.result (c.rule_lines.ensures texts tells),
+)
 
 pub returns-clause-reads : goal.returns-clause-reads
 returns-clause-reads g c =

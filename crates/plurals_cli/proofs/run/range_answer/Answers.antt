@@ -36,12 +36,12 @@ returns-in_err-input-clause-answers g c = λ texts tells.
 
 pub returns-clause-answers : goal.returns-clause-answers
 returns-clause-answers g c = λ texts tells. (
-      c.in_ok-input.input.items,
-      c.in_ok-input.ensures.input.0,
-      of_all (ranged_of texts c.args.rule_type c.args.locale.now) (IsRangeLine c.in_ok-start.start c.in_ok-end.end) (λ rules. AnswersRange rules c.args.start.now c.args.end.now)
-          (λ rules a h. inr (c.in_ok-start.start, c.in_ok-start.ensures.0, inr (c.in_ok-end.end, c.in_ok-end.ensures.0, h)))
-          c.in_ok-input.input.items c.as_slice.result.now c.in_ok-input.ensures.input.1 c.as_slice.ensures.value c.range_line.result (c.range_line.ensures texts tells),
-    )
+  c.in_ok-input.input.items,
+  c.in_ok-input.ensures.input.0,
+  of_all (ranged_of texts c.args.rule_type c.args.locale.now) (IsRangeLine c.in_ok-start.start c.in_ok-end.end) (λ rules. AnswersRange rules c.args.start.now c.args.end.now)
+      (λ rules a h. inr (c.in_ok-start.start, c.in_ok-start.ensures.0, inr (c.in_ok-end.end, c.in_ok-end.ensures.0, h)))
+      c.in_ok-input.input.items c.as_slice.result.now c.in_ok-input.ensures.input.1 c.as_slice.ensures.value c.range_line.result (c.range_line.ensures texts tells),
+)
 
 pub returns-clause-reads : goal.returns-clause-reads
 returns-clause-reads g c = λ no_fault.
