@@ -142,7 +142,7 @@ fn a_long_default_stands_alone(rt: HostRuntime) -> Result<(), Fail> {
         (256, false, true),
     ];
     for (length, has_other, is_packed) in rows {
-        let mut input = String::from(
+        let mut input = String::from_str(
             rt.alloc(),
             r#"{"cardinal":{"a":{}},"elements":{"other":[0,""#,
         )?;
