@@ -31,10 +31,10 @@ pub enum RunError {
     /// The input is no JSON text.
     #[error("input is not JSON")]
     Json,
-    /// The input is no document of rules.
+    /// The input is no document, or has no elements that are asked for.
     #[error("bad document: {0}")]
     Document(JsonError),
-    /// The document has no rules of the type for the locale.
+    /// The document has no rules of the type for the locale, or no ranges that are asked for.
     #[error("locale not found")]
     Locale,
     /// The writer failed; how much went out isn't told.

@@ -33,16 +33,19 @@ use std::io::{Read, Write};
 /// category (UTS 35 Part 3, Language Plural Rules) by the rules that the input, a JSON document, has for
 /// the locale and the type; `range LOCALE TYPE START END` the name of the category of the numbers' range
 /// (UTS 35 Part 3, Plural Ranges) by these rules and the locale's ranges; `print LOCALE TYPE` a line for
-/// each of these rules. They read the input to its end, or to the first byte that is too many. All take
+/// each of these rules; `select LOCALE TYPE NUMBER` the text of the document's element that the number
+/// chooses by these rules, and `message LOCALE TYPE NUMBER` the same with the word of the number in the
+/// place of each `{}`. They read the input to its end, or to the first byte that is too many. All take
 /// memory.
 ///
 /// The errors, in the order in which they are looked for: [`RunError::Usage`] where the words are no
 /// command; [`RunError::Condition`] where the condition can't be read; [`RunError::Number`] where the
 /// integer or the number is out of form, or above its limit; of the input [`RunError::Read`] where the
 /// reader failed, [`RunError::TooLong`] above 4194304 bytes, [`RunError::Json`] where it is no JSON
-/// text, [`RunError::Document`] where it is no document and [`RunError::Locale`] where the locale has no
-/// rules of the type, or no ranges that are asked for; [`RunError::Write`] where the writer failed; [`RunError::Memory`] where memory ran
-/// out. Nothing was written then, a failed write aside.
+/// text, [`RunError::Document`] where it is no document, or has no elements that are asked for, and
+/// [`RunError::Locale`] where the locale has no rules of the type, or no ranges that are asked for;
+/// [`RunError::Write`] where the writer failed; [`RunError::Memory`] where memory ran out. Nothing was
+/// written then, a failed write aside.
 pub fn run<R: Read, W: Write>(
     alloc: Global,
     words: &[&str],
