@@ -1,4 +1,4 @@
-use Rattle.std.proofs.Common.{◌≡◌, ap, ◌∙◌, sym}
+use Rattle.std.proofs.Common.{ap, ◌∙◌}
 use Rattle.std.specs.Prelude.{Ok}
 use Rattle.icu_plurals.specs.ElementsJson.{unless_fault}
 use Rattle.icu_plurals.specs.Elements.{each_by}

@@ -1,4 +1,4 @@
-use Rattle.std.proofs.Common.{◌≡◌, ap, sym, ◌∙◌, subst}
+use Rattle.std.proofs.Common.{sym, ◌∙◌, subst}
 use Rattle.std.specs.Cow.{cow_slice_items}
 use Rattle.icu_plurals.specs.ElementsReading.{AreElements}
 use Rattle.icu_plurals.specs.PackedElements.{ElementsBytes}

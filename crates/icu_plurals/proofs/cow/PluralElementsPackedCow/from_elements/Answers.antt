@@ -1,4 +1,4 @@
-use Rattle.std.proofs.Common.{◌≡◌, ap, ◌∙◌}
+use Rattle.std.proofs.Common.{ap, ◌∙◌}
 use Rattle.icu_plurals.specs.PackedElements.{packed_of}
 use Rattle.icu_plurals.proofs.CheckedElements.{are_elements, same_elements}
 use Rattle.icu_plurals.proofs.cow.PluralElementsPackedCow.from_elements.Goals as goal
