@@ -1,5 +1,8 @@
+mod assertion;
+
 // What no clause says: the values of worked texts, sizes at and over the limits, and that calls
 // succeed where there is memory.
+use crate::tests::assertion::holds;
 use crate::{CompactDecimal, Decimal, DecimalError, Sign, UnsignedDecimal};
 use std::alloc::{AllocError, Global};
 use std::test::Fail;
@@ -45,8 +48,8 @@ fn a_text_gives_its_sign_and_all_its_digits(rt: HostRuntime) -> Result<(), Fail>
     ];
     for (text, sign, range, digits) in rows {
         let number = Decimal::from_str(rt.alloc(), text)?;
-        assert_eq!(rt; number.sign, sign, "{text}");
-        assert!(rt; is_written(&number.absolute, range, digits), "{text}");
+        holds!(rt; number.sign == sign, text);
+        holds!(rt; is_written(&number.absolute, range, digits), text);
     }
     Ok(())
 }
@@ -54,10 +57,10 @@ fn a_text_gives_its_sign_and_all_its_digits(rt: HostRuntime) -> Result<(), Fail>
 #[test]
 fn an_unsigned_text_has_no_sign(rt: HostRuntime) -> Result<(), Fail> {
     let number = UnsignedDecimal::from_str(rt.alloc(), "12.30")?;
-    assert!(rt; is_written(&number, (-2, 1), "1230"));
+    holds!(rt; is_written(&number, (-2, 1), "1230"));
     for text in ["+1", "-1", "1c1"] {
         let outcome = UnsignedDecimal::from_str(rt.alloc(), text).err();
-        assert_eq!(rt; outcome, Some(DecimalError::Syntax), "{text}");
+        holds!(rt; outcome == Some(DecimalError::Syntax), text);
     }
     Ok(())
 }
@@ -71,9 +74,9 @@ fn a_text_of_another_form_is_refused(rt: HostRuntime) {
     ];
     for text in texts {
         let outcome = CompactDecimal::from_str(rt.alloc(), text).err();
-        assert_eq!(rt; outcome, Some(DecimalError::Syntax), "{text}");
+        holds!(rt; outcome == Some(DecimalError::Syntax), text);
         let outcome = Decimal::from_str(rt.alloc(), text).err();
-        assert_eq!(rt; outcome, Some(DecimalError::Syntax), "{text}");
+        holds!(rt; outcome == Some(DecimalError::Syntax), text);
     }
 }
 
@@ -89,15 +92,11 @@ fn an_exponent_has_one_to_three_digits_and_ends_at_255(rt: HostRuntime) -> Resul
         ("-.5c255", 255),
     ];
     for (text, exponent) in rows {
-        assert_eq!(rt;
-            CompactDecimal::from_str(rt.alloc(), text)?.exponent(),
-            exponent,
-            "{text}"
-        );
+        holds!(rt; CompactDecimal::from_str(rt.alloc(), text)?.exponent() == exponent, text);
     }
     for text in ["1c256", "1c999", "+.5c256"] {
         let outcome = CompactDecimal::from_str(rt.alloc(), text).err();
-        assert_eq!(rt; outcome, Some(DecimalError::Limit), "{text}");
+        holds!(rt; outcome == Some(DecimalError::Limit), text);
     }
     Ok(())
 }
@@ -105,12 +104,12 @@ fn an_exponent_has_one_to_three_digits_and_ends_at_255(rt: HostRuntime) -> Resul
 #[test]
 fn a_compact_decimal_has_its_parts(rt: HostRuntime) -> Result<(), Fail> {
     let number = CompactDecimal::from_str(rt.alloc(), "-1.00000020c6")?;
-    assert_eq!(rt; number.significand().sign, Sign::Negative);
-    assert!(rt; is_written(&number.significand().absolute, (-8, 0), "100000020"));
+    holds!(rt; number.significand().sign == Sign::Negative);
+    holds!(rt; is_written(&number.significand().absolute, (-8, 0), "100000020"));
     let number = CompactDecimal::from_parts(Decimal::from_str(rt.alloc(), "+2.5")?, 255);
-    assert_eq!(rt; number.exponent(), 255);
-    assert_eq!(rt; number.significand().sign, Sign::Positive);
-    assert!(rt; is_written(&number.significand().absolute, (-1, 0), "25"));
+    holds!(rt; number.exponent() == 255);
+    holds!(rt; number.significand().sign == Sign::Positive);
+    holds!(rt; is_written(&number.significand().absolute, (-1, 0), "25"));
     Ok(())
 }
 
@@ -122,7 +121,7 @@ fn an_error_prints_its_text(rt: HostRuntime) -> Result<(), Fail> {
         (DecimalError::Memory, "out of memory"),
     ];
     for (error, text) in rows {
-        assert_eq!(rt; error.to_string(rt.alloc())?.as_str(), text);
+        holds!(rt; error.to_string(rt.alloc())?.as_str() == text);
     }
     Ok(())
 }
@@ -131,36 +130,33 @@ fn an_error_prints_its_text(rt: HostRuntime) -> Result<(), Fail> {
 fn a_side_has_32767_places_at_most(rt: HostRuntime) -> Result<(), Fail> {
     let mut text = repeated(rt.alloc(), "9", 32767)?;
     let number = UnsignedDecimal::from_str(rt.alloc(), text.as_str())?;
-    assert_eq!(rt; number.magnitude_range(), (0, 32766));
-    assert_eq!(rt; number.digit_at(32766), 9);
+    holds!(rt; number.magnitude_range() == (0, 32766));
+    holds!(rt; number.digit_at(32766) == 9);
     text.push_str("c2")?;
-    assert_eq!(rt;
-        CompactDecimal::from_str(rt.alloc(), text.as_str())?.exponent(),
-        2
-    );
+    holds!(rt; CompactDecimal::from_str(rt.alloc(), text.as_str())?.exponent() == 2);
 
     let mut text = repeated(rt.alloc(), "0", 32768)?;
     let outcome = UnsignedDecimal::from_str(rt.alloc(), text.as_str()).err();
-    assert_eq!(rt; outcome, Some(DecimalError::Limit));
+    holds!(rt; outcome == Some(DecimalError::Limit));
     text.push_str("c256")?;
     let outcome = CompactDecimal::from_str(rt.alloc(), text.as_str()).err();
-    assert_eq!(rt; outcome, Some(DecimalError::Limit));
+    holds!(rt; outcome == Some(DecimalError::Limit));
     text.push_str("x")?;
     let outcome = CompactDecimal::from_str(rt.alloc(), text.as_str()).err();
-    assert_eq!(rt; outcome, Some(DecimalError::Syntax));
+    holds!(rt; outcome == Some(DecimalError::Syntax));
 
     let mut text = String::new(rt.alloc());
     text.push_str(".")?;
     text.push_str(repeated(rt.alloc(), "5", 32767)?.as_str())?;
     let number = Decimal::from_str(rt.alloc(), text.as_str())?;
-    assert_eq!(rt; number.absolute.magnitude_range(), (-32767, 0));
-    assert_eq!(rt; number.absolute.digit_at(-32767), 5);
+    holds!(rt; number.absolute.magnitude_range() == (-32767, 0));
+    holds!(rt; number.absolute.digit_at(-32767) == 5);
     text.push_str("0")?;
     let outcome = Decimal::from_str(rt.alloc(), text.as_str()).err();
-    assert_eq!(rt; outcome, Some(DecimalError::Limit));
+    holds!(rt; outcome == Some(DecimalError::Limit));
     text.push_str(".")?;
     let outcome = Decimal::from_str(rt.alloc(), text.as_str()).err();
-    assert_eq!(rt; outcome, Some(DecimalError::Syntax));
+    holds!(rt; outcome == Some(DecimalError::Syntax));
     Ok(())
 }
 
@@ -181,15 +177,8 @@ fn a_shift_keeps_every_digit_or_is_refused(rt: HostRuntime) -> Result<(), Fail> 
     ];
     for (text, places, outcome, range, digits) in rows {
         let mut number = Decimal::from_str(rt.alloc(), text)?;
-        assert_eq!(rt;
-            number.multiply_pow10(places),
-            outcome,
-            "{text} by {places}"
-        );
-        assert!(rt;
-            is_written(&number.absolute, range, digits),
-            "{text} by {places}"
-        );
+        holds!(rt; number.multiply_pow10(places) == outcome, text);
+        holds!(rt; is_written(&number.absolute, range, digits), text);
     }
     Ok(())
 }
@@ -202,11 +191,11 @@ fn a_shift_reaches_the_last_place(rt: HostRuntime) -> Result<(), Fail> {
     ];
     for (text, places, range, magnitude, digit) in rows {
         let mut number = UnsignedDecimal::from_str(rt.alloc(), text)?;
-        assert_eq!(rt; number.multiply_pow10(places), Ok(()), "{text}");
-        assert_eq!(rt; number.magnitude_range(), range, "{text}");
-        assert_eq!(rt; number.digit_at(magnitude), digit, "{text}");
-        assert_eq!(rt; number.digit_at(magnitude / 2), 0, "{text}");
-        assert_eq!(rt; number.digit_at(0), 0, "{text}");
+        holds!(rt; number.multiply_pow10(places) == Ok(()), text);
+        holds!(rt; number.magnitude_range() == range, text);
+        holds!(rt; number.digit_at(magnitude) == digit, text);
+        holds!(rt; number.digit_at(magnitude / 2) == 0, text);
+        holds!(rt; number.digit_at(0) == 0, text);
     }
     Ok(())
 }
@@ -225,7 +214,7 @@ fn integers_have_their_digits(rt: HostRuntime) -> Result<(), Fail> {
     ];
     for (number, range, digits) in rows {
         let decimal = UnsignedDecimal::from_u128(rt.alloc(), number)?;
-        assert!(rt; is_written(&decimal, range, digits), "{number}");
+        holds!(rt; is_written(&decimal, range, digits), digits);
     }
     let rows = [
         (-50, Sign::Negative, (0, 1), "50"),
@@ -240,8 +229,8 @@ fn integers_have_their_digits(rt: HostRuntime) -> Result<(), Fail> {
     ];
     for (number, sign, range, digits) in rows {
         let decimal = Decimal::from_i128(rt.alloc(), number)?;
-        assert_eq!(rt; decimal.sign, sign, "{number}");
-        assert!(rt; is_written(&decimal.absolute, range, digits), "{number}");
+        holds!(rt; decimal.sign == sign, digits);
+        holds!(rt; is_written(&decimal.absolute, range, digits), digits);
     }
     Ok(())
 }
@@ -250,7 +239,7 @@ fn integers_have_their_digits(rt: HostRuntime) -> Result<(), Fail> {
 fn outside_the_places_each_digit_is_zero(rt: HostRuntime) -> Result<(), Fail> {
     let number = UnsignedDecimal::from_str(rt.alloc(), "98.76")?;
     for magnitude in [i16::MIN, -32767, -4, -3, 2, 3, 32766, i16::MAX] {
-        assert_eq!(rt; number.digit_at(magnitude), 0, "{magnitude}");
+        holds!(rt; number.digit_at(magnitude) == 0, at magnitude);
     }
     Ok(())
 }
@@ -270,11 +259,7 @@ fn a_digit_from_a_place_on_is_found(rt: HostRuntime) -> Result<(), Fail> {
     ];
     for (text, magnitude, found) in rows {
         let number = UnsignedDecimal::from_str(rt.alloc(), text)?;
-        assert_eq!(rt;
-            number.has_digit_from(magnitude),
-            found,
-            "{text} from {magnitude}"
-        );
+        holds!(rt; number.has_digit_from(magnitude) == found, text);
     }
     Ok(())
 }
@@ -303,41 +288,38 @@ fn where_growth_is_refused_a_call_wants_memory_and_then_answers(
         UnsignedDecimal::from_str(alloc, "12.30"),
         UnsignedDecimal::from_str(alloc, "12.30"),
     )?;
-    assert!(rt; is_written(&number, (-2, 1), "1230"));
-    assert_eq!(rt; number.multiply_pow10(32765), Ok(()));
-    assert_eq!(rt; number.multiply_pow10(-32767), Ok(()));
-    assert_eq!(rt; number.magnitude_range(), (-32767, 0));
-    assert_eq!(rt; (number.digit_at(-1), number.digit_at(-4)), (1, 0));
+    holds!(rt; is_written(&number, (-2, 1), "1230"));
+    holds!(rt; number.multiply_pow10(32765) == Ok(()));
+    holds!(rt; number.multiply_pow10(-32767) == Ok(()));
+    holds!(rt; number.magnitude_range() == (-32767, 0));
+    holds!(rt; (number.digit_at(-1), number.digit_at(-4)) == (1, 0));
 
     let number = either(
         Decimal::from_str(alloc, "-0.050"),
         Decimal::from_str(alloc, "-0.050"),
     )?;
-    assert!(rt; is_written(&number.absolute, (-3, 0), "0050"));
+    holds!(rt; is_written(&number.absolute, (-3, 0), "0050"));
     let number = either(
         CompactDecimal::from_str(alloc, "+5c3"),
         CompactDecimal::from_str(alloc, "+5c3"),
     )?;
-    assert!(rt; is_written(&number.significand().absolute, (0, 0), "5"));
+    holds!(rt; is_written(&number.significand().absolute, (0, 0), "5"));
     let number = either(
         UnsignedDecimal::from_u128(alloc, 1000000),
         UnsignedDecimal::from_u128(alloc, 1000000),
     )?;
-    assert!(rt; is_written(&number, (0, 6), "1000000"));
+    holds!(rt; is_written(&number, (0, 6), "1000000"));
     let number = either(
         Decimal::from_i128(alloc, -50),
         Decimal::from_i128(alloc, -50),
     )?;
-    assert!(rt; is_written(&number.absolute, (0, 1), "50"));
+    holds!(rt; is_written(&number.absolute, (0, 1), "50"));
 
     for text in ["", "5.", "1c0256"] {
         let outcome = CompactDecimal::from_str(alloc, text).err();
-        assert_eq!(rt; outcome, Some(DecimalError::Syntax), "{text}");
+        holds!(rt; outcome == Some(DecimalError::Syntax), text);
     }
-    assert_eq!(rt;
-        CompactDecimal::from_str(alloc, "1c256").err(),
-        Some(DecimalError::Limit)
-    );
+    holds!(rt; CompactDecimal::from_str(alloc, "1c256").err() == Some(DecimalError::Limit));
     Ok(())
 }
 
@@ -357,12 +339,8 @@ fn a_shift_answers_where_growth_is_refused(rt: HostRuntime) -> Result<(), Fail> 
             Decimal::from_str(rt.alloc(), text),
         )?;
         let shifted = number.multiply_pow10(places);
-        assert_eq!(rt; shifted, outcome, "{text} by {places}");
-        assert_eq!(rt;
-            number.absolute.magnitude_range(),
-            range,
-            "{text} by {places}"
-        );
+        holds!(rt; shifted == outcome, text);
+        holds!(rt; number.absolute.magnitude_range() == range, text);
     }
     Ok(())
 }

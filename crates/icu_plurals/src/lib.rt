@@ -12,8 +12,6 @@ mod encode;
 pub mod laws;
 mod packed;
 pub mod provider;
-#[cfg(test)]
-mod tests;
 
 pub use elements::PluralElements;
 pub use fixed_decimal::{CompactDecimal, Decimal, DecimalError, Sign, UnsignedDecimal};

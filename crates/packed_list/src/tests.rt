@@ -1,4 +1,7 @@
+mod assertion;
+
 use super::*;
+use crate::tests::assertion::holds;
 use std::alloc::Global;
 use std::test::Fail;
 
@@ -19,17 +22,17 @@ fn answer(bytes: &[u8]) -> &'static str {
 fn gives_the_items_and_their_starts(rt: HostRuntime) {
     let expected: [(&[u8], usize); 3] = [(b"ab", 0), (b"", 2), (b"cd", 2)];
     let list = PackedList::parse_bytes(THREE_ITEMS).expect(&rt, "a list");
-    assert_eq!(rt; list.len(), 3);
-    assert_eq!(rt; list.as_bytes(), THREE_ITEMS);
+    holds!(rt; list.len() == 3);
+    holds!(rt; list.as_bytes() == THREE_ITEMS);
     let mut items = list.iter();
     for (place, (item, start)) in expected.iter().enumerate() {
-        assert_eq!(rt; list.get(place), Some(*item), "item {place}");
-        assert_eq!(rt; list.start(place), Some(*start), "start {place}");
-        assert_eq!(rt; items.next(), Some(*item), "next {place}");
+        holds!(rt; list.get(place) == Some(*item), at place);
+        holds!(rt; list.start(place) == Some(*start), at place);
+        holds!(rt; items.next() == Some(*item), at place);
     }
-    assert_eq!(rt; list.get(3), None);
-    assert_eq!(rt; list.start(3), None);
-    assert_eq!(rt; items.next(), None);
+    holds!(rt; list.get(3) == None);
+    holds!(rt; list.start(3) == None);
+    holds!(rt; items.next() == None);
 }
 
 #[test]
@@ -46,7 +49,7 @@ fn refuses_hostile_bytes(rt: HostRuntime) {
         (b"\x01\x00", "list"),
     ];
     for (bytes, expected) in cases {
-        assert_eq!(rt; answer(bytes), expected, "{bytes:?}");
+        holds!(rt; answer(bytes) == expected, at bytes);
     }
 }
 
@@ -74,7 +77,7 @@ fn answers_at_every_beginning(rt: HostRuntime) {
             } else {
                 "list"
             };
-            assert_eq!(rt; answer(&bytes[..end]), expected, "first {end} of {bytes:?}");
+            holds!(rt; answer(&bytes[..end]) == expected, at end);
         }
     }
 }
@@ -83,9 +86,9 @@ fn answers_at_every_beginning(rt: HostRuntime) {
 fn the_last_items_of_a_beginning_are_empty(rt: HostRuntime) {
     let list = PackedList::parse_bytes(&THREE_ITEMS[..8]).expect(&rt, "a list");
     let expected: [&[u8]; 3] = [b"ab", b"", b""];
-    assert_eq!(rt; list.len(), 3);
+    holds!(rt; list.len() == 3);
     for (place, item) in expected.iter().enumerate() {
-        assert_eq!(rt; list.get(place), Some(*item), "item {place}");
+        holds!(rt; list.get(place) == Some(*item), at place);
     }
 }
 
@@ -93,7 +96,7 @@ fn the_last_items_of_a_beginning_are_empty(rt: HostRuntime) {
 fn the_last_item_is_of_any_length(rt: HostRuntime) -> Result<(), Fail> {
     let item = vec![in rt.alloc(); 7u8; 70000]?;
     let bytes = PackedList::encode(rt.alloc(), &[item.as_slice()]).expect(&rt, "one long item");
-    assert_eq!(rt; bytes.len(), 70002);
+    holds!(rt; bytes.len() == 70002);
     Ok(())
 }
 
@@ -101,11 +104,11 @@ fn the_last_item_is_of_any_length(rt: HostRuntime) -> Result<(), Fail> {
 fn an_item_starts_at_65535_at_most(rt: HostRuntime) -> Result<(), Fail> {
     let item = vec![in rt.alloc(); 7u8; 65535]?;
     let bytes = PackedList::encode(rt.alloc(), &[item.as_slice(), b""]).expect(&rt, "start 65535");
-    assert_eq!(rt; bytes.len(), 65539);
-    assert!(rt; bytes.as_slice().starts_with(b"\x02\x00\xff\xff"));
+    holds!(rt; bytes.len() == 65539);
+    holds!(rt; bytes.as_slice().starts_with(b"\x02\x00\xff\xff"));
     let item = vec![in rt.alloc(); 7u8; 65536]?;
     let behind = PackedList::encode(rt.alloc(), &[item.as_slice(), b""]);
-    assert!(rt; matches!(behind, Err(PackError::StartLimit)));
+    holds!(rt; matches!(behind, Err(PackError::StartLimit)));
     Ok(())
 }
 
@@ -115,14 +118,12 @@ fn packs_at_most_65535_items(rt: HostRuntime) -> Result<(), Fail> {
     let empty: &[u8] = &[];
     let items = vec![in alloc; empty; 65536]?;
     let most = PackedList::encode(alloc, &items[..65535]).expect(&rt, "65535 items");
-    assert_eq!(rt; most.len(), 131070);
-    assert_eq!(rt; answer(&most), "list");
-    assert!(rt;
-        matches!(
+    holds!(rt; most.len() == 131070);
+    holds!(rt; answer(&most) == "list");
+    holds!(rt; matches!(
             PackedList::encode(alloc, &items),
             Err(PackError::CountLimit)
-        )
-    );
+        ));
     Ok(())
 }
 
@@ -139,13 +140,10 @@ fn packs_three(alloc: Global) -> Option<bool> {
 fn packs_again_after_a_refused_growth(rt: HostRuntime) {
     let first = packs_three(rt.alloc());
     let second = packs_three(rt.alloc());
-    assert!(rt; first == None || first == Some(true));
-    assert!(rt; second == None || second == Some(true));
-    assert!(rt; first == Some(true) || second == Some(true));
-    assert!(rt;
-        PackedList::encode(rt.alloc(), &[]).is_ok(),
-        "no item takes no memory"
-    );
+    holds!(rt; first == None || first == Some(true));
+    holds!(rt; second == None || second == Some(true));
+    holds!(rt; first == Some(true) || second == Some(true));
+    holds!(rt; PackedList::encode(rt.alloc(), &[]).is_ok(), "no item takes no memory");
 }
 
 #[test]
@@ -157,7 +155,7 @@ fn errors_say_what_is_wrong(rt: HostRuntime) -> Result<(), Fail> {
         (ListError::Start, "bad start of a list item"),
     ];
     for (error, expected) in lists {
-        assert_eq!(rt; format!(in alloc; "{error}")?.as_str(), expected);
+        holds!(rt; format!(in alloc; "{error}")?.as_str() == expected);
     }
     let packs = [
         (PackError::CountLimit, "too many list items"),
@@ -165,7 +163,7 @@ fn errors_say_what_is_wrong(rt: HostRuntime) -> Result<(), Fail> {
         (PackError::Memory, "out of memory"),
     ];
     for (error, expected) in packs {
-        assert_eq!(rt; format!(in alloc; "{error}")?.as_str(), expected);
+        holds!(rt; format!(in alloc; "{error}")?.as_str() == expected);
     }
     Ok(())
 }

@@ -25,8 +25,6 @@ mod rules_data;
 mod rules_json;
 mod rules_text;
 mod rules_with_ranges;
-#[cfg(test)]
-mod tests;
 
 pub use as_plural_rules::AsPluralRules;
 pub use categories::Categories;

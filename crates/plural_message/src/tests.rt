@@ -1,5 +1,8 @@
 //! What no clause says: worked messages, and that there is one where there is memory.
 
+mod assertion;
+
+use crate::tests::assertion::holds;
 use crate::{Message, MessageError};
 use fixed_decimal::DecimalError;
 use icu_plurals::provider::{PluralElementsPackedULE, PluralRulesData};
@@ -33,7 +36,7 @@ fn the_number_chooses_the_text_that_it_stands_in(rt: HostRuntime) -> Result<(), 
     for (elements, number, text) in rows {
         let message = Message::new(PluralElementsPackedULE::parse_bytes(elements)?);
         let filled = message.format(rt.alloc(), number, &rules)?;
-        assert_eq!(rt; filled.as_str(), text, "{number}");
+        holds!(rt; filled.as_str() == text, number);
     }
     Ok(())
 }
@@ -54,7 +57,7 @@ fn a_long_number_has_the_category_of_all_its_digits(rt: HostRuntime) -> Result<(
     let message = Message::new(PluralElementsPackedULE::parse_bytes(ITEMS)?);
     for (number, text) in rows {
         let filled = message.format(rt.alloc(), number, &rules)?;
-        assert_eq!(rt; filled.as_str(), text);
+        holds!(rt; filled.as_str() == text);
     }
     Ok(())
 }
@@ -75,7 +78,7 @@ fn each_place_is_filled_with_the_text_as_given(rt: HostRuntime) -> Result<(), Fa
     for (elements, number, text) in rows {
         let message = Message::new(PluralElementsPackedULE::parse_bytes(elements)?);
         let filled = message.format(rt.alloc(), number, &rules)?;
-        assert_eq!(rt; filled.as_str(), text, "{number}");
+        holds!(rt; filled.as_str() == text, number);
     }
     Ok(())
 }
@@ -92,7 +95,7 @@ fn what_is_no_number_has_no_message(rt: HostRuntime) -> Result<(), Fail> {
     ];
     for (number, fault) in rows {
         let answer = message.format(rt.alloc(), number, &rules);
-        assert_eq!(rt; answer.err(), Some(MessageError::Number(fault)), "{number}");
+        holds!(rt; answer.err() == Some(MessageError::Number(fault)), number);
     }
     Ok(())
 }
@@ -107,12 +110,12 @@ fn growth_of_a_message_may_be_refused(rt: HostRuntime) -> Result<(), Fail> {
     for _ in 0..2 {
         match message.format(rt.alloc(), "1000.50c6", &rules) {
             Ok(text) => {
-                assert_eq!(rt; text.as_str(), "1000.50c6 of 1000.50c6 items");
+                holds!(rt; text.as_str() == "1000.50c6 of 1000.50c6 items");
                 is_answered = true;
             }
-            Err(error) => assert_eq!(rt; error, MessageError::Memory),
+            Err(error) => holds!(rt; error == MessageError::Memory),
         }
     }
-    assert!(rt; is_answered);
+    holds!(rt; is_answered);
     Ok(())
 }

@@ -25,6 +25,3 @@ pub use serializer::{
     serialize_sample_range, serialize_samples,
 };
 pub use token::Token;
-
-#[cfg(test)]
-mod tests;

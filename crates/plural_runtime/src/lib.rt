@@ -16,8 +16,6 @@ mod relations;
 mod resolver;
 mod rule;
 mod steps;
-#[cfg(test)]
-mod tests;
 mod tree_bytes;
 mod unpack;
 

@@ -1,7 +1,10 @@
 //! What no clause says: worked commands, texts and statuses, failing readers and writers.
 
+mod assertion;
+
 use crate::error::RunError;
 use crate::run::run;
+use crate::tests::assertion::holds;
 use crate::tests::documents::DOCUMENT;
 use icu_plurals::{ElementsPackError, JsonError};
 use std::alloc::Global;
@@ -121,11 +124,7 @@ fn answers_worked_conditions(rt: HostRuntime) -> Result<(), Fail> {
         ("i = ", "1", "1: expected value"),
     ];
     for (condition, integer, answer) in rows {
-        assert_eq!(rt;
-            answered(rt.alloc(), &["test", condition, integer])?.as_str(),
-            answer,
-            "{condition} at {integer}"
-        );
+        holds!(rt; answered(rt.alloc(), &["test", condition, integer])?.as_str() == answer, condition);
     }
     Ok(())
 }
@@ -155,7 +154,7 @@ fn other_words_are_answered_with_the_usage(rt: HostRuntime) -> Result<(), Fail> 
         &["message", "a", "Cardinal", "x"],
     ];
     for words in rows {
-        assert_eq!(rt; answered(rt.alloc(), words)?.as_str(), usage);
+        holds!(rt; answered(rt.alloc(), words)?.as_str() == usage);
     }
     Ok(())
 }
@@ -176,27 +175,24 @@ fn a_refused_write_is_a_fault(rt: HostRuntime) -> Result<(), Fail> {
             let refused = run(rt.alloc(), words, &mut input, &mut Taking { left: count })
                 .err()
                 .ok_or("a fault")?;
-            assert_eq!(rt; refused.status(), 1);
-            assert_eq!(rt;
-                refused.to_string(rt.alloc())?.as_str(),
-                "cannot write output"
-            );
+            holds!(rt; refused.status() == 1);
+            holds!(rt; refused.to_string(rt.alloc())?.as_str() == "cannot write output");
         }
         let mut input = DOCUMENT;
         let full = run(rt.alloc(), words, &mut input, &mut Full)
             .err()
             .ok_or("a fault")?;
-        assert!(rt; matches!(&full, RunError::Write));
+        holds!(rt; matches!(&full, RunError::Write));
         let mut input = DOCUMENT;
-        assert!(rt; run(rt.alloc(), words, &mut input, &mut Taking { left: length }).is_ok());
+        holds!(rt; run(rt.alloc(), words, &mut input, &mut Taking { left: length }).is_ok());
     }
     Ok(())
 }
 
 // The fault has this text, and the common status.
 fn has_text(rt: &impl Abort, alloc: Global, fault: &RunError, text: &str) -> Result<(), Fail> {
-    assert_eq!(rt; fault.status(), 1);
-    assert_eq!(rt; fault.to_string(alloc)?.as_str(), text);
+    holds!(rt; fault.status() == 1);
+    holds!(rt; fault.to_string(alloc)?.as_str() == text);
     Ok(())
 }
 

@@ -1,5 +1,6 @@
 //! Commands over documents.
 
+use crate::tests::assertion::holds;
 use crate::tests::{answered_from, answered_to};
 use std::test::Fail;
 
@@ -38,11 +39,7 @@ fn numbers_have_their_categories(rt: HostRuntime) -> Result<(), Fail> {
     ];
     for (locale, rule_type, number, answer) in rows {
         let words = ["category", locale, rule_type, number];
-        assert_eq!(rt;
-            answered_to(rt.alloc(), &words, DOCUMENT)?.as_str(),
-            answer,
-            "{locale} {rule_type} {number}"
-        );
+        holds!(rt; answered_to(rt.alloc(), &words, DOCUMENT)?.as_str() == answer, locale);
     }
     Ok(())
 }
@@ -62,11 +59,7 @@ fn rules_are_printed_line_by_line(rt: HostRuntime) -> Result<(), Fail> {
     ];
     for (locale, rule_type, answer) in rows {
         let words = ["print", locale, rule_type];
-        assert_eq!(rt;
-            answered_to(rt.alloc(), &words, DOCUMENT)?.as_str(),
-            answer,
-            "{locale} {rule_type}"
-        );
+        holds!(rt; answered_to(rt.alloc(), &words, DOCUMENT)?.as_str() == answer, locale);
     }
     Ok(())
 }
@@ -76,12 +69,9 @@ fn all_five_rules_are_printed_or_none(rt: HostRuntime) -> Result<(), Fail> {
     let words = ["print", "a", "cardinal"];
     let all: &[u8] =
         br#"{"cardinal":{"a":{"many":"n = 5","few":"","two":"n = 2","one":"n = 1","zero":"n = 0"}}}"#;
-    assert_eq!(rt;
-        answered_to(rt.alloc(), &words, all)?.as_str(),
-        "zero: n = 0\none: n = 1\ntwo: n = 2\nfew: \nmany: n = 5\n"
-    );
+    holds!(rt; answered_to(rt.alloc(), &words, all)?.as_str() == "zero: n = 0\none: n = 1\ntwo: n = 2\nfew: \nmany: n = 5\n");
     let none: &[u8] = br#"{"cardinal":{"a":{"one":null,"other":"i = 1"}}}"#;
-    assert_eq!(rt; answered_to(rt.alloc(), &words, none)?.as_str(), "");
+    holds!(rt; answered_to(rt.alloc(), &words, none)?.as_str() == "");
     Ok(())
 }
 
@@ -119,9 +109,9 @@ fn bad_inputs_are_refused(rt: HostRuntime) -> Result<(), Fail> {
     ];
     for (input, answer) in rows {
         let printed = answered_to(rt.alloc(), &["print", "a", "cardinal"], input)?;
-        assert_eq!(rt; printed.as_str(), answer);
+        holds!(rt; printed.as_str() == answer);
         let chosen = answered_to(rt.alloc(), &["category", "a", "cardinal", "1"], input)?;
-        assert_eq!(rt; chosen.as_str(), answer);
+        holds!(rt; chosen.as_str() == answer);
     }
     Ok(())
 }
@@ -130,11 +120,11 @@ fn bad_inputs_are_refused(rt: HostRuntime) -> Result<(), Fail> {
 fn the_input_is_read_to_its_end(rt: HostRuntime) -> Result<(), Fail> {
     let mut reader = DOCUMENT;
     let answer = answered_from(rt.alloc(), &["print", "b", "cardinal"], &mut reader)?;
-    assert_eq!(rt; answer.as_str(), "one: i = 1\n");
-    assert!(rt; reader.is_empty());
+    holds!(rt; answer.as_str() == "one: i = 1\n");
+    holds!(rt; reader.is_empty());
     let mut reader = DOCUMENT;
     let answer = answered_from(rt.alloc(), &["test", "i = 1", "1"], &mut reader)?;
-    assert_eq!(rt; answer.as_str(), "true\n");
-    assert_eq!(rt; reader.len(), DOCUMENT.len());
+    holds!(rt; answer.as_str() == "true\n");
+    holds!(rt; reader.len() == DOCUMENT.len());
     Ok(())
 }

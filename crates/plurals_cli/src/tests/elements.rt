@@ -1,5 +1,6 @@
 //! Elements and messages.
 
+use crate::tests::assertion::holds;
 use crate::tests::documents::DOCUMENT;
 use crate::tests::{answered, answered_to};
 use std::test::Fail;
@@ -25,10 +26,10 @@ fn elements_are_chosen(rt: HostRuntime) -> Result<(), Fail> {
     for (locale, rule_type, number, answer) in rows {
         let alloc = rt.alloc();
         let chosen = answered_to(alloc, &["select", locale, rule_type, number], DOCUMENT)?;
-        assert_eq!(rt; chosen.as_str(), answer, "{locale} {rule_type} {number}");
+        holds!(rt; chosen.as_str() == answer, locale);
         // These texts have no place for a number.
         let message = answered_to(alloc, &["message", locale, rule_type, number], DOCUMENT)?;
-        assert_eq!(rt; message.as_str(), answer, "{locale} {rule_type} {number}");
+        holds!(rt; message.as_str() == answer, locale);
     }
     Ok(())
 }
@@ -52,9 +53,9 @@ fn messages_hold_the_number_as_it_is_written(rt: HostRuntime) -> Result<(), Fail
     ];
     for (number, element, text) in rows {
         let chosen = answered_to(rt.alloc(), &["select", "a", "cardinal", number], input)?;
-        assert_eq!(rt; chosen.as_str(), element, "{number}");
+        holds!(rt; chosen.as_str() == element, number);
         let message = answered_to(rt.alloc(), &["message", "a", "cardinal", number], input)?;
-        assert_eq!(rt; message.as_str(), text, "{number}");
+        holds!(rt; message.as_str() == text, number);
     }
     Ok(())
 }
@@ -90,9 +91,9 @@ fn every_place_is_filled_and_texts_stay_as_they_are(rt: HostRuntime) -> Result<(
     ];
     for (input, element, text) in rows {
         let chosen = answered_to(rt.alloc(), &["select", "a", "cardinal", "2"], input)?;
-        assert_eq!(rt; chosen.as_str(), element);
+        holds!(rt; chosen.as_str() == element);
         let message = answered_to(rt.alloc(), &["message", "a", "cardinal", "2"], input)?;
-        assert_eq!(rt; message.as_str(), text);
+        holds!(rt; message.as_str() == text);
     }
     Ok(())
 }
@@ -127,9 +128,9 @@ fn elements_stand_between_the_maps_and_the_locale(rt: HostRuntime) -> Result<(),
     ];
     for (input, answer) in rows {
         let chosen = answered_to(rt.alloc(), &["select", "a", "cardinal", "1"], input)?;
-        assert_eq!(rt; chosen.as_str(), answer);
+        holds!(rt; chosen.as_str() == answer);
         let message = answered_to(rt.alloc(), &["message", "a", "cardinal", "1"], input)?;
-        assert_eq!(rt; message.as_str(), answer);
+        holds!(rt; message.as_str() == answer);
     }
     Ok(())
 }
@@ -157,9 +158,9 @@ fn a_long_default_stands_alone(rt: HostRuntime) -> Result<(), Fail> {
         let words = ["select", "a", "cardinal", "1"];
         let answer = answered_to(rt.alloc(), &words, input.as_str().as_bytes())?;
         if is_packed {
-            assert_eq!(rt; answer.len(), length + 1);
+            holds!(rt; answer.len() == length + 1);
         } else {
-            assert_eq!(rt; answer.as_str(), "1: bad document: default too long");
+            holds!(rt; answer.as_str() == "1: bad document: default too long");
         }
     }
     Ok(())
@@ -174,9 +175,9 @@ fn the_number_is_looked_at_before_the_input(rt: HostRuntime) -> Result<(), Fail>
     ];
     for (number, answer) in rows {
         let chosen = answered(rt.alloc(), &["select", "a", "cardinal", number])?;
-        assert_eq!(rt; chosen.as_str(), answer);
+        holds!(rt; chosen.as_str() == answer);
         let message = answered(rt.alloc(), &["message", "a", "cardinal", number])?;
-        assert_eq!(rt; message.as_str(), answer);
+        holds!(rt; message.as_str() == answer);
     }
     Ok(())
 }

@@ -2,6 +2,7 @@
 
 use crate::error::RunError;
 use crate::run::run;
+use crate::tests::assertion::holds;
 use crate::tests::documents::DOCUMENT;
 use std::alloc::Global;
 use std::process::Abort;
@@ -24,17 +25,17 @@ fn is_answered_again(
         let left = writer.len();
         match answer {
             Ok(()) => {
-                assert_eq!(rt; Some(left), output.len().checked_sub(line.len()));
-                assert!(rt; output.starts_with(line));
+                holds!(rt; Some(left) == output.len().checked_sub(line.len()));
+                holds!(rt; output.starts_with(line));
                 is_answered = true;
             }
             Err(fault) => {
-                assert!(rt; matches!(&fault, RunError::Memory));
-                assert_eq!(rt; left, 128);
+                holds!(rt; matches!(&fault, RunError::Memory));
+                holds!(rt; left == 128);
             }
         }
     }
-    assert!(rt; is_answered);
+    holds!(rt; is_answered);
     Ok(())
 }
 

@@ -1,5 +1,6 @@
 //! Long inputs, deep ones, and readers that fail.
 
+use crate::tests::assertion::holds;
 use crate::tests::documents::DOCUMENT;
 use crate::tests::{answered, answered_from};
 use std::io;
@@ -47,9 +48,9 @@ fn document_up_to(length: usize, fails: bool) -> Padded<'static> {
 fn the_longest_input_is_read(rt: HostRuntime) -> Result<(), Fail> {
     let words = ["category", "a", "cardinal", "1"];
     let answer = answered_from(rt.alloc(), &words, &mut document_up_to(MOST, false))?;
-    assert_eq!(rt; answer.as_str(), "one\n");
+    holds!(rt; answer.as_str() == "one\n");
     let answer = answered_from(rt.alloc(), &words, &mut document_up_to(MOST + 1, false))?;
-    assert_eq!(rt; answer.as_str(), "1: input too long");
+    holds!(rt; answer.as_str() == "1: input too long");
     Ok(())
 }
 
@@ -58,11 +59,11 @@ fn what_is_too_long_is_not_read_on(rt: HostRuntime) -> Result<(), Fail> {
     let words = ["print", "b", "cardinal"];
     let mut reader = document_up_to(MOST + 100, false);
     let answer = answered_from(rt.alloc(), &words, &mut reader)?;
-    assert_eq!(rt; answer.as_str(), "1: input too long");
-    assert_eq!(rt; reader.spaces, 99);
+    holds!(rt; answer.as_str() == "1: input too long");
+    holds!(rt; reader.spaces == 99);
     let mut reader = document_up_to(MOST + 1, true);
     let answer = answered_from(rt.alloc(), &words, &mut reader)?;
-    assert_eq!(rt; answer.as_str(), "1: input too long");
+    holds!(rt; answer.as_str() == "1: input too long");
     Ok(())
 }
 
@@ -72,7 +73,7 @@ fn a_failing_reader_is_a_fault(rt: HostRuntime) -> Result<(), Fail> {
     let lengths = [0, 5000, MOST - 1, MOST];
     for length in lengths {
         let answer = answered_from(rt.alloc(), &words, &mut document_up_to(length, true))?;
-        assert_eq!(rt; answer.as_str(), "1: cannot read input");
+        holds!(rt; answer.as_str() == "1: cannot read input");
     }
     let mut reader = Padded {
         text: b"{",
@@ -80,24 +81,18 @@ fn a_failing_reader_is_a_fault(rt: HostRuntime) -> Result<(), Fail> {
         fails: true,
     };
     let answer = answered_from(rt.alloc(), &words, &mut reader)?;
-    assert_eq!(rt; answer.as_str(), "1: cannot read input");
+    holds!(rt; answer.as_str() == "1: cannot read input");
     Ok(())
 }
 
 #[test]
 fn a_bad_number_reads_nothing(rt: HostRuntime) -> Result<(), Fail> {
     let words = ["category", "a", "cardinal", "x"];
-    assert_eq!(rt; answered(rt.alloc(), &words)?.as_str(), "1: bad number");
+    holds!(rt; answered(rt.alloc(), &words)?.as_str() == "1: bad number");
     let words = ["category", "a", "cardinal", "1c300"];
-    assert_eq!(rt;
-        answered(rt.alloc(), &words)?.as_str(),
-        "1: number out of limits"
-    );
+    holds!(rt; answered(rt.alloc(), &words)?.as_str() == "1: number out of limits");
     let words = ["category", "a", "cardinal", "1"];
-    assert_eq!(rt;
-        answered(rt.alloc(), &words)?.as_str(),
-        "1: cannot read input"
-    );
+    holds!(rt; answered(rt.alloc(), &words)?.as_str() == "1: cannot read input");
     Ok(())
 }
 
@@ -117,7 +112,7 @@ fn nesting_has_a_limit(rt: HostRuntime) -> Result<(), Fail> {
         }
         let mut reader = input.as_slice();
         let found = answered_from(rt.alloc(), &["print", "a", "cardinal"], &mut reader)?;
-        assert_eq!(rt; found.as_str(), answer, "{depth}");
+        holds!(rt; found.as_str() == answer, at depth);
     }
     Ok(())
 }

@@ -1,6 +1,7 @@
 //! Conditions as CLDR has them, against the categories that its samples show.
 
 use crate::tests::answered;
+use crate::tests::assertion::holds;
 use std::alloc::Global;
 use std::process::Abort;
 use std::test::Fail;
@@ -20,7 +21,7 @@ fn is_true_of_just(
         } else {
             "false\n"
         };
-        assert_eq!(rt; line.as_str(), want, "{condition} at {integer}");
+        holds!(rt; line.as_str() == want, condition);
     }
     Ok(())
 }

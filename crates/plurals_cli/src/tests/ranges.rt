@@ -1,5 +1,6 @@
 //! Ranges of numbers.
 
+use crate::tests::assertion::holds;
 use crate::tests::documents::DOCUMENT;
 use crate::tests::{answered, answered_to};
 use std::test::Fail;
@@ -29,11 +30,7 @@ fn ranges_have_their_categories(rt: HostRuntime) -> Result<(), Fail> {
     ];
     for (locale, rule_type, start, end, answer) in rows {
         let words = ["range", locale, rule_type, start, end];
-        assert_eq!(rt;
-            answered_to(rt.alloc(), &words, DOCUMENT)?.as_str(),
-            answer,
-            "{locale} {rule_type} {start} {end}"
-        );
+        holds!(rt; answered_to(rt.alloc(), &words, DOCUMENT)?.as_str() == answer, locale);
     }
     Ok(())
 }
@@ -51,7 +48,7 @@ fn the_start_is_looked_at_before_the_end(rt: HostRuntime) -> Result<(), Fail> {
     for (start, end, answer) in rows {
         let words = ["range", "a", "cardinal", start, end];
         let printed = answered(rt.alloc(), &words)?;
-        assert_eq!(rt; printed.as_str(), answer, "{start} {end}");
+        holds!(rt; printed.as_str() == answer, start);
     }
     Ok(())
 }
@@ -85,7 +82,7 @@ fn a_range_needs_rules_and_ranges(rt: HostRuntime) -> Result<(), Fail> {
     for (input, answer) in rows {
         let words = ["range", "a", "cardinal", "0", "1"];
         let printed = answered_to(rt.alloc(), &words, input)?;
-        assert_eq!(rt; printed.as_str(), answer);
+        holds!(rt; printed.as_str() == answer);
     }
     Ok(())
 }
@@ -116,7 +113,7 @@ fn all_commands_refuse_bad_ranges(rt: HostRuntime) -> Result<(), Fail> {
         ];
         for words in all {
             let printed = answered_to(rt.alloc(), words, input)?;
-            assert_eq!(rt; printed.as_str(), answer);
+            holds!(rt; printed.as_str() == answer);
         }
     }
     Ok(())

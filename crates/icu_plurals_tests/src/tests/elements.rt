@@ -1,0 +1,271 @@
+//! Elements by category.
+
+use crate::tests::assertion::holds;
+use icu_plurals::provider::PluralRulesData;
+use icu_plurals::{PluralElements, PluralOperands, PluralRules};
+use std::alloc::{AllocError, Global};
+use std::test::Fail;
+
+// The values that a closure was called at, and the call, from 1 on, that it refuses.
+#[derive(Debug, Drop)]
+struct Seen {
+    values: [u32; 8],
+    calls: usize,
+    refused: usize,
+}
+
+impl Seen {
+    fn refusing(refused: usize) -> Seen {
+        Seen {
+            values: [0; 8],
+            calls: 0,
+            refused,
+        }
+    }
+
+    fn see(&mut self, value: u32) {
+        if let Some(place) = self.values.get_mut(self.calls) {
+            *place = value;
+        }
+        self.calls = self.calls.saturating_add(1);
+    }
+
+    // What the last call answers.
+    fn answer(&self) -> Result<(), usize> {
+        if self.calls == self.refused {
+            Err(self.refused)
+        } else {
+            Ok(())
+        }
+    }
+
+    // The value, raised unless its call is refused.
+    fn raised(&mut self, value: u32) -> u32 {
+        self.see(value);
+        if self.calls == self.refused {
+            value
+        } else {
+            value.saturating_add(100)
+        }
+    }
+}
+
+// A value at each key.
+fn eight() -> PluralElements<u32> {
+    PluralElements::new(10)
+        .with_zero_value(Some(11))
+        .with_one_value(Some(12))
+        .with_two_value(Some(13))
+        .with_few_value(Some(14))
+        .with_many_value(Some(15))
+        .with_explicit_zero_value(Some(16))
+        .with_explicit_one_value(Some(17))
+}
+
+// What each reader answers, 0 where an explicit value isn't there.
+fn values(elements: &PluralElements<u32>) -> [u32; 8] {
+    [
+        *elements.other(),
+        *elements.zero(),
+        *elements.one(),
+        *elements.two(),
+        *elements.few(),
+        *elements.many(),
+        elements.explicit_zero().copied().unwrap_or(0),
+        elements.explicit_one().copied().unwrap_or(0),
+    ]
+}
+
+#[test]
+fn closures_are_called_in_one_order(rt: HostRuntime) {
+    let order = [10, 11, 12, 13, 14, 15, 16, 17];
+    let mut elements = eight();
+    holds!(rt; values(&elements) == order);
+    let mut seen = Seen::refusing(0);
+    elements.for_each(|value| seen.see(*value));
+    holds!(rt; (seen.calls, seen.values) == (8, order));
+    let mut seen = Seen::refusing(0);
+    elements.as_ref().for_each(|value| seen.see(**value));
+    holds!(rt; (seen.calls, seen.values) == (8, order));
+    let mut seen = Seen::refusing(0);
+    elements.for_each_mut(|value| {
+        seen.see(*value);
+        *value = value.saturating_add(100);
+    });
+    holds!(rt; (seen.calls, seen.values) == (8, order));
+    let mut seen = Seen::refusing(0);
+    let halves = elements.map(|value| {
+        seen.see(value);
+        value / 2
+    });
+    holds!(rt; (seen.calls, seen.values) == (8, [110, 111, 112, 113, 114, 115, 116, 117]));
+    holds!(rt; values(&halves) == [55, 55, 56, 56, 57, 57, 58, 58]);
+}
+
+#[test]
+fn absent_values_are_skipped(rt: HostRuntime) {
+    let elements = PluralElements::new(11u8).with_one_value(Some(15));
+    let doubled = elements.map(|value| u32::from(value) * 2);
+    holds!(rt; values(&doubled) == [22, 22, 30, 22, 22, 22, 0, 0]);
+    let mut seen = Seen::refusing(0);
+    doubled.for_each(|value| seen.see(*value));
+    holds!(rt; (seen.calls, seen.values) == (2, [22, 30, 0, 0, 0, 0, 0, 0]));
+}
+
+#[test]
+fn an_error_ends_the_calls(rt: HostRuntime) {
+    let order = [10, 11, 12, 13, 14, 15, 16, 17];
+    for refused in 1..=8usize {
+        let mut seen = Seen::refusing(refused);
+        let answer = eight().try_map(|value| {
+            seen.see(value);
+            seen.answer()?;
+            Ok::<u32, usize>(value)
+        });
+        holds!(rt; answer == Err(refused), at refused);
+        holds!(rt; seen.calls == refused);
+        holds!(rt; seen.values.get(..refused) == order.get(..refused), at refused);
+
+        let mut seen = Seen::refusing(refused);
+        let answer = eight().try_for_each(|value| {
+            seen.see(*value);
+            seen.answer()
+        });
+        holds!(rt; answer == Err(refused), at refused);
+        holds!(rt; seen.calls == refused);
+        holds!(rt; seen.values.get(..refused) == order.get(..refused), at refused);
+    }
+}
+
+#[test]
+fn what_was_changed_before_an_error_stays(rt: HostRuntime) {
+    for refused in 1..=8usize {
+        let mut elements = eight();
+        let mut seen = Seen::refusing(refused);
+        let answer = elements.try_for_each_mut(|value| {
+            *value = seen.raised(*value);
+            seen.answer()
+        });
+        holds!(rt; answer == Err(refused), at refused);
+        holds!(rt; seen.calls == refused);
+        let mut want = [10, 11, 12, 13, 14, 15, 16, 17];
+        for value in want.iter_mut().take(refused - 1) {
+            *value += 100;
+        }
+        holds!(rt; values(&elements) == want, at refused);
+    }
+}
+
+#[test]
+fn calls_without_an_error_answer_ok(rt: HostRuntime) {
+    let mut elements = eight();
+    holds!(rt; elements.try_for_each(|_| Ok::<(), ()>(())) == Ok(()));
+    let answer = elements.try_for_each_mut(|value| {
+        *value = value.saturating_add(1);
+        Ok::<(), ()>(())
+    });
+    holds!(rt; answer == Ok(()));
+    holds!(rt; values(&elements) == [11, 12, 13, 14, 15, 16, 17, 18]);
+    let answer = elements.try_map(|value| Ok::<u32, ()>(value / 2));
+    holds!(rt; answer.map(|halves| values(&halves)) == Ok([5, 6, 6, 7, 7, 8, 8, 9]));
+}
+
+#[test]
+fn a_value_that_equals_others_is_not_kept(rt: HostRuntime) {
+    let same = PluralElements::new("abc").with_one_value(Some("abc"));
+    holds!(rt; same.try_into_other() == Some("abc"));
+    let another = PluralElements::new("abc").with_one_value(Some("def"));
+    holds!(rt; another.try_into_other() == None);
+    let none = PluralElements::new("abc")
+        .with_one_value(Some("def"))
+        .with_one_value(None);
+    holds!(rt; none.try_into_other() == Some("abc"));
+}
+
+#[test]
+fn an_explicit_value_is_kept(rt: HostRuntime) {
+    let elements = PluralElements::new(1).with_explicit_one_value(Some(1));
+    holds!(rt; elements.explicit_one() == Some(&1));
+    holds!(rt; elements.explicit_zero() == None);
+    holds!(rt; elements.try_into_other() == None);
+}
+
+#[test]
+fn equality_looks_at_every_value(rt: HostRuntime) {
+    holds!(rt; eight() == eight());
+    let others = [
+        PluralElements::new(0),
+        eight().with_zero_value(None),
+        eight().with_one_value(None),
+        eight().with_two_value(None),
+        eight().with_few_value(None),
+        eight().with_many_value(None),
+        eight().with_explicit_zero_value(None),
+        eight().with_explicit_one_value(None),
+    ];
+    for (place, other) in others.iter().enumerate() {
+        holds!(rt; *other != eight(), at place);
+    }
+}
+
+// The rules that say one where i is 1.
+fn one_rule(alloc: Global) -> Result<PluralRules<'static>, Fail> {
+    let data = PluralRulesData::from_texts(alloc, None, Some("i = 1"), None, None, None)?;
+    Ok(PluralRules::from_data(data))
+}
+
+#[test]
+fn explicit_values_come_before_the_category(rt: HostRuntime) -> Result<(), Fail> {
+    let rules = one_rule(rt.alloc())?;
+    let elements = PluralElements::new("x")
+        .with_one_value(Some("y"))
+        .with_explicit_zero_value(Some("z"));
+    for (text, want) in [
+        ("0", "z"),
+        ("1", "y"),
+        ("1.0", "y"),
+        ("2", "x"),
+        ("0.0", "x"),
+        ("0e1", "x"),
+    ] {
+        holds!(rt; elements.get(text.parse()?, &rules) == &want, text);
+    }
+    let elements = elements.with_explicit_one_value(Some("w"));
+    for (text, want) in [("1", "w"), ("-1", "w"), ("1.0", "y"), ("1e1", "y")] {
+        holds!(rt; elements.get(text.parse()?, &rules) == &want, text);
+    }
+    holds!(rt; elements.get(PluralOperands::from(0u8), &rules) == &"z");
+    Ok(())
+}
+
+// Eight values that own memory.
+fn lists(alloc: Global) -> Result<PluralElements<Vec<u32>>, AllocError> {
+    eight().try_map(|value| {
+        let mut list = Vec::new(alloc);
+        list.push(value)?;
+        Ok(list)
+    })
+}
+
+#[test]
+fn a_clone_equals_its_source(rt: HostRuntime) -> Result<(), Fail> {
+    let source = lists(rt.alloc())?;
+    let clone = source.try_clone()?;
+    holds!(rt; clone == source);
+    let few = PluralElements::new(1).with_few_value(Some(4));
+    holds!(rt; few.try_clone()? == few);
+    Ok(())
+}
+
+// At most one growth is refused: the calls answer want of memory once at most, and answer again.
+#[test]
+fn growth_of_clones_of_elements_may_be_refused(rt: HostRuntime) {
+    let Ok(source) = lists(rt.alloc()).or_else(|_| lists(rt.alloc())) else {
+        holds!(rt; false, "no elements");
+        return;
+    };
+    match source.try_clone() {
+        Ok(clone) => holds!(rt; clone == source),
+        Err(_) => holds!(rt; source.try_clone().ok() == Some(source)),
+    }
+}

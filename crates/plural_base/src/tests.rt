@@ -1,6 +1,0 @@
-mod categories;
-mod exact;
-mod json;
-mod provider;
-mod ranges;
-mod texts;

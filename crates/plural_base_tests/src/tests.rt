@@ -1,0 +1,7 @@
+mod assertion;
+mod categories;
+mod exact;
+mod json;
+mod provider;
+mod ranges;
+mod texts;

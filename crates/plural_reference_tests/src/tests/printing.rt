@@ -1,0 +1,221 @@
+//! Printed texts, and writers that refuse.
+
+use crate::tests::assertion::holds;
+use plural_reference::ast::{Condition, Rule, SampleList, SampleRange, Samples};
+use plural_reference::{
+    ParseError, ReadError, parse, parse_condition, serialize, serialize_condition,
+    serialize_decimal_value, serialize_sample_list, serialize_sample_range, serialize_samples,
+};
+use std::alloc::Global;
+use std::fmt;
+use std::process::Abort;
+use std::test::Fail;
+
+fn printed(alloc: Global, condition: &Condition) -> Result<String, Fail> {
+    let mut text = String::new(alloc);
+    serialize_condition(condition, &mut text)?;
+    Ok(text)
+}
+
+fn printed_rule(alloc: Global, rule: &Rule) -> Result<String, Fail> {
+    let mut text = String::new(alloc);
+    serialize(rule, &mut text)?;
+    Ok(text)
+}
+
+fn samples_of(alloc: Global, text: &str) -> Result<Samples, Fail> {
+    let rule = parse(alloc, text.as_bytes())?;
+    Ok(rule.samples.ok_or("no samples")?)
+}
+
+fn integers_of(alloc: Global, text: &str) -> Result<SampleList, Fail> {
+    let samples = samples_of(alloc, text)?;
+    Ok(samples.integer.ok_or("no list of integers")?)
+}
+
+fn first_range_of(alloc: Global, text: &str) -> Result<SampleRange, Fail> {
+    let list = integers_of(alloc, text)?;
+    Ok(list.sample_ranges.0.into_iter().next().ok_or("no range")?)
+}
+
+#[test]
+fn prints_conditions(rt: HostRuntime) -> Result<(), Fail> {
+    let table = [
+        ("", ""),
+        ("@foo", ""),
+        ("i=01", "i = 0"),
+        ("i % 0 = 5", "i % 0 = 5"),
+        ("i = 4294967295 @integer 1", "i = 4294967295"),
+        (
+            "n%10=3..4,9and n%100!=10..19,70..79or n=0",
+            "n % 10 = 3..4, 9 and n % 100 != 10..19, 70..79 or n = 0",
+        ),
+        (
+            "n = 1 or i = 1 or v = 1 or w = 1",
+            "n = 1 or i = 1 or v = 1 or w = 1",
+        ),
+        (
+            "f = 1 and t = 1 and c = 1 and e = 1",
+            "f = 1 and t = 1 and c = 1 and e = 1",
+        ),
+    ];
+    for (text, want) in table {
+        let condition = parse_condition(rt.alloc(), text.as_bytes())?;
+        holds!(rt; printed(rt.alloc(), &condition)?.as_str() == want, text);
+    }
+    Ok(())
+}
+
+#[test]
+fn prints_what_was_read(rt: HostRuntime) -> Result<(), Fail> {
+    let table = [
+        ("", ""),
+        ("i % 0 = 5", "i % 0 = 5"),
+        (
+            "i = 0 or n = 1 @integer 0, 1 @decimal 0.0~1.0, 0.00~0.04",
+            "i = 0 or n = 1 @integer 0, 1 @decimal 0.0~1.0, 0.00~0.04",
+        ),
+        ("@integer 1 2, …", " @integer 12, …"),
+        ("@decimal 1.1c6~2.0c6, …", " @decimal 1.1c6~2.0c6, …"),
+        ("@decimal 1.5 @integer 1", " @integer 1 @decimal 1.5"),
+        ("@decimal .~e5", " @decimal .~e5"),
+    ];
+    for (text, want) in table {
+        let rule = parse(rt.alloc(), text.as_bytes())?;
+        let printed = printed_rule(rt.alloc(), &rule)?;
+        holds!(rt; printed.as_str() == want, text);
+        let again = parse(rt.alloc(), printed.as_str().as_bytes())?;
+        holds!(rt; again == rule, text);
+    }
+    Ok(())
+}
+
+#[test]
+fn prints_lists_of_samples(rt: HostRuntime) -> Result<(), Fail> {
+    let table = [
+        ("@integer 1 2, 3, …", "12, 3, …"),
+        ("@integer .~e5, 0.0~1.0", ".~e5, 0.0~1.0"),
+        ("@integer 1c6,1.1c6~2.0c6,…", "1c6, 1.1c6~2.0c6, …"),
+    ];
+    for (text, want) in table {
+        let list = integers_of(rt.alloc(), text)?;
+        let mut printed = String::new(rt.alloc());
+        serialize_sample_list(&list, &mut printed)?;
+        holds!(rt; printed.as_str() == want, text);
+    }
+    Ok(())
+}
+
+#[test]
+fn joined_digits_may_be_too_long_to_be_read_again(rt: HostRuntime) -> Result<(), Fail> {
+    let rule = parse(rt.alloc(), b"@integer 4294967295 0")?;
+    let text = printed_rule(rt.alloc(), &rule)?;
+    holds!(rt; text.as_str() == " @integer 42949672950");
+    holds!(rt; parse(rt.alloc(), text.as_bytes()) == Err(ReadError::Parse(ParseError::ExpectedValue)));
+    Ok(())
+}
+
+// Takes so many pieces, and refuses all behind them.
+#[derive(Drop)]
+struct Refusing {
+    text: String,
+    left: usize,
+    refused: usize,
+}
+
+impl fmt::Write for Refusing {
+    fn write_str(&mut self, s: &str) -> fmt::Result {
+        if self.left == 0 {
+            self.refused = self.refused.saturating_add(1);
+            return Err(fmt::Error);
+        }
+        self.left -= 1;
+        self.text.push_str(s).map_err(|_| fmt::Error)
+    }
+}
+
+// The serializer stops at the refused piece, and what was taken is a beginning of the text.
+fn stops_at_each_piece<F: FnMut(&mut Refusing) -> fmt::Result>(
+    rt: &impl Abort,
+    alloc: Global,
+    pieces: usize,
+    want: &str,
+    mut serializes: F,
+)
+    requires { F.IsAlwaysCallable serializes }
+{
+    for left in 0..pieces {
+        let mut writer = Refusing {
+            text: String::new(alloc),
+            left,
+            refused: 0,
+        };
+        holds!(rt; serializes(&mut writer).is_err(), want);
+        holds!(rt; writer.refused == 1);
+        holds!(rt; want.starts_with(writer.text.as_str()), want);
+    }
+    let mut writer = Refusing {
+        text: String::new(alloc),
+        left: pieces,
+        refused: 0,
+    };
+    holds!(rt; serializes(&mut writer).is_ok());
+    holds!(rt; writer.text.as_str() == want);
+}
+
+#[test]
+fn stops_at_the_first_fault_in_a_rule(rt: HostRuntime) -> Result<(), Fail> {
+    let text = "i = 0 or n = 1 @integer 0, 1 @decimal 0.0~1.0, 0.00~0.04, …";
+    let rule = parse(rt.alloc(), text.as_bytes())?;
+    stops_at_each_piece(&rt, rt.alloc(), 24, text, |w| serialize(&rule, w));
+    stops_at_each_piece(
+        &rt,
+        rt.alloc(),
+        11,
+        "i = 0 or n = 1",
+        |w| serialize_condition(&rule.condition, w),
+    );
+    Ok(())
+}
+
+#[test]
+fn stops_at_the_first_fault_in_samples(rt: HostRuntime) -> Result<(), Fail> {
+    let text = " @integer 0, 1 @decimal 0.0~1.0, 0.00~0.04, …";
+    let samples = samples_of(rt.alloc(), text)?;
+    stops_at_each_piece(
+        &rt,
+        rt.alloc(),
+        13,
+        text,
+        |w| serialize_samples(&samples, w),
+    );
+    let list = integers_of(rt.alloc(), "@integer 0, 2~16, …")?;
+    stops_at_each_piece(
+        &rt,
+        rt.alloc(),
+        6,
+        "0, 2~16, …",
+        |w| serialize_sample_list(&list, w),
+    );
+    Ok(())
+}
+
+#[test]
+fn stops_at_the_first_fault_in_a_range(rt: HostRuntime) -> Result<(), Fail> {
+    let range = first_range_of(rt.alloc(), "@integer 0.1~1.6")?;
+    stops_at_each_piece(
+        &rt,
+        rt.alloc(),
+        3,
+        "0.1~1.6",
+        |w| serialize_sample_range(&range, w),
+    );
+    stops_at_each_piece(
+        &rt,
+        rt.alloc(),
+        1,
+        "0.1",
+        |w| serialize_decimal_value(&range.lower_val, w),
+    );
+    Ok(())
+}

@@ -1,0 +1,72 @@
+//! Clones and values of trees.
+
+use crate::tests::assertion::holds;
+use plural_reference::ast::{AndCondition, Relation, Value};
+use plural_reference::{ParseError, parse};
+use std::process::Abort;
+use std::test::Fail;
+
+// The relation and its parts, each equal to its clone.
+fn clones_relation(rt: &impl Abort, relation: &Relation) -> Result<(), Fail> {
+    holds!(rt; relation.try_clone()? == *relation);
+    holds!(rt; relation.expression.try_clone()? == relation.expression);
+    holds!(rt; relation.range_list.try_clone()? == relation.range_list);
+    for item in relation.range_list.0.as_slice() {
+        holds!(rt; item.try_clone()? == *item);
+    }
+    Ok(())
+}
+
+// The same of an and-condition.
+fn clones_group(rt: &impl Abort, group: &AndCondition) -> Result<(), Fail> {
+    holds!(rt; group.try_clone()? == *group);
+    for relation in group.0.as_slice() {
+        clones_relation(rt, relation)?;
+    }
+    Ok(())
+}
+
+#[test]
+fn clones_equal_what_is_cloned(rt: HostRuntime) -> Result<(), Fail> {
+    let texts = [
+        "",
+        "n % 10 = 3..4, 9 or e != 1 and v = 0 @integer 1~2, 1c6, \u{2026} @decimal 1.50",
+    ];
+    for text in texts {
+        let rule = parse(rt.alloc(), text.as_bytes())?;
+        holds!(rt; rule.try_clone()? == rule, text);
+        holds!(rt; rule.condition.try_clone()? == rule.condition, text);
+        for group in rule.condition.0.as_slice() {
+            clones_group(&rt, group)?;
+        }
+    }
+    Ok(())
+}
+
+#[test]
+fn clones_of_samples_equal_what_is_cloned(rt: HostRuntime) -> Result<(), Fail> {
+    let rule = parse(
+        rt.alloc(),
+        "@integer 1~2, 1c6, \u{2026} @decimal 1.50".as_bytes(),
+    )?;
+    let samples = rule.samples.ok_or("no samples")?;
+    holds!(rt; samples.try_clone()? == samples);
+    let list = samples.integer.ok_or("no list")?;
+    holds!(rt; list.try_clone()? == list);
+    holds!(rt; list.try_clone()?.ellipsis);
+    for range in list.sample_ranges.as_slice() {
+        holds!(rt; range.try_clone()? == *range);
+        holds!(rt; range.lower_val.try_clone()? == range.lower_val);
+    }
+    Ok(())
+}
+
+#[test]
+fn turns_values_into_numbers(rt: HostRuntime) -> Result<(), Fail> {
+    holds!(rt; Value::from(4294967295) == Value(4294967295));
+    holds!(rt; u32::try_from(&Value(4294967295)) == Ok(4294967295));
+    holds!(rt; u32::try_from(&Value(4294967296)) == Err(ParseError::ValueTooLarge));
+    holds!(rt; Value(7).try_clone()? == Value(7));
+    holds!(rt; Value(2) < Value(10));
+    Ok(())
+}
