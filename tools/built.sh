@@ -1,5 +1,6 @@
-# For `plurals` and `tools/build`, which set top: where the built program lies, and whether it is that of the present sources.
-crate=$top/crates/plurals_cli
+# shellcheck shell=bash
+# For `plurals` and `tools/build`, which set `top`: where the built program lies, and whether it is that of the present sources.
+crate=${top:?}/crates/plurals_cli
 program=$crate/out/plurals_cli
 # What `state` gave before the program was built.
 built=$crate/out/sources
@@ -18,7 +19,7 @@ kit() {
 # What the program is made of: the kit, and each source by its path below the top, with its time and size.
 state() {
     kit
-    cd "$top"
+    cd "$top" || return
     find crates.txt crates -name out -prune -o \( -path crates.txt -o -name '*.rt' -o -name '*.antt' \) -printf '%p %T@ %s\n' | LC_ALL=C sort
 }
 
