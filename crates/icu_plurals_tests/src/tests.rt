@@ -71,6 +71,7 @@ fn types_of_texts_and_trees_stand_at_their_paths() {
     named::<icu_plurals::provider::rules::reference::ast::SampleList>();
     named::<icu_plurals::provider::rules::reference::ast::SampleRange>();
     named::<icu_plurals::provider::rules::reference::ast::DecimalValue>();
+    named::<icu_plurals::provider::rules::reference::ast::Sequence<u8>>();
 }
 
 #[test]

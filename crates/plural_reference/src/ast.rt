@@ -1,6 +1,7 @@
 //! The tree of a plural rule (UTS 35 Part 3, Plural Rules Syntax).
 //!
-//! Each list is a [`Sequence`] of its parts; the fields are public, so a tree can be made by hand.
+//! Each list is a [`Sequence`] of its parts; the fields are public, so a tree can be made by hand: `RangeList(items.into())` of a
+//! `Vec` of items.
 
 mod clones;
 
@@ -12,7 +13,7 @@ ghost use Rattle.std.specs.Cmp.Rules.{comparing};
 ghost use Rattle.std.proofs.Common.{rules};
 
 use crate::error::ParseError;
-use crate::sequence::Sequence;
+pub use crate::sequence::Sequence;
 use std::marker::Model;
 
 /// A rule: `n = 1 @integer 1`.

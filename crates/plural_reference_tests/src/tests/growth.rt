@@ -1,6 +1,7 @@
 //! Each growth refused in turn: these run under `rt try --test --fail-alloc N` for each N, and with memory too.
 
 use crate::tests::assertion::holds;
+use crate::tests::{BENGALI_ONE, FRENCH_MANY, RUSSIAN_FEW};
 use plural_reference::ast::{Condition, Rule};
 use plural_reference::{
     ParseError, ReadError, parse, parse_condition, serialize, serialize_condition,
@@ -52,6 +53,7 @@ fn growth_of_conditions_may_be_refused(rt: HostRuntime) {
     for text in [
         "n % 10 = 3, 5 and v = 0 or i = 1..2",
         "i = 0 or n = 1 or v != 2 or w = 3 or f = 4",
+        "n = 1, 5, 7, 8, 9, 10",
     ] {
         let condition = condition_of(rt.alloc(), text);
         holds!(rt; condition.is_ok_and(|read| condition_prints(&read, text)), text);
@@ -63,6 +65,9 @@ fn growth_of_rules_may_be_refused(rt: HostRuntime) {
     for text in [
         "n % 10 = 3, 5 and v = 0 or i = 1..2",
         "i = 0 or n = 1 @integer 0, 1, … @decimal 0.0~1.0",
+        BENGALI_ONE,
+        RUSSIAN_FEW,
+        FRENCH_MANY,
     ] {
         let rule = rule_of(rt.alloc(), text);
         holds!(rt; rule.is_ok_and(|read| rule_prints(&read, text)), text);
@@ -84,20 +89,25 @@ fn growth_before_a_fault_may_be_refused(rt: HostRuntime) {
 
 #[test]
 fn growth_of_clones_may_be_refused(rt: HostRuntime) {
-    let text = "n % 10 = 3..4, 9 or e != 1 and v = 0 @integer 1~2, 1c6, … @decimal 1.50";
-    let Ok(rule) = rule_of(rt.alloc(), text) else {
-        holds!(rt; false, "not read");
-        return;
-    };
-    match rule.try_clone() {
-        Ok(clone) => holds!(rt; clone == rule),
-        Err(_) => holds!(rt; rule.try_clone().ok() == Some(rule)),
+    for text in [
+        "n % 10 = 3..4, 9 or e != 1 and v = 0 @integer 1~2, 1c6, … @decimal 1.50",
+        BENGALI_ONE,
+        FRENCH_MANY,
+    ] {
+        let Ok(rule) = rule_of(rt.alloc(), text) else {
+            holds!(rt; false, text);
+            return;
+        };
+        match rule.try_clone() {
+            Ok(clone) => holds!(rt; clone == rule, text),
+            Err(_) => holds!(rt; rule.try_clone().ok() == Some(rule), text),
+        }
     }
 }
 
 #[test]
 fn growth_of_printed_texts_may_be_refused(rt: HostRuntime) {
-    let text = "i = 0 or n = 1 @integer 0, 1, … @decimal 0.0~1.0";
+    let text = FRENCH_MANY;
     let Ok(rule) = rule_of(rt.alloc(), text) else {
         holds!(rt; false, "not read");
         return;

@@ -1,7 +1,11 @@
 //! Printed texts, and writers that refuse.
 
 use crate::tests::assertion::holds;
-use plural_reference::ast::{Condition, Rule, SampleList, SampleRange, Samples};
+use crate::tests::{BENGALI_ONE, FRENCH_MANY, RUSSIAN_FEW};
+use plural_reference::ast::{
+    AndCondition, Condition, Expression, Operand, Operator, RangeList, RangeListItem, Relation,
+    Rule, SampleList, SampleRange, Samples, Value,
+};
 use plural_reference::{
     ParseError, ReadError, parse, parse_condition, serialize, serialize_condition,
     serialize_decimal_value, serialize_sample_list, serialize_sample_range, serialize_samples,
@@ -79,6 +83,9 @@ fn prints_what_was_read(rt: HostRuntime) -> Result<(), Fail> {
         ("@decimal 1.1c6~2.0c6, …", " @decimal 1.1c6~2.0c6, …"),
         ("@decimal 1.5 @integer 1", " @integer 1 @decimal 1.5"),
         ("@decimal .~e5", " @decimal .~e5"),
+        (RUSSIAN_FEW, RUSSIAN_FEW),
+        (FRENCH_MANY, FRENCH_MANY),
+        ("n = 1,5,7,8,9,10 @integer 1, 5, 7~10 ", BENGALI_ONE),
     ];
     for (text, want) in table {
         let rule = parse(rt.alloc(), text.as_bytes())?;
@@ -103,6 +110,40 @@ fn prints_lists_of_samples(rt: HostRuntime) -> Result<(), Fail> {
         serialize_sample_list(&list, &mut printed)?;
         holds!(rt; printed.as_str() == want, text);
     }
+    Ok(())
+}
+
+// The condition of one relation that compares i with an item.
+fn condition_of(alloc: Global, item: RangeListItem) -> Result<Condition, Fail> {
+    let relation = Relation {
+        expression: Expression {
+            operand: Operand::I,
+            modulus: None,
+        },
+        operator: Operator::Eq,
+        range_list: RangeList(vec![in alloc; item]?.into()),
+    };
+    let group = AndCondition(vec![in alloc; relation]?.into());
+    Ok(Condition(vec![in alloc; group]?.into()))
+}
+
+#[test]
+fn prints_trees_that_no_text_gives(rt: HostRuntime) -> Result<(), Fail> {
+    let alloc = rt.alloc();
+    let large = condition_of(alloc, RangeListItem::Value(Value(4294967296)))?;
+    holds!(rt; printed(alloc, &large)?.as_str() == "i = 4294967296");
+    let widest = condition_of(
+        alloc,
+        RangeListItem::Range(Value(4294967296), Value(u64::MAX)),
+    )?;
+    holds!(rt; printed(alloc, &widest)?.as_str() == "i = 4294967296..18446744073709551615");
+    let beyond = SampleList {
+        sample_ranges: Vec::new(alloc).into(),
+        ellipsis: true,
+    };
+    let mut text = String::new(alloc);
+    serialize_sample_list(&beyond, &mut text)?;
+    holds!(rt; text.as_str() == ", …");
     Ok(())
 }
 

@@ -5,13 +5,13 @@ use plural_reference::ast::{
     AndCondition, Condition, Expression, Operand, Operator, RangeList, RangeListItem, Relation,
     Value,
 };
-use plural_reference::{ParseError, ReadError, Sequence, parse, parse_condition};
+use plural_reference::{ParseError, ReadError, parse, parse_condition};
 use std::alloc::Global;
 use std::test::Fail;
 
 // The and-condition of one relation.
 fn alone(alloc: Global, relation: Relation) -> Result<AndCondition, Fail> {
-    Ok(AndCondition(Sequence(vec![in alloc; relation]?)))
+    Ok(AndCondition(vec![in alloc; relation]?.into()))
 }
 
 #[test]
@@ -22,10 +22,11 @@ fn reads_a_condition_as_its_tree(rt: HostRuntime) -> Result<(), Fail> {
             modulus: Some(Value(10)),
         },
         operator: Operator::NotEq,
-        range_list: RangeList(Sequence(vec![in rt.alloc();
+        range_list: RangeList(vec![in rt.alloc();
             RangeListItem::Range(Value(3), Value(4)),
             RangeListItem::Value(Value(0)),
-        ]?)),
+        ]?
+        .into()),
     };
     let second = Relation {
         expression: Expression {
@@ -33,16 +34,27 @@ fn reads_a_condition_as_its_tree(rt: HostRuntime) -> Result<(), Fail> {
             modulus: None,
         },
         operator: Operator::Eq,
-        range_list: RangeList(Sequence(vec![in rt.alloc();
-            RangeListItem::Value(Value(4294967295)),
-        ]?)),
+        range_list: RangeList(vec![in rt.alloc(); RangeListItem::Value(Value(4294967295))]?.into()),
     };
     let groups = vec![in rt.alloc(); alone(rt.alloc(), first)?, alone(rt.alloc(), second)?]?;
     let read = parse_condition(
         rt.alloc(),
         b"n % 10 != 3..4, 0 or e = 4294967295 @integer 1",
     )?;
-    holds!(rt; read == Condition(Sequence(groups)));
+    holds!(rt; read == Condition(groups.into()));
+    Ok(())
+}
+
+#[test]
+fn reads_long_lists_of_values(rt: HostRuntime) -> Result<(), Fail> {
+    let values = [1, 5, 7, 8, 9, 10];
+    let read = parse_condition(rt.alloc(), b"n = 1,5,7,8,9,10")?;
+    holds!(rt; read.0.len() == 1 && read.0[0].0.len() == 1);
+    let items = &read.0[0].0[0].range_list.0;
+    holds!(rt; items.len() == values.len());
+    for (item, value) in items.iter().zip(values) {
+        holds!(rt; *item == RangeListItem::Value(Value(value)), at value);
+    }
     Ok(())
 }
 

@@ -1,6 +1,7 @@
 //! Texts as rules with samples.
 
 use crate::tests::assertion::holds;
+use crate::tests::{FRENCH_MANY, RUSSIAN_FEW};
 use plural_reference::ast::SampleList;
 use plural_reference::{ParseError, ReadError, parse, parse_condition};
 use std::alloc::Global;
@@ -12,7 +13,7 @@ fn shown(alloc: Global, list: &Option<SampleList>) -> Result<String, Fail> {
     let Some(list) = list else {
         return Ok(text);
     };
-    for range in list.sample_ranges.as_slice() {
+    for range in &list.sample_ranges {
         text.push_str("|")?;
         text.push_str(range.lower_val.0.as_str())?;
         if let Some(upper) = &range.upper_val {
@@ -47,6 +48,17 @@ fn reads_lists_of_samples(rt: HostRuntime) -> Result<(), Fail> {
         ("@integer 1~2~3", "|1~2", ""),
         ("@integer 007", "|007", ""),
         ("@decimal 1.5 @integer 1 @decimal 2.50", "|1", "|2.50"),
+        (
+            "@integer 2~17, 100, 1000, 10000, 100000, 1000000, \u{2026}",
+            "|2~17|100|1000|10000|100000|1000000*",
+            "",
+        ),
+        (RUSSIAN_FEW, "|2~4|22~24|32~34|42~44|52~54|62|102|1002*", ""),
+        (
+            FRENCH_MANY,
+            "|1000000|1c6|2c6|3c6|4c6|5c6|6c6*",
+            "|1.0000001c6|1.1c6|2.0000001c6|2.1c6|3.0000001c6|3.1c6*",
+        ),
         (
             "i = 0 or n = 1 @integer 0, 1 @decimal 0.0~1.0, 0.00~0.04",
             "|0|1",
