@@ -10,7 +10,7 @@ use Rattle.plural_reference.specs.ExactTruth.{exact_truth}
 use Rattle.plural_reference.specs.Operands.{Operands}
 use Rattle.plural_base.specs.FiveRules.{Five, FiveRules, first_category}
 use Rattle.plural_base.specs.RuleModuli.{moduli_of}
-use Rattle.plural_base.specs.RuleTexts.{AreReadFrom, HaveNoZeroModulus}
+use Rattle.plural_base.specs.RuleTexts.{AreReadFrom}
 use Rattle.icu_plurals.specs.Elements.{Elements, element_at, explicit_at, of_category}
 
 -- The value of the exact number: the explicit one where the number is exactly 0 or 1 and it is there, else that of the first of
@@ -19,12 +19,12 @@ abbrev pub exact_element_at : {T : Type 0} → Elements T → Operands → Five 
 exact_element_at e exact conditions =
     unwrap_or (explicit_at e exact) (of_category e (first_category (exact_truth exact) conditions))
 
--- Whatever five texts the rules are read from: if no modulus in them is 0 and the number, with its compact exponent, is within
--- the bound, the value is that of the exact number.
+-- Whatever five texts the rules are read from: if the number, with its compact exponent, is within the bound, the value is
+-- that of the exact number. A modulus 0 is no modulus in exact truth.
 abbrev pub IsExactElement : {T : Type 0} → Elements T → FiveRules → Places → ℕ → T → Type 0
 IsExactElement e rules number exponent value =
     (texts : Five (Option (List ℕ))) (conditions : Five (Option Condition)) (exact : Operands)
-    → AreReadFrom texts conditions rules → HaveNoZeroModulus conditions
+    → AreReadFrom texts conditions rules
     → IsWithinBound number exponent (moduli_of rules) → AreExact number exponent exact
     → value ≡ exact_element_at e exact conditions
 

@@ -48,8 +48,8 @@ pub fn packed_elements_answer()
     ensures { (e : Elements PackedValue) (op : Operands) (rules : FiveRules) → element_at (elements_of (packed_of e)) op rules ≡ element_at e op rules }
 {}
 
-/// Within the bound, under rules that are read from texts without a modulus 0, the value that the kept
-/// operands of a number choose among packed elements is the one that the exact number has.
+/// Within the bound, under rules that are read from texts, the value that the kept operands of a
+/// number choose among packed elements is the one that the exact number has.
 pub fn kept_element_is_exact()
     ensures { KeptElementIsExact PackedValue }
 {

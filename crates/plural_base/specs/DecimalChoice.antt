@@ -12,16 +12,15 @@ use Rattle.plural_runtime.specs.PackedTruth.{packed_truth}
 use Rattle.plural_base.specs.declared.category.PluralCategory.{PluralCategory}
 use Rattle.plural_base.specs.FiveRules.{Five, FiveRules, first_category}
 use Rattle.plural_base.specs.RuleModuli.{moduli_of}
-use Rattle.plural_base.specs.RuleTexts.{AreReadFrom, HaveNoZeroModulus}
+use Rattle.plural_base.specs.RuleTexts.{AreReadFrom}
 
--- Whatever five texts the rules are read from: if no modulus in them is 0 and the number, with its compact exponent,
--- is within the bound, the category is the first of zero, one, two, few, many whose condition is there and true of
--- the exact number, else other.
--- The standard doesn't say what a modulus 0 means, so nothing is promised of it (the proof doesn't need the premise: 0 is none here).
+-- Whatever five texts the rules are read from: if the number, with its compact exponent, is within the bound, the category
+-- is the first of zero, one, two, few, many whose condition is present and true of the exact number, else other.
+-- The standard doesn't say what a modulus 0 means: in exact truth it is no modulus, as in packed rules.
 abbrev pub IsExactChoice : FiveRules → Places → ℕ → PluralCategory → Type 0
 IsExactChoice rules number exponent category =
     (texts : Five (Option (List ℕ))) (conditions : Five (Option Condition)) (exact : Operands)
-    → AreReadFrom texts conditions rules → HaveNoZeroModulus conditions
+    → AreReadFrom texts conditions rules
     → IsWithinBound number exponent (moduli_of rules) → AreExact number exponent exact
     → category ≡ first_category (exact_truth exact) conditions
 

@@ -2,18 +2,14 @@
 --     ReadsAs text condition      the text is read as a rule with this condition
 --     AreReadFrom texts conditions rules      each rule is the packing of the condition that its text is read as
 --     AreRulesOf texts rules      the same of some conditions
---     HaveNoZeroModulus conditions      no relation has the modulus 0
 --     texts_of zero one two few many      the texts behind references
-use Rattle.std.specs.Prelude.{◌≡◌, ◌≢◌, ℕ, List, Option, Some, None, Ok}
+use Rattle.std.specs.Prelude.{◌≡◌, ℕ, List, Option, Some, None, Ok}
 use Rattle.std.specs.Borrow.{Bor}
-use Rattle.std.specs.List.{AllByRecursion}
 use Rattle.std.specs.Option.{option_copied}
 use Rattle.plural_reference.specs.declared.ast.Condition.{Condition}
 use Rattle.plural_reference.specs.declared.ast.Rule.{Rule}
-use Rattle.plural_reference.specs.declared.ast.Value.{Value}
 use Rattle.plural_reference.specs.PrintingLaws.{TextReads}
 use Rattle.plural_reference.specs.Samples.{ReadsRule}
-use Rattle.plural_reference.specs.Truth.{groups_of}
 use Rattle.plural_runtime.specs.PackedRelations.{PackedRelation}
 use Rattle.plural_runtime.specs.Packing.{packing}
 use Rattle.plural_base.specs.FiveRules.{Five, five, FiveRules}
@@ -45,24 +41,3 @@ abbrev pub texts_of : {A : Type 0} → Option (Bor A) → Option (Bor A) → Opt
     → Five (Option A)
 texts_of zero one two few many =
     five (option_copied zero) (option_copied one) (option_copied two) (option_copied few) (option_copied many)
-
--- ---- Without a zero modulus
-
--- a modulus that is written isn't 0
-abbrev pub IsNoZero : Option Value → Type 0
-IsNoZero None = Unit {0}
-IsNoZero (Some modulus) = modulus.0 ≢ 0
-
--- no relation of the condition, if it is there, has the modulus 0
-abbrev pub HasNoZeroModulus : Option Condition → Type 0
-HasNoZeroModulus None = Unit {0}
-HasNoZeroModulus (Some condition) =
-    AllByRecursion (AllByRecursion (λ relation. IsNoZero relation.expression.modulus)) (groups_of condition)
-
--- nor has one of five conditions
-pub record HaveNoZeroModulus (conditions : Five (Option Condition)) : Type 0 where
-  pub zero : HasNoZeroModulus conditions.zero
-  pub one : HasNoZeroModulus conditions.one
-  pub two : HasNoZeroModulus conditions.two
-  pub few : HasNoZeroModulus conditions.few
-  pub many : HasNoZeroModulus conditions.many

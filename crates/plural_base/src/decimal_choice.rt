@@ -10,8 +10,8 @@ use plural_reference::laws::exactness::kept_operands_agree;
 
 impl<'data> PluralRules<'data> {
     /// The category of a decimal by the operands that are kept of it. Where
-    /// [`PluralRules::is_exact_for_decimal`] holds and the rules come from texts without a modulus
-    /// 0, it is the category of the number itself, whatever its length. It takes no memory.
+    /// [`PluralRules::is_exact_for_decimal`] holds and the rules come from texts, it is the category
+    /// of the number itself, whatever its length. It takes no memory.
     pub fn category_for_decimal(&self, number: &Decimal) -> PluralCategory
         ensures kept { IsKeptChoice self.now number.now.absolute 0 result }
         ensures exact { IsExactChoice self.now number.now.absolute 0 result }
@@ -21,9 +21,8 @@ impl<'data> PluralRules<'data> {
     }
 
     /// The category of a compact decimal by the operands that are kept of it, after the point has
-    /// moved by the exponent. Where [`PluralRules::is_exact_for`] holds and the rules come from texts
-    /// without a modulus 0, it is the category of the number itself, whatever its length. It takes no
-    /// memory.
+    /// moved by the exponent. Where [`PluralRules::is_exact_for`] holds and the rules come from texts,
+    /// it is the category of the number itself, whatever its length. It takes no memory.
     pub fn category_for_compact(&self, number: &CompactDecimal) -> PluralCategory
         ensures kept { let digits = number.now.significand.absolute in
             IsKeptChoice self.now digits number.now.exponent result }

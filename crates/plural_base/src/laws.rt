@@ -8,8 +8,8 @@ ghost use Rattle.plural_base.specs.TextReaders.{TextsGiveOneAnswer};
 use plural_reference::laws::exactness;
 use plural_reference::laws::reading::{one_list_of_tokens, one_rule};
 
-/// Within the bound, under rules that are read from texts without a modulus 0, the category that the kept
-/// operands of a number choose is the one that the exact number has.
+/// Within the bound, under rules that are read from texts, the category that the kept operands of a
+/// number choose is the one that the exact number has.
 pub fn kept_choice_is_exact()
     ensures { KeptChoiceIsExact }
 {

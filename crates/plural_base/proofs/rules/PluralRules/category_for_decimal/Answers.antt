@@ -5,7 +5,7 @@ use Rattle.plural_base.proofs.ExactCategories.{first_category-exact}
 use Rattle.plural_base.proofs.rules.PluralRules.category_for_decimal.Goals as goal
 
 pub returns-clause-exact : goal.returns-clause-exact
-returns-clause-exact c = λ texts conditions exact read no_zero within are_exact.
+returns-clause-exact c = λ texts conditions exact read within are_exact.
     let digits = c.args.number.now.absolute in
     let rules = c.args.self.now in
     let kept : IsKept digits 0 (moduli_of rules) c.from.result exact =
