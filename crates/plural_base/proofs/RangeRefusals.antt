@@ -69,3 +69,13 @@ map_no_rule value RangeKey category fault h = λ is. absurd cc
 map_no_rule value RangeValue category fault h = λ is. absurd cc
 map_no_rule value (Pack p) category fault h = λ is. absurd cc
 map_no_rule value Memory category fault h = λ is. absurd cc
+
+-- nor a float
+pub map_no_float : (value : Option Data) (e : JsonError) → IsRefusal e (map_shape ranges_shape value) → e ≢ Float
+map_no_float value Float h = λ is. never_map Float (λ s. absurd cc) (λ s. absurd cc) (λ s. absurd cc) value h
+map_no_float value Shape h = λ is. absurd cc
+map_no_float value (Rule c f) h = λ is. absurd cc
+map_no_float value RangeKey h = λ is. absurd cc
+map_no_float value RangeValue h = λ is. absurd cc
+map_no_float value (Pack p) h = λ is. absurd cc
+map_no_float value Memory h = λ is. absurd cc

@@ -18,6 +18,15 @@ name_of Other = codes "other"
 abbrev pub all_categories : List PluralCategory
 all_categories = Few ∷ Many ∷ One ∷ Other ∷ Two ∷ Zero ∷ []
 
+-- its place in the order of the rules, which other ends
+abbrev pub place_of : PluralCategory → ℕ
+place_of Zero = 0
+place_of One = 1
+place_of Two = 2
+place_of Few = 3
+place_of Many = 4
+place_of Other = 5
+
 -- the category of the same name
 abbrev pub category_of : RawPluralCategory → PluralCategory
 category_of raw.Other = Other

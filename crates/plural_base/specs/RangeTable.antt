@@ -12,13 +12,13 @@ use Rattle.plural_base.specs.ByCategory.{each, at, put_at}
 use Rattle.plural_base.specs.CategoryNames.{category_of, raw_category_of, all_raw_categories}
 
 abbrev pub category_at : PluralRanges → RawPluralCategory → RawPluralCategory → Option RawPluralCategory
-category_at ranges start end = at (at ranges.rows start) end
+category_at ranges start end = at (at ranges start) end
 
 abbrev pub no_ranges : PluralRanges
-no_ranges = record { rows = each (λ start. each (λ end. None)) }
+no_ranges = each (λ start. each (λ end. None))
 
 abbrev pub with_range : PluralRanges → RawPluralCategory → RawPluralCategory → RawPluralCategory → PluralRanges
-with_range ranges start end category = record { rows = put_at ranges.rows start (put_at (at ranges.rows start) end (Some category)) }
+with_range ranges start end category = put_at ranges start (put_at (at ranges start) end (Some category))
 
 -- how many ends have a category with a start
 abbrev pub row_size : PluralRanges → RawPluralCategory → ℕ

@@ -1,8 +1,10 @@
 //! The categories of rules.
 
-ghost use Rattle.std.specs.Prelude.{◌≡◌};
-ghost use Rattle.std.specs.Iterator.{YieldsFirst, item_count};
-ghost use Rattle.plural_base.specs.FiveRules.{categories_of};
+ghost use Rattle.std.specs.Prelude.{◌≡◌, ◌≤◌, length, Some, IfSome};
+ghost use Rattle.std.specs.Iterator.{YieldsFirst, UpTo, at_most, item_count};
+ghost use Rattle.std.specs.Iterator.SizeHint.{IsWithinCount};
+ghost use Rattle.plural_base.specs.declared.category.PluralCategory.{PluralCategory as Category};
+ghost use Rattle.plural_base.specs.FiveRules.{categories_of, listed};
 
 use crate::category::PluralCategory;
 use crate::rules_data::PluralRulesData;
@@ -75,4 +77,35 @@ impl Iterator for Categories {
             None
         }
     }
+
+    fn size_hint(&self) -> (usize, Option<usize>)
+        ensures lower { IsWithinCount result.0 (at_most (length self.now)) }
+        ensures upper { IfSome result.1 (UpTo (at_most (length self.now))) }
+        // It is exact.
+        ensures exact { result ≡ (length self.now, Some (length self.now)) }
+    {
+        let left = self.len();
+        (left, Some(left))
+    }
+}
+
+impl ExactSizeIterator for Categories {
+    fn len(&self) -> usize
+        ensures { result ≡ length self.now }
+    {
+        count_of(self.zero)
+            + count_of(self.one)
+            + count_of(self.two)
+            + count_of(self.few)
+            + count_of(self.many)
+            + count_of(self.other)
+    }
+}
+
+// How many categories a flag stands for.
+fn count_of(is_there: bool) -> usize
+    ensures value { (category : Category) → length (listed category is_there) ≡ result }
+    ensures bound { result ≤ 1 }
+{
+    if is_there { 1 } else { 0 }
 }

@@ -1,7 +1,8 @@
 //! The plural categories.
 
-ghost use Rattle.std.specs.Prelude.{◌≡◌, ◌↔◌, length, Some};
-ghost use Rattle.std.specs.Iterator.{YieldsFirst, item_count};
+ghost use Rattle.std.specs.Prelude.{◌≡◌, ◌↔◌, length, Some, IfSome};
+ghost use Rattle.std.specs.Iterator.{YieldsFirst, UpTo, at_most, item_count};
+ghost use Rattle.std.specs.Iterator.SizeHint.{IsWithinCount};
 ghost use Rattle.plural_base.specs.CategoryNames.{name_of, all_categories};
 
 use std::marker::Model;
@@ -94,6 +95,16 @@ impl Iterator for AllCategories {
         let (first, left) = self.left.split_first()?;
         self.left = left;
         Some(*first)
+    }
+
+    fn size_hint(&self) -> (usize, Option<usize>)
+        ensures lower { IsWithinCount result.0 (at_most (length self.now)) }
+        ensures upper { IfSome result.1 (UpTo (at_most (length self.now))) }
+        // It is exact.
+        ensures exact { result ≡ (length self.now, Some (length self.now)) }
+    {
+        let left = self.left.len();
+        (left, Some(left))
     }
 }
 

@@ -1,6 +1,6 @@
 //! Rules and ranges by locale from a JSON document.
 
-ghost use Rattle.std.specs.Prelude.{◌≡◌, ◌≢◌, Option, Err, OnOk, IfOk, List, ℕ, codes, option_map, string_bytes};
+ghost use Rattle.std.specs.Prelude.{◌≡◌, ◌≢◌, ◌↔◌, Option, None, Err, OnOk, IfOk, IsTrue, IsFalse, List, ℕ, codes, option_map, string_bytes};
 ghost use Rattle.std.specs.BTreeMap.{insert_entry};
 ghost use Rattle.std.specs.Cmp.Lexicographic.{slice_cmp};
 ghost use Rattle.std.specs.Ordering.{nat_cmp};
@@ -11,7 +11,9 @@ ghost use Rattle.plural_base.specs.Providers.{Loads, LoadsRanges};
 ghost use Rattle.plural_base.specs.RulesData.{rules_of};
 ghost use Rattle.plural_base.specs.RulesJson.{rules_shape, Answers};
 ghost use Rattle.plural_base.specs.TextReaders.{TextReader, TellsTexts};
+ghost use Rattle.serde_json.specs.Find.{as_object};
 ghost use Rattle.serde_json.specs.View.{view, members_view};
+ghost use Rattle.serde_json.specs.Written.{has_float};
 
 use crate::float::holds_float;
 use crate::json_error::JsonError;
@@ -68,6 +70,9 @@ impl JsonProvider {
         ensures ordinal { IfOk result (λ provider. (locale : List ℕ) → IsReadAt (value_at (codes "ordinal") locale (view value.now)) (found locale provider.ordinal)) }
         // A locale has ranges exactly where its key is there, and they are those that the value under it stands for.
         ensures ranges { IfOk result (λ provider. (locale : List ℕ) → AreRangesAt (value_at (codes "ranges") locale (view value.now)) (found locale provider.ranges)) }
+        // Both are looked for before memory is taken.
+        ensures float { (result ≡ Err JsonError.Float) ↔ IsTrue (has_float (view value.now)) }
+        ensures shape { IsFalse (has_float (view value.now)) → as_object (view value.now) ≡ None → result ≡ Err JsonError.Shape }
         ensures memory { (category : Option PluralCategory) → result ≢ Err (JsonError.Rule category RuleError.Memory) }
     {
         texts_give_one_answer();
@@ -129,6 +134,8 @@ fn load_copied(
 // The provider of a document without floats.
 fn read_document(alloc: Global, value: &Value) -> Result<JsonProvider, JsonError>
     ensures answers { (texts : TextReader) → TellsTexts texts → Answers (λ provider. provider) result (document_shape texts (view value.now)) }
+    ensures float { result ≢ Err JsonError.Float }
+    ensures shape { as_object (view value.now) ≡ None → result ≡ Err JsonError.Shape }
     ensures memory { (category : Option PluralCategory) → result ≢ Err (JsonError.Rule category RuleError.Memory) }
 {
     if !value.is_object() {
@@ -147,6 +154,7 @@ fn read_map(
     value: Option<&Value>,
 ) -> Result<BTreeMap<String, PluralRulesData<'static>>, JsonError>
     ensures answers { (texts : TextReader) → TellsTexts texts → Answers (λ rows. rows_of rows.entries) result (map_shape (rules_shape texts) (option_map (λ v. view v.now) value.entry)) }
+    ensures float { result ≢ Err JsonError.Float }
     ensures memory { (category : Option PluralCategory) → result ≢ Err (JsonError.Rule category RuleError.Memory) }
 {
     let Some(value) = value else {
@@ -167,6 +175,7 @@ fn read_rows(
     members: &Map<String, Value>,
 ) -> Result<BTreeMap<String, PluralRulesData<'static>>, JsonError>
     ensures answers { (texts : TextReader) → TellsTexts texts → Answers (λ rows. rows_of rows.entries) result (rows_shape (rules_shape texts) (members_view members.now.entries)) }
+    ensures float { result ≢ Err JsonError.Float }
     ensures memory { (category : Option PluralCategory) → result ≢ Err (JsonError.Rule category RuleError.Memory) }
 {
     let mut rows = BTreeMap::new(alloc);

@@ -45,3 +45,5 @@ pub fn range_bytes_differ()
 pub fn ranges_are_their_maps()
     ensures { RangesAreTheirMaps }
 {}
+
+pub mod orders;

@@ -26,16 +26,58 @@ impl Error for DataError {}
 
 /// Rules and ranges by locale: a map for cardinal numbers, one for ordinal numbers and one for ranges. A
 /// locale is a text, compared byte by byte; no other locale stands in for one that is absent.
+///
+/// An implementation names its maps by three ghost members, `cardinal`, `ordinal` and `ranges`: functions
+/// from the provider and a locale's bytes to the five rules or the ranges, `None` where there are none.
+/// Each call answers what the map of its name says. So a provider of English alone, with no ordinal
+/// numbers and no ranges, is
+///
+/// ```
+/// #[derive(Drop)]
+/// pub struct English {
+///     pub cardinal: PluralRulesData<'static>,
+/// }
+///
+/// impl PluralsProvider for English {
+///     ghost use Rattle.std.specs.Prelude.{Some, None, codes, bytes_eq, if◌then◌else◌};
+///     ghost use Rattle.plural_base.specs.RulesData.{rules_of};
+///
+///     ghost cardinal = { λ english locale. if bytes_eq locale (codes "en") then Some (rules_of english.cardinal) else None };
+///
+///     ghost ordinal = { λ english locale. None };
+///
+///     ghost ranges = { λ english locale. None };
+///
+///     fn load_cardinal(&self, locale: &str) -> Result<PluralRulesData<'_>, DataError> {
+///         if locale == "en" {
+///             Ok(self.cardinal.as_borrowed())
+///         } else {
+///             Err(DataError::NotFound)
+///         }
+///     }
+///
+///     fn load_ordinal(&self, _locale: &str) -> Result<PluralRulesData<'_>, DataError> {
+///         Err(DataError::NotFound)
+///     }
+///
+///     fn load_ranges(&self, _locale: &str) -> Result<PluralRanges, DataError> {
+///         Err(DataError::NotFound)
+///     }
+/// }
+/// ```
 pub trait PluralsProvider {
     ghost use Rattle.std.specs.Prelude.{Option, List, ℕ};
     ghost use Rattle.plural_base.specs.declared.ranges.PluralRanges.{PluralRanges as Ranges};
     ghost use Rattle.plural_base.specs.FiveRules.{FiveRules};
     ghost use Rattle.plural_base.specs.Providers.{Loads, LoadsRanges};
 
+    // The rules for cardinal numbers of a locale.
     ghost cardinal: { Self → List ℕ → Option FiveRules };
 
+    // The rules for ordinal numbers of a locale.
     ghost ordinal: { Self → List ℕ → Option FiveRules };
 
+    // The categories of ranges of a locale.
     ghost ranges: { Self → List ℕ → Option Ranges };
 
     /// The locale's rules for cardinal numbers, lent; [`DataError::NotFound`] exactly where there are

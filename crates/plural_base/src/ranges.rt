@@ -1,11 +1,12 @@
 //! The categories of ranges.
 
-ghost use Rattle.std.specs.Prelude.{◌≡◌, ◌≢◌, ◌≤◌, ◌⊎◌, Some, None};
+ghost use Rattle.std.specs.Prelude.{◌≡◌, ◌≢◌, ◌==◌, ◌≤◌, ◌⊎◌, Some};
 ghost use Rattle.plural_base.specs.declared.raw_category.RawPluralCategory.{RawPluralCategory as Category};
 ghost use Rattle.plural_base.specs.RangeTable.{category_at, no_ranges, row_size, size_of, with_range};
 
 use crate::by_category::ByCategory;
 use crate::raw_category::{ALL, RawPluralCategory};
+use std::marker::Model;
 
 /// The categories that ranges of numbers have, by the categories of their starts and their ends (UTS 35
 /// Part 3, Plural Ranges): a map from pairs of categories to categories. A pair that is absent has its
@@ -14,6 +15,19 @@ use crate::raw_category::{ALL, RawPluralCategory};
 #[derive(Clone, Copy, Debug, PartialEq)]
 pub struct PluralRanges {
     rows: ByCategory<ByCategory<Option<RawPluralCategory>>>,
+}
+
+impl Model for PluralRanges {
+    ghost use Rattle.std.specs.Prelude.{Option};
+    ghost use Rattle.plural_base.specs.declared.by_category.ByCategory.{ByCategory};
+    ghost use Rattle.plural_base.specs.declared.raw_category.RawPluralCategory.{RawPluralCategory};
+
+    // What stands at each start is what stands at each end: the pair's category, where it has one.
+    ghost Value = { ByCategory (ByCategory (Option RawPluralCategory)) };
+
+    ghost view = { λ ranges. ranges.rows };
+
+    ghost inverse = { λ rows. record { rows = rows } };
 }
 
 impl PluralRanges {
@@ -67,6 +81,13 @@ impl PluralRanges {
             + self.row_len(RawPluralCategory::Many)
     }
 
+    /// Whether no pair has a category.
+    pub fn is_empty(&self) -> bool
+        ensures { result ≡ (size_of self.now == 0) }
+    {
+        self.len() == 0
+    }
+
     // How many ends have a category with a start.
     fn row_len(&self, start: RawPluralCategory) -> usize
         ensures value { result ≡ row_size self.now start }
@@ -75,5 +96,14 @@ impl PluralRanges {
         ALL.iter()
             .filter(|end| self.get(start, **end).is_some())
             .count()
+    }
+}
+
+/// The map without a pair.
+impl Default for PluralRanges {
+    ghost is_default = { λ ranges. ranges ≡ no_ranges };
+
+    fn default() -> PluralRanges {
+        PluralRanges::new()
     }
 }

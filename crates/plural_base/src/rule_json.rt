@@ -1,6 +1,6 @@
 //! A rule as JSON.
 
-ghost use Rattle.std.specs.Prelude.{◌≡◌, ◌≢◌, Option, Some, None, Err, IfOk, IfErr};
+ghost use Rattle.std.specs.Prelude.{◌≡◌, ◌≢◌, ◌↔◌, Option, Some, None, Err, IfOk, IfErr, IsTrue, IsFalse};
 ghost use Rattle.plural_base.specs.declared.category.PluralCategory.{PluralCategory as Category};
 ghost use Rattle.plural_base.specs.JsonRefusals.{refusal_of};
 ghost use Rattle.plural_base.specs.RulesJson.{rule_shape, rule_of_json, rule_json, Answers};
@@ -8,6 +8,7 @@ ghost use Rattle.plural_base.specs.TextAnswers.{IsTakenAs};
 ghost use Rattle.plural_base.specs.TextReaders.{TextReader, TellsTexts};
 ghost use Rattle.serde_json.specs.Find.{as_str};
 ghost use Rattle.serde_json.specs.View.{view};
+ghost use Rattle.serde_json.specs.Written.{has_float};
 
 use crate::category::PluralCategory;
 use crate::float::holds_float;
@@ -26,6 +27,9 @@ use std::alloc::Global;
 pub fn rule_from_json(alloc: Global, value: &Value) -> Result<Rule<'static>, JsonError>
     ensures answers { (texts : TextReader) → TellsTexts texts → Answers (λ rule. rule) result (rule_of_json texts (view value.now)) }
     ensures read { IfOk result (λ rule. IsTakenAs (as_str (view value.now)) (Some rule)) }
+    // Both are looked for before memory is taken.
+    ensures float { (result ≡ Err JsonError.Float) ↔ IsTrue (has_float (view value.now)) }
+    ensures shape { (result ≡ Err JsonError.Shape) ↔ (IsFalse (has_float (view value.now)) × (as_str (view value.now) ≡ None)) }
     ensures memory { (category : Option Category) → result ≢ Err (JsonError.Rule category RuleError.Memory) }
 {
     if holds_float(value) {
@@ -51,6 +55,8 @@ pub(crate) fn read_rule(
 ) -> Result<Rule<'static>, JsonError>
     ensures answers { (texts : TextReader) → TellsTexts texts → Answers (λ rule. rule) result (rule_shape texts category (view value.now)) }
     ensures read { IfOk result (λ rule. IsTakenAs (as_str (view value.now)) (Some rule)) }
+    ensures float { result ≢ Err JsonError.Float }
+    ensures shape { (result ≡ Err JsonError.Shape) ↔ (as_str (view value.now) ≡ None) }
     ensures memory { (c : Option Category) → result ≢ Err (JsonError.Rule c RuleError.Memory) }
 {
     let Some(text) = value.as_str() else {
@@ -64,7 +70,9 @@ pub(crate) fn read_rule(
 
 // The refusal of a text; want of memory is no reason why it gives no rule.
 fn refusal(category: Option<PluralCategory>, fault: RuleError) -> JsonError
-    ensures { result ≡ refusal_of category fault }
+    ensures value { result ≡ refusal_of category fault }
+    ensures float { result ≢ JsonError.Float }
+    ensures shape { result ≢ JsonError.Shape }
 {
     match fault {
         RuleError::Memory => JsonError::Memory,

@@ -1,6 +1,6 @@
 //! Rules as JSON.
 
-ghost use Rattle.std.specs.Prelude.{◌≡◌, ◌≢◌, Option, Some, None, Err, option_map, IfOk, IfErr};
+ghost use Rattle.std.specs.Prelude.{◌≡◌, ◌≢◌, ◌↔◌, Option, Some, None, Err, option_map, IfOk, IfErr, IsTrue, IsFalse};
 ghost use Rattle.std.specs.Option.{option_and_then};
 ghost use Rattle.plural_base.specs.declared.category.PluralCategory.{PluralCategory as Category};
 ghost use Rattle.plural_base.specs.RuleTexts.{AreRulesOf};
@@ -10,8 +10,9 @@ ghost use Rattle.plural_base.specs.RulesJson as json;
 ghost use Rattle.plural_base.specs.FiveRules.{five};
 ghost use Rattle.plural_base.specs.TextAnswers.{IsTakenAs};
 ghost use Rattle.plural_base.specs.TextReaders.{TextReader, TellsTexts};
-ghost use Rattle.serde_json.specs.Find.{as_str};
+ghost use Rattle.serde_json.specs.Find.{as_str, as_object};
 ghost use Rattle.serde_json.specs.View.{view};
+ghost use Rattle.serde_json.specs.Written.{has_float};
 
 use crate::category::PluralCategory;
 use crate::float::holds_float;
@@ -39,6 +40,9 @@ impl PluralRulesData<'static> {
         ensures answers { (texts : TextReader) → TellsTexts texts → Answers rules_of result (rules_of_json texts (view value.now)) }
         // The rules are those of the texts under the five keys.
         ensures read { IfOk result (λ rules. AreRulesOf (texts_in (view value.now)) (rules_of rules)) }
+        // Both are looked for before memory is taken.
+        ensures float { (result ≡ Err JsonError.Float) ↔ IsTrue (has_float (view value.now)) }
+        ensures shape { IsFalse (has_float (view value.now)) → as_object (view value.now) ≡ None → result ≡ Err JsonError.Shape }
         ensures memory { (category : Option Category) → result ≢ Err (JsonError.Rule category RuleError.Memory) }
     {
         if holds_float(value) {
@@ -73,6 +77,8 @@ pub(crate) fn read_rules(
 ) -> Result<PluralRulesData<'static>, JsonError>
     ensures answers { (texts : TextReader) → TellsTexts texts → Answers rules_of result (rules_shape texts (view value.now)) }
     ensures read { IfOk result (λ rules. AreRulesOf (texts_in (view value.now)) (rules_of rules)) }
+    ensures float { result ≢ Err JsonError.Float }
+    ensures shape { as_object (view value.now) ≡ None → result ≡ Err JsonError.Shape }
     ensures memory { (category : Option Category) → result ≢ Err (JsonError.Rule category RuleError.Memory) }
 {
     if !value.is_object() {
@@ -95,6 +101,7 @@ fn read_member(
 ) -> Result<Option<Rule<'static>>, JsonError>
     ensures answers { (texts : TextReader) → TellsTexts texts → Answers (λ rule. rule) result (member_shape texts category (view value.now)) }
     ensures read { IfOk result (λ rule. IsTakenAs (text_under category (view value.now)) rule) }
+    ensures float { result ≢ Err JsonError.Float }
     ensures memory { (c : Option Category) → result ≢ Err (JsonError.Rule c RuleError.Memory) }
 {
     read_optional(
@@ -112,6 +119,7 @@ fn read_optional(
 ) -> Result<Option<Rule<'static>>, JsonError>
     ensures answers { (texts : TextReader) → TellsTexts texts → Answers (λ rule. rule) result (optional_shape texts category (option_map (λ v. view v.now) value.entry)) }
     ensures read { IfOk result (λ rule. IsTakenAs (option_and_then as_str (option_map (λ v. view v.now) value.entry)) rule) }
+    ensures float { result ≢ Err JsonError.Float }
     ensures memory { (c : Option Category) → result ≢ Err (JsonError.Rule c RuleError.Memory) }
 {
     let Some(value) = value else {

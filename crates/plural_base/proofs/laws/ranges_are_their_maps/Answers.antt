@@ -4,4 +4,4 @@ use Rattle.plural_base.proofs.laws.ranges_are_their_maps.Goals as goal
 
 pub returns : goal.returns
 returns c = λ ranges others same.
-    let rows = same_things ranges.rows others.rows (λ start. same_things (at ranges.rows start) (at others.rows start) (same start)) in λ i. record { rows = rows i }
+    same_things ranges others (λ start. same_things (at ranges start) (at others start) (same start))

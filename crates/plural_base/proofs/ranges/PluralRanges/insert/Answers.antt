@@ -4,5 +4,5 @@ use Rattle.plural_base.proofs.ranges.PluralRanges.insert.Goals as goal
 
 pub returns-clause-others : goal.returns-clause-others
 returns-clause-others c = λ s e other.
-    rw (c.set-2.ensures, c.set.ensures, c.get-row.ensures)
-    (others_stay c.args.self.now.rows c.args.start c.args.end (Some c.args.category) s e other)
+    rw (c.set-2.ensures, c.set.ensures, c.get-row.ensures, ← c.self.view_is)
+    (others_stay c.self.inside.rows c.args.start c.args.end (Some c.args.category) s e other)
