@@ -1,26 +1,19 @@
 //! What is true of all texts, rules and packed elements.
 
-ghost use Rattle.std.specs.Prelude.{◌≡◌, ◌↔◌, ℕ, List, IfOk, string_bytes};
+ghost use Rattle.std.specs.Prelude.{◌≡◌, ◌↔◌, ℕ, List};
 ghost use Rattle.plural_reference.specs.Operands.{Operands};
 ghost use Rattle.plural_base.specs.FiveRules.{FiveRules};
 ghost use Rattle.icu_plurals.specs.ElementChoice.{KeptElementIsExact};
-ghost use Rattle.icu_plurals.specs.Elements.{Elements, each_by, element_at};
+ghost use Rattle.icu_plurals.specs.Elements.{Elements, element_at};
 ghost use Rattle.icu_plurals.specs.ElementsPacking.{without_repeats};
 ghost use Rattle.icu_plurals.specs.ElementsReading.{elements_in};
-ghost use Rattle.icu_plurals.specs.ElementsViews.{lent_value};
 ghost use Rattle.icu_plurals.specs.PackedElements.{ElementsBytes, PackedElements, PackedValue, elements_of, packed_of};
 
-use crate::elements::PluralElements;
-use crate::packed::PluralElementsPackedULE;
-use crate::packed::metadata::FourBitMetadata;
 use packed_list::laws::read_again;
 use plural_base::laws::kept_choice_is_exact;
 pub use plural_base::laws::texts_give_one_answer;
-use plural_base::{ElementsPackError, PluralRules};
-use plural_reference::PluralOperands;
 use plural_reference::laws::exactness::kept_operands_agree;
 pub use plural_reference::laws::reading::one_list_of_tokens;
-use std::alloc::Global;
 
 /// Packed elements are the same bytes exactly if they are the same default and items.
 pub fn one_encoding_of_elements()
@@ -55,26 +48,4 @@ pub fn kept_element_is_exact()
 {
     kept_operands_agree();
     kept_choice_is_exact();
-}
-
-/// The text that packed elements give a number: elements are packed, their bytes are read again and asked. It is the text
-/// that the elements themselves give. It takes memory for the bytes and for the text; elements are refused as
-/// [`PluralElementsPackedULE::encode`] refuses them.
-pub fn text_after_packing(
-    alloc: Global,
-    elements: &PluralElements<(FourBitMetadata, &str)>,
-    op: PluralOperands,
-    rules: &PluralRules<'_>,
-) -> Result<String, ElementsPackError>
-    ensures { IfOk result (λ text. string_bytes text ≡ (element_at (each_by lent_value elements.now) op rules.now).text) }
-{
-    let bytes = PluralElementsPackedULE::encode(alloc, elements)?;
-    let Ok(packed) = PluralElementsPackedULE::parse_bytes(&bytes) else {
-        unreachable!();
-    };
-    let (_, text) = packed.get(op, rules);
-    match String::from_str(alloc, text) {
-        Ok(text) => Ok(text),
-        Err(_) => Err(ElementsPackError::Memory),
-    }
 }

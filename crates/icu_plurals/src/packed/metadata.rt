@@ -1,31 +1,21 @@
 //! Four bits beside a text.
 
-ghost use Rattle.std.specs.Prelude.{◌≡◌, ◌≤◌, ◌<◌, ◌%◌, ◌↔◌, IfSome, IsSome};
-
-use std::marker::Model;
+ghost use Rattle.std.specs.Prelude.{◌<◌};
 
 /// Four bits that stand beside a text of packed elements. What they mean is left to their user.
 #[derive(Clone, Copy, Debug, PartialEq, Eq)]
 pub struct FourBitMetadata {
     value: u8,
-}
-
-impl Model for FourBitMetadata {
-    ghost use Rattle.std.specs.Prelude.{ℕ, ◌<◌};
-
-    ghost Value = { ℕ };
-
-    ghost view = { λ metadata. metadata.value };
-
-    ghost invariant = { λ metadata. metadata.value < 16 };
-
-    ghost inverse = { λ n. record { value = n } };
+    ghost below: { value < 16 },
 }
 
 impl FourBitMetadata {
+    ghost use Rattle.std.specs.Prelude.{◌≡◌, ◌≤◌, ◌<◌, ◌%◌, ◌↔◌, IfSome, IsSome};
+    ghost use Rattle.icu_plurals.specs.ElementsViews.{number_of};
+
     /// The number as metadata, where it is at most 15.
     pub fn try_from_byte(byte: u8) -> Option<FourBitMetadata>
-        ensures same { IfSome result (λ metadata. metadata ≡ byte) }
+        ensures same { IfSome result (λ metadata. number_of metadata ≡ byte) }
         ensures found { IsSome result ↔ (byte ≤ 15) }
     {
         if byte > 15 {
@@ -36,21 +26,21 @@ impl FourBitMetadata {
 
     /// No bit set.
     pub fn zero() -> FourBitMetadata
-        ensures { result ≡ 0 }
+        ensures { number_of result ≡ 0 }
     {
         FourBitMetadata { value: 0 }
     }
 
     // What bits 0 to 3 of a byte say.
     pub(crate) fn of_low_bits(byte: u8) -> FourBitMetadata
-        ensures { result ≡ byte % 16 }
+        ensures { number_of result ≡ byte % 16 }
     {
         FourBitMetadata { value: byte % 16 }
     }
 
     /// The number, at most 15.
     pub fn get(self) -> u8
-        ensures same { result ≡ self }
+        ensures same { result ≡ number_of self }
         ensures below { result < 16 }
     {
         self.value

@@ -111,18 +111,21 @@ fn packs_elements(rt: HostRuntime) -> Result<(), Fail> {
     Ok(())
 }
 
+// Elements with all eight values, each with metadata of its own.
+fn eight() -> PluralElements<(FourBitMetadata, &'static str)> {
+    PluralElements::new(value((2, "o")))
+        .with_zero_value(Some(value((3, "z"))))
+        .with_one_value(Some(value((4, "a"))))
+        .with_two_value(Some(value((5, "b"))))
+        .with_few_value(Some(value((6, "c"))))
+        .with_many_value(Some(value((7, "d"))))
+        .with_explicit_zero_value(Some(value((8, "e"))))
+        .with_explicit_one_value(Some(value((9, "f"))))
+}
+
 #[test]
 fn packs_every_key_in_order(rt: HostRuntime) -> Result<(), Fail> {
-    let elements = PluralElements::new((2, "o"))
-        .with_zero_value(Some((3, "z")))
-        .with_one_value(Some((4, "a")))
-        .with_two_value(Some((5, "b")))
-        .with_few_value(Some((6, "c")))
-        .with_many_value(Some((7, "d")))
-        .with_explicit_zero_value(Some((8, "e")))
-        .with_explicit_one_value(Some((9, "f")))
-        .map(value);
-    let bytes = PluralElementsPackedULE::encode(rt.alloc(), &elements)?;
+    let bytes = PluralElementsPackedULE::encode(rt.alloc(), &eight())?;
     let wanted: &[u8] =
         b"\x82\x01o\x07\0\x02\0\x04\0\x06\0\x08\0\x0a\0\x0c\0\x03z\x14a\x25b\x36c\x47d\x58e\x69f";
     holds!(rt; bytes.as_slice() == wanted, at bytes);
