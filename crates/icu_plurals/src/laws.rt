@@ -15,7 +15,7 @@ use crate::packed::PluralElementsPackedULE;
 use crate::packed::metadata::FourBitMetadata;
 use packed_list::laws::read_again;
 use plural_base::laws::kept_choice_is_exact;
-pub use plural_base::laws::texts_give_one_answer;
+pub use plural_base::laws::{rules_have_every_reading, texts_give_one_answer};
 use plural_base::{ElementsPackError, PluralRules};
 use plural_reference::PluralOperands;
 use plural_reference::laws::exactness::kept_operands_agree;
