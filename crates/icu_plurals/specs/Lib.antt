@@ -34,6 +34,7 @@ pub use Rattle.plural_reference.specs.OperandsErrorTexts
 pub use Rattle.plural_reference.specs.Lexer
 pub use Rattle.plural_reference.specs.Parser
 pub use Rattle.plural_reference.specs.Samples
+pub use Rattle.plural_reference.specs.PrintingLaws
 pub use Rattle.plural_reference.specs.Reading
 pub use Rattle.plural_reference.specs.Serializer
 pub use Rattle.plural_reference.specs.ReadErrorTexts

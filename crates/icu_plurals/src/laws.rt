@@ -11,7 +11,7 @@ ghost use Rattle.icu_plurals.specs.PackedElements.{ElementsBytes, PackedElements
 
 use packed_list::laws::read_again;
 use plural_base::laws::kept_choice_is_exact;
-pub use plural_base::laws::texts_give_one_answer;
+pub use plural_base::laws::{rules_have_every_reading, texts_give_one_answer};
 use plural_reference::laws::exactness::kept_operands_agree;
 pub use plural_reference::laws::reading::one_list_of_tokens;
 

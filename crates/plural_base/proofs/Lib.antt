@@ -7,6 +7,7 @@ pub mod ExactCategories
 pub mod Answered
 pub mod WidestChoice
 pub mod TextsGiven
+pub mod EveryReading
 pub mod RuleRefusals
 pub mod Rows
 pub mod RowsRead

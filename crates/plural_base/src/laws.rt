@@ -3,10 +3,13 @@
 ghost use Rattle.plural_base.specs.ChoiceLaws.{BoundIsWidestForChoice, KeptChoiceIsExact};
 ghost use Rattle.plural_base.specs.RangeKeys.{RangeBytesDiffer};
 ghost use Rattle.plural_base.specs.RangeTable.{RangesAreTheirMaps};
+ghost use Rattle.plural_base.specs.RuleTexts.{HaveEveryReading, IsAnswerFor, ReadsAs};
 ghost use Rattle.plural_base.specs.TextReaders.{TextsGiveOneAnswer};
+ghost use Rattle.plural_reference.specs.Parser.{Reads};
+ghost use Rattle.plural_reference.specs.PrintingLaws.{TextReads};
 
 use plural_reference::laws::exactness;
-use plural_reference::laws::reading::{one_list_of_tokens, one_rule};
+use plural_reference::laws::reading::{one_list_of_tokens, one_reading, one_rule};
 
 /// Within the bound, under rules that are read from texts, the category that the kept operands of a
 /// number choose is the one that the exact number has.
@@ -32,6 +35,21 @@ pub fn texts_give_one_answer()
 {
     one_list_of_tokens();
     one_rule();
+}
+
+/// Rules of texts are read from every reading of these texts, be they read as rules (`rules`), as
+/// conditions (`conditions`), or by [`plural_reference::parse_condition`] (`answers`). So the clause
+/// `exact` of [`PluralRules::category_for_decimal`] speaks of any conditions that a caller has read
+/// from the texts itself.
+///
+/// [`PluralRules::category_for_decimal`]: crate::PluralRules::category_for_decimal
+pub fn rules_have_every_reading()
+    ensures rules { HaveEveryReading ReadsAs }
+    ensures conditions { HaveEveryReading (TextReads Reads) }
+    ensures answers { HaveEveryReading IsAnswerFor }
+{
+    one_list_of_tokens();
+    one_reading();
 }
 
 /// No two ranges have one byte: [`UnvalidatedPluralRange::from_range`] is injective.
