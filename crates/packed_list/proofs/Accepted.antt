@@ -2,13 +2,16 @@
 use Rattle.std.proofs.Common.{◌≡◌, ℕ, zero, suc, ◌+◌, ◌-◌, ◌*◌, ◌/◌, ◌%◌, ◌<◌, ◌≤◌, List, [], ◌∷◌, ◌++◌, length, drop, take, get_or, refl, sym, ap, ◌∙◌, arith, length-drop, append-nil, subst, lit≤}
 use Rattle.std.proofs.lemmas.List.{drop_more, take-append-drop, drop-drop, length-take-le}
 use Rattle.std.specs.List.{concat, list_any, slice_range}
-use Rattle.std.specs.Prelude.{flat_map, false}
+use Rattle.std.specs.Prelude.{Bool, flat_map, false, nat_lt}
 use Rattle.std.proofs.lemmas.Bool.{le-ltb}
 use Rattle.packed_list.specs.ListBytes.{two_bytes, starts_from, starts, list_bytes}
 use Rattle.packed_list.specs.ListFaults.{number_at, start_at}
 use Rattle.packed_list.specs.ListReading.{numbers, pieces_from, items_in, IsList, HasGoodStarts, AreBytes}
 use Rattle.packed_list.proofs.TwoBytes.{twice}
-use Rattle.packed_list.proofs.HighStarts.{is_high}
+
+-- whether a start is above what two bytes hold
+abbrev pub is_high : ℕ → Bool
+is_high start = nat_lt 65535 start
 
 -- from a place on, each start is not below the one before it, and none is above the end
 abbrev pub Rises : ℕ → List ℕ → ℕ → Type 0

@@ -4,12 +4,16 @@
 mod encode;
 mod error;
 mod items;
+mod items_to_pack;
 pub mod laws;
 mod list;
 mod starts;
 #[cfg(test)]
 mod tests;
+mod writer;
 
 pub use error::{ListError, PackError};
 pub use items::Items;
+pub use items_to_pack::{ByteItem, ByteItems};
 pub use list::PackedList;
+pub use writer::ListWriter;

@@ -12,6 +12,7 @@ mod NeededMost
 mod TwoTruths
 mod KindsAgain
 mod PackedTrees
+mod TreeWalks
 mod JoinedTexts
 mod RuleTexts
 mod SameRelations

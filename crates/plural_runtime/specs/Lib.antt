@@ -14,3 +14,4 @@ pub mod RuleViews
 pub mod RuleReading
 pub mod OpenGroup
 pub mod RuleText
+pub mod TreeWalk

@@ -1,8 +1,8 @@
 //! Packs trees.
 
-ghost use Rattle.std.specs.Prelude.{◌≡◌, ◌⊎◌, map, vec_items, Err, IfOk, IsTrue, OnOk};
+ghost use Rattle.std.specs.Prelude.{◌≡◌, ◌↔◌, map, Err, IfSome, IfNone, IsTrue, IsFalse};
 ghost use Rattle.std.specs.List.{list_any};
-ghost use Rattle.packed_list.specs.ListBytes.{ListBytes, has_high_start, lent};
+ghost use Rattle.packed_list.specs.ListBytes.{has_high_start};
 ghost use Rattle.plural_runtime.specs.RuleBytes.{relation_bytes};
 ghost use Rattle.plural_runtime.specs.PackedTree.{packed, has_large_value, is_large, is_large_item, is_large_modulus, is_large_relation};
 ghost use Rattle.plural_runtime.specs.Packing.{Packs};
@@ -10,10 +10,10 @@ ghost use Rattle.plural_runtime.specs.Packing.{Packs};
 use crate::error::RuleError;
 use crate::laws::relations_read_again;
 use crate::rule::Rule;
-use crate::tree_bytes::items_of;
-use packed_list::{PackError, PackedList};
+use crate::tree_bytes::TreeRelations;
+use packed_list::{ListWriter, PackError};
 use plural_reference::{ParseError, ast};
-use std::alloc::{AllocError, Global};
+use std::alloc::Global;
 
 impl Rule<'static> {
     /// Packs a tree. Its samples are left out.
@@ -26,17 +26,21 @@ impl Rule<'static> {
     /// ([`RuleError::StartLimit`]), as where there are more than 65535; want of memory is
     /// [`RuleError::Memory`].
     pub fn try_from(alloc: Global, rule: &ast::Rule) -> Result<Rule<'static>, RuleError>
-        ensures { Packs rule.now.condition result }
+        ensures packs { Packs rule.now.condition result }
+        ensures value_too_large { (result ≡ Err (RuleError.Parse ParseError.ValueTooLarge)) ↔ IsTrue (has_large_value rule.now.condition) }
+        ensures start_limit { (result ≡ Err RuleError.StartLimit)
+            ↔ (IsFalse (has_large_value rule.now.condition) × IsTrue (has_high_start (map relation_bytes (packed rule.now.condition)))) }
     {
         if has_large_value(&rule.condition) {
             return Err(RuleError::Parse(ParseError::ValueTooLarge));
         }
+        let Some(list) = list_of(&rule.condition) else {
+            return Err(RuleError::StartLimit);
+        };
         relations_read_again();
-        match encoded(alloc, &rule.condition) {
+        match list.to_bytes(alloc) {
             Ok(bytes) => Ok(Rule::owned(bytes)),
-            Err(PackError::Memory) => Err(RuleError::Memory),
-            Err(PackError::CountLimit) => Err(RuleError::StartLimit),
-            Err(PackError::StartLimit) => Err(RuleError::StartLimit),
+            Err(_) => Err(RuleError::Memory),
         }
     }
 }
@@ -105,24 +109,17 @@ fn is_large(value: &ast::Value) -> bool
     value.0 > 4294967295
 }
 
-// The bytes of a tree. More than 65535 relations have a start above 65535 too.
-fn encoded(alloc: Global, condition: &ast::Condition) -> Result<Vec<u8>, PackError>
-    ensures ok { IfOk result (λ bytes. ListBytes (map relation_bytes (packed condition.now)) bytes.items) }
-    ensures limit { (result ≡ Err PackError.CountLimit) ⊎ (result ≡ Err PackError.StartLimit)
-        → IsTrue (has_high_start (map relation_bytes (packed condition.now))) }
+// The relations of a tree as a list that can be packed, if none of them starts behind place 65535. Where there are more
+// than 65535 of them, one does.
+fn list_of(condition: &ast::Condition) -> Option<ListWriter<TreeRelations<'_>>>
+    ensures ok { IfSome result (λ list. list ≡ map relation_bytes (packed condition.now)) }
+    ensures low { IfSome result (λ _. IsFalse (has_high_start (map relation_bytes (packed condition.now)))) }
+    ensures high { IfNone result (IsTrue (has_high_start (map relation_bytes (packed condition.now)))) }
 {
-    let items = items_of(alloc, condition)?;
-    let slices = slices(alloc, &items)?;
-    PackedList::encode(alloc, &slices)
-}
-
-// The items, lent.
-fn slices<'a>(alloc: Global, items: &'a [Vec<u8>]) -> Result<Vec<&'a [u8]>, AllocError>
-    ensures { IfOk result (λ slices. lent slices.items ≡ map vec_items items.now) }
-{
-    let mut slices = Vec::with_capacity(alloc, items.len())?;
-    for item in items {
-        slices.push(item.as_slice())?;
+    match ListWriter::new(TreeRelations::of(condition)) {
+        Ok(list) => Some(list),
+        Err(PackError::CountLimit) => None,
+        Err(PackError::StartLimit) => None,
+        Err(PackError::Memory) => None,
     }
-    Ok(slices)
 }

@@ -1,68 +1,100 @@
-//! The bytes of each relation of a tree.
+//! The relations of a tree, as items that are packed.
 
-ghost use Rattle.std.specs.Prelude.{◌≡◌, ◌++◌, map, vec_items, IfOk, OnOk};
+ghost use Rattle.std.specs.Prelude.{◌≡◌, ◌++◌, OnOk};
 ghost use Rattle.std.specs.Int.{w32, to_le_bytes};
-ghost use Rattle.std.specs.List.{flat_map};
 ghost use Rattle.plural_reference.specs.Truth.{ends_of, modulus_of};
-ghost use Rattle.plural_runtime.specs.RuleBytes.{first_byte, range_bytes, relation_bytes};
-ghost use Rattle.plural_runtime.specs.PackedTree.{packed, packed_and_condition, packed_relation};
+ghost use Rattle.plural_runtime.specs.RuleBytes.{first_byte, range_bytes};
+ghost use Rattle.plural_runtime.specs.PackedTree.{packed};
+ghost use Rattle.plural_runtime.specs.TreeWalk.{relations_left};
 
 use crate::first_byte::AndOrPolarityOperand;
 use crate::kinds::{AndOr, Operand, Polarity};
+use packed_list::{ByteItem, ByteItems};
 use plural_reference::ast;
-use std::alloc::{AllocError, Global};
+use std::alloc::AllocError;
 
-// The bytes of all relations in order.
-#[tactic(auto, unfolding(crate::specs::PackedTree::packed))]
-pub(crate) fn items_of(
-    alloc: Global,
-    condition: &ast::Condition,
-) -> Result<Vec<Vec<u8>>, AllocError>
-    ensures { IfOk result (λ items. map vec_items items.items ≡ map relation_bytes (packed condition.now)) }
-{
-    let mut items = Vec::new(alloc);
-    let Some((first, others)) = condition.0.as_slice().split_first() else {
-        return Ok(items);
-    };
-    push_group(alloc, AndOr::And, first, &mut items)?;
-    for group in others {
-        push_group(alloc, AndOr::Or, group, &mut items)?;
-    }
-    Ok(items)
-}
-
-// The bytes of an and-condition's relations: the first one has the mark, the others And.
-fn push_group(
-    alloc: Global,
+// A relation of a tree, with its mark.
+#[derive(Clone, Copy)]
+pub(crate) struct TreeRelation<'a> {
     and_or: AndOr,
-    group: &ast::AndCondition,
-    items: &mut Vec<Vec<u8>>,
-) -> Result<(), AllocError>
-    ensures { OnOk result (map vec_items items.new.items ≡ map vec_items items.old.items ++ map relation_bytes (packed_and_condition and_or group.now.0)) }
-{
-    let Some((first, others)) = group.0.as_slice().split_first() else {
-        return Ok(());
-    };
-    items.push(bytes_of(alloc, and_or, first)?)?;
-    for relation in others {
-        items.push(bytes_of(alloc, AndOr::And, relation)?)?;
-    }
-    Ok(())
+    relation: &'a ast::Relation,
 }
 
-// The bytes of a relation.
-#[tactic(auto, unfolding(crate::specs::RuleBytes::relation_bytes))]
-fn bytes_of(alloc: Global, and_or: AndOr, relation: &ast::Relation) -> Result<Vec<u8>, AllocError>
-    ensures { IfOk result (λ bytes. bytes.items ≡ relation_bytes (packed_relation and_or relation.now)) }
-{
-    let count = relation.range_list.0.as_slice().len();
-    let mut bytes = Vec::with_capacity(alloc, 5 + 8 * count)?;
-    bytes.push(first_byte_of(and_or, relation))?;
-    push_number(&mut bytes, modulus_of(&relation.expression))?;
-    for item in relation.range_list.0.as_slice() {
-        push_range(&mut bytes, item)?;
+// The relations of a tree that are left: those of an and-condition, the first one of which has the mark, and those of the
+// and-conditions after it.
+#[derive(Clone, Copy)]
+pub(crate) struct TreeRelations<'a> {
+    and_or: AndOr,
+    relations: &'a [ast::Relation],
+    others: &'a [ast::AndCondition],
+}
+
+impl<'a> TreeRelations<'a> {
+    // All relations of a tree.
+    #[tactic(auto, unfolding(crate::specs::PackedTree::packed))]
+    pub(crate) fn of(condition: &'a ast::Condition) -> TreeRelations<'a>
+        ensures { relations_left result ≡ packed condition.now }
+    {
+        match condition.0.as_slice().split_first() {
+            None => TreeRelations {
+                and_or: AndOr::And,
+                relations: &[],
+                others: &[],
+            },
+            Some((first, others)) => TreeRelations {
+                and_or: AndOr::And,
+                relations: first.0.as_slice(),
+                others,
+            },
+        }
     }
-    Ok(bytes)
+}
+
+impl<'a> ByteItems for TreeRelations<'a> {
+    ghost use Rattle.std.specs.Prelude.{map};
+    ghost use Rattle.plural_runtime.specs.RuleBytes.{relation_bytes};
+    ghost use Rattle.plural_runtime.specs.TreeWalk.{relations_left};
+
+    type Item = TreeRelation<'a>;
+
+    ghost items = { λ walk. map relation_bytes (relations_left walk) };
+
+    fn next_item(&mut self) -> Option<TreeRelation<'a>> {
+        'groups: loop {
+            if let Some((relation, relations)) = self.relations.split_first() {
+                let and_or = self.and_or;
+                self.and_or = AndOr::And;
+                self.relations = relations;
+                return Some(TreeRelation { and_or, relation });
+            }
+            let (group, others) = self.others.split_first()?;
+            self.and_or = AndOr::Or;
+            self.relations = group.0.as_slice();
+            self.others = others;
+        }
+    }
+}
+
+impl<'a> ByteItem for TreeRelation<'a> {
+    ghost use Rattle.plural_runtime.specs.PackedTree.{packed_relation};
+    ghost use Rattle.plural_runtime.specs.RuleBytes.{relation_bytes};
+
+    ghost item_bytes = { λ item. relation_bytes (packed_relation item.and_or item.relation.now) };
+
+    #[inline]
+    fn byte_count(&self) -> usize {
+        5 + 8 * self.relation.range_list.0.as_slice().len()
+    }
+
+    #[tactic(auto, unfolding(crate::specs::RuleBytes::relation_bytes))]
+    fn write_to(&self, bytes: &mut Vec<u8>) -> Result<(), AllocError> {
+        bytes.push(first_byte_of(self.and_or, self.relation))?;
+        push_number(bytes, modulus_of(&self.relation.expression))?;
+        for item in self.relation.range_list.0.as_slice() {
+            push_range(bytes, item)?;
+        }
+        Ok(())
+    }
 }
 
 // The first byte of a relation.

@@ -111,6 +111,19 @@ fn packs_up_to_the_last_start(rt: HostRuntime) -> Result<(), Fail> {
 }
 
 #[test]
+fn more_relations_than_a_list_counts_start_too_late(rt: HostRuntime) -> Result<(), Fail> {
+    let alloc = rt.alloc();
+    let text = many_relations(alloc, 65536)?;
+    let tree = ast::Rule {
+        condition: parse_condition(alloc, text.as_bytes()).expect(&rt, "a condition"),
+        samples: None,
+    };
+    let refused = Rule::try_from(alloc, &tree);
+    holds!(rt; matches!(refused, Err(RuleError::StartLimit)));
+    Ok(())
+}
+
+#[test]
 fn errors_say_what_is_wrong(rt: HostRuntime) -> Result<(), Fail> {
     let alloc = rt.alloc();
     let of_bytes = [

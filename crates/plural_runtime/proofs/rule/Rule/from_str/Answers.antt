@@ -12,7 +12,7 @@ pub returns-in-Ok-clause-read : goal.returns-in-Ok-clause-read
 returns-in-Ok-clause-read c = λ tokens rule are reads.
     let here = subst (λ text. AreTokensOf text tokens) (sym c.as_bytes.ensures.value) are in
     elim (c.parse.ensures.read tokens rule here reads) [
-      | inl same ↦ let e : c.in-Ok.rule ≡ rule = cc in subst (λ r. Packs r.condition c.try_from.result) e c.try_from.ensures
+      | inl same ↦ let e : c.in-Ok.rule ≡ rule = cc in subst (λ r. Packs r.condition c.try_from.result) e c.try_from.ensures.packs
       | inr memory ↦ cc
     ]
 
@@ -39,7 +39,7 @@ returns-in-Ok-clause-fits c = λ h.
     let tokens = law.0 in
     let reads : ReadsRule tokens c.in-Ok.rule = subst (λ r. IsAnswer (ReadsRule tokens) (FaultyRule tokens) r) c.in-Ok.is (c.parse.ensures.only tokens law.1) in
     let small = spellable_is_small condition (c.conditions_of_texts_are_spellable.ensures text condition (tokens, law.1, (reads.0, reads.1))) in
-    elim c.try_from.ensures [ inl e ↦ packing_not_large condition small (sym e ∙ h) | inr memory ↦ cc ]
+    elim c.try_from.ensures.packs [ inl e ↦ packing_not_large condition small (sym e ∙ h) | inr memory ↦ cc ]
 
 pub returns-in-Err-Parse-clause-fits : goal.returns-in-Err-Parse-clause-fits
 returns-in-Err-Parse-clause-fits c = λ h.

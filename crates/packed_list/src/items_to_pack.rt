@@ -1,0 +1,66 @@
+//! What a packed list is made from: items that tell how many bytes they take and write them.
+
+ghost use Rattle.std.specs.Prelude.{◌≡◌, ◌+◌, ◌++◌, ◌^◌, ◌<◌, MatchOption, OnOk, [], ◌∷◌, length};
+
+use std::alloc::AllocError;
+
+/// An item of a list that is to be packed. It tells how many bytes it takes, and writes them.
+pub trait ByteItem: Copy {
+    ghost use Rattle.std.specs.Prelude.{ℕ, List};
+
+    /// The bytes of the item.
+    ghost item_bytes: { Self → List ℕ };
+
+    /// How many bytes it takes.
+    fn byte_count(&self) -> usize
+        ensures count { result ≡ length (item_bytes self.now) }
+        ensures room { result < 2 ^ 63 + 65536 };
+
+    /// Writes its bytes after those that are there.
+    fn write_to(&self, bytes: &mut Vec<u8>) -> Result<(), AllocError>
+        ensures { OnOk result (bytes.new.items ≡ bytes.old.items ++ item_bytes self.now) };
+}
+
+/// Items that are taken from the front, one after another. A copy gives the same items again, since a list is written by
+/// more than one walk over its items.
+pub trait ByteItems: Copy {
+    ghost use Rattle.std.specs.Prelude.{ℕ, List};
+
+    type Item: ByteItem;
+
+    /// The items that are left.
+    ghost items: { Self → List (List ℕ) };
+
+    /// The first item that is left.
+    fn next_item(&mut self) -> Option<Self::Item>
+        ensures { MatchOption result (items self.old ≡ []) (λ item. items self.old ≡ Self.Item.item_bytes item ∷ items self.new) };
+}
+
+impl<'a> ByteItem for &'a [u8] {
+    ghost item_bytes = { λ item. item.now };
+
+    #[inline]
+    fn byte_count(&self) -> usize {
+        self.len()
+    }
+
+    #[inline]
+    fn write_to(&self, bytes: &mut Vec<u8>) -> Result<(), AllocError> {
+        bytes.extend_from_slice(self)
+    }
+}
+
+impl<'a, T: ByteItem> ByteItems for &'a [T] {
+    ghost use Rattle.std.specs.Prelude.{map};
+
+    type Item = T;
+
+    ghost items = { λ items. map T.item_bytes items.now };
+
+    #[inline]
+    fn next_item(&mut self) -> Option<T> {
+        let (first, others) = self.split_first()?;
+        *self = others;
+        Some(*first)
+    }
+}

@@ -1,0 +1,172 @@
+//! Writes items as the bytes of a list.
+
+ghost use Rattle.std.specs.Prelude.{◌≡◌, ◌≢◌, ◌⊎◌, ◌↔◌, ◌+◌, ◌++◌, ◌^◌, ◌<◌, ◌≤◌, Err, IfOk, IfSome, IfNone, IsTrue, IsFalse, OnOk, flat_map, length, nat_lt};
+ghost use Rattle.std.specs.List.{concat, list_any};
+ghost use Rattle.packed_list.specs.ListBytes.{CanPack, ListBytes, has_high_start, list_bytes, starts_from, two_bytes};
+
+use crate::error::PackError;
+use crate::items_to_pack::{ByteItem, ByteItems};
+use std::alloc::{AllocError, Global};
+use std::marker::Model;
+
+/// Items that can be packed, with how many they are and how many bytes they take.
+#[derive(Drop)]
+pub struct ListWriter<I: ByteItems> {
+    items: I,
+    count: usize,
+    // How many bytes the items take, without the header.
+    total: usize,
+}
+
+impl<I: ByteItems> Model for ListWriter<I> {
+    ghost use Rattle.std.specs.Prelude.{◌≡◌, ◌+◌, ◌^◌, ◌<◌, ℕ, List, length};
+    ghost use Rattle.std.specs.List.{concat};
+    ghost use Rattle.packed_list.specs.ListBytes.{CanPack};
+
+    ghost Value = { List (List ℕ) };
+
+    ghost view = { λ list. I.items list.items };
+
+    ghost invariant = { λ list. record {
+      can_pack : CanPack (I.items list.items);
+      count : list.count ≡ length (I.items list.items);
+      total : list.total ≡ length (concat (I.items list.items));
+      room : list.total < 2 ^ 63 + 131072;
+    } };
+}
+
+impl<I: ByteItems> ListWriter<I> {
+    /// Adds up what the items take. It takes no memory.
+    ///
+    /// Refused are, looked for in this order: more than 65535 items ([`PackError::CountLimit`]); an item that would start
+    /// after place 65535 of the data ([`PackError::StartLimit`]).
+    pub fn new(items: I) -> Result<ListWriter<I>, PackError>
+        ensures ok { IfOk result (λ list. list ≡ I.items items) }
+        ensures can_pack { IfOk result (λ _. CanPack (I.items items)) }
+        ensures count_limit { (result ≡ Err PackError.CountLimit) ↔ (65535 < length (I.items items)) }
+        ensures start_limit { (result ≡ Err PackError.StartLimit) ↔ ((length (I.items items) ≤ 65535) × IsTrue (has_high_start (I.items items))) }
+        ensures memory { result ≢ Err PackError.Memory }
+    {
+        match sizes(items) {
+            Some((count, total)) => Ok(ListWriter {
+                items,
+                count,
+                total,
+            }),
+            None if is_many(items) => Err(PackError::CountLimit),
+            None => Err(PackError::StartLimit),
+        }
+    }
+
+    /// How many bytes the list takes.
+    pub fn byte_count(&self) -> usize
+        ensures count { result ≡ length (list_bytes self.now) }
+        ensures can_pack { CanPack self.now }
+        ensures room { result < 2 ^ 63 + 262144 }
+    {
+        2 * self.count + self.total
+    }
+
+    /// Writes the list after the bytes that are there.
+    pub fn write_to(&self, bytes: &mut Vec<u8>) -> Result<(), AllocError>
+        ensures { OnOk result (bytes.new.items ≡ bytes.old.items ++ list_bytes self.now) }
+    {
+        let mut others = self.items;
+        let Some(first) = others.next_item() else {
+            return Ok(());
+        };
+        push_number(bytes, self.count)?;
+        push_starts(bytes, first.byte_count(), others)?;
+        push_items(bytes, self.items)
+    }
+
+    /// The bytes of the list, made by one allocation.
+    pub fn to_bytes(&self, alloc: Global) -> Result<Vec<u8>, AllocError>
+        ensures { IfOk result (λ bytes. ListBytes self.now bytes.items) }
+    {
+        let mut bytes = Vec::with_capacity(alloc, self.byte_count())?;
+        self.write_to(&mut bytes)?;
+        Ok(bytes)
+    }
+}
+
+// How many items there are and how long their data is, if they can be packed.
+fn sizes<I: ByteItems>(items: I) -> Option<(usize, usize)>
+    ensures some { IfSome result (λ sizes. CanPack (I.items items)) }
+    ensures count { IfSome result (λ sizes. sizes.0 ≡ length (I.items items)) }
+    ensures total { IfSome result (λ sizes. sizes.1 ≡ length (concat (I.items items))) }
+    ensures room { IfSome result (λ sizes. sizes.1 < 2 ^ 63 + 131072) }
+    ensures none { IfNone result ((65535 < length (I.items items)) ⊎ IsTrue (has_high_start (I.items items))) }
+{
+    let mut left = items;
+    let mut count = 0;
+    let mut start = 0;
+    while let Some(item) = left.next_item() {
+        if count == 65535 || is_high(start) {
+            return None;
+        }
+        count += 1;
+        start += item.byte_count();
+    }
+    Some((count, start))
+}
+
+// Whether there are more than 65535 items.
+#[cold]
+fn is_many<I: ByteItems>(items: I) -> bool
+    ensures { IsTrue result ↔ (65535 < length (I.items items)) }
+{
+    let mut left = items;
+    let mut count: usize = 0;
+    while let Some(_) = left.next_item() {
+        if count == 65535 {
+            return true;
+        }
+        count += 1;
+    }
+    false
+}
+
+// Whether a start is above what two bytes hold.
+#[inline]
+fn is_high(start: usize) -> bool
+    ensures { IsTrue result ↔ (65535 < start) }
+{
+    start > 65535
+}
+
+// Writes a number as two bytes, low byte first.
+#[inline]
+fn push_number(bytes: &mut Vec<u8>, n: usize) -> Result<(), AllocError>
+    requires { n ≤ 65535 }
+    ensures { OnOk result (bytes.new.items ≡ bytes.old.items ++ two_bytes n) }
+{
+    bytes.push((n % 256) as u8)?;
+    bytes.push((n / 256) as u8)?;
+    Ok(())
+}
+
+// Writes where each item starts, if the first one starts at a given place.
+fn push_starts<I: ByteItems>(bytes: &mut Vec<u8>, place: usize, items: I) -> Result<(), AllocError>
+    requires { IsFalse (list_any (λ start. nat_lt 65535 start) (starts_from place (I.items items))) }
+    ensures { OnOk result (bytes.new.items ≡ bytes.old.items ++ flat_map two_bytes (starts_from place (I.items items))) }
+{
+    let mut left = items;
+    let mut start = place;
+    while let Some(item) = left.next_item() {
+        push_number(bytes, start)?;
+        start += item.byte_count();
+    }
+    Ok(())
+}
+
+// Writes the items without gaps.
+fn push_items<I: ByteItems>(bytes: &mut Vec<u8>, items: I) -> Result<(), AllocError>
+    ensures { OnOk result (bytes.new.items ≡ bytes.old.items ++ concat (I.items items)) }
+{
+    let mut left = items;
+    while let Some(item) = left.next_item() {
+        item.write_to(bytes)?;
+    }
+    Ok(())
+}

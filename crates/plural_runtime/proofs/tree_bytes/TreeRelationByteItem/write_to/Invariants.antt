@@ -1,0 +1,12 @@
+use Rattle.std.proofs.Common.{◌≡◌, ◌++◌, drop, map}
+use Rattle.std.specs.List.{flat_map}
+use Rattle.plural_reference.specs.Truth.{ends_of}
+use Rattle.plural_runtime.specs.PackedTree.{packed_relation}
+use Rattle.plural_runtime.specs.RuleBytes.{relation_bytes, range_bytes}
+use Rattle.plural_runtime.proofs.tree_bytes.TreeRelationByteItem.write_to.Given as goal
+
+-- What is written and the ranges that are left are the bytes of the relation.
+abbrev pub invariant-loop-item : goal.invariant-loop-item
+invariant-loop-item l =
+    l.bytes.items ++ flat_map range_bytes (map ends_of (drop l.item-index l.self.relation.now.range_list.0))
+    ≡ l.fn.bytes.items ++ relation_bytes (packed_relation l.self.and_or l.self.relation.now)

@@ -1,0 +1,10 @@
+use Rattle.std.proofs.Common.{◌≡◌, length}
+use Rattle.plural_runtime.specs.TreeWalk.{relations_left}
+use Rattle.plural_runtime.proofs.tree_bytes.TreeRelationsByteItems.next_item.Given as goal
+
+-- An and-condition without relations that are left is passed over.
+abbrev pub invariant-groups : goal.invariant-groups
+invariant-groups l = relations_left l.self ≡ relations_left l.fn.self
+
+abbrev pub decreases-groups : goal.decreases-groups
+decreases-groups l = length l.self.others.now
