@@ -1,7 +1,7 @@
 //! The iterator over the items of a list.
 
-ghost use Rattle.std.specs.Prelude.{◌≡◌};
-ghost use Rattle.std.specs.Iterator.{YieldsFirstRef, item_count};
+ghost use Rattle.std.specs.Prelude.{◌≡◌, length, Some, IfSome, ◌≤◌};
+ghost use Rattle.std.specs.Iterator.{YieldsFirstRef, item_count, UpTo, at_most};
 
 use crate::list::PackedList;
 use crate::starts::part;
@@ -68,5 +68,16 @@ impl<'a> Iterator for Items<'a> {
         self.next += 1;
         self.start = end;
         Some(item)
+    }
+
+    // Exact: as many items as are left.
+    #[inline]
+    fn size_hint(&self) -> (usize, Option<usize>)
+        ensures exact { result ≡ (length self.now, Some (length self.now)) }
+        ensures lower { result.0 ≤ length self.now }
+        ensures upper { IfSome result.1 (UpTo (at_most (length self.now))) }
+    {
+        let left = self.count - self.next;
+        (left, Some(left))
     }
 }

@@ -1,6 +1,6 @@
 //! A list of byte items, lent from the bytes that it is packed in.
 
-ghost use Rattle.std.specs.Prelude.{◌≡◌, ◌↔◌, ◌+◌, ◌<◌, ℕ, List, length, slice_get, IfOk, Ok, Err, Some, option_map, unwrap_or};
+ghost use Rattle.std.specs.Prelude.{◌≡◌, ◌↔◌, ◌+◌, ◌<◌, ◌==◌, ℕ, List, length, slice_get, IfOk, Ok, Err, Some, option_map, unwrap_or};
 ghost use Rattle.std.specs.List.{concat};
 ghost use Rattle.packed_list.specs.ListBytes.{ListBytes, starts};
 ghost use Rattle.packed_list.specs.ListFaults.{HasFault};
@@ -95,6 +95,14 @@ impl<'a> PackedList<'a> {
         } else {
             number(self.bytes, 0)
         }
+    }
+
+    /// Whether there is no item.
+    #[inline]
+    pub fn is_empty(&self) -> bool
+        ensures { result ≡ (length self.now == 0) }
+    {
+        self.len() == 0
     }
 
     /// Where the item at a place starts, counted from the first byte of the data; the first one starts at 0.

@@ -14,7 +14,7 @@ use Rattle.plural_reference.specs.declared.ast.Operand.{Operand}
 use Rattle.plural_reference.specs.declared.ast.Operand.TheVariants.{N, I, V, W, F, T, C, E}
 use Rattle.plural_runtime.specs.PackedRelations.{PackedRelation, FitsBytes}
 use Rattle.plural_runtime.specs.RuleBytes.{and_or_bit, operator_bit, operand_number, first_byte, range_bytes, relation_bytes}
-use Rattle.plural_runtime.specs.RuleReading.{and_or_in, operator_in, operand_in, operand_numbered, operand_or_n, number_of, ranges_in, relation_in}
+use Rattle.plural_runtime.specs.RuleReading.{and_or_in, operator_in, operand_in, operand_numbered, operand_or_n, number_of, range_in, ranges_in, relation_in}
 use Rattle.plural_runtime.specs.RuleFaults.{is_item_length, is_relation}
 
 pub record KindAgain (and_or : AndOr) (operator : Operator) (operand : Operand) : Type 0 where
@@ -145,6 +145,22 @@ ranges_spelled (a ∷ b ∷ c ∷ d ∷ e ∷ f ∷ g ∷ i ∷ bytes) is h =
     ap (λ p. (p ++ to_le_bytes w32 (number_of e f g i)) ++ flat_map range_bytes (ranges_in bytes)) x
     ∙ ap (λ p. a ∷ b ∷ c ∷ d ∷ (p ++ flat_map range_bytes (ranges_in bytes))) y
     ∙ ap (λ p. a ∷ b ∷ c ∷ d ∷ e ∷ f ∷ g ∷ i ∷ p) again
+
+-- eight bytes are those of the range that they hold
+pub range_spelled : (bytes : List ℕ) → AreBytes bytes → length bytes ≡ 8 → range_bytes (range_in bytes) ≡ bytes
+range_spelled [] is h = absurd (omega arith)
+range_spelled (a ∷ []) is h = absurd (omega arith)
+range_spelled (a ∷ b ∷ []) is h = absurd (omega arith)
+range_spelled (a ∷ b ∷ c ∷ []) is h = absurd (omega arith)
+range_spelled (a ∷ b ∷ c ∷ d ∷ []) is h = absurd (omega arith)
+range_spelled (a ∷ b ∷ c ∷ d ∷ e ∷ []) is h = absurd (omega arith)
+range_spelled (a ∷ b ∷ c ∷ d ∷ e ∷ f ∷ []) is h = absurd (omega arith)
+range_spelled (a ∷ b ∷ c ∷ d ∷ e ∷ f ∷ g ∷ []) is h = absurd (omega arith)
+range_spelled (a ∷ b ∷ c ∷ d ∷ e ∷ f ∷ g ∷ i ∷ []) is h =
+    let x = four_bytes a b c d (is 0) (is 1) (is 2) (is 3) in
+    let y = four_bytes e f g i (is 4) (is 5) (is 6) (is 7) in
+    ap (λ p. p ++ to_le_bytes w32 (number_of e f g i)) x ∙ ap (λ p. a ∷ b ∷ c ∷ d ∷ p) y
+range_spelled (a ∷ b ∷ c ∷ d ∷ e ∷ f ∷ g ∷ i ∷ j ∷ bytes) is h = absurd (omega arith)
 
 pub ranges-fit : (bytes : List ℕ) → AreBytes bytes → AllByRecursion (λ range. (range.0 < 2 ^ 32) × (range.1 < 2 ^ 32)) (ranges_in bytes)
 ranges-fit [] is = tt

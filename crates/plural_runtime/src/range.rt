@@ -1,6 +1,6 @@
 //! The ranges of a packed relation.
 
-ghost use Rattle.std.specs.Prelude.{◌≡◌};
+ghost use Rattle.std.specs.Prelude.{◌≡◌, length};
 ghost use Rattle.plural_runtime.specs.RuleBytes.{range_bytes};
 ghost use Rattle.plural_runtime.specs.RuleReading.{range_in};
 ghost use Rattle.plural_runtime.specs.RuleKinds.{ends, item_of, ItemGives, range_or_value};
@@ -61,15 +61,31 @@ impl RangeOrValue {
 
     /// The range of two ends of four bytes each, low byte first, or the value where they are equal.
     pub fn from_unaligned(bytes: [u8; 8]) -> RangeOrValue
-        ensures { result ≡ range_or_value (range_in bytes) }
+        ensures bytes { range_bytes (ends result) ≡ bytes }
+        ensures value { result ≡ range_or_value (ends result) }
     {
-        let [a, b, c, d, e, f, g, h] = bytes;
-        let start = u32::from_le_bytes([a, b, c, d]);
-        let end = u32::from_le_bytes([e, f, g, h]);
-        if start == end {
-            RangeOrValue::Value(start)
-        } else {
-            RangeOrValue::Range(start, end)
-        }
+        spelled(&bytes);
+        range_of(bytes)
+    }
+}
+
+// Read for the proof alone: eight bytes are those of the range that they hold.
+fn spelled(bytes: &[u8])
+    requires { length bytes.now ≡ 8 }
+    ensures { range_bytes (range_in bytes.now) ≡ bytes.now }
+{}
+
+// The range in eight bytes.
+#[inline]
+pub(crate) fn range_of(bytes: [u8; 8]) -> RangeOrValue
+    ensures { result ≡ range_or_value (range_in bytes) }
+{
+    let [a, b, c, d, e, f, g, h] = bytes;
+    let start = u32::from_le_bytes([a, b, c, d]);
+    let end = u32::from_le_bytes([e, f, g, h]);
+    if start == end {
+        RangeOrValue::Value(start)
+    } else {
+        RangeOrValue::Range(start, end)
     }
 }

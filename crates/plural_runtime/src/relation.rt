@@ -9,7 +9,7 @@ ghost use Rattle.plural_runtime.specs.RuleKinds.{range_or_value};
 use crate::first_byte::AndOrPolarityOperand;
 use crate::item::{and_or_at, modulo_at, operand_at, polarity_at, ranges_at};
 use crate::kinds::{AndOr, Operand, Polarity};
-use crate::range::RangeOrValue;
+use crate::range::{RangeOrValue, range_of};
 
 /// A relation, as the checked bytes of an item of a rule.
 #[derive(Clone, Copy, Debug, PartialEq, Eq)]
@@ -71,7 +71,7 @@ impl<'a> RelationULE<'a> {
 }
 
 impl<'a> Relation<'a> {
-    ghost use Rattle.std.specs.Prelude.{◌≡◌, length, option_map, slice_get};
+    ghost use Rattle.std.specs.Prelude.{◌≡◌, ◌==◌, length, option_map, slice_get};
     ghost use Rattle.plural_runtime.specs.RuleKinds.{operator_of, range_or_value, tree_operand_of};
     ghost use Rattle.plural_runtime.specs.RuleViews.{lent_relation};
 
@@ -113,6 +113,14 @@ impl<'a> Relation<'a> {
         ensures { result ≡ length (lent_relation self.now).meaning.ranges }
     {
         self.ranges.len() / 8
+    }
+
+    /// Whether it has no range.
+    #[inline]
+    pub fn is_empty(&self) -> bool
+        ensures { result ≡ (length (lent_relation self.now).meaning.ranges == 0) }
+    {
+        self.len() == 0
     }
 
     /// The range at a place. Equal ends are a value.
@@ -193,7 +201,7 @@ fn range_at(ranges: &[u8], index: usize) -> RangeOrValue
     ensures { result ≡ range_or_value (range_in (drop (8 * index) ranges.now)) }
 {
     let bytes = &ranges[8 * index..];
-    RangeOrValue::from_unaligned([
+    range_of([
         bytes[0], bytes[1], bytes[2], bytes[3], bytes[4], bytes[5], bytes[6], bytes[7],
     ])
 }

@@ -1,8 +1,8 @@
 //! The iterator over the relations of a rule.
 
-ghost use Rattle.std.specs.Prelude.{◌≡◌, map, IsTrue};
+ghost use Rattle.std.specs.Prelude.{◌≡◌, map, IsTrue, length, Some, IfSome, ◌≤◌};
 ghost use Rattle.std.specs.List.{list_all};
-ghost use Rattle.std.specs.Iterator.{YieldsFirstBy, item_count};
+ghost use Rattle.std.specs.Iterator.{YieldsFirstBy, item_count, UpTo, at_most};
 ghost use Rattle.plural_runtime.specs.RuleFaults.{is_relation};
 ghost use Rattle.plural_runtime.specs.RuleReading.{relation_in};
 ghost use Rattle.plural_runtime.specs.RuleViews.{item_relation};
@@ -54,5 +54,15 @@ impl<'a> Iterator for Relations<'a> {
     fn next(&mut self) -> Option<RelationULE<'a>> {
         let item = self.items.next()?;
         Some(RelationULE::from_checked(item))
+    }
+
+    // Exact: as many relations as are left.
+    #[inline]
+    fn size_hint(&self) -> (usize, Option<usize>)
+        ensures exact { result ≡ (length self.now, Some (length self.now)) }
+        ensures lower { result.0 ≤ length self.now }
+        ensures upper { IfSome result.1 (UpTo (at_most (length self.now))) }
+    {
+        self.items.size_hint()
     }
 }

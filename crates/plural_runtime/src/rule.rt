@@ -1,6 +1,6 @@
 //! A plural rule as checked bytes.
 
-ghost use Rattle.std.specs.Prelude.{◌≡◌, List, map, length, slice_get, option_map, IfOk, IsTrue};
+ghost use Rattle.std.specs.Prelude.{◌≡◌, List, map, length, slice_get, option_map, IfOk, IsTrue, ◌==◌};
 ghost use Rattle.std.specs.List.{list_all};
 ghost use Rattle.plural_runtime.specs.RuleBytes.{RuleBytes, relation_bytes};
 ghost use Rattle.plural_runtime.specs.RuleFaults.{is_relation};
@@ -74,6 +74,14 @@ impl<'data> Rule<'data> {
         ensures { result ≡ length self.now }
     {
         self.list().len()
+    }
+
+    /// Whether it has no relation.
+    #[inline]
+    pub fn is_empty(&self) -> bool
+        ensures { result ≡ (length self.now == 0) }
+    {
+        self.len() == 0
     }
 
     /// The relation at a place.

@@ -32,6 +32,15 @@ impl Steps {
     }
 }
 
+/// No step yet.
+impl Default for Steps {
+    ghost is_default = { λ steps. steps ≡ 0 };
+
+    fn default() -> Steps {
+        Steps::new()
+    }
+}
+
 // What counts each range that is read, or doesn't.
 pub(crate) trait Counter {
     ghost after_one: { Self → Self };

@@ -49,8 +49,8 @@ fn reads_a_condition_as_its_tree(rt: HostRuntime) -> Result<(), Fail> {
 fn reads_long_lists_of_values(rt: HostRuntime) -> Result<(), Fail> {
     let values = [1, 5, 7, 8, 9, 10];
     let read = parse_condition(rt.alloc(), b"n = 1,5,7,8,9,10")?;
-    holds!(rt; read.0.len() == 1 && read.0[0].0.len() == 1);
-    let items = &read.0[0].0[0].range_list.0;
+    let group = read.0.get(0).ok_or("no and-condition")?;
+    let items = &group.0.get(0).ok_or("no relation")?.range_list.0;
     holds!(rt; items.len() == values.len());
     for (item, value) in items.iter().zip(values) {
         holds!(rt; *item == RangeListItem::Value(Value(value)), at value);

@@ -1,0 +1,6 @@
+use Rattle.std.proofs.Common.{arith}
+use Rattle.plural_runtime.proofs.ItemBytes.{range_spelled}
+use Rattle.plural_runtime.proofs.range.spelled.Goals as goal
+
+pub returns : goal.returns
+returns c = range_spelled c.args.bytes.now (λ i. omega (arith, c.type_inv.bytes i)) c.requires
