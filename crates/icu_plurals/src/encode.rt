@@ -9,13 +9,12 @@ ghost use Rattle.icu_plurals.specs.ItemBytes.{bytes_with_items, lent_bytes};
 ghost use Rattle.icu_plurals.specs.PackedElements.{ElementsBytes, IsPackedValue, packed_of};
 
 mod items;
-mod list;
 
 use crate::elements::PluralElements;
 use crate::packed::PluralElementsPackedULE;
 use crate::packed::metadata::FourBitMetadata;
 use items::{Item, items_of};
-use list::{data_length, push_list};
+use packed_list::ListWriter;
 use packed_list::laws::read_again;
 use plural_base::ElementsPackError;
 use std::alloc::{AllocError, Global};
@@ -41,53 +40,55 @@ impl PluralElementsPackedULE<'_> {
         let default = elements.other();
         let items = items_of(elements);
         let items = items.as_slice();
-        let size = packed_size(default, items)?;
-        match written(alloc, size, default, items) {
+        let list = list_beside(default, items)?;
+        match written(alloc, default, items, &list) {
             Ok(bytes) => Ok(bytes),
             Err(AllocError) => Err(ElementsPackError::Memory),
         }
     }
 }
 
-// How many bytes a default and the items beside it take, if they can be packed.
-fn packed_size(
+// The list of the items beside a default, if they can be packed.
+fn list_beside<'a, 'b>(
     default: &(FourBitMetadata, &str),
-    items: &[Item<'_>],
-) -> Result<usize, ElementsPackError>
+    items: &'b [Item<'a>],
+) -> Result<ListWriter<&'b [Item<'a>]>, ElementsPackError>
     requires { length items.now ≤ 7 }
+    ensures list { IfOk result (λ list. list ≡ lent_bytes items.now) }
     ensures starts { IfOk result (λ _. CanPack (lent_bytes items.now)) }
     ensures default { IfOk result (λ _. 0 < length items.now → length default.now.1.now ≤ 255) }
     ensures default_limit { (result ≡ Err ElementsPackError.DefaultLimit) ↔ ((0 < length items.now) × (255 < length default.now.1.now)) }
     ensures start_limit { (result ≡ Err ElementsPackError.StartLimit) ↔ ((length default.now.1.now ≤ 255) × IsTrue (has_high_start (lent_bytes items.now))) }
     ensures memory { result ≢ Err ElementsPackError.Memory }
 {
-    let text = default.1;
-    if items.is_empty() {
-        return Ok(1 + text.len());
-    }
-    if text.len() > 255 {
+    if !items.is_empty() && default.1.len() > 255 {
         return Err(ElementsPackError::DefaultLimit);
     }
-    match data_length(items) {
-        Some(data) => Ok(2 + text.len() + 2 * items.len() + data),
-        None => Err(ElementsPackError::StartLimit),
+    match ListWriter::new(items) {
+        Ok(list) => Ok(list),
+        Err(_) => Err(ElementsPackError::StartLimit),
     }
 }
 
-// The bytes of a default and the items beside it, which are so many bytes.
+// The bytes of a default and the list of the items beside it.
 fn written(
     alloc: Global,
-    size: usize,
     default: &(FourBitMetadata, &str),
     items: &[Item<'_>],
+    list: &ListWriter<&[Item<'_>]>,
 ) -> Result<Vec<u8>, AllocError>
     requires default { 0 < length items.now → length default.now.1.now ≤ 255 }
-    requires can_pack { CanPack (lent_bytes items.now) }
+    requires list { list.now ≡ lent_bytes items.now }
     ensures valid { IfOk result (λ _. IsPackedValue (lent_value default.now)) }
     ensures bytes { IfOk result (λ bytes. bytes.items ≡ bytes_with_items (lent_value default.now) (lent_bytes items.now)) }
 {
     let (metadata, text) = *default;
     let metadata = metadata.get();
+    let size = if items.is_empty() {
+        1 + text.len()
+    } else {
+        2 + text.len() + list.byte_count()
+    };
     let mut bytes = Vec::with_capacity(alloc, size)?;
     if items.is_empty() {
         bytes.push(metadata)?;
@@ -96,6 +97,6 @@ fn written(
         bytes.push(text.len() as u8)?;
     }
     bytes.extend_from_slice(text.as_bytes())?;
-    push_list(&mut bytes, items)?;
+    list.write_to(&mut bytes)?;
     Ok(bytes)
 }

@@ -12,12 +12,29 @@ use crate::elements::PluralElements;
 use crate::packed::keys;
 use crate::packed::metadata::FourBitMetadata;
 use arrayvec::ArrayVec;
+use packed_list::ByteItem;
+use std::alloc::AllocError;
 
 // An item of packed elements: the byte of its key and its metadata, and its text.
 #[derive(Clone, Copy, Default)]
 pub(crate) struct Item<'a> {
     pub(crate) first: u8,
     pub(crate) text: &'a str,
+}
+
+impl<'a> ByteItem for Item<'a> {
+    ghost item_bytes = { bytes_of };
+
+    #[inline]
+    fn byte_count(&self) -> usize {
+        1 + self.text.len()
+    }
+
+    #[inline]
+    fn write_to(&self, bytes: &mut Vec<u8>) -> Result<(), AllocError> {
+        bytes.push(self.first)?;
+        bytes.extend_from_slice(self.text.as_bytes())
+    }
 }
 
 // The items of elements: there is at most one for each key.

@@ -9,68 +9,68 @@ use Rattle.icu_plurals.specs.ItemBytes.{bytes_with_items, lent_bytes}
 use Rattle.icu_plurals.specs.PackedElements.{PackedValue, IsPackedValue, ElementsBytes, item_bytes, packed_items, packed_of}
 use Rattle.icu_plurals.proofs.Encoded.{answers_as, encoded, default_refused, start_refused}
 use Rattle.icu_plurals.proofs.packed.PluralElementsPackedULE.encode.Goals as goal
-use Rattle.icu_plurals.proofs.packed.PluralElementsPackedULE.encode.Goals.{After-packed_size, In-Ok}
+use Rattle.icu_plurals.proofs.packed.PluralElementsPackedULE.encode.Goals.{After-list_beside, In-Ok}
 
 -- the elements, their default as it is lent, and the bytes of their items
-abbrev values : After-packed_size → Elements PackedValue
+abbrev values : After-list_beside → Elements PackedValue
 values c = each_by lent_value c.args.elements.now
 
-default_is : (c : After-packed_size) → lent_value c.other-default.result.now ≡ (values c).other
+default_is : (c : After-list_beside) → lent_value c.other-default.result.now ≡ (values c).other
 default_is c = ap lent_value c.other-default.ensures
 
-items_are : (c : After-packed_size) → lent_bytes c.as_slice-items.result.now ≡ map item_bytes (packed_items (values c))
+items_are : (c : After-list_beside) → lent_bytes c.as_slice-items.result.now ≡ map item_bytes (packed_items (values c))
 items_are c = ap lent_bytes c.as_slice-items.ensures.value ∙ c.items_of-items.ensures.bytes
 
 -- ---- the refusals
 
-long : (c : After-packed_size) → (c.packed_size.result ≡ Err DefaultLimit) ↔ (pack_fault (packed_of (values c)) ≡ Some DefaultLimit)
+long : (c : After-list_beside) → (c.list_beside.result ≡ Err DefaultLimit) ↔ (pack_fault (packed_of (values c)) ≡ Some DefaultLimit)
 long c =
     let told = default_refused (values c) (lent_value c.other-default.result.now) c.as_slice-items.result.now (default_is c) (items_are c) in
-    ((λ h. told.0 (c.packed_size.ensures.default_limit.0 h)), (λ h. c.packed_size.ensures.default_limit.1 (told.1 h)))
+    ((λ h. told.0 (c.list_beside.ensures.default_limit.0 h)), (λ h. c.list_beside.ensures.default_limit.1 (told.1 h)))
 
-high : (c : After-packed_size) → (c.packed_size.result ≡ Err StartLimit) ↔ (pack_fault (packed_of (values c)) ≡ Some StartLimit)
+high : (c : After-list_beside) → (c.list_beside.result ≡ Err StartLimit) ↔ (pack_fault (packed_of (values c)) ≡ Some StartLimit)
 high c =
     let told = start_refused (values c) (lent_value c.other-default.result.now) c.as_slice-items.result.now (default_is c) (items_are c) in
-    ((λ h. told.0 (c.packed_size.ensures.start_limit.0 h)), (λ h. c.packed_size.ensures.start_limit.1 (told.1 h)))
+    ((λ h. told.0 (c.list_beside.ensures.start_limit.0 h)), (λ h. c.list_beside.ensures.start_limit.1 (told.1 h)))
 
-pub returns-in_err-size-clause-default_limit : goal.returns-in_err-size-clause-default_limit
-returns-in_err-size-clause-default_limit c =
+pub returns-in_err-list-clause-default_limit : goal.returns-in_err-list-clause-default_limit
+returns-in_err-list-clause-default_limit c =
     let p = err_from_is_err_and c.from_residual.result c.from_residual.ensures.1 in
     let same = p.1 ∙ ap Err p.2 in
-    let was = c.in_err-size.was in
-    let told = long (goal.at.returns-in_err-size-clause-default_limit c).After-packed_size in
+    let was = c.in_err-list.was in
+    let told = long (goal.at.returns-in_err-list-clause-default_limit c).After-list_beside in
     ((λ h. told.0 cc), (λ h. let e = told.1 h in cc))
 
-pub returns-in_err-size-clause-start_limit : goal.returns-in_err-size-clause-start_limit
-returns-in_err-size-clause-start_limit c =
+pub returns-in_err-list-clause-start_limit : goal.returns-in_err-list-clause-start_limit
+returns-in_err-list-clause-start_limit c =
     let p = err_from_is_err_and c.from_residual.result c.from_residual.ensures.1 in
     let same = p.1 ∙ ap Err p.2 in
-    let was = c.in_err-size.was in
-    let told = high (goal.at.returns-in_err-size-clause-start_limit c).After-packed_size in
+    let was = c.in_err-list.was in
+    let told = high (goal.at.returns-in_err-list-clause-start_limit c).After-list_beside in
     ((λ h. told.0 cc), (λ h. let e = told.1 h in cc))
 
 pub returns-in-Ok-clause-default_limit : goal.returns-in-Ok-clause-default_limit
 returns-in-Ok-clause-default_limit c =
-    let was = c.in_ok-size.was in
-    let told = long (goal.at.returns-in-Ok-clause-default_limit c).After-packed_size in
+    let was = c.in_ok-list.was in
+    let told = long (goal.at.returns-in-Ok-clause-default_limit c).After-list_beside in
     ((λ h. absurd cc), (λ h. let e = told.1 h in absurd cc))
 
 pub returns-in-Ok-clause-start_limit : goal.returns-in-Ok-clause-start_limit
 returns-in-Ok-clause-start_limit c =
-    let was = c.in_ok-size.was in
-    let told = high (goal.at.returns-in-Ok-clause-start_limit c).After-packed_size in
+    let was = c.in_ok-list.was in
+    let told = high (goal.at.returns-in-Ok-clause-start_limit c).After-list_beside in
     ((λ h. absurd cc), (λ h. let e = told.1 h in absurd cc))
 
 pub returns-in-Err-clause-default_limit : goal.returns-in-Err-clause-default_limit
 returns-in-Err-clause-default_limit c =
-    let was = c.in_ok-size.was in
-    let told = long (goal.at.returns-in-Err-clause-default_limit c).After-packed_size in
+    let was = c.in_ok-list.was in
+    let told = long (goal.at.returns-in-Err-clause-default_limit c).After-list_beside in
     ((λ h. absurd cc), (λ h. let e = told.1 h in absurd cc))
 
 pub returns-in-Err-clause-start_limit : goal.returns-in-Err-clause-start_limit
 returns-in-Err-clause-start_limit c =
-    let was = c.in_ok-size.was in
-    let told = high (goal.at.returns-in-Err-clause-start_limit c).After-packed_size in
+    let was = c.in_ok-list.was in
+    let told = high (goal.at.returns-in-Err-clause-start_limit c).After-list_beside in
     ((λ h. absurd cc), (λ h. let e = told.1 h in absurd cc))
 
 -- ---- the bytes
@@ -83,8 +83,8 @@ is_encoded c =
     let same : lent_bytes lent ≡ map item_bytes (packed_items e) = ap lent_bytes c.as_slice-items.ensures.value ∙ c.items_of-items.ensures.bytes in
     let told = c.in-Ok.ensures in
     encoded e lent c.in-Ok.bytes.items same c.items_of-items.ensures.valid (subst IsPackedValue other told.valid)
-    (λ some. subst (λ value. length value.text ≤ 255) other (c.in_ok-size.ensures.default some))
-    c.in_ok-size.ensures.starts
+    (λ some. subst (λ value. length value.text ≤ 255) other (c.in_ok-list.ensures.default some))
+    c.in_ok-list.ensures.starts
     (told.bytes ∙ ap (λ value. bytes_with_items value (lent_bytes lent)) other)
 
 pub returns-in-Ok-clause-ok : goal.returns-in-Ok-clause-ok
