@@ -18,3 +18,5 @@ pub mod FirstHyphens
 pub mod RangeTexts
 pub mod RangesWritten
 pub mod RangeRefusals
+pub mod RangeMembers
+pub mod RangesAgain

@@ -38,6 +38,7 @@ pub mod DecimalChoice
 pub mod ChoiceLaws
 -- not definitions of the subject
 pub mod CategoriesLeft
+pub mod RangeSteps
 pub mod ModulusTests
 pub mod JsonRefusals
 pub mod ProviderRows

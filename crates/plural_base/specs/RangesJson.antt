@@ -1,18 +1,21 @@
 -- What a JSON value stands for as a range or as the categories of ranges, or why it stands for none, and the one JSON value that is
 -- written for them (docs/JSON.md). Values are what serde_json's accessors show of them.
-use Rattle.std.specs.Prelude.{codes, fold, Option, Some, None, Ok, Err}
+use Rattle.std.specs.Prelude.{◌≡◌, ℕ, List, [], ◌∷◌, codes, Option, Some, None, option_map, Ok, Err}
+use Rattle.std.specs.Cmp.Lexicographic.{slice_cmp}
+use Rattle.std.specs.List.Sorted.{IsStrictlySortedBy}
 use Rattle.std.specs.Option.{option_and_then}
+use Rattle.std.specs.Ordering.{nat_cmp}
 use Rattle.plural_base.specs.declared.json_error.JsonError.{JsonError}
 use Rattle.plural_base.specs.declared.json_error.JsonError.TheVariants.{Shape, RangeKey, RangeValue}
 use Rattle.plural_base.specs.declared.range_key.UnvalidatedPluralRange.{UnvalidatedPluralRange}
 use Rattle.plural_base.specs.declared.ranges.PluralRanges.{PluralRanges}
 use Rattle.plural_base.specs.declared.raw_category.RawPluralCategory.{RawPluralCategory}
-use Rattle.plural_base.specs.CategoryNames.{raw_name_of, all_raw_categories}
-use Rattle.plural_base.specs.RangeKeys.{range_key, range_named, range_text, category_named}
+use Rattle.plural_base.specs.CategoryNames.{raw_name_of}
+use Rattle.plural_base.specs.RangeKeys.{Range, range_key, range_named, range_text, category_named}
 use Rattle.plural_base.specs.RangeTable.{category_at, no_ranges, with_range}
 use Rattle.plural_base.specs.RulesJson.{Stands, ◌>>=◌, unless_float}
-use Rattle.serde_json.specs.Data.{Data, string, object, Members, no_members, member, put}
-use Rattle.serde_json.specs.Find.{get, as_str, as_object}
+use Rattle.serde_json.specs.Data.{Data, string, object, Members, no_members, member}
+use Rattle.serde_json.specs.Find.{get, get_member, as_str, as_object}
 
 -- what is there, or the refusal
 abbrev pub there_or : {A : Type 0} → JsonError → Option A → Stands A
@@ -60,22 +63,31 @@ ranges_of_json = unless_float ranges_shape
 abbrev pub key_json : RawPluralCategory → RawPluralCategory → Data
 key_json start end = string (range_text start end)
 
--- a range that has a category is a member: its text and the category's name
-abbrev pub put_range : RawPluralCategory → RawPluralCategory → Members → Option RawPluralCategory → Members
-put_range start end members None = members
-put_range start end members (Some category) = put (range_text start end) (string (raw_name_of category)) members
+-- a category is its name
+abbrev pub name_json : RawPluralCategory → Data
+name_json category = string (raw_name_of category)
 
--- those with this start
-abbrev pub put_row : PluralRanges → Members → RawPluralCategory → Members
-put_row ranges members start = fold (λ ms end. put_range start end ms (category_at ranges start end)) members all_raw_categories
+-- the category of the pair whose text it is, where it is a pair's and the pair has one
+abbrev pub category_under : List ℕ → PluralRanges → Option RawPluralCategory
+category_under text ranges = option_and_then (λ (range : Range). category_at ranges range.0 range.1) (range_named text)
 
--- all of them, and no other member
-abbrev pub range_members : PluralRanges → Members
-range_members ranges = fold (put_row ranges) no_members all_raw_categories
+abbrev pub keys_in : Members → List (List ℕ)
+keys_in no_members = []
+keys_in (member key value members) = key ∷ keys_in members
+
+-- under a pair's text stands its category, and there is no other key; no key stands twice, and they are in the order of their bytes
+pub record AreMembersOf (ranges : PluralRanges) (members : Members) : Type 0 where
+  pub under : (text : List ℕ) → get_member text members ≡ option_map name_json (category_under text ranges)
+  pub ordered : IsStrictlySortedBy (slice_cmp nat_cmp) (keys_in members)
 
 -- an object with `ranges` alone
 abbrev pub object_under : Data → Data
 object_under table = object (member (codes "ranges") table no_members)
 
-abbrev pub ranges_json : PluralRanges → Data
-ranges_json ranges = object_under (object (range_members ranges))
+-- with the members of the ranges in it
+abbrev pub IsJsonOfRanges : Data → PluralRanges → Type 0
+IsJsonOfRanges value ranges = (members : Members) × (value ≡ object_under (object members)) × AreMembersOf ranges members
+
+-- What is written for ranges is read as the same ranges.
+abbrev pub WrittenRangesAreReadAgain : Type 0
+WrittenRangesAreReadAgain = (ranges : PluralRanges) (value : Data) → IsJsonOfRanges value ranges → ranges_of_json value ≡ Ok ranges

@@ -65,3 +65,4 @@ pub fn ranges_are_their_maps()
 {}
 
 pub mod orders;
+pub mod ranges;

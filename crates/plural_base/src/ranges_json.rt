@@ -3,8 +3,8 @@
 ghost use Rattle.std.specs.Prelude.{◌≡◌, ◌≢◌, ◌↔◌, ◌⊎◌, Err, IfOk, IfErr, OnOk, string_bytes};
 ghost use Rattle.plural_base.specs.declared.raw_category.RawPluralCategory.{RawPluralCategory as Category};
 ghost use Rattle.plural_base.specs.RangeKeys.{range_byte, range_text};
-ghost use Rattle.plural_base.specs.RangesJson.{category_shape, key_of_json, key_json, key_shape, members_shape, object_under, put_row, range_members, ranges_json, ranges_of_json, ranges_shape};
-ghost use Rattle.plural_base.specs.RangesJson as json;
+ghost use Rattle.plural_base.specs.RangeSteps as steps;
+ghost use Rattle.plural_base.specs.RangesJson.{category_shape, key_of_json, key_json, key_shape, members_shape, object_under, ranges_of_json, ranges_shape, IsJsonOfRanges};
 ghost use Rattle.plural_base.specs.RangeTable.{no_ranges};
 ghost use Rattle.serde_json.specs.View.{view, members_view};
 
@@ -52,7 +52,7 @@ impl PluralRanges {
     /// range that has a category to the category's name. It takes memory; the only error is
     /// [`JsonError::Memory`].
     pub fn to_json(&self, alloc: Global) -> Result<Value, JsonError>
-        ensures written { IfOk result (λ value. view value ≡ ranges_json self.now) }
+        ensures written { IfOk result (λ value. IsJsonOfRanges (view value) self.now) }
         ensures memory { IfErr result (λ error. error ≡ JsonError.Memory) }
     {
         let members = write_members(alloc, self)?;
@@ -140,7 +140,7 @@ fn under_ranges(alloc: Global, table: Value) -> Result<Value, AllocError>
 
 // The ranges that have a category.
 fn write_members(alloc: Global, ranges: &PluralRanges) -> Result<Map<String, Value>, AllocError>
-    ensures { IfOk result (λ members. members_view members.entries ≡ range_members ranges.now) }
+    ensures { IfOk result (λ members. members_view members.entries ≡ steps.range_members ranges.now) }
 {
     let mut members = Map::new(alloc);
     for start in &ALL {
@@ -156,7 +156,7 @@ fn write_row(
     start: RawPluralCategory,
     members: &mut Map<String, Value>,
 ) -> Result<(), AllocError>
-    ensures { OnOk result (members_view members.new.entries ≡ put_row ranges.now (members_view members.old.entries) start) }
+    ensures { OnOk result (members_view members.new.entries ≡ steps.put_row ranges.now (members_view members.old.entries) start) }
 {
     for end in &ALL {
         write_range(alloc, start, *end, ranges.get(start, *end), members)?;
@@ -172,7 +172,7 @@ fn write_range(
     category: Option<RawPluralCategory>,
     members: &mut Map<String, Value>,
 ) -> Result<(), AllocError>
-    ensures { OnOk result (members_view members.new.entries ≡ json.put_range start end (members_view members.old.entries) category) }
+    ensures { OnOk result (members_view members.new.entries ≡ steps.put_range start end (members_view members.old.entries) category) }
 {
     let Some(category) = category else {
         return Ok(());

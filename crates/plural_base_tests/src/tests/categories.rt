@@ -7,12 +7,14 @@ use std::test::Fail;
 fn all_gives_six_categories_by_their_names(rt: HostRuntime) {
     let mut all = PluralCategory::all();
     holds!(rt; all.len() == 6);
+    holds!(rt; all.size_hint() == (6, Some(6)));
     holds!(rt; all.next() == Some(PluralCategory::Few));
     holds!(rt; all.next() == Some(PluralCategory::Many));
     holds!(rt; all.next() == Some(PluralCategory::One));
     holds!(rt; all.next() == Some(PluralCategory::Other));
     holds!(rt; all.next() == Some(PluralCategory::Two));
     holds!(rt; all.len() == 1);
+    holds!(rt; all.size_hint() == (1, Some(1)));
     holds!(rt; all.next() == Some(PluralCategory::Zero));
     holds!(rt; all.next() == None);
 }
@@ -96,8 +98,10 @@ fn categories_are_those_with_a_rule_and_other(rt: HostRuntime) -> Result<(), Fai
     let (zero, few) = (Some("i = 0"), Some("n = 0"));
     let data = PluralRulesData::from_texts(rt.alloc(), zero, None, None, few, None)?;
     let mut categories = PluralRules::from_data(data).categories();
+    holds!(rt; categories.size_hint() == (3, Some(3)));
     holds!(rt; categories.next() == Some(PluralCategory::Zero));
     holds!(rt; categories.next() == Some(PluralCategory::Few));
+    holds!(rt; categories.len() == 1);
     holds!(rt; categories.next() == Some(PluralCategory::Other));
     holds!(rt; categories.next() == None);
     Ok(())

@@ -118,7 +118,8 @@ fn a_range_is_refused_in_order(rt: HostRuntime) -> Result<(), Fail> {
 #[test]
 fn a_pair_has_the_category_that_was_put_last(rt: HostRuntime) {
     let mut ranges = PluralRanges::new();
-    holds!(rt; ranges.len() == 0);
+    holds!(rt; ranges == PluralRanges::default());
+    holds!(rt; ranges.is_empty());
     holds!(rt; ranges.insert(OTHER, ONE, FEW) == None);
     holds!(rt; ranges.get(OTHER, ONE) == Some(FEW));
     holds!(rt; ranges.get(ONE, OTHER) == None);
@@ -126,6 +127,7 @@ fn a_pair_has_the_category_that_was_put_last(rt: HostRuntime) {
     holds!(rt; ranges.insert(ONE, OTHER, OTHER) == None);
     holds!(rt; ranges.get(OTHER, ONE) == Some(MANY));
     holds!(rt; ranges.len() == 2);
+    holds!(rt; !ranges.is_empty());
     let copy = ranges;
     holds!(rt; copy == ranges);
     holds!(rt; ranges.insert(MANY, MANY, ONE) == None);

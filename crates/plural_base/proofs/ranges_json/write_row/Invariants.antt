@@ -1,6 +1,6 @@
 use Rattle.std.proofs.Common.{◌≡◌, drop, fold}
 use Rattle.plural_base.specs.CategoryNames.{all_raw_categories}
-use Rattle.plural_base.specs.RangesJson.{put_range, put_row}
+use Rattle.plural_base.specs.RangeSteps.{put_range, put_row}
 use Rattle.plural_base.specs.RangeTable.{category_at}
 use Rattle.serde_json.specs.View.{members_view}
 use Rattle.plural_base.proofs.ranges_json.write_row.Given as goal
