@@ -14,6 +14,10 @@ use std::test::Fail;
 // Other "items", one "item", explicit one "items".
 const ITEMS: &[u8] = b"\x80\x05items\x02\0\x05\0\x10item\x60items";
 
+// A value at each key, as `eight` gives them.
+const EIGHT: &[u8] =
+    b"\x82\x01o\x07\0\x02\0\x04\0\x06\0\x08\0\x0a\0\x0c\0\x03z\x14a\x25b\x36c\x47d\x58e\x69f";
+
 // Metadata, 0 where the number is too large, and a text.
 fn value<'a>(pair: (u8, &'a str)) -> (FourBitMetadata, &'a str) {
     match FourBitMetadata::try_from_byte(pair.0) {
@@ -126,9 +130,7 @@ fn eight() -> PluralElements<(FourBitMetadata, &'static str)> {
 #[test]
 fn packs_every_key_in_order(rt: HostRuntime) -> Result<(), Fail> {
     let bytes = PluralElementsPackedULE::encode(rt.alloc(), &eight())?;
-    let wanted: &[u8] =
-        b"\x82\x01o\x07\0\x02\0\x04\0\x06\0\x08\0\x0a\0\x0c\0\x03z\x14a\x25b\x36c\x47d\x58e\x69f";
-    holds!(rt; bytes.as_slice() == wanted, at bytes);
+    holds!(rt; bytes.as_slice() == EIGHT, at bytes);
     Ok(())
 }
 
@@ -226,6 +228,34 @@ fn texts_are_packed_with_metadata_0(rt: HostRuntime) -> Result<(), Fail> {
     Ok(())
 }
 
+// Texts of Welsh, which has six categories, and of exactly 0 and 1.
+fn welsh() -> PluralElements<&'static str> {
+    PluralElements::new("{} ci, {} cath")
+        .with_zero_value(Some("{} cŵn, {} cathod"))
+        .with_one_value(Some("{} ci, {} gath"))
+        .with_two_value(Some("{} gi, {} gath"))
+        .with_few_value(Some("{} chi, {} cath"))
+        .with_many_value(Some("{} chi, {} chath"))
+        .with_explicit_zero_value(Some("dim cŵn, dim cathod"))
+        .with_explicit_one_value(Some("un ci, un gath"))
+}
+
+// A text with metadata 0.
+fn plain(text: &str) -> (FourBitMetadata, &str) {
+    (FourBitMetadata::zero(), text)
+}
+
+#[test]
+fn all_texts_of_a_language_are_packed_and_copied(rt: HostRuntime) -> Result<(), Fail> {
+    let packed = PluralElementsPackedCow::from_elements(rt.alloc(), &welsh())?;
+    holds!(rt; packed.as_packed().as_bytes().len() == 148);
+    holds!(rt; packed.as_packed().decode() == welsh().map(plain));
+    holds!(rt; packed.try_clone()? == packed);
+    let value = packed.to_json(rt.alloc())?;
+    holds!(rt; PluralElementsPackedCow::from_json(rt.alloc(), &value)? == packed);
+    Ok(())
+}
+
 #[test]
 fn lent_bytes_keep_their_metadata(rt: HostRuntime) -> Result<(), Fail> {
     let rules = rules(rt.alloc())?;
@@ -246,12 +276,14 @@ fn lent_bytes_keep_their_metadata(rt: HostRuntime) -> Result<(), Fail> {
 #[test]
 fn growth_of_bytes_may_be_refused(rt: HostRuntime) {
     let mut refused = 0u8;
-    for _ in 0..2u8 {
-        match PluralElementsPackedULE::encode(rt.alloc(), &items()) {
-            Ok(bytes) => holds!(rt; bytes.as_slice() == ITEMS),
-            Err(error) => {
-                holds!(rt; error == ElementsPackError::Memory);
-                refused = refused.saturating_add(1);
+    for (elements, wanted) in [(items(), ITEMS), (eight(), EIGHT)] {
+        for _ in 0..2u8 {
+            match PluralElementsPackedULE::encode(rt.alloc(), &elements) {
+                Ok(bytes) => holds!(rt; bytes.as_slice() == wanted),
+                Err(error) => {
+                    holds!(rt; error == ElementsPackError::Memory);
+                    refused = refused.saturating_add(1);
+                }
             }
         }
     }
@@ -261,7 +293,7 @@ fn growth_of_bytes_may_be_refused(rt: HostRuntime) {
 // The same of elements that own their bytes, and of a copy.
 #[test]
 fn growth_of_owned_elements_may_be_refused(rt: HostRuntime) -> Result<(), Fail> {
-    let texts = PluralElements::new("items").with_one_value(Some("item"));
+    let texts = welsh();
     let mut refused = 0u8;
     for _ in 0..2u8 {
         let packed = match PluralElementsPackedCow::from_elements(rt.alloc(), &texts) {
