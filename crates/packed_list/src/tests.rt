@@ -37,8 +37,9 @@ fn gives_the_items_and_their_starts(rt: HostRuntime) {
 
 #[test]
 fn refuses_hostile_bytes(rt: HostRuntime) {
-    let cases: [(&[u8], &str); 9] = [
+    let cases: [(&[u8], &str); 10] = [
         (b"", "list"),
+        (b"\x00", "header"),
         (b"\x01", "header"),
         (b"\x02\x00", "header"),
         (b"\xff\xff", "header"),

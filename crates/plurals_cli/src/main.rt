@@ -1,6 +1,7 @@
 //! The program `plurals`: plural rules from a command line.
 #![tactic(auto)]
 
+mod arguments;
 mod category_command;
 mod command;
 mod document;
@@ -17,30 +18,17 @@ mod run;
 mod select_command;
 mod test_command;
 
+use arguments::arguments;
 use error::RunError;
 use run::run;
-use std::env;
-use std::io::ErrorKind;
 use std::process::ExitCode;
 
 #[cfg(test)]
 mod tests;
 
-// The words of the command line. One that isn't UTF-8 is part of no command.
-fn arguments(rt: &HostRuntime) -> Result<Vec<String>, RunError> {
-    match env::args(rt) {
-        Ok(found) => match found.skip(1).collect::<Vec<String>>(rt.alloc()) {
-            Ok(words) => Ok(words),
-            Err(_) => Err(RunError::Memory),
-        },
-        Err(error) if error.kind() == ErrorKind::OutOfMemory => Err(RunError::Memory),
-        Err(_) => Err(RunError::Usage),
-    }
-}
-
 // Answers the words of the command line.
 fn answer(rt: &HostRuntime) -> Result<(), RunError> {
-    let owned = arguments(rt)?;
+    let owned = arguments(rt.alloc(), rt)?;
     let Ok(words) = owned
         .iter()
         .map(|word| word.as_str())

@@ -1,109 +1,103 @@
-//! Refused growths.
+//! Refused growths: these run under `rt try --test --fail-alloc N` for each N, and with memory too.
 
-use crate::error::RunError;
-use crate::run::run;
 use crate::tests::assertion::holds;
 use crate::tests::documents::DOCUMENT;
+use crate::tests::tables::{gives, row_gives};
 use std::alloc::Global;
 use std::process::Abort;
-use std::test::Fail;
 
-// With a growth refused the answer is want of memory and nothing is written; the same words over the same
-// input are answered again.
-fn is_answered_again(
-    rt: &impl Abort,
-    alloc: Global,
-    words: &[&str],
-    line: &[u8],
-) -> Result<(), Fail> {
-    let mut is_answered = false;
-    for _ in 0..2 {
-        let mut input = DOCUMENT;
-        let mut output = [0u8; 128];
-        let mut writer: &mut [u8] = &mut output;
-        let answer = run(alloc, words, &mut input, &mut writer);
-        let left = writer.len();
-        match answer {
-            Ok(()) => {
-                holds!(rt; Some(left) == output.len().checked_sub(line.len()));
-                holds!(rt; output.starts_with(line));
-                is_answered = true;
-            }
-            Err(fault) => {
-                holds!(rt; matches!(&fault, RunError::Memory));
-                holds!(rt; left == 128);
-            }
-        }
+// Each row of the table gives, with the command, the line that follows it, though one growth be refused: the answer is then want
+// of memory with nothing written, and the same words over the same input give the line.
+fn table_holds_again(rt: &impl Abort, alloc: Global, command: &str, table: &str) {
+    for row in table.split("$ ").skip(1) {
+        let (words, answer) = row.split_once('\n').unwrap_or((row, ""));
+        let mut reader = DOCUMENT;
+        let first = row_gives(alloc, command, words, &mut reader, answer);
+        let mut reader = DOCUMENT;
+        let second = row_gives(alloc, command, words, &mut reader, answer);
+        holds!(rt; first.unwrap_or(true) && second.unwrap_or(true), row);
+        holds!(rt; first.is_some() || second.is_some(), row);
     }
-    holds!(rt; is_answered);
-    Ok(())
 }
 
 #[test]
-fn growth_of_test(rt: HostRuntime) -> Result<(), Fail> {
-    is_answered_again(
-        &rt,
-        rt.alloc(),
-        &["test", "i = 1 and v = 0", "1"],
-        b"true\n",
-    )
+fn growth_of_test(rt: HostRuntime) {
+    let table = "$ i = 1 and v = 0|1
+true
+$ i = 1 and v = 0|2
+false
+$ i = 1 and v = 0|-1
+1: bad number
+$ i 1|1
+1: expected operator
+$ @foo|5
+true
+";
+    table_holds_again(&rt, rt.alloc(), "test", table)
+}
+
+// No word takes memory.
+#[test]
+fn growth_without_words(rt: HostRuntime) {
+    let mut reader = DOCUMENT;
+    let usage = crate::tests::USAGE;
+    holds!(rt; gives(rt.alloc(), &[], &mut reader, usage) == Some(true));
 }
 
 #[test]
-fn growth_of_category(rt: HostRuntime) -> Result<(), Fail> {
-    is_answered_again(
-        &rt,
-        rt.alloc(),
-        &["category", "a", "cardinal", "1"],
-        b"one\n",
-    )?;
-    is_answered_again(
-        &rt,
-        rt.alloc(),
-        &["category", "a", "ordinal", "103"],
-        b"few\n",
-    )
+fn growth_of_category(rt: HostRuntime) {
+    let table = "$ a|cardinal|1
+one
+$ a|cardinal|1.0
+other
+$ a|ordinal|112
+other
+$ a|ordinal|103
+few
+";
+    table_holds_again(&rt, rt.alloc(), "category", table)
 }
 
 #[test]
-fn growth_of_print(rt: HostRuntime) -> Result<(), Fail> {
-    let lines =
-        b"one: n % 10 = 1 and n % 100 != 11\ntwo: n % 10 = 2 and n % 100 != 12\nfew: n % 10 = 3 and n % 100 != 13\n";
-    is_answered_again(&rt, rt.alloc(), &["print", "a", "ordinal"], lines)
+fn growth_of_print(rt: HostRuntime) {
+    let table = "$ a|ordinal
+one: n % 10 = 1 and n % 100 != 11
+two: n % 10 = 2 and n % 100 != 12
+few: n % 10 = 3 and n % 100 != 13
+";
+    table_holds_again(&rt, rt.alloc(), "print", table)
 }
 
 #[test]
-fn growth_of_range(rt: HostRuntime) -> Result<(), Fail> {
-    is_answered_again(
-        &rt,
-        rt.alloc(),
-        &["range", "a", "cardinal", "0", "1"],
-        b"few\n",
-    )
+fn growth_of_range(rt: HostRuntime) {
+    let table = "$ a|cardinal|0|1
+few
+$ a|cardinal|1|2
+other
+$ b|cardinal|0|1
+1: locale not found
+";
+    table_holds_again(&rt, rt.alloc(), "range", table)
 }
 
 #[test]
-fn growth_of_select(rt: HostRuntime) -> Result<(), Fail> {
-    is_answered_again(
-        &rt,
-        rt.alloc(),
-        &["select", "a", "cardinal", "1"],
-        b"item\n",
-    )?;
-    is_answered_again(
-        &rt,
-        rt.alloc(),
-        &["select", "a", "cardinal", "0"],
-        b"none\n",
-    )
+fn growth_of_select(rt: HostRuntime) {
+    let table = "$ a|cardinal|1
+item
+$ a|cardinal|0
+none
+$ a|cardinal|0.0
+items
+";
+    table_holds_again(&rt, rt.alloc(), "select", table)
 }
 
 #[test]
-fn growth_of_message(rt: HostRuntime) -> Result<(), Fail> {
-    is_answered_again(
-        &rt,
-        rt.alloc(),
-        &["message", "a", "cardinal", "0.0"],
-        b"items\n",
-    )
+fn growth_of_message(rt: HostRuntime) {
+    let table = "$ a|cardinal|1
+item
+$ a|cardinal|0.0
+items
+";
+    table_holds_again(&rt, rt.alloc(), "message", table)
 }

@@ -2,7 +2,7 @@
 
 use crate::tests::assertion::holds;
 use crate::tests::documents::DOCUMENT;
-use crate::tests::{answered, answered_from};
+use crate::tests::tables::{gives, table_holds};
 use std::io;
 use std::io::Read;
 use std::test::Fail;
@@ -10,15 +10,15 @@ use std::test::Fail;
 // The most bytes that an input may have.
 const MOST: usize = 4_194_304;
 
-// A reader with a text and so many spaces behind it, which then fails, or is at its end.
+// A reader with a text and so many spaces after it, which then fails, or is at its end.
 #[derive(Drop)]
-struct Padded<'a> {
+pub(crate) struct Input<'a> {
     text: &'a [u8],
     spaces: usize,
     fails: bool,
 }
 
-impl<'a> Read for Padded<'a> {
+impl<'a> Read for Input<'a> {
     fn read(&mut self, buf: &mut [u8]) -> io::Result<usize> {
         if !self.text.is_empty() {
             return self.text.read(buf);
@@ -27,17 +27,30 @@ impl<'a> Read for Padded<'a> {
             return Err(io::Error::from(io::ErrorKind::BrokenPipe));
         }
         let count = buf.len().min(self.spaces);
-        for place in buf[..count].iter_mut() {
-            *place = b' ';
-        }
+        buf[..count].fill(b' ');
         self.spaces -= count;
         Ok(count)
     }
 }
 
+impl<'a> Input<'a> {
+    // The text, or where there is none a reader that fails at each call.
+    pub(crate) fn of(text: Option<&'a [u8]>) -> Input<'a> {
+        Input {
+            text: text.unwrap_or(b""),
+            spaces: 0,
+            fails: text.is_none(),
+        }
+    }
+
+    pub(crate) fn failing() -> Input<'static> {
+        Input::of(None)
+    }
+}
+
 // The document with spaces up to a length.
-fn document_up_to(length: usize, fails: bool) -> Padded<'static> {
-    Padded {
+fn document_up_to(length: usize, fails: bool) -> Input<'static> {
+    Input {
         text: DOCUMENT,
         spaces: length.saturating_sub(DOCUMENT.len()),
         fails,
@@ -45,74 +58,88 @@ fn document_up_to(length: usize, fails: bool) -> Padded<'static> {
 }
 
 #[test]
-fn the_longest_input_is_read(rt: HostRuntime) -> Result<(), Fail> {
+fn the_longest_input_is_read(rt: HostRuntime) {
     let words = ["category", "a", "cardinal", "1"];
-    let answer = answered_from(rt.alloc(), &words, &mut document_up_to(MOST, false))?;
-    holds!(rt; answer.as_str() == "one\n");
-    let answer = answered_from(rt.alloc(), &words, &mut document_up_to(MOST + 1, false))?;
-    holds!(rt; answer.as_str() == "1: input too long");
-    Ok(())
+    let mut longest = document_up_to(MOST, false);
+    holds!(rt; gives(rt.alloc(), &words, &mut longest, "one\n") == Some(true));
+    let mut longer = document_up_to(MOST + 1, false);
+    holds!(rt; gives(rt.alloc(), &words, &mut longer, "1: input too long\n") == Some(true));
 }
 
 #[test]
-fn what_is_too_long_is_not_read_on(rt: HostRuntime) -> Result<(), Fail> {
+fn what_is_too_long_is_not_read_on(rt: HostRuntime) {
     let words = ["print", "b", "cardinal"];
+    let too_long = "1: input too long\n";
     let mut reader = document_up_to(MOST + 100, false);
-    let answer = answered_from(rt.alloc(), &words, &mut reader)?;
-    holds!(rt; answer.as_str() == "1: input too long");
+    holds!(rt; gives(rt.alloc(), &words, &mut reader, too_long) == Some(true));
     holds!(rt; reader.spaces == 99);
-    let mut reader = document_up_to(MOST + 1, true);
-    let answer = answered_from(rt.alloc(), &words, &mut reader)?;
-    holds!(rt; answer.as_str() == "1: input too long");
-    Ok(())
+    let mut failing = document_up_to(MOST + 1, true);
+    holds!(rt; gives(rt.alloc(), &words, &mut failing, too_long) == Some(true));
 }
 
 #[test]
-fn a_failing_reader_is_a_fault(rt: HostRuntime) -> Result<(), Fail> {
+fn a_failing_reader_is_a_fault(rt: HostRuntime) {
     let words = ["category", "a", "cardinal", "1"];
-    let lengths = [0, 5000, MOST - 1, MOST];
-    for length in lengths {
-        let answer = answered_from(rt.alloc(), &words, &mut document_up_to(length, true))?;
-        holds!(rt; answer.as_str() == "1: cannot read input");
+    let cannot = "1: cannot read input\n";
+    for length in [0, 5000, MOST - 1, MOST] {
+        let mut reader = document_up_to(length, true);
+        holds!(rt; gives(rt.alloc(), &words, &mut reader, cannot) == Some(true), at length);
     }
-    let mut reader = Padded {
+    let mut reader = Input {
         text: b"{",
         spaces: 0,
         fails: true,
     };
-    let answer = answered_from(rt.alloc(), &words, &mut reader)?;
-    holds!(rt; answer.as_str() == "1: cannot read input");
-    Ok(())
+    holds!(rt; gives(rt.alloc(), &words, &mut reader, cannot) == Some(true));
 }
 
 #[test]
-fn a_bad_number_reads_nothing(rt: HostRuntime) -> Result<(), Fail> {
-    let words = ["category", "a", "cardinal", "x"];
-    holds!(rt; answered(rt.alloc(), &words)?.as_str() == "1: bad number");
-    let words = ["category", "a", "cardinal", "1c300"];
-    holds!(rt; answered(rt.alloc(), &words)?.as_str() == "1: number out of limits");
-    let words = ["category", "a", "cardinal", "1"];
-    holds!(rt; answered(rt.alloc(), &words)?.as_str() == "1: cannot read input");
-    Ok(())
+fn a_bad_number_reads_nothing(rt: HostRuntime) {
+    let numbers = "$ a|cardinal|x
+1: bad number
+$ a|cardinal|1c300
+1: number out of limits
+$ a|cardinal|1c256
+1: number out of limits
+$ a|cardinal|1
+1: cannot read input
+";
+    table_holds(
+        &rt,
+        rt.alloc(),
+        &["category", "select", "message"],
+        numbers,
+        None,
+    );
+    // The start is looked at before the end.
+    let ranges = "$ a|cardinal|x|1
+1: bad number
+$ a|cardinal|1|x
+1: bad number
+$ a|cardinal|1|1c256
+1: number out of limits
+$ a|cardinal|1c256|x
+1: number out of limits
+$ a|cardinal|x|1c256
+1: bad number
+$ a|cardinal|0|1
+1: cannot read input
+";
+    table_holds(&rt, rt.alloc(), &["range"], ranges, None);
 }
 
 #[test]
 fn nesting_has_a_limit(rt: HostRuntime) -> Result<(), Fail> {
     let rows = [
-        (127usize, "1: bad document: shape"),
-        (128, "1: input is not JSON"),
+        (127usize, "1: bad document: shape\n"),
+        (128, "1: input is not JSON\n"),
     ];
     for (depth, answer) in rows {
-        let mut input = Vec::new(rt.alloc());
-        for _ in 0..depth {
-            input.push(b'[')?;
-        }
-        for _ in 0..depth {
-            input.push(b']')?;
-        }
+        let mut input = vec![in rt.alloc(); b'['; depth]?;
+        input.resize(depth * 2, b']')?;
         let mut reader = input.as_slice();
-        let found = answered_from(rt.alloc(), &["print", "a", "cardinal"], &mut reader)?;
-        holds!(rt; found.as_str() == answer, at depth);
+        let words = ["print", "a", "cardinal"];
+        holds!(rt; gives(rt.alloc(), &words, &mut reader, answer) == Some(true), at depth);
     }
     Ok(())
 }

@@ -1,29 +1,26 @@
 //! Conditions as CLDR has them, against the categories that its samples show.
 
-use crate::tests::answered;
 use crate::tests::assertion::holds;
-use std::alloc::Global;
-use std::process::Abort;
+use crate::tests::inputs::Input;
+use crate::tests::tables::gives;
+use std::alloc::{AllocError, Global};
 use std::test::Fail;
 
 // Whether the condition is true of just these integers from 0 to 130.
-fn is_true_of_just(
-    rt: &impl Abort,
-    alloc: Global,
-    condition: &str,
-    integers: &[u8],
-) -> Result<(), Fail> {
+fn is_true_of_just(alloc: Global, condition: &str, integers: &[u8]) -> Result<bool, AllocError> {
     for integer in 0u8..=130 {
-        let word = format!(in alloc; "{integer}")?;
-        let line = answered(alloc, &["test", condition, word.as_str()])?;
-        let want = if integers.contains(&integer) {
+        let word = integer.to_string(alloc)?;
+        let wanted = if integers.contains(&integer) {
             "true\n"
         } else {
             "false\n"
         };
-        holds!(rt; line.as_str() == want, condition);
+        let words = ["test", condition, word.as_str()];
+        if gives(alloc, &words, &mut Input::failing(), wanted) != Some(true) {
+            return Ok(false);
+        }
     }
-    Ok(())
+    Ok(true)
 }
 
 const FEW: [u8; 33] = [
@@ -32,34 +29,17 @@ const FEW: [u8; 33] = [
 ];
 
 #[test]
-fn english_one(rt: HostRuntime) -> Result<(), Fail> {
-    is_true_of_just(&rt, rt.alloc(), "i = 1 and v = 0", &[1])
-}
-
-#[test]
-fn polish_one_and_few(rt: HostRuntime) -> Result<(), Fail> {
-    is_true_of_just(&rt, rt.alloc(), "i = 1 and v = 0", &[1])?;
-    is_true_of_just(
-        &rt,
-        rt.alloc(),
-        "v = 0 and i % 10 = 2..4 and i % 100 != 12..14",
-        &FEW,
-    )
-}
-
-#[test]
-fn russian_one_and_few(rt: HostRuntime) -> Result<(), Fail> {
-    let one = [1, 21, 31, 41, 51, 61, 71, 81, 91, 101, 121];
-    is_true_of_just(
-        &rt,
-        rt.alloc(),
-        "v = 0 and i % 10 = 1 and i % 100 != 11",
-        &one,
-    )?;
-    is_true_of_just(
-        &rt,
-        rt.alloc(),
-        "v = 0 and i % 10 = 2..4 and i % 100 != 12..14",
-        &FEW,
-    )
+fn english_polish_and_russian_conditions(rt: HostRuntime) -> Result<(), Fail> {
+    let rows: [(&str, &[u8]); 3] = [
+        ("i = 1 and v = 0", &[1]),
+        (
+            "v = 0 and i % 10 = 1 and i % 100 != 11",
+            &[1, 21, 31, 41, 51, 61, 71, 81, 91, 101, 121],
+        ),
+        ("v = 0 and i % 10 = 2..4 and i % 100 != 12..14", &FEW),
+    ];
+    for (condition, integers) in rows {
+        holds!(rt; is_true_of_just(rt.alloc(), condition, integers)?, condition);
+    }
+    Ok(())
 }

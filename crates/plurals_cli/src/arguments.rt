@@ -1,0 +1,44 @@
+//! The words of the command line.
+
+use crate::error::RunError;
+use std::alloc::Global;
+use std::env;
+use std::env::FillError;
+use std::io::ErrorKind;
+use std::rt::Env;
+
+// What stands after the first argument.
+#[derive(Drop)]
+struct AfterName<'a, E> {
+    all: &'a E,
+}
+
+impl<'a, E: Env> Env for AfterName<'a, E> {
+    fn arg(&self, i: usize, buf: &mut [u8]) -> Result<usize, FillError> {
+        match i.checked_add(1) {
+            Some(place) => self.all.arg(place, buf),
+            None => Err(FillError::NotPresent),
+        }
+    }
+
+    fn var(&self, name: &str, buf: &mut [u8]) -> Result<usize, FillError> {
+        self.all.var(name, buf)
+    }
+
+    fn var_at(&self, i: usize, buf: &mut [u8]) -> Result<usize, FillError> {
+        self.all.var_at(i, buf)
+    }
+}
+
+// The words after the program's name, at which nothing looks: a path may be any bytes. A word that isn't UTF-8 is part of no
+// command.
+pub(crate) fn arguments<E: Env>(alloc: Global, all: &E) -> Result<Vec<String>, RunError> {
+    match env::args(&(AfterName { all }, alloc)) {
+        Ok(found) => match found.collect::<Vec<String>>(alloc) {
+            Ok(words) => Ok(words),
+            Err(_) => Err(RunError::Memory),
+        },
+        Err(error) if error.kind() == ErrorKind::OutOfMemory => Err(RunError::Memory),
+        Err(_) => Err(RunError::Usage),
+    }
+}
