@@ -109,7 +109,7 @@ fn is_large(value: &ast::Value) -> bool
     value.0 > 4294967295
 }
 
-// The relations of a tree as a list that can be packed, if none of them starts behind place 65535. Where there are more
+// The relations of a tree as a list that can be packed, if none of them starts after place 65535. Where there are more
 // than 65535 of them, one does.
 fn list_of(condition: &ast::Condition) -> Option<ListWriter<TreeRelations<'_>>>
     ensures ok { IfSome result (λ list. list ≡ map relation_bytes (packed condition.now)) }
