@@ -1,16 +1,22 @@
 //! An assertion for tests: it tells its condition and the row of a table, and is proved in a fraction of the time that
 //! `assert_eq!` takes.
 
+ghost use Rattle.std.specs.Prelude.{IsTrue};
+
 use std::fmt::Debug;
 use std::process::Abort;
 
 /// Ends the test, telling the condition and the row, unless the condition holds.
-pub fn fail_unless(rt: &impl Abort, holds: bool, condition: &str, row: &str) {
+pub fn fail_unless(rt: &impl Abort, holds: bool, condition: &str, row: &str)
+    ensures { IsTrue holds }
+{
     assert!(rt; holds, "{row}: {condition}");
 }
 
 /// The same for a row that isn't named by a text.
-pub fn fail_unless_at(rt: &impl Abort, holds: bool, condition: &str, row: &impl Debug) {
+pub fn fail_unless_at(rt: &impl Abort, holds: bool, condition: &str, row: &impl Debug)
+    ensures { IsTrue holds }
+{
     assert!(rt; holds, "{row:?}: {condition}");
 }
 

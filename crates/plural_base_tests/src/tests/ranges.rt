@@ -246,37 +246,68 @@ fn a_range_has_the_category_of_its_pair_or_its_end(rt: HostRuntime) -> Result<()
     Ok(())
 }
 
+// The category of the range from one integer to another under a locale's cardinal rules and ranges.
+fn cardinal(
+    provider: &JsonProvider,
+    locale: &str,
+    start: u64,
+    end: u64,
+) -> Result<PluralCategory, DataError> {
+    let rules = PluralRulesWithRanges::try_new_cardinal_unstable(provider, locale)?;
+    Ok(rules.category_for_range(PluralOperands::from(start), PluralOperands::from(end)))
+}
+
+// The same under its ordinal rules.
+fn ordinal(
+    provider: &JsonProvider,
+    locale: &str,
+    start: u64,
+    end: u64,
+) -> Result<PluralCategory, DataError> {
+    let rules = PluralRulesWithRanges::try_new_ordinal_unstable(provider, locale)?;
+    Ok(rules.category_for_range(PluralOperands::from(start), PluralOperands::from(end)))
+}
+
+// The category of the range from 0 to 1 under the rules that the options name.
+fn zero_to_one(
+    provider: &JsonProvider,
+    options: PluralRulesOptions,
+) -> Result<PluralCategory, DataError> {
+    let rules = PluralRulesWithRanges::try_new_unstable(provider, "a", options)?;
+    Ok(rules.category_for_range(PluralOperands::from(0u64), PluralOperands::from(1u64)))
+}
+
 #[test]
 fn rules_come_before_ranges(rt: HostRuntime) -> Result<(), Fail> {
     let provider = provider(rt.alloc())?;
-    let zero = PluralOperands::from(0u64);
-    let one = PluralOperands::from(1u64);
-    let two = PluralOperands::from(2u64);
-    let cardinal = PluralRulesWithRanges::try_new_cardinal_unstable(&provider, "a")?;
-    holds!(rt; cardinal.category_for_range(zero, one) == PluralCategory::Few);
-    holds!(rt; cardinal.category_for_range(two, two) == PluralCategory::Other);
-    let ordinal = PluralRulesWithRanges::try_new_ordinal_unstable(&provider, "a")?;
-    holds!(rt; ordinal.category_for_range(zero, one) == PluralCategory::Other);
-    holds!(rt; ordinal.category_for_range(two, two) == PluralCategory::One);
-    let rows = [
-        (PluralRulesOptions::default(), PluralCategory::Few),
-        (
-            PluralRulesOptions::from(PluralRuleType::Cardinal),
-            PluralCategory::Few,
-        ),
-        (
-            PluralRulesOptions::from(PluralRuleType::Ordinal),
-            PluralCategory::Other,
-        ),
-    ];
-    for (options, category) in rows {
-        let rules = PluralRulesWithRanges::try_new_unstable(&provider, "a", options)?;
-        holds!(rt; rules.category_for_range(zero, one) == category);
-    }
+    holds!(rt; cardinal(&provider, "a", 0, 1) == Ok(PluralCategory::Few));
+    holds!(rt; cardinal(&provider, "a", 2, 2) == Ok(PluralCategory::Other));
+    holds!(rt; ordinal(&provider, "a", 0, 1) == Ok(PluralCategory::Other));
+    holds!(rt; ordinal(&provider, "a", 2, 2) == Ok(PluralCategory::One));
     for locale in ["b", "c", "d", "A", ""] {
-        let found = PluralRulesWithRanges::try_new_cardinal_unstable(&provider, locale);
-        holds!(rt; found.err() == Some(DataError::NotFound), locale);
+        holds!(rt; cardinal(&provider, locale, 0, 1) == Err(DataError::NotFound), locale);
     }
+    Ok(())
+}
+
+#[test]
+fn options_name_the_rules_beside_the_ranges(rt: HostRuntime) -> Result<(), Fail> {
+    let provider = provider(rt.alloc())?;
+    let default = zero_to_one(&provider, PluralRulesOptions::default());
+    holds!(rt; default == Ok(PluralCategory::Few));
+    let cardinal = zero_to_one(
+        &provider,
+        PluralRulesOptions::from(PluralRuleType::Cardinal),
+    );
+    holds!(rt; cardinal == Ok(PluralCategory::Few));
+    let ordinal = zero_to_one(&provider, PluralRulesOptions::from(PluralRuleType::Ordinal));
+    holds!(rt; ordinal == Ok(PluralCategory::Other));
+    Ok(())
+}
+
+#[test]
+fn given_rules_need_ranges(rt: HostRuntime) -> Result<(), Fail> {
+    let provider = provider(rt.alloc())?;
     let owned = rules(rt.alloc())?;
     let found = PluralRulesWithRanges::try_new_with_rules_unstable(&provider, "b", owned);
     holds!(rt; found.err() == Some(DataError::NotFound));
