@@ -1,3 +1,4 @@
+use crate::tests::CLDR_RULES;
 use crate::tests::assertion::holds;
 use plural_runtime::{Rule, RuleError};
 use std::alloc::Global;
@@ -20,7 +21,8 @@ fn packs_again_after_want_of_memory(rt: HostRuntime) {
             b"\x02\0\x0d\0\xc1\0\0\0\0\x01\0\0\0\x01\0\0\0\x42\0\0\0\0\0\0\0\0\0\0\0\0",
         ),
     ];
-    for (text, bytes) in rows {
+    let of_cldr = CLDR_RULES.into_iter().map(|(text, bytes, _)| (text, bytes));
+    for (text, bytes) in rows.into_iter().chain(of_cldr) {
         let first = packs(rt.alloc(), text, bytes);
         let second = packs(rt.alloc(), text, bytes);
         holds!(rt; first == None || first == Some(true), text);
@@ -43,11 +45,12 @@ fn tree_packs(alloc: Global, rule: &Rule<'_>) -> Option<bool> {
 
 #[test]
 fn trees_are_made_again_after_want_of_memory(rt: HostRuntime) {
-    let bytes = b"\x02\0\x0d\0\xc1\0\0\0\0\x01\0\0\0\x01\0\0\0\x42\0\0\0\0\0\0\0\0\0\0\0\0";
-    let rule = Rule::parse_bytes(bytes).expect(&rt, "a rule");
-    let first = tree_packs(rt.alloc(), &rule);
-    let second = tree_packs(rt.alloc(), &rule);
-    holds!(rt; first == None || first == Some(true));
-    holds!(rt; second == None || second == Some(true));
-    holds!(rt; first == Some(true) || second == Some(true));
+    for (text, bytes, _) in CLDR_RULES {
+        let rule = Rule::parse_bytes(bytes).expect(&rt, "a rule");
+        let first = tree_packs(rt.alloc(), &rule);
+        let second = tree_packs(rt.alloc(), &rule);
+        holds!(rt; first == None || first == Some(true), text);
+        holds!(rt; second == None || second == Some(true), text);
+        holds!(rt; first == Some(true) || second == Some(true), text);
+    }
 }

@@ -1,5 +1,5 @@
 use crate::tests::assertion::holds;
-use plural_reference::{ParseError, PluralOperands, Sequence, ast};
+use plural_reference::{ParseError, PluralOperands, ast};
 use plural_runtime::{
     AndOr, AndOrPolarityOperand, Operand, Polarity, RangeOrValue, Rule, RuleError, test_rule,
 };
@@ -52,6 +52,7 @@ fn relations_come_in_order(rt: HostRuntime) {
         ),
     ];
     let mut relations = rule.iter();
+    holds!(rt; relations.size_hint() == (3, Some(3)));
     for (and_or, polarity, operand, modulo, range) in expected {
         let relation = relations.next().expect(&rt, "a relation").as_relation();
         holds!(rt; relation.and_or() == and_or);
@@ -112,7 +113,7 @@ fn a_large_end_is_refused(rt: HostRuntime) -> Result<(), Fail> {
     let mut tree = rule.to_ast(alloc)?;
     let mut group = tree.condition.0.0.pop().expect(&rt, "an and-condition");
     let mut relation = group.0.0.pop().expect(&rt, "a relation");
-    relation.range_list = ast::RangeList(Sequence(Vec::new(alloc)));
+    relation.range_list = ast::RangeList(Vec::new(alloc).into());
     let large = ast::RangeListItem::Range(ast::Value(0), ast::Value(4294967296));
     relation.range_list.0.0.push(large)?;
     group.0.0.push(relation)?;
@@ -140,7 +141,7 @@ fn an_empty_and_condition_vanishes(rt: HostRuntime) -> Result<(), Fail> {
     tree.condition
         .0
         .0
-        .push(ast::AndCondition(Sequence(Vec::new(alloc))))?;
+        .push(ast::AndCondition(Vec::new(alloc).into()))?;
     tree.condition.0.0.push(last)?;
     let packed = Rule::try_from(alloc, &tree).expect(&rt, "the tree packs");
     let rule = Rule::from_str(alloc, "i = 1 or v = 0").expect(&rt, "a rule");

@@ -1,5 +1,5 @@
-use crate::tests::LONG_RULE_BYTES;
 use crate::tests::assertion::holds;
+use crate::tests::{CLDR_RULES, LONG_RULE_BYTES};
 use packed_list::ListError;
 use plural_reference::{ParseError, ast, parse_condition};
 use plural_runtime::{Rule, RuleBytesError, RuleError};
@@ -31,7 +31,7 @@ fn packs_texts_and_prints_them_again(rt: HostRuntime) -> Result<(), Fail> {
             "i = 1",
         ),
     ];
-    for (text, bytes, printed) in rows {
+    for (text, bytes, printed) in rows.into_iter().chain(CLDR_RULES) {
         let rule = Rule::from_str(alloc, text).expect(&rt, "a rule");
         holds!(rt; rule.as_bytes() == bytes, text);
         holds!(rt; format!(in alloc; "{rule}")?.as_str() == printed, text);
@@ -39,6 +39,7 @@ fn packs_texts_and_prints_them_again(rt: HostRuntime) -> Result<(), Fail> {
         holds!(rt; tree.samples.is_none());
         let again = Rule::try_from(alloc, &tree).expect(&rt, "the tree packs");
         holds!(rt; again == rule, text);
+        holds!(rt; again.try_clone()? == rule, text);
         let printed_again = Rule::from_str(alloc, printed).expect(&rt, "the text packs");
         holds!(rt; printed_again == rule, text);
     }
@@ -101,7 +102,7 @@ fn packs_up_to_the_last_start(rt: HostRuntime) -> Result<(), Fail> {
             modulus: Some(ast::Value(4294967296)),
         },
         operator: ast::Operator::Eq,
-        range_list: ast::RangeList(plural_reference::Sequence(Vec::new(alloc))),
+        range_list: ast::RangeList(Vec::new(alloc).into()),
     };
     group.0.0.push(relation)?;
     tree.condition.0.0.push(group)?;
