@@ -39,7 +39,7 @@ fn only_the_words_after_the_name_are_texts(rt: HostRuntime) {
     let rows: [(&[&[u8]], Option<usize>); 6] = [
         (&[], Some(0)),
         (&[b"plurals"], Some(0)),
-        (&[b"/tmp/\xff", b"print", b"a"], Some(2)),
+        (&[b"bin/\xff", b"print", b"a"], Some(2)),
         (&[b"plurals", b"\xff"], None),
         (&[b"plurals", b"print", b"\xc3"], None),
         (&[b"\xff", b"\xff"], None),
