@@ -65,7 +65,7 @@ fn a_long_number_has_the_category_of_all_its_digits(rt: HostRuntime) -> Result<(
 #[test]
 fn each_place_is_filled_with_the_text_as_given(rt: HostRuntime) -> Result<(), Fail> {
     let rules = rules(rt.alloc(), "i = 1 and v = 0")?;
-    let rows: [(&[u8], &str, &str); 8] = [
+    let rows: [(&[u8], &str, &str); 10] = [
         (b"\0{} of {}", "2", "2 of 2"),
         (b"\0{{}}", "1", "{1}"),
         (b"\0{", "1", "{"),
@@ -74,6 +74,16 @@ fn each_place_is_filled_with_the_text_as_given(rt: HostRuntime) -> Result<(), Fa
         (b"\0{}", "+01.50", "+01.50"),
         (b"\0", "5", ""),
         (b"\0no number", "5", "no number"),
+        (
+            b"\0{} {} {} {} {} {} {} {} {} {}",
+            "12.50",
+            "12.50 12.50 12.50 12.50 12.50 12.50 12.50 12.50 12.50 12.50",
+        ),
+        (
+            b"\0Of the files in this folder and in all the folders below it, {} were changed since the last copy was made of them.",
+            "1000000",
+            "Of the files in this folder and in all the folders below it, 1000000 were changed since the last copy was made of them.",
+        ),
     ];
     for (elements, number, text) in rows {
         let message = Message::new(PluralElementsPackedULE::parse_bytes(elements)?);
@@ -105,17 +115,29 @@ fn what_is_no_number_has_no_message(rt: HostRuntime) -> Result<(), Fail> {
 fn growth_of_a_message_may_be_refused(rt: HostRuntime) -> Result<(), Fail> {
     let one = "i = 1 and v = 0";
     let rules = rules(rt.alloc(), one).or_else(|_| rules(rt.alloc(), one))?;
-    let message = Message::new(PluralElementsPackedULE::parse_bytes(b"\0{} of {} items")?);
-    let mut is_answered = false;
-    for _ in 0..2 {
-        match message.format(rt.alloc(), "1000.50c6", &rules) {
-            Ok(text) => {
-                holds!(rt; text.as_str() == "1000.50c6 of 1000.50c6 items");
-                is_answered = true;
+    let rows: [(&[u8], &str, &str); 4] = [
+        (
+            b"\0{} of {} items",
+            "1000.50c6",
+            "1000.50c6 of 1000.50c6 items",
+        ),
+        (ITEMS, "-1", "-1 item"),
+        (NONE_AT_ZERO, "0", "none"),
+        (b"\0", "5", ""),
+    ];
+    for (elements, number, text) in rows {
+        let message = Message::new(PluralElementsPackedULE::parse_bytes(elements)?);
+        let mut is_answered = false;
+        for _ in 0..2 {
+            match message.format(rt.alloc(), number, &rules) {
+                Ok(filled) => {
+                    holds!(rt; filled.as_str() == text, number);
+                    is_answered = true;
+                }
+                Err(error) => holds!(rt; error == MessageError::Memory, number),
             }
-            Err(error) => holds!(rt; error == MessageError::Memory),
         }
+        holds!(rt; is_answered, number);
     }
-    holds!(rt; is_answered);
     Ok(())
 }

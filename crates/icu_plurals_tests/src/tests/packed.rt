@@ -136,11 +136,12 @@ fn bytes_tell_elements_apart(rt: HostRuntime) -> Result<(), Fail> {
 
 #[test]
 fn refuses_broken_elements(rt: HostRuntime) {
-    let rows: [(&[u8], ElementsBytesError); 18] = [
+    let rows: [(&[u8], ElementsBytesError); 19] = [
         (b"", ElementsBytesError::Empty),
         (b"\x80", ElementsBytesError::Short),
         (b"\x90", ElementsBytesError::Short),
         (b"\x80\x03a", ElementsBytesError::Short),
+        (b"\x10", ElementsBytesError::Padding),
         (b"\x10a", ElementsBytesError::Padding),
         (b"\x10\xff", ElementsBytesError::Padding),
         (b"\x90\x01a", ElementsBytesError::Padding),

@@ -29,7 +29,8 @@ fn answers(rule: &Rule<'_>) -> [bool; 4] {
 
 #[test]
 fn refuses_hostile_bytes(rt: HostRuntime) {
-    let rows: [(&[u8], RuleBytesError); 9] = [
+    let rows: [(&[u8], RuleBytesError); 10] = [
+        (b"\0", RuleBytesError::List(ListError::Header)),
         (b"\x01", RuleBytesError::List(ListError::Header)),
         (b"\x02\0", RuleBytesError::List(ListError::Header)),
         (b"\xff\xff", RuleBytesError::List(ListError::Header)),
