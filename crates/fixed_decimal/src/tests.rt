@@ -344,3 +344,24 @@ fn a_shift_answers_where_growth_is_refused(rt: HostRuntime) -> Result<(), Fail> 
     }
     Ok(())
 }
+
+#[test]
+fn growth_of_accepted_texts_may_be_refused(rt: HostRuntime) -> Result<(), Fail> {
+    let alloc = rt.alloc();
+    let short = either(
+        Decimal::from_str(alloc, ".50"),
+        Decimal::from_str(alloc, ".50"),
+    )?;
+    holds!(rt; is_written(&short.absolute, (-2, 0), "050"));
+    let mut text = repeated(alloc, "9", 32767).or_else(|_| repeated(alloc, "9", 32767))?;
+    if text.push_str("c2").is_err() {
+        text.push_str("c2")?;
+    }
+    let longest = either(
+        CompactDecimal::from_str(alloc, text.as_str()),
+        CompactDecimal::from_str(alloc, text.as_str()),
+    )?;
+    holds!(rt; longest.exponent() == 2);
+    holds!(rt; longest.significand().absolute.magnitude_range() == (0, 32766));
+    Ok(())
+}

@@ -87,6 +87,20 @@ fn growth_before_a_fault_may_be_refused(rt: HostRuntime) {
     }
 }
 
+// What is read is printed in another form than it was written, or only its beginning is read.
+#[test]
+fn growth_of_samples_may_be_refused(rt: HostRuntime) {
+    let table = [
+        ("@integer 1 2, …", " @integer 12, …"),
+        ("@integer 1e05", " @integer 1e0"),
+        ("@integer 1c6", " @integer 1c6"),
+    ];
+    for (text, printed) in table {
+        let rule = rule_of(rt.alloc(), text);
+        holds!(rt; rule.is_ok_and(|read| rule_prints(&read, printed)), text);
+    }
+}
+
 #[test]
 fn growth_of_clones_may_be_refused(rt: HostRuntime) {
     for text in [
