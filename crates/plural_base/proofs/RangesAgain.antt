@@ -1,5 +1,5 @@
 -- Ranges that are written and read again.
-use Rattle.std.proofs.Common.{◌≡◌, ℕ, List, [], ◌∷◌, ◌==◌, ◌⊎◌, ◌||◌, Bool, true, false, refl, sym, subst, ap, ◌∙◌, inl, inr, Option, Some, None, Ok, Err, codes, option_map, if◌then◌else◌, Ordering, Less, Equal, Greater, is_eq, nat_cmp}
+use Rattle.std.proofs.Common.{◌≡◌, ℕ, List, [], ◌∷◌, ◌==◌, ◌⊎◌, ◌||◌, Bool, true, false, refl, sym, subst, ap, ◌∙◌, inl, inr, Option, Some, None, Ok, Err, option_map, if◌then◌else◌, Ordering, Less, Equal, Greater, is_eq, nat_cmp}
 use Rattle.std.proofs.lemmas.Bool.{eqb-true}
 use Rattle.std.proofs.lemmas.Cmp.{nat_list_cmp_total, tied_itself}
 use Rattle.std.proofs.lemmas.Map.Text.{is_eq-slice_cmp}
@@ -11,7 +11,7 @@ use Rattle.plural_base.specs.declared.json_error.JsonError.TheVariants.{Float, R
 use Rattle.plural_base.specs.declared.ranges.PluralRanges.{PluralRanges}
 use Rattle.plural_base.specs.declared.raw_category.RawPluralCategory.{RawPluralCategory}
 use Rattle.plural_base.specs.ByCategory.{at, each, put_at}
-use Rattle.plural_base.specs.CategoryNames.{number_of, raw_name_of}
+use Rattle.plural_base.specs.CategoryNames.{number_of}
 use Rattle.plural_base.specs.RangeKeys.{Range, range_named, range_text}
 use Rattle.plural_base.specs.RangesJson.{AreMembersOf, IsJsonOfRanges, category_shape, keys_in, members_shape, name_json, object_under, ranges_of_json, ranges_shape, there_or}
 use Rattle.plural_base.specs.RangeTable.{category_at, no_ranges, with_range}
