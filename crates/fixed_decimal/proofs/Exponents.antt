@@ -4,10 +4,9 @@ use Rattle.std.proofs.lemmas.Bool.{cases_lt}
 use Rattle.std.proofs.lemmas.List.{take_at, drop_at, get_or-append-add}
 use Rattle.std.proofs.Math.ListN.{get_or-append}
 use Rattle.fixed_decimal.specs.Digits.{AreDigits, text_of, value_of}
-use Rattle.fixed_decimal.specs.Compact.{CompactNumber}
-use Rattle.fixed_decimal.specs.Written.{WritesDecimal, HasExponent, WritesCompact, IsCompactOverLimit}
+use Rattle.fixed_decimal.specs.Written.{CompactNumber, WritesDecimal, HasExponent, WritesCompact, IsCompactOverLimit}
 use Rattle.fixed_decimal.specs.Places.{IsOverLimit}
-use Rattle.fixed_decimal.specs.TextParts.{IsDigitByte, WritesUpToThree, digits_in}
+use Rattle.fixed_decimal.specs.Inner.TextParts.{IsDigitByte, WritesUpToThree, digits_in}
 use Rattle.fixed_decimal.specs.declared.decimal.Decimal.{Decimal}
 use Rattle.fixed_decimal.proofs.Points.{length-text_of, digit_byte_at, digits_back, length-digits_in}
 use Rattle.fixed_decimal.proofs.Texts.{digits_in-text_of}

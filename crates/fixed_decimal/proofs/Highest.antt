@@ -5,7 +5,7 @@ use Rattle.std.proofs.lemmas.Bool.{cases_lt}
 use Rattle.std.proofs.lemmas.List.{length-reverse}
 use Rattle.std.proofs.Math.ListN.{get_or-eq_default}
 use Rattle.fixed_decimal.specs.Places.{Places, digit_at, HasDigitFrom}
-use Rattle.fixed_decimal.specs.UnsignedInside.{digits_of, places_of, IsSpan}
+use Rattle.fixed_decimal.specs.Inner.UnsignedInside.{digits_of, places_of, IsSpan}
 use Rattle.fixed_decimal.specs.declared.unsigned.UnsignedDecimal.TheInside.{Inside}
 use Rattle.fixed_decimal.proofs.Spans.{digit_before, digit_after, digit_at_index, length-whole, negative_place, whole_place}
 

@@ -3,8 +3,8 @@ use Rattle.std.proofs.Common.{◌≡◌, ◌≢◌, ℕ, zero, suc, ◌+◌, ◌
 use Rattle.std.proofs.lemmas.List.{length-take-le, get_or-take, get_or-drop, take-append-drop, take_all, take_at, drop_at, take-take}
 use Rattle.fixed_decimal.specs.Digits.{AreDigits}
 use Rattle.fixed_decimal.specs.Places.{or_zero}
-use Rattle.fixed_decimal.specs.UnsignedInside.{digits_of, places_of, IsSpan}
-use Rattle.fixed_decimal.specs.TextParts.{AllDigitBytes, digits_in, written_digits, AreZeros}
+use Rattle.fixed_decimal.specs.Inner.UnsignedInside.{digits_of, places_of, IsSpan}
+use Rattle.fixed_decimal.specs.Inner.TextParts.{AllDigitBytes, digits_in, written_digits, AreZeros}
 use Rattle.fixed_decimal.specs.declared.unsigned.UnsignedDecimal.TheInside.{Inside}
 use Rattle.fixed_decimal.proofs.Spans.{AreDigits-append, AreDigits-take, AreDigits-drop, same_places}
 use Rattle.fixed_decimal.proofs.Points.{digits_back, length-digits_in, or_zero-digits, length-or_zero}

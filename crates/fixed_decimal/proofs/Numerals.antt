@@ -8,7 +8,7 @@ use Rattle.std.proofs.lemmas.Nat.{div-add-mod', mod_below}
 use Rattle.std.proofs.Math.ListN.{get_or-append}
 use Rattle.fixed_decimal.specs.Digits.{value_of, IsNumeral}
 use Rattle.fixed_decimal.specs.Places.{or_zero}
-use Rattle.fixed_decimal.specs.TextParts.{IsDigitByte, AllDigitBytes, digits_in}
+use Rattle.fixed_decimal.specs.Inner.TextParts.{IsDigitByte, AllDigitBytes, digits_in}
 use Rattle.fixed_decimal.proofs.Points.{digits_back, or_zero-same, length-digits_in}
 use Rattle.fixed_decimal.proofs.Values.{value_of-append}
 

@@ -2,7 +2,7 @@
 use Rattle.std.proofs.Common.{◌≡◌, ◌≢◌, ℕ, zero, suc, ◌<◌, List, ◌++◌, refl, sym, ◌∙◌, ap, subst, length, arith, get_or}
 use Rattle.fixed_decimal.specs.Places.{Places, IsOverLimit}
 use Rattle.fixed_decimal.specs.Written.{WritesUnsigned, WritesDecimal, sign_text}
-use Rattle.fixed_decimal.specs.TextParts.{HasNoSign}
+use Rattle.fixed_decimal.specs.Inner.TextParts.{HasNoSign}
 use Rattle.fixed_decimal.specs.declared.sign.Sign.{Sign}
 use Rattle.fixed_decimal.specs.declared.sign.Sign.TheVariants as sign
 use Rattle.fixed_decimal.specs.declared.decimal.Decimal.{Decimal}

@@ -7,7 +7,7 @@ use Rattle.std.proofs.Math.Seq.{take-suc, drop-cons}
 use Rattle.std.proofs.Math.ListN.{drop_of_length-le, get_or-eq_default, get_or-append}
 use Rattle.fixed_decimal.specs.Digits.{AreDigits}
 use Rattle.fixed_decimal.specs.Places.{Places, IsWritten, IsWithinLimit, IsOverLimit, one_right, one_left, or_zero, shift_right, shift_left, shift, digit_at}
-use Rattle.fixed_decimal.specs.UnsignedInside.{digits_of, places_of, IsSpan}
+use Rattle.fixed_decimal.specs.Inner.UnsignedInside.{digits_of, places_of, IsSpan}
 use Rattle.fixed_decimal.specs.declared.unsigned.UnsignedDecimal.TheInside.{Inside}
 
 zeros_are_digits : (n : ℕ) → AreDigits (replicate n 0)

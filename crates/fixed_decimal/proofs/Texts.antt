@@ -5,7 +5,7 @@ use Rattle.std.proofs.lemmas.List.{take_at, drop_at, take_all, drop_all}
 use Rattle.fixed_decimal.specs.Digits.{text_of}
 use Rattle.fixed_decimal.specs.Places.{Places, or_zero}
 use Rattle.fixed_decimal.specs.Written.{WritesUnsigned}
-use Rattle.fixed_decimal.specs.TextParts.{IsDigitByte, HasPointAt, HasNoSign, digits_in, number_at}
+use Rattle.fixed_decimal.specs.Inner.TextParts.{IsDigitByte, HasPointAt, HasNoSign, digits_in, number_at}
 use Rattle.fixed_decimal.proofs.Spans.{same_places}
 use Rattle.fixed_decimal.proofs.Points.{length-text_of, has_point, one_point, no_point, at_point, or_zero-same}
 

@@ -1,9 +1,8 @@
 -- Worked texts and a worked shift, by the definitions.
 use Rattle.std.proofs.Common.{◌≡◌, ℕ, zero, suc, ◌+◌, ◌<◌, ◌≤◌, inr, [], ◌∷◌, refl, ap, length, length-append, ◌∙◌, codes, arith, negsuc, lit<}
 use Rattle.fixed_decimal.specs.Places.{Places, shift}
-use Rattle.fixed_decimal.specs.Compact.{CompactNumber}
-use Rattle.fixed_decimal.specs.Written.{WritesUnsigned, WritesCompact}
-use Rattle.fixed_decimal.specs.TextParts.{HasPointAt}
+use Rattle.fixed_decimal.specs.Written.{CompactNumber, WritesUnsigned, WritesCompact}
+use Rattle.fixed_decimal.specs.Inner.TextParts.{HasPointAt}
 use Rattle.fixed_decimal.proofs.Points.{has_point}
 use Rattle.fixed_decimal.proofs.Exponents.{exponent_short, no_letter_before}
 

@@ -1,15 +1,21 @@
--- Texts and the numbers that they write. A text is a list of bytes.
+-- A compact decimal: a decimal, and the power of ten that its text names.
+use Rattle.std.specs.Prelude.{ℕ, ◌≡◌, ◌<◌, ◌≤◌, ◌⊎◌, List, [], ◌∷◌, ◌++◌, length, codes}
+use Rattle.fixed_decimal.specs.declared.decimal.Decimal.{Decimal}
+use Rattle.fixed_decimal.specs.Digits.{AreDigits, value_of, text_of}
+use Rattle.fixed_decimal.specs.Places.{Places, IsWritten, IsOverLimit}
+use Rattle.fixed_decimal.specs.declared.sign.Sign.{Sign}
+use Rattle.fixed_decimal.specs.declared.sign.Sign.TheVariants as sign
+
+-- the decimal before the letter, and the exponent behind it
+pub record CompactNumber : Type 0 where
+  pub significand : Decimal
+  pub exponent : ℕ
+
+-- ---- Texts and the numbers that they write. A text is a list of bytes.
 --     WritesUnsigned text x      digits, digits `.` digits, or `.` digits; with no digit before the point, the
 --                                integer digit is 0
 --     WritesDecimal text x      an unsigned decimal, behind a sign or not
 --     WritesCompact text x      a decimal, then nothing, or `c` and one to three digits
-use Rattle.std.specs.Prelude.{◌≡◌, ℕ, ◌<◌, ◌≤◌, ◌⊎◌, List, [], ◌∷◌, ◌++◌, length, codes}
-use Rattle.fixed_decimal.specs.Digits.{AreDigits, value_of, text_of}
-use Rattle.fixed_decimal.specs.Places.{Places, IsWritten, IsOverLimit}
-use Rattle.fixed_decimal.specs.Compact.{CompactNumber}
-use Rattle.fixed_decimal.specs.declared.sign.Sign.{Sign}
-use Rattle.fixed_decimal.specs.declared.sign.Sign.TheVariants as sign
-use Rattle.fixed_decimal.specs.declared.decimal.Decimal.{Decimal}
 
 -- the three ways in which the digits may stand
 abbrev pub StandsAs : List ℕ → Places → Type 0
@@ -57,3 +63,15 @@ WritesCompact text x =
 -- too many places, or an exponent above 255
 abbrev pub IsCompactOverLimit : CompactNumber → Type 0
 IsCompactOverLimit x = IsOverLimit x.significand.absolute ⊎ (255 < x.exponent)
+
+-- ---- The statements of the law `texts_write_one_number`: a text writes one number at most.
+--     OneUnsigned, OneSigned, OneCompact      as an unsigned decimal, as a decimal, as a compact decimal
+
+abbrev pub OneUnsigned : Type 0
+OneUnsigned = (text : List ℕ) (x y : Places) → WritesUnsigned text x → WritesUnsigned text y → x ≡ y
+
+abbrev pub OneSigned : Type 0
+OneSigned = (text : List ℕ) (x y : Decimal) → WritesDecimal text x → WritesDecimal text y → x ≡ y
+
+abbrev pub OneCompact : Type 0
+OneCompact = (text : List ℕ) (x y : CompactNumber) → WritesCompact text x → WritesCompact text y → x ≡ y

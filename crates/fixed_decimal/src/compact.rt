@@ -2,8 +2,7 @@
 
 ghost use Rattle.std.specs.Prelude.{◌≡◌, ◌≤◌, ◌↔◌, IfOk};
 ghost use Rattle.fixed_decimal.specs.Places.{IsWithinLimit};
-ghost use Rattle.fixed_decimal.specs.Compact.{CompactNumber};
-ghost use Rattle.fixed_decimal.specs.Written.{WritesCompact, IsCompactOverLimit};
+ghost use Rattle.fixed_decimal.specs.Written.{CompactNumber, WritesCompact, IsCompactOverLimit};
 
 use crate::decimal::parts_within;
 use crate::exponent::split_exponent;

@@ -4,7 +4,7 @@ ghost use Rattle.std.specs.Prelude.{◌≡◌, ◌≢◌, ◌↔◌, ◌++◌, [
 ghost use Rattle.fixed_decimal.specs.Places.{IsWithinLimit, IsOverLimit, shift};
 ghost use Rattle.fixed_decimal.specs.Digits.{IsNumeral};
 ghost use Rattle.fixed_decimal.specs.Written.{WritesDecimal, sign_text};
-ghost use Rattle.fixed_decimal.specs.TextParts.{HasPointWithin};
+ghost use Rattle.fixed_decimal.specs.Inner.TextParts.{HasPointWithin};
 ghost use Rattle.fixed_decimal.specs.declared.sign.Sign.TheVariants as sign;
 ghost use Rattle.fixed_decimal.specs.declared.decimal.Decimal.{Decimal as SignedNumber};
 

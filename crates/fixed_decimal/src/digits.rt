@@ -1,7 +1,7 @@
 //! Runs of digits in a text, and how long they may be.
 
 ghost use Rattle.std.specs.Prelude.{◌≤◌, ◌<◌, length, slice_index};
-ghost use Rattle.fixed_decimal.specs.TextParts.{AreDigitBytes, IsDigitByte};
+ghost use Rattle.fixed_decimal.specs.Inner.TextParts.{AreDigitBytes, IsDigitByte};
 
 // So many places there may be on a side.
 pub(crate) const MOST_PLACES: u16 = 32767;

@@ -1,7 +1,7 @@
 //! Why a decimal can't be had.
 
 ghost use Rattle.std.specs.Prelude.{◌≡◌, Some};
-ghost use Rattle.fixed_decimal.specs.DecimalErrorTexts.{error_text};
+ghost use Rattle.fixed_decimal.specs.FixedDecimalErrors.{error_text};
 ghost use Rattle.fixed_decimal.specs.declared.error.DecimalError.TheVariants.{Memory};
 
 use std::alloc::{AllocError, AllocFailed};

@@ -3,7 +3,7 @@
 ghost use Rattle.std.specs.Prelude.{◌≡◌, ◌≢◌, ℕ, ◌+◌, ◌-◌, ◌<◌, ◌≤◌, ◌↔◌, List, ◌++◌, length, slice_index, IfSome, IsSomeAnd};
 ghost use Rattle.fixed_decimal.specs.Digits.{value_of};
 ghost use Rattle.fixed_decimal.specs.Written.{WritesDecimal, HasExponent};
-ghost use Rattle.fixed_decimal.specs.TextParts.{AllDigitBytes, digits_in, WritesUpToThree, letter_c};
+ghost use Rattle.fixed_decimal.specs.Inner.TextParts.{AllDigitBytes, digits_in, WritesUpToThree, letter_c};
 ghost use Rattle.fixed_decimal.specs.declared.decimal.Decimal.{Decimal as SignedNumber};
 
 use crate::digits::run_end;

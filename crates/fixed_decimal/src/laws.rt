@@ -1,6 +1,6 @@
 //! What holds of the texts of decimals, whichever they are.
 
-ghost use Rattle.fixed_decimal.specs.OneNumber.{OneUnsigned, OneSigned, OneCompact};
+ghost use Rattle.fixed_decimal.specs.Written.{OneUnsigned, OneSigned, OneCompact};
 
 /// A text writes one number at most: it determines the sign, every place and the exponent.
 pub fn texts_write_one_number()

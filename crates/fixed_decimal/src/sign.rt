@@ -2,7 +2,7 @@
 
 ghost use Rattle.std.specs.Prelude.{◌≡◌, ℕ, List, ◌++◌};
 ghost use Rattle.fixed_decimal.specs.Written.{sign_text};
-ghost use Rattle.fixed_decimal.specs.TextParts.{HasNoSign};
+ghost use Rattle.fixed_decimal.specs.Inner.TextParts.{HasNoSign};
 
 /// The sign that a decimal's text begins with.
 #[derive(Clone, Copy, Debug, PartialEq, Eq)]

@@ -1,7 +1,7 @@
 //! The digits that a text writes before and behind its point, and the span of those that are kept.
 
 ghost use Rattle.std.specs.Prelude.{◌≡◌, ◌+◌, ◌-◌, ◌<◌, ◌≤◌, ◌≢◌, length, take, drop, slice_index, IfOk};
-ghost use Rattle.fixed_decimal.specs.TextParts.{AllDigitBytes, written_digits, AreZeros};
+ghost use Rattle.fixed_decimal.specs.Inner.TextParts.{AllDigitBytes, written_digits, AreZeros};
 
 use std::alloc::{AllocError, Global};
 

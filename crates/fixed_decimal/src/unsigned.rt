@@ -3,7 +3,7 @@
 ghost use Rattle.std.specs.Prelude.{◌≡◌, ◌+◌, ◌-◌, ◌≤◌, ◌++◌, ◌↔◌, pos, neg_ℤ, [], length, slice_index, IfOk, IfErr, OnOk, OnErr, IsTrue};
 ghost use Rattle.fixed_decimal.specs.Digits.{IsNumeral};
 ghost use Rattle.fixed_decimal.specs.Written.{WritesUnsigned};
-ghost use Rattle.fixed_decimal.specs.TextParts.{AllDigitBytes, HasPointWithin, number_of, number_at};
+ghost use Rattle.fixed_decimal.specs.Inner.TextParts.{AllDigitBytes, HasPointWithin, number_of, number_at};
 ghost use Rattle.fixed_decimal.specs.Places.{Places, IsWritten, IsWithinLimit, IsOverLimit, shift, shift_left, shift_right, digit_at, HasDigitFrom};
 
 use crate::DecimalError;
@@ -26,7 +26,7 @@ pub struct UnsignedDecimal {
 
 impl Model for UnsignedDecimal {
     ghost use Rattle.fixed_decimal.specs.Places.{Places};
-    ghost use Rattle.fixed_decimal.specs.UnsignedInside.{places_of, IsSpan};
+    ghost use Rattle.fixed_decimal.specs.Inner.UnsignedInside.{places_of, IsSpan};
 
     ghost Value = { Places };
 

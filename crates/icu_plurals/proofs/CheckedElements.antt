@@ -1,6 +1,6 @@
 -- Bytes of packed elements are those of no others.
 use Rattle.std.proofs.Common.{◌≡◌, ℕ, List, sym, ◌∙◌, subst}
-use Rattle.icu_plurals.specs.ElementsReading.{AreElements}
+use Rattle.icu_plurals.specs.Inner.ElementsReading.{AreElements}
 use Rattle.icu_plurals.specs.PackedElements.{PackedElements, ElementsBytes}
 use Rattle.icu_plurals.proofs.ElementsAgain.{PackedItems, elements_in_one}
 

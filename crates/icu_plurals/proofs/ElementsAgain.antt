@@ -9,12 +9,12 @@ use Rattle.std.specs.Option.{option_or}
 use Rattle.std.specs.Cmp.{first_so, second_so}
 use Rattle.std.proofs.lemmas.Bool.{le-ltb, lt-ltb, le-leb, leb-true, ltb-false}
 use Rattle.packed_list.specs.ListBytes.{CanPack, ListBytes, list_bytes}
-use Rattle.packed_list.specs.ListReading.{items_in, AreBytes}
+use Rattle.packed_list.specs.Inner.ListReading.{items_in, AreBytes}
 use Rattle.icu_plurals.specs.PackedElements.{PackedValue, PackedItem, PackedElements, IsPackedItem, IsPackedValue, CanPackItems, ElementsBytes, item_bytes, bytes_with}
 use Rattle.icu_plurals.specs.declared.packed.error.ElementsBytesError.{ElementsBytesError}
 use Rattle.icu_plurals.specs.declared.packed.error.ElementsBytesError.TheVariants as errors
 use Rattle.icu_plurals.specs.ElementsFaults.{ElementsParts, PartsWith, ArePartsOf, HasPadding, item_fault, first_fault}
-use Rattle.icu_plurals.specs.ElementsReading.{item_in, elements_in, elements_behind, AreElements, is_item, IsGoodRest, AreGoodParts, AreShown}
+use Rattle.icu_plurals.specs.Inner.ElementsReading.{item_in, elements_in, elements_behind, AreElements, is_item, IsGoodRest, AreGoodParts, AreShown}
 
 -- ---- items
 

@@ -9,7 +9,7 @@ use Rattle.packed_list.specs.ListBytes.{ListBytes}
 use Rattle.icu_plurals.specs.declared.packed.error.ElementsBytesError.{ElementsBytesError}
 use Rattle.icu_plurals.specs.declared.packed.error.ElementsBytesError.TheVariants.{Empty, Short, Padding, DefaultText, List as InList, ItemEmpty, Key, ItemText}
 use Rattle.icu_plurals.specs.ElementsFaults.{ElementsParts, PartsWith, ArePartsOf, IsShort, HasPadding, HasItemsFault, HasRestFault, HasPartsFault, HasElementsFault, item_fault, first_fault}
-use Rattle.icu_plurals.specs.ElementsReading.{HasPlaceFault, AreGoodItems, IsGoodRest, AreGoodParts}
+use Rattle.icu_plurals.specs.Inner.ElementsReading.{HasPlaceFault, AreGoodItems, IsGoodRest, AreGoodParts}
 use Rattle.icu_plurals.proofs.ElementsAgain.{one_parts}
 
 -- ---- faults of the first byte and of the length

@@ -10,8 +10,7 @@ use Rattle.plural_base.specs.declared.category.PluralCategory.TheVariants.{Zero,
 use Rattle.plural_base.specs.FiveRules.{FiveRules, first_category}
 use Rattle.plural_runtime.specs.PackedTruth.{packed_truth}
 use Rattle.icu_plurals.specs.Elements.{Elements, of_category, element_at, explicit_at, unless_equal}
-use Rattle.icu_plurals.specs.PackedElements.{PackedValue, PackedItem, elements_of, is_same_value, item_at, none_if_empty, packed_items, packed_of, value_at}
-use Rattle.icu_plurals.specs.ElementsPacking.{without_repeats}
+use Rattle.icu_plurals.specs.PackedElements.{PackedValue, PackedItem, elements_of, is_same_value, item_at, none_if_empty, packed_items, packed_of, value_at, without_repeats}
 
 -- ---- the value of a key among items
 

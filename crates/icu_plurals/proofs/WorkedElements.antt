@@ -1,11 +1,11 @@
 -- The definitions at worked examples.
 use Rattle.std.proofs.Common.{◌≡◌, ℕ, List, [], ◌∷◌, refl, Some, None, codes}
-use Rattle.packed_list.specs.ListReading.{items_in}
+use Rattle.packed_list.specs.Inner.ListReading.{items_in}
 use Rattle.icu_plurals.specs.declared.packed.error.ElementsBytesError.TheVariants as errors
 use Rattle.icu_plurals.specs.Elements.{Elements, only_other}
 use Rattle.icu_plurals.specs.PackedElements.{PackedValue, PackedItem, PackedElements, elements_bytes, elements_of, packed_of}
 use Rattle.icu_plurals.specs.ElementsFaults.{first_fault}
-use Rattle.icu_plurals.specs.ElementsReading.{elements_in}
+use Rattle.icu_plurals.specs.Inner.ElementsReading.{elements_in}
 
 -- a text without metadata
 abbrev plain : List ℕ → PackedValue

@@ -6,8 +6,7 @@ use Rattle.plural_base.specs.declared.json_error.ElementsPackError.TheVariants.{
 use Rattle.plural_base.specs.declared.json_error.JsonError.TheVariants.{Shape}
 use Rattle.icu_plurals.specs.Elements.{Elements, only_other}
 use Rattle.icu_plurals.specs.ElementsJson.{elements_json, packed_of_json}
-use Rattle.icu_plurals.specs.ElementsPacking.{pack_fault, without_repeats}
-use Rattle.icu_plurals.specs.PackedElements.{PackedValue, elements_bytes, packed_of}
+use Rattle.icu_plurals.specs.PackedElements.{pack_fault, without_repeats, PackedValue, elements_bytes, packed_of}
 
 abbrev plain : List ℕ → PackedValue
 plain text = record { metadata = 0; text = text }

@@ -4,12 +4,16 @@
 --     values_in_order e      the eight places in the order in which closures are called
 --     of_category e c      the value of a category, or other's
 --     element_at e op rules      the value at operands: the explicit one, else that of the category that the rules choose, else other's
-use Rattle.std.specs.Prelude.{ℕ, ◌==◌, ◌&&◌, List, [], ◌∷◌, Bool, Option, Some, None, option_map, unwrap_or, if◌then◌else◌}
-use Rattle.plural_reference.specs.Operands.{Operands}
+use Rattle.std.specs.Prelude.{ℕ, ◌==◌, ◌&&◌, List, [], ◌∷◌, Bool, Option, Some, None, option_map, unwrap_or, if◌then◌else◌, ◌≡◌}
+use Rattle.plural_reference.specs.Operands.{Operands, AreCut, AreExact}
 use Rattle.plural_runtime.specs.PackedTruth.{packed_truth}
-use Rattle.plural_base.specs.FiveRules.{FiveRules, first_category}
+use Rattle.plural_base.specs.FiveRules.{FiveRules, first_category, Five, moduli_of}
 use Rattle.plural_base.specs.declared.category.PluralCategory.{PluralCategory}
 use Rattle.plural_base.specs.declared.category.PluralCategory.TheVariants.{Zero, One, Two, Few, Many, Other}
+use Rattle.fixed_decimal.specs.Places.{Places, IsWritten}
+use Rattle.plural_reference.specs.declared.ast.Condition.{Condition}
+use Rattle.plural_reference.specs.Exactness.{IsWithinBound, exact_truth}
+use Rattle.plural_base.specs.RuleTexts.{AreReadFrom}
 
 pub record Elements (T : Type 0) : Type 0 where
   pub other : T
@@ -66,3 +70,35 @@ explicit_at e op = if is_exactly 0 op then e.explicit_zero else (if is_exactly 1
 
 abbrev pub element_at : {T : Type 0} → Elements T → Operands → FiveRules → T
 element_at e op rules = unwrap_or (explicit_at e op) (of_category e (first_category (packed_truth op) rules))
+
+-- ---- Which value of elements a written number has under five rules (UTS 35 Part 3, Language Plural Rules, Explicit 0 and 1 Rules).
+--     IsExactElement      within the bound: the one that the number itself has, whatever its length
+--     IsKeptElement      within the bound or not: the one of the operands that are kept of it
+
+-- The value of the exact number: the explicit one where the number is exactly 0 or 1 and it is there, else that of the first of
+-- zero, one, two, few, many whose condition is there and true of the number, else other's.
+abbrev pub exact_element_at : {T : Type 0} → Elements T → Operands → Five (Option Condition) → T
+exact_element_at e exact conditions =
+    unwrap_or (explicit_at e exact) (of_category e (first_category (exact_truth exact) conditions))
+
+-- Whatever five texts the rules are read from: if the number, with its compact exponent, is within the bound, the value is
+-- that of the exact number. A modulus 0 is no modulus in exact truth.
+abbrev pub IsExactElement : {T : Type 0} → Elements T → FiveRules → Places → ℕ → T → Type 0
+IsExactElement e rules number exponent value =
+    (texts : Five (Option (List ℕ))) (conditions : Five (Option Condition)) (exact : Operands)
+    → AreReadFrom texts conditions rules
+    → IsWithinBound number exponent (moduli_of rules) → AreExact number exponent exact
+    → value ≡ exact_element_at e exact conditions
+
+-- The value is that of the operands that are kept of the number.
+abbrev pub IsKeptElement : {T : Type 0} → Elements T → FiveRules → Places → ℕ → T → Type 0
+IsKeptElement e rules number exponent value =
+    (kept : Operands) × AreCut number exponent kept × (value ≡ element_at e kept rules)
+
+-- ---- The law
+
+-- the value that the kept operands of a number choose is the one that the exact number has
+abbrev pub KeptElementIsExact : Type 0 → Type 0
+KeptElementIsExact T =
+    (e : Elements T) (rules : FiveRules) (x : Places) (exponent : ℕ) (value : T)
+    → IsWritten x → IsKeptElement e rules x exponent value → IsExactElement e rules x exponent value

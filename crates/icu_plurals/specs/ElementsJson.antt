@@ -8,8 +8,7 @@ use Rattle.plural_base.specs.declared.json_error.ElementsPackError.{ElementsPack
 use Rattle.plural_base.specs.declared.json_error.JsonError.TheVariants.{Shape, Pack}
 use Rattle.plural_base.specs.RulesJson.{Stands, unless_float}
 use Rattle.icu_plurals.specs.Elements.{Elements}
-use Rattle.icu_plurals.specs.ElementsPacking.{pack_fault}
-use Rattle.icu_plurals.specs.PackedElements.{PackedValue, PackedElements, packed_of}
+use Rattle.icu_plurals.specs.PackedElements.{pack_fault, PackedValue, PackedElements, packed_of}
 
 -- ---- Reading
 

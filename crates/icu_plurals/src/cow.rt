@@ -3,11 +3,8 @@
 ghost use Rattle.std.specs.Prelude.{◌≡◌, ◌↔◌, Err, Ok, Some, IfOk, option_map};
 ghost use Rattle.icu_plurals.specs.Elements.{each_by, element_at};
 ghost use Rattle.icu_plurals.specs.ElementsFaults.{HasElementsFault};
-ghost use Rattle.icu_plurals.specs.ElementsPacking.{pack_fault};
-ghost use Rattle.icu_plurals.specs.ElementsReading.{AreElements};
-ghost use Rattle.icu_plurals.specs.ElementsViews.{lent_elements, lent_value};
-ghost use Rattle.icu_plurals.specs.PackedElements.{PackedElements, ElementsBytes, elements_of, packed_of};
-ghost use Rattle.icu_plurals.specs.PlainElements.{plain_value};
+ghost use Rattle.icu_plurals.specs.PackedElements.{pack_fault, PackedElements, ElementsBytes, elements_of, packed_of, plain_value};
+ghost use Rattle.icu_plurals.specs.Inner.ElementsReading.{AreElements, lent_elements, lent_value};
 
 use crate::elements::PluralElements;
 use crate::packed::PluralElementsPackedULE;
@@ -32,7 +29,7 @@ impl<'data> Model for PluralElementsPackedCow<'data> {
 
     ghost Value = { PackedElements };
 
-    ghost use Rattle.icu_plurals.specs.ElementsReading.{AreElements, elements_in};
+    ghost use Rattle.icu_plurals.specs.Inner.ElementsReading.{AreElements, elements_in};
 
     ghost view = { λ packed. elements_in (cow_slice_items packed.bytes) };
 

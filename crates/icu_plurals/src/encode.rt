@@ -3,10 +3,8 @@
 ghost use Rattle.std.specs.Prelude.{◌≡◌, ◌≢◌, ◌↔◌, ◌^◌, ◌<◌, ◌≤◌, Err, Some, IfOk, IsTrue, length};
 ghost use Rattle.packed_list.specs.ListBytes.{CanPack, has_high_start};
 ghost use Rattle.icu_plurals.specs.Elements.{each_by};
-ghost use Rattle.icu_plurals.specs.ElementsPacking.{AnswersAs, pack_fault};
-ghost use Rattle.icu_plurals.specs.ElementsViews.{lent_value};
-ghost use Rattle.icu_plurals.specs.ItemBytes.{bytes_with_items, lent_bytes};
-ghost use Rattle.icu_plurals.specs.PackedElements.{ElementsBytes, IsPackedValue, packed_of};
+ghost use Rattle.icu_plurals.specs.PackedElements.{AnswersAs, pack_fault, ElementsBytes, IsPackedValue, packed_of};
+ghost use Rattle.icu_plurals.specs.Inner.ElementsReading.{lent_value, bytes_with_items, lent_bytes};
 
 mod items;
 

@@ -3,11 +3,9 @@
 ghost use Rattle.std.specs.Prelude.{◌≡◌, ◌↔◌, ℕ, List};
 ghost use Rattle.plural_reference.specs.Operands.{Operands};
 ghost use Rattle.plural_base.specs.FiveRules.{FiveRules};
-ghost use Rattle.icu_plurals.specs.ElementChoice.{KeptElementIsExact};
-ghost use Rattle.icu_plurals.specs.Elements.{Elements, element_at};
-ghost use Rattle.icu_plurals.specs.ElementsPacking.{without_repeats};
-ghost use Rattle.icu_plurals.specs.ElementsReading.{elements_in};
-ghost use Rattle.icu_plurals.specs.PackedElements.{ElementsBytes, PackedElements, PackedValue, elements_of, packed_of};
+ghost use Rattle.icu_plurals.specs.Elements.{KeptElementIsExact, Elements, element_at};
+ghost use Rattle.icu_plurals.specs.PackedElements.{without_repeats, ElementsBytes, PackedElements, PackedValue, elements_of, packed_of};
+ghost use Rattle.icu_plurals.specs.Inner.ElementsReading.{elements_in};
 
 use packed_list::laws::read_again;
 use plural_base::laws::kept_choice_is_exact;

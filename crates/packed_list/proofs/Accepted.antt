@@ -4,9 +4,8 @@ use Rattle.std.proofs.lemmas.List.{drop_more, take-append-drop, drop-drop, lengt
 use Rattle.std.specs.List.{concat, list_any, slice_range}
 use Rattle.std.specs.Prelude.{Bool, flat_map, false, nat_lt}
 use Rattle.std.proofs.lemmas.Bool.{le-ltb}
-use Rattle.packed_list.specs.ListBytes.{two_bytes, starts_from, starts, list_bytes}
-use Rattle.packed_list.specs.ListFaults.{number_at, start_at}
-use Rattle.packed_list.specs.ListReading.{numbers, pieces_from, items_in, IsList, HasGoodStarts, AreBytes}
+use Rattle.packed_list.specs.ListBytes.{two_bytes, starts_from, starts, list_bytes, number_at, start_at}
+use Rattle.packed_list.specs.Inner.ListReading.{numbers, pieces_from, items_in, IsList, HasGoodStarts, AreBytes}
 use Rattle.packed_list.proofs.TwoBytes.{twice}
 
 -- whether a start is above what two bytes hold

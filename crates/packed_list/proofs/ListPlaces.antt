@@ -1,16 +1,14 @@
 -- Where the items of a list lie in its bytes.
 use Rattle.std.proofs.Common.{◌≡◌, ℕ, zero, suc, ◌+◌, ◌-◌, ◌*◌, ◌/◌, ◌%◌, ◌<◌, ◌≤◌, List, [], ◌∷◌, ◌++◌, length, drop, take, get_or, refl, sym, ap, ◌∙◌, arith, Some, None, length-append, length-drop, append-nil, inl, inr}
-use Rattle.std.specs.Prelude.{Option, option_map}
+use Rattle.std.specs.Prelude.{Option, option_map, flat_map, unwrap_or}
 use Rattle.std.specs.Iterator.{YieldsFirstRef}
 use denote.Bor.{Bor}
 use Rattle.std.proofs.lemmas.List.{drop_more, drop-drop, take_at, drop_at, take_all}
 use Rattle.std.proofs.lemmas.Option.{slice_get-get_or, slice_get_past}
 use Rattle.std.specs.List.{concat, slice_range, slice_get}
-use Rattle.std.specs.Prelude.{flat_map, unwrap_or}
 use Rattle.std.proofs.lemmas.Bool.{cases_lt}
-use Rattle.packed_list.specs.ListBytes.{two_bytes, starts_from, starts, list_bytes}
-use Rattle.packed_list.specs.ListFaults.{number_at, start_at}
-use Rattle.packed_list.specs.ListReading.{items_in, IsList}
+use Rattle.packed_list.specs.ListBytes.{two_bytes, starts_from, starts, list_bytes, number_at, start_at}
+use Rattle.packed_list.specs.Inner.ListReading.{items_in, IsList}
 use Rattle.packed_list.proofs.TwoBytes.{length-flat_map_two_bytes, number_at-cons, number_at-flat_map, twice, two_bytes_again}
 
 pub length-starts_from : (place : ℕ) (items : List (List ℕ)) → length (starts_from place items) ≡ length items

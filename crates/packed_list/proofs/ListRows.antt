@@ -1,8 +1,7 @@
 -- The definitions at worked examples.
 use Rattle.std.proofs.Common.{◌≡◌, [], ◌∷◌, refl, inl, inr, lit≤, lit<, true, false, replicate}
-use Rattle.packed_list.specs.ListBytes.{list_bytes, starts, has_high_start}
-use Rattle.packed_list.specs.ListReading.{items_in}
-use Rattle.packed_list.specs.ListFaults.{HasShortHeader, HasZeroCount, HasBadStart}
+use Rattle.packed_list.specs.ListBytes.{list_bytes, starts, has_high_start, HasShortHeader, HasZeroCount, HasBadStart}
+use Rattle.packed_list.specs.Inner.ListReading.{items_in}
 
 -- three items, the second one empty
 three_items : list_bytes ((97 ∷ 98 ∷ []) ∷ [] ∷ (99 ∷ 100 ∷ []) ∷ []) ≡ 3 ∷ 0 ∷ 2 ∷ 0 ∷ 2 ∷ 0 ∷ 97 ∷ 98 ∷ 99 ∷ 100 ∷ []

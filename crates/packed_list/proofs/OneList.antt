@@ -3,9 +3,8 @@ use Rattle.std.proofs.Common.{◌≡◌, ℕ, suc, ◌+◌, ◌-◌, ◌*◌, �
 use Rattle.std.proofs.lemmas.List.{get_or_append_left, get_or_past, get_or-append-add, get_or-drop, drop-drop, take_at, drop_at}
 use Rattle.std.specs.List.{AllByRecursion, concat}
 use Rattle.std.proofs.lemmas.Bool.{cases_lt}
-use Rattle.packed_list.specs.ListBytes.{starts_from, list_bytes, ListBytes}
-use Rattle.packed_list.specs.ListFaults.{number_at}
-use Rattle.packed_list.specs.ListReading.{numbers, pieces_from, items_in, AreBytes}
+use Rattle.packed_list.specs.ListBytes.{starts_from, list_bytes, ListBytes, number_at}
+use Rattle.packed_list.specs.Inner.ListReading.{numbers, pieces_from, items_in, AreBytes}
 use Rattle.packed_list.proofs.TwoBytes.{numbers-flat_map}
 use Rattle.packed_list.proofs.ListPlaces.{count_is, data_is, length-starts_from}
 

@@ -1,7 +1,6 @@
 -- Bytes of a list are not refused.
 use Rattle.std.proofs.Common.{◌≡◌, ℕ, suc, ◌+◌, ◌*◌, ◌<◌, List, [], ◌∷◌, length, ap, arith, inl, inr}
-use Rattle.packed_list.specs.ListBytes.{list_bytes}
-use Rattle.packed_list.specs.ListFaults.{number_at, start_at, HasBadStart}
+use Rattle.packed_list.specs.ListBytes.{list_bytes, number_at, start_at, HasBadStart}
 use Rattle.packed_list.proofs.ListPlaces.{count_is, length-list_bytes, lies_between, start_at-is}
 
 pub not_one : (items : List (List ℕ)) (bytes : List ℕ) → bytes ≡ list_bytes items → length bytes ≡ 1 → ⊥

@@ -2,9 +2,8 @@
 use Rattle.std.proofs.Common.{◌≡◌, ℕ, zero, suc, ◌+◌, ◌*◌, ◌/◌, ◌%◌, ◌<◌, List, [], ◌∷◌, ◌++◌, length, get_or, refl, sym, ap, ◌∙◌, arith, Some}
 use Rattle.std.specs.List.{slice_get}
 use Rattle.std.specs.Prelude.{flat_map}
-use Rattle.packed_list.specs.ListBytes.{two_bytes}
-use Rattle.packed_list.specs.ListFaults.{number_at}
-use Rattle.packed_list.specs.ListReading.{numbers}
+use Rattle.packed_list.specs.ListBytes.{two_bytes, number_at}
+use Rattle.packed_list.specs.Inner.ListReading.{numbers}
 
 pub two_bytes_again : (n : ℕ) → (n % 256) + 256 * (n / 256) ≡ n
 two_bytes_again n = omega arith

@@ -1,4 +1,3 @@
 pub mod ListBytes
-pub mod ListFaults
-pub mod ListReading
-pub mod ListErrorTexts
+pub mod Inner
+pub mod PackedListErrors

@@ -3,7 +3,7 @@
 ghost use Rattle.std.specs.Prelude.{◌≡◌, ◌↔◌, ℕ, List};
 ghost use Rattle.std.specs.List.{AllByRecursion};
 ghost use Rattle.packed_list.specs.ListBytes.{ListBytes};
-ghost use Rattle.packed_list.specs.ListReading.{AreBytes, items_in};
+ghost use Rattle.packed_list.specs.Inner.ListReading.{AreBytes, items_in};
 
 /// Packed lists are the same bytes exactly if they are the same items.
 pub fn one_encoding()

@@ -2,9 +2,8 @@
 
 ghost use Rattle.std.specs.Prelude.{◌≡◌, ◌↔◌, ◌+◌, ◌<◌, ◌==◌, ℕ, List, length, slice_get, IfOk, Ok, Err, Some, option_map, unwrap_or};
 ghost use Rattle.std.specs.List.{concat};
-ghost use Rattle.packed_list.specs.ListBytes.{ListBytes, starts};
-ghost use Rattle.packed_list.specs.ListFaults.{HasFault};
-ghost use Rattle.packed_list.specs.ListReading.{IsList, items_in};
+ghost use Rattle.packed_list.specs.ListBytes.{ListBytes, starts, HasFault};
+ghost use Rattle.packed_list.specs.Inner.ListReading.{IsList, items_in};
 
 use crate::error::ListError;
 use crate::items::Items;
@@ -23,7 +22,7 @@ pub struct PackedList<'a> {
 
 impl<'a> Model for PackedList<'a> {
     ghost use Rattle.std.specs.Prelude.{ℕ, List};
-    ghost use Rattle.packed_list.specs.ListReading.{IsList, items_in};
+    ghost use Rattle.packed_list.specs.Inner.ListReading.{IsList, items_in};
 
     ghost Value = { List (List ℕ) };
 

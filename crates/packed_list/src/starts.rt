@@ -1,8 +1,8 @@
 //! Reads the numbers of a list's header at proved places.
 
 ghost use Rattle.std.specs.Prelude.{◌≡◌, ◌+◌, ◌*◌, ◌<◌, ◌≤◌, length, slice_range, IsTrue, IsFalse};
-ghost use Rattle.packed_list.specs.ListFaults.{HasBadStart, number_at};
-ghost use Rattle.packed_list.specs.ListReading.{HasGoodStarts};
+ghost use Rattle.packed_list.specs.ListBytes.{HasBadStart, number_at};
+ghost use Rattle.packed_list.specs.Inner.ListReading.{HasGoodStarts};
 
 // The number in the two bytes at a place, low byte first.
 #[inline]

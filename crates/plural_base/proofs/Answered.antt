@@ -9,9 +9,8 @@ use Rattle.plural_reference.specs.ReadingLaws.{HaveOneListOfTokens, HaveOneRule}
 use Rattle.plural_reference.specs.Samples.{ReadsRule, FaultyRule}
 use Rattle.plural_runtime.specs.declared.error.RuleError.{RuleError}
 use Rattle.plural_runtime.specs.declared.error.RuleError.TheVariants.{Parse, Memory}
-use Rattle.plural_runtime.specs.Packing.{Packs}
-use Rattle.plural_base.specs.TextAnswers.{IsTakenAs, HasRuleError}
-use Rattle.plural_base.specs.TextReaders.{RuleAnswer, TextGives}
+use Rattle.plural_runtime.specs.PackedTree.{Packs}
+use Rattle.plural_base.specs.RuleTexts.{IsTakenAs, HasRuleError, RuleAnswer, TextGives}
 
 -- of the one reading or fault of a text, or of want of memory, an answer is told
 pub is_answered : HaveOneListOfTokens → HaveOneRule → (text : List ℕ) (answer : RuleAnswer)

@@ -19,7 +19,7 @@ use Rattle.plural_runtime.specs.declared.kinds.AndOr.{AndOr}
 use Rattle.plural_runtime.specs.declared.kinds.AndOr.TheVariants.{And, Or}
 use Rattle.plural_runtime.specs.PackedRelations.{PackedRelation}
 use Rattle.plural_runtime.specs.PackedTree.{packed_relation, packed_and_condition, packed_groups, packed, is_large, is_large_item, is_large_modulus, is_large_relation, has_large_value}
-use Rattle.plural_base.specs.RuleModuli.{modulus_on, moduli_of_relation}
+use Rattle.plural_base.specs.FiveRules.{modulus_on, moduli_of_relation}
 
 -- ---- Moduli
 

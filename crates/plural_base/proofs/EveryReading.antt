@@ -2,7 +2,7 @@
 use Rattle.std.proofs.Common.{◌≡◌, ℕ, List, sym, subst, ◌∙◌, Option, Some, None, inl, inr}
 use Rattle.plural_reference.specs.declared.ast.Condition.{Condition}
 use Rattle.plural_reference.specs.Parser.{Reads}
-use Rattle.plural_reference.specs.PrintingLaws.{TextReads}
+use Rattle.plural_reference.specs.Reading.{TextReads}
 use Rattle.plural_reference.specs.ReadingLaws.{HaveOneListOfTokens, HaveOneReading}
 use Rattle.plural_runtime.specs.PackedRelations.{PackedRelation}
 use Rattle.plural_base.specs.RuleTexts.{ReadsAs, IsReadFrom, IsAnswerFor, IsReading, HaveEveryReading}

@@ -5,17 +5,15 @@ use Rattle.std.proofs.lemmas.List.Elements.{Contains-append_left, Contains-appen
 use Rattle.fixed_decimal.specs.Places.{Places}
 use Rattle.plural_reference.specs.declared.ast.Condition.{Condition}
 use Rattle.plural_reference.specs.declared.error.ParseError.TheVariants.{ValueTooLarge}
-use Rattle.plural_reference.specs.ExactTruth.{exact_truth}
+use Rattle.plural_reference.specs.Exactness.{exact_truth}
 use Rattle.plural_reference.specs.ExactnessLaws.{ConditionsAgree, IsKept}
 use Rattle.plural_reference.specs.Operands.{Operands}
 use Rattle.plural_reference.specs.Truth.{groups_of}
 use Rattle.plural_runtime.specs.declared.error.RuleError.TheVariants.{Parse, StartLimit}
 use Rattle.plural_runtime.specs.PackedRelations.{PackedRelation}
-use Rattle.plural_runtime.specs.PackedTree.{packed, has_large_value}
+use Rattle.plural_runtime.specs.PackedTree.{packed, has_large_value, packing}
 use Rattle.plural_runtime.specs.PackedTruth.{packed_truth}
-use Rattle.plural_runtime.specs.Packing.{packing}
-use Rattle.plural_base.specs.FiveRules.{Five, FiveRules, passes, first_category}
-use Rattle.plural_base.specs.RuleModuli.{moduli_of_relation, moduli_of_rule, moduli_of}
+use Rattle.plural_base.specs.FiveRules.{Five, FiveRules, passes, first_category, moduli_of_relation, moduli_of_rule, moduli_of}
 use Rattle.plural_base.specs.RuleTexts.{ReadsAs, IsReadFrom, AreReadFrom}
 use Rattle.plural_base.proofs.Choice.{same_choice}
 use Rattle.plural_base.proofs.ConditionsAdmitted.{Covers, condition_admitted}

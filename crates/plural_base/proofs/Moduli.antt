@@ -8,7 +8,7 @@ use Rattle.std.proofs.lemmas.Bool.{eqb-true, eq-eqb}
 use Rattle.std.proofs.lemmas.List.Elements.{Contains-append_left, Contains-append_right, Contains-append_cases, Contains-push, Contains-push_cases}
 use Rattle.std.proofs.lemmas.List.Folds.{list_all-append}
 use Rattle.plural_reference.specs.Exactness.{AllDivide}
-use Rattle.plural_base.specs.ModulusTests.{divides_ten_to_18}
+use Rattle.plural_base.specs.Inner.ModulusTests.{divides_ten_to_18}
 
 -- ---- One modulus
 

@@ -9,11 +9,10 @@ use Rattle.std.specs.Option.{option_and_then}
 use Rattle.std.specs.Ordering.{match_ordering, ordering_reverse}
 use Rattle.plural_base.specs.declared.ranges.PluralRanges.{PluralRanges}
 use Rattle.plural_base.specs.declared.raw_category.RawPluralCategory.{RawPluralCategory}
-use Rattle.plural_base.specs.CategoryNames.{all_raw_categories}
-use Rattle.plural_base.specs.RangeKeys.{Range, range_named, range_text}
+use Rattle.plural_base.specs.Categories.{all_raw_categories}
+use Rattle.plural_base.specs.Ranges.{Range, range_named, range_text, category_at}
 use Rattle.plural_base.specs.RangesJson.{AreMembersOf, category_under, keys_in, name_json}
-use Rattle.plural_base.specs.RangeSteps.{put_range, put_row, range_members}
-use Rattle.plural_base.specs.RangeTable.{category_at}
+use Rattle.plural_base.specs.Inner.JsonSteps.{put_range, put_row, range_members}
 use Rattle.serde_json.specs.Data.{Data, Members, no_members, member, put}
 use Rattle.serde_json.specs.Find.{get_member}
 use Rattle.serde_json.proofs.Views.{get_member-put, get_member-put_other}

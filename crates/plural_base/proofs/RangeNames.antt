@@ -5,8 +5,8 @@ use Rattle.plural_base.specs.declared.raw_category.RawPluralCategory.{RawPluralC
 use Rattle.plural_base.specs.declared.raw_category.RawPluralCategory.TheVariants.{Other, Zero, One, Two, Few, Many}
 use Rattle.plural_base.specs.declared.category.PluralCategory.{PluralCategory}
 use Rattle.plural_base.specs.declared.category.PluralCategory.TheVariants as category
-use Rattle.plural_base.specs.CategoryNames.{name_of, raw_category_of, raw_name_of, all_raw_categories}
-use Rattle.plural_base.specs.RangeKeys.{Range, all_ranges, range_text, range_named, category_named}
+use Rattle.plural_base.specs.Categories.{name_of, raw_category_of, raw_name_of, all_raw_categories}
+use Rattle.plural_base.specs.Ranges.{Range, all_ranges, range_text, range_named, category_named}
 use Rattle.plural_base.proofs.RawCategories.{by_category}
 
 -- what is found passes

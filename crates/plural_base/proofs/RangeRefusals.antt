@@ -7,9 +7,8 @@ use Rattle.plural_base.specs.declared.json_error.JsonError.{JsonError}
 use Rattle.plural_base.specs.declared.json_error.JsonError.TheVariants.{Float, Shape, Rule, RangeKey, RangeValue, Pack, Memory}
 use Rattle.plural_base.specs.declared.ranges.PluralRanges.{PluralRanges}
 use Rattle.plural_base.specs.DocumentJson.{rows_shape, map_shape}
-use Rattle.plural_base.specs.RangeKeys.{range_named, category_named}
+use Rattle.plural_base.specs.Ranges.{range_named, category_named, no_ranges, with_range}
 use Rattle.plural_base.specs.RangesJson.{there_or, category_shape, members_shape, ranges_shape}
-use Rattle.plural_base.specs.RangeTable.{no_ranges, with_range}
 use Rattle.plural_base.specs.RulesJson.{Stands, ◌>>=◌, IsRefusal}
 use Rattle.serde_json.specs.Data.{Data, null, boolean, number, string, array, object, Members, no_members, member}
 use Rattle.serde_json.specs.Find.{get, as_object, as_str}

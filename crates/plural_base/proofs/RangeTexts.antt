@@ -4,8 +4,8 @@ use Rattle.std.specs.Borrow.{Bor}
 use Rattle.std.proofs.lemmas.Str.Pattern.{split_text_parts}
 use Rattle.plural_base.specs.declared.range_key.UnvalidatedPluralRange.{UnvalidatedPluralRange}
 use Rattle.plural_base.specs.declared.raw_category.RawPluralCategory.{RawPluralCategory}
-use Rattle.plural_base.specs.CategoryNames.{raw_name_of}
-use Rattle.plural_base.specs.RangeKeys.{Range, range_key, range_text, range_named, category_named, IsKeyOfText}
+use Rattle.plural_base.specs.Categories.{raw_name_of}
+use Rattle.plural_base.specs.Ranges.{Range, range_key, range_text, range_named, category_named, IsKeyOfText}
 use Rattle.plural_base.proofs.RawCategories.{by_category}
 use Rattle.plural_base.proofs.RangeNames.{category_named_is, category_named_as, range_named_is, named_range, range_named_none}
 use Rattle.plural_base.proofs.FirstHyphens.{has_no_hyphen, SplitsAtHyphens, split_after_front}

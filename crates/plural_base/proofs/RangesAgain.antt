@@ -10,11 +10,9 @@ use Rattle.std.specs.Ordering.{match_ordering}
 use Rattle.plural_base.specs.declared.json_error.JsonError.TheVariants.{Float, RangeKey, RangeValue}
 use Rattle.plural_base.specs.declared.ranges.PluralRanges.{PluralRanges}
 use Rattle.plural_base.specs.declared.raw_category.RawPluralCategory.{RawPluralCategory}
-use Rattle.plural_base.specs.ByCategory.{at, each, put_at}
-use Rattle.plural_base.specs.CategoryNames.{number_of}
-use Rattle.plural_base.specs.RangeKeys.{Range, range_named, range_text}
+use Rattle.plural_base.specs.Ranges.{at, each, put_at, Range, range_named, range_text, category_at, no_ranges, with_range}
+use Rattle.plural_base.specs.Categories.{number_of}
 use Rattle.plural_base.specs.RangesJson.{AreMembersOf, IsJsonOfRanges, category_shape, keys_in, members_shape, name_json, object_under, ranges_of_json, ranges_shape, there_or}
-use Rattle.plural_base.specs.RangeTable.{category_at, no_ranges, with_range}
 use Rattle.plural_base.specs.RulesJson.{◌>>=◌}
 use Rattle.serde_json.specs.Data.{Data, object, Members, no_members, member}
 use Rattle.serde_json.specs.Find.{get_member}

@@ -4,9 +4,8 @@ use Rattle.std.proofs.lemmas.Bool.{eqb-true, ne_eqb}
 use Rattle.plural_base.specs.declared.by_category.ByCategory.{ByCategory}
 use Rattle.plural_base.specs.declared.raw_category.RawPluralCategory.{RawPluralCategory}
 use Rattle.plural_base.specs.declared.raw_category.RawPluralCategory.TheVariants.{Other, Zero, One, Two, Few, Many}
-use Rattle.plural_base.specs.ByCategory.{each, at, put_at}
-use Rattle.plural_base.specs.CategoryNames.{number_of}
-use Rattle.plural_base.specs.RangeKeys.{range_byte}
+use Rattle.plural_base.specs.Ranges.{each, at, put_at, range_byte}
+use Rattle.plural_base.specs.Categories.{number_of}
 
 -- what holds of each of the six holds of all
 pub by_category : (P : RawPluralCategory → Type 0) → P Other → P Zero → P One → P Two → P Few → P Many → (c : RawPluralCategory) → P c

@@ -9,7 +9,7 @@ use Rattle.std.specs.List.Sorted.{IsStrictlySortedBy}
 use Rattle.std.specs.Map.{keys_of, lookup}
 use Rattle.std.specs.BTreeMap.{insert_entry, is_at}
 use Rattle.plural_base.specs.DocumentJson.{Rows, found}
-use Rattle.plural_base.specs.ProviderRows.{rows_by}
+use Rattle.plural_base.specs.Inner.JsonSteps.{rows_by}
 
 module _ {V A : Type 0} (seen : V → A) where
   rows_by-match_ordering : (o : Ordering) (a b c : List (String Global × V)) → rows_by seen (match_ordering o a b c) ≡ match_ordering o (rows_by seen a) (rows_by seen b) (rows_by seen c)

@@ -4,9 +4,9 @@ use Rattle.std.specs.Prelude.{◌⊎◌}
 use Rattle.plural_runtime.specs.declared.error.RuleError.{RuleError}
 use Rattle.plural_runtime.specs.declared.error.RuleError.TheVariants as fault
 use Rattle.plural_base.specs.declared.category.PluralCategory.{PluralCategory}
-use Rattle.plural_base.specs.JsonRefusals.{refusal_of}
+use Rattle.plural_base.specs.Inner.JsonSteps.{refusal_of}
 use Rattle.plural_base.specs.RulesJson.{Stands, text_shape, IsRefusal}
-use Rattle.plural_base.specs.TextReaders.{RuleAnswer, TextReader}
+use Rattle.plural_base.specs.RuleTexts.{RuleAnswer, TextReader}
 
 -- a text's refusal
 refused_as : (texts : TextReader) (category : Option PluralCategory) (text : List ℕ) (e : RuleError) → Err e ≡ texts text → IsRefusal (refusal_of category e) (text_shape texts category (Some text))

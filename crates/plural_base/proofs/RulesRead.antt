@@ -14,9 +14,7 @@ use Rattle.plural_base.specs.declared.ranges.PluralRanges.{PluralRanges}
 use Rattle.plural_base.specs.FiveRules.{Five, FiveRules}
 use Rattle.plural_base.specs.RangesJson.{ranges_shape}
 use Rattle.plural_base.specs.RulesJson.{Stands, ◌>>=◌, named, optional_shape, member_shape, rules_shape, all_five, texts_in, Answers}
-use Rattle.plural_base.specs.RuleTexts.{AreRulesOf}
-use Rattle.plural_base.specs.TextAnswers.{IsTakenAs}
-use Rattle.plural_base.specs.TextReaders.{RuleAnswer, TextGives, TextReader, TellsTexts}
+use Rattle.plural_base.specs.RuleTexts.{AreRulesOf, IsTakenAs, RuleAnswer, TextGives, TextReader, TellsTexts}
 use Rattle.serde_json.specs.Data.{Data, null, boolean, number, string, array, object, Members, no_members, member}
 use Rattle.serde_json.specs.Find.{get, get_member, as_object, as_str}
 

@@ -8,8 +8,8 @@ use Rattle.plural_reference.specs.Lexer.{AreTokensOf}
 use Rattle.plural_reference.specs.ReadingLaws.{HaveOneListOfTokens, HaveOneRule}
 use Rattle.plural_reference.specs.Samples.{ReadsRule, FaultyRule}
 use Rattle.plural_runtime.specs.declared.error.RuleError.TheVariants.{Parse}
-use Rattle.plural_runtime.specs.Packing.{packing}
-use Rattle.plural_base.specs.TextReaders.{RuleAnswer, TextGives, TextsGiveOneAnswer}
+use Rattle.plural_runtime.specs.PackedTree.{packing}
+use Rattle.plural_base.specs.RuleTexts.{RuleAnswer, TextGives, TextsGiveOneAnswer}
 
 -- what tokens give: a rule is read of them whose condition is packed to this, or they have a fault and this is answered
 abbrev pub TokensGive : List Token → RuleAnswer → Type 0

@@ -4,12 +4,11 @@ use Rattle.std.specs.Prelude.{◌&&◌, ◌||◌, if◌then◌else◌}
 use Rattle.std.proofs.Math.Nat.{mod-lt}
 use Rattle.std.proofs.lemmas.Bool.{le-ltb}
 use Rattle.plural_reference.specs.ExactnessLaws.{BoundIsWidest, left_of_twice}
-use Rattle.plural_reference.specs.ExactTruth.{exact_truth, exact_relation_truth}
+use Rattle.plural_reference.specs.Exactness.{exact_truth, exact_relation_truth}
 use Rattle.plural_reference.specs.Operands.{Operands}
 use Rattle.plural_reference.specs.Truth.{relation_truth}
-use Rattle.plural_runtime.specs.PackedTree.{packed, has_large_value}
+use Rattle.plural_runtime.specs.PackedTree.{packed, has_large_value, packing}
 use Rattle.plural_runtime.specs.PackedTruth.{packed_truth}
-use Rattle.plural_runtime.specs.Packing.{packing}
 use Rattle.plural_base.specs.declared.category.PluralCategory.TheVariants.{One, Other}
 use Rattle.plural_base.specs.ChoiceLaws.{only_one, leaves, alone, BoundIsWidestForChoice}
 use Rattle.plural_base.specs.FiveRules.{first_category}

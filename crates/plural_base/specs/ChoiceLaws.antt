@@ -8,14 +8,12 @@ use Rattle.plural_reference.specs.declared.ast.Relation.{Relation}
 use Rattle.plural_reference.specs.declared.ast.Operand.TheVariants.{I}
 use Rattle.plural_reference.specs.declared.ast.Operator.TheVariants.{Eq}
 use Rattle.plural_reference.specs.declared.ast.RangeListItem.TheVariants as items
-use Rattle.plural_reference.specs.DecimalOperands.{AreCut, AreExact}
+use Rattle.plural_reference.specs.Operands.{AreCut, AreExact, Operands}
 use Rattle.plural_reference.specs.ExactnessLaws.{IsTwice}
-use Rattle.plural_reference.specs.ExactTruth.{exact_truth}
-use Rattle.plural_reference.specs.Operands.{Operands}
+use Rattle.plural_reference.specs.Exactness.{exact_truth}
 use Rattle.plural_runtime.specs.PackedRelations.{PackedRelation}
-use Rattle.plural_runtime.specs.PackedTree.{packed, condition_of}
+use Rattle.plural_runtime.specs.PackedTree.{packed, condition_of, packing}
 use Rattle.plural_runtime.specs.PackedTruth.{packed_truth}
-use Rattle.plural_runtime.specs.Packing.{packing}
 use Rattle.plural_base.specs.declared.category.PluralCategory.{PluralCategory}
 use Rattle.plural_base.specs.declared.category.PluralCategory.TheVariants.{One, Other}
 use Rattle.plural_base.specs.DecimalChoice.{IsExactChoice, IsKeptChoice}

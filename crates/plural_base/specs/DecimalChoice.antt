@@ -4,14 +4,11 @@
 use Rattle.std.specs.Prelude.{◌≡◌, ℕ, List, Option}
 use Rattle.fixed_decimal.specs.Places.{Places}
 use Rattle.plural_reference.specs.declared.ast.Condition.{Condition}
-use Rattle.plural_reference.specs.DecimalOperands.{AreCut, AreExact}
-use Rattle.plural_reference.specs.Exactness.{IsWithinBound}
-use Rattle.plural_reference.specs.ExactTruth.{exact_truth}
-use Rattle.plural_reference.specs.Operands.{Operands}
+use Rattle.plural_reference.specs.Operands.{AreCut, AreExact, Operands}
+use Rattle.plural_reference.specs.Exactness.{IsWithinBound, exact_truth}
 use Rattle.plural_runtime.specs.PackedTruth.{packed_truth}
 use Rattle.plural_base.specs.declared.category.PluralCategory.{PluralCategory}
-use Rattle.plural_base.specs.FiveRules.{Five, FiveRules, first_category}
-use Rattle.plural_base.specs.RuleModuli.{moduli_of}
+use Rattle.plural_base.specs.FiveRules.{Five, FiveRules, first_category, moduli_of}
 use Rattle.plural_base.specs.RuleTexts.{AreReadFrom}
 
 -- Whatever five texts the rules are read from: if the number, with its compact exponent, is within the bound, the category

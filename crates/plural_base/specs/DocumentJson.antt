@@ -10,9 +10,8 @@ use Rattle.plural_base.specs.declared.json_error.JsonError.TheVariants.{Shape}
 use Rattle.plural_base.specs.declared.ranges.PluralRanges.{PluralRanges}
 use Rattle.plural_base.specs.FiveRules.{FiveRules}
 use Rattle.plural_base.specs.RangesJson.{ranges_shape}
-use Rattle.plural_base.specs.RuleTexts.{AreRulesOf}
+use Rattle.plural_base.specs.RuleTexts.{AreRulesOf, TextReader}
 use Rattle.plural_base.specs.RulesJson.{Stands, ◌>>=◌, rules_shape, texts_in, unless_float}
-use Rattle.plural_base.specs.TextReaders.{TextReader}
 use Rattle.serde_json.specs.Data.{Data, Members, no_members, member}
 use Rattle.serde_json.specs.Find.{get, as_null, as_object}
 

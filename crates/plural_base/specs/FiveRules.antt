@@ -2,10 +2,13 @@
 --     Five A      a thing for each of zero, one, two, few and many
 --     first_category test things      the first of zero, one, two, few, many whose thing is there and passes, else other
 --     categories_of things      those whose thing is there, in this order, then other
-use Rattle.std.specs.Prelude.{List, [], ◌∷◌, ◌++◌, Bool, false, Option, Some, None, is_some, if◌then◌else◌}
+use Rattle.std.specs.Prelude.{List, [], ◌∷◌, ◌++◌, Bool, false, Option, Some, None, is_some, if◌then◌else◌, ℕ, flat_map}
 use Rattle.plural_base.specs.declared.category.PluralCategory.{PluralCategory}
 use Rattle.plural_base.specs.declared.category.PluralCategory.TheVariants.{Zero, One, Two, Few, Many, Other}
 use Rattle.plural_runtime.specs.PackedRelations.{PackedRelation}
+use Rattle.plural_base.specs.declared.rules_data.PluralRulesData.{PluralRulesData}
+use Rattle.plural_reference.specs.declared.ast.Operand.{Operand}
+use Rattle.plural_reference.specs.declared.ast.Operand.TheVariants.{N, I, V, W, F, T, C, E}
 
 -- a thing for each category but other
 pub record Five (A : Type 0) : Type 0 where
@@ -46,3 +49,36 @@ abbrev pub categories_of : {A : Type 0} → Five (Option A) → List PluralCateg
 categories_of things =
     listed Zero (is_some things.zero) ++ listed One (is_some things.one) ++ listed Two (is_some things.two)
     ++ listed Few (is_some things.few) ++ listed Many (is_some things.many) ++ Other ∷ []
+
+-- ---- What the data of five rules is.
+
+abbrev pub rules_of : PluralRulesData → FiveRules
+rules_of d = record { zero = d.zero; one = d.one; two = d.two; few = d.few; many = d.many }
+
+-- ---- The moduli that the bound of exactness looks at: those on n and i in all five rules. A modulus 0 is none, and stands here as 0.
+
+-- the modulus, where the operand is n or i
+abbrev pub modulus_on : Operand → ℕ → List ℕ
+modulus_on N modulus = modulus ∷ []
+modulus_on I modulus = modulus ∷ []
+modulus_on V modulus = []
+modulus_on W modulus = []
+modulus_on F modulus = []
+modulus_on T modulus = []
+modulus_on C modulus = []
+modulus_on E modulus = []
+
+-- the modulus of a relation, where it counts
+abbrev pub moduli_of_relation : PackedRelation → List ℕ
+moduli_of_relation relation = modulus_on relation.meaning.operand relation.meaning.modulus
+
+-- those of the relations of a rule, if it is there
+abbrev pub moduli_of_rule : Option (List PackedRelation) → List ℕ
+moduli_of_rule None = []
+moduli_of_rule (Some relations) = flat_map moduli_of_relation relations
+
+-- those of all five rules
+abbrev pub moduli_of : FiveRules → List ℕ
+moduli_of rules =
+    moduli_of_rule rules.zero ++ moduli_of_rule rules.one ++ moduli_of_rule rules.two ++ moduli_of_rule rules.few
+    ++ moduli_of_rule rules.many

@@ -1,13 +1,12 @@
 -- What a provider answers: three maps from locales, texts that are compared byte by byte: to cardinal rules, to ordinal rules and to ranges.
-use Rattle.std.specs.Prelude.{◌≡◌, Option, Some, None, Result, Ok, Err}
+use Rattle.std.specs.Prelude.{◌≡◌, Option, Some, None, Result, Ok, Err, ◌⊎◌}
 use Rattle.plural_base.specs.declared.options.PluralRuleType.{PluralRuleType}
 use Rattle.plural_base.specs.declared.options.PluralRuleType.TheVariants.{Cardinal, Ordinal}
 use Rattle.plural_base.specs.declared.provider.DataError.{DataError}
 use Rattle.plural_base.specs.declared.ranges.PluralRanges.{PluralRanges}
 use Rattle.plural_base.specs.declared.rules.PluralRules.{PluralRules}
 use Rattle.plural_base.specs.declared.rules_data.PluralRulesData.{PluralRulesData}
-use Rattle.plural_base.specs.FiveRules.{FiveRules}
-use Rattle.plural_base.specs.RulesData.{rules_of}
+use Rattle.plural_base.specs.FiveRules.{FiveRules, rules_of}
 
 -- the rules that are there are answered, and NotFound exactly where there are none
 abbrev pub Loads : Option FiveRules → Result PluralRulesData DataError → Type 0
@@ -29,3 +28,20 @@ abbrev pub of_type : {A : Type 0} → Option PluralRuleType → A → A → A
 of_type None cardinal ordinal = cardinal
 of_type (Some Cardinal) cardinal ordinal = cardinal
 of_type (Some Ordinal) cardinal ordinal = ordinal
+
+-- ---- Rules with the categories of ranges, and what is made of a provider's.
+--     WithRanges R      rules of some kind, and ranges
+--     MakesBoth rules ranges answer      both are answered, and NotFound exactly where one of them isn't there
+--     MakesWith rules ranges answer      the rules that were handed in and the ranges, and NotFound exactly where these aren't there
+
+pub record WithRanges (R : Type 0) : Type 0 where
+  pub rules : R
+  pub ranges : PluralRanges
+
+abbrev pub MakesBoth : Option FiveRules → Option PluralRanges → Result (WithRanges FiveRules) DataError → Type 0
+MakesBoth rules ranges (Ok made) = (rules ≡ Some made.rules) × (ranges ≡ Some made.ranges)
+MakesBoth rules ranges (Err error) = (rules ≡ None) ⊎ (ranges ≡ None)
+
+abbrev pub MakesWith : {R : Type 0} → R → Option PluralRanges → Result (WithRanges R) DataError → Type 0
+MakesWith rules ranges (Ok made) = (made.rules ≡ rules) × (ranges ≡ Some made.ranges)
+MakesWith rules ranges (Err error) = ranges ≡ None

@@ -10,9 +10,8 @@ use Rattle.plural_base.specs.declared.json_error.JsonError.TheVariants.{Shape, R
 use Rattle.plural_base.specs.declared.range_key.UnvalidatedPluralRange.{UnvalidatedPluralRange}
 use Rattle.plural_base.specs.declared.ranges.PluralRanges.{PluralRanges}
 use Rattle.plural_base.specs.declared.raw_category.RawPluralCategory.{RawPluralCategory}
-use Rattle.plural_base.specs.CategoryNames.{raw_name_of}
-use Rattle.plural_base.specs.RangeKeys.{Range, range_key, range_named, range_text, category_named}
-use Rattle.plural_base.specs.RangeTable.{category_at, no_ranges, with_range}
+use Rattle.plural_base.specs.Categories.{raw_name_of}
+use Rattle.plural_base.specs.Ranges.{Range, range_key, range_named, range_text, category_named, category_at, no_ranges, with_range}
 use Rattle.plural_base.specs.RulesJson.{Stands, ◌>>=◌, unless_float}
 use Rattle.serde_json.specs.Data.{Data, string, object, Members, no_members, member}
 use Rattle.serde_json.specs.Find.{get, get_member, as_str, as_object}

@@ -7,11 +7,11 @@ use Rattle.plural_runtime.specs.PackedRelations.{PackedRelation}
 use Rattle.plural_runtime.specs.PackedTree.{unpacked}
 use Rattle.plural_base.specs.declared.category.PluralCategory.{PluralCategory}
 use Rattle.plural_base.specs.declared.category.PluralCategory.TheVariants.{Zero, One, Two, Few, Many}
-use Rattle.plural_base.specs.CategoryNames.{name_of}
+use Rattle.plural_base.specs.Categories.{name_of}
 use Rattle.plural_base.specs.declared.json_error.JsonError.{JsonError}
 use Rattle.plural_base.specs.declared.json_error.JsonError.TheVariants.{Float, Shape, Rule, Memory}
 use Rattle.plural_base.specs.FiveRules.{Five, five, FiveRules}
-use Rattle.plural_base.specs.TextReaders.{RuleAnswer, TextReader}
+use Rattle.plural_base.specs.RuleTexts.{RuleAnswer, TextReader}
 use Rattle.serde_json.specs.Data.{Data, null, string, object, no_members, member}
 use Rattle.serde_json.specs.Find.{get, as_null, as_str, as_object}
 use Rattle.serde_json.specs.Written.{has_float}

@@ -1,7 +1,7 @@
 //! A thing for each of the six categories.
 
 ghost use Rattle.std.specs.Prelude.{◌≡◌};
-ghost use Rattle.plural_base.specs.ByCategory.{at, each, put_at};
+ghost use Rattle.plural_base.specs.Ranges.{at, each, put_at};
 
 use crate::raw_category::RawPluralCategory;
 

@@ -30,13 +30,13 @@ impl Model for Categories {
 
     ghost Value = { List PluralCategory };
 
-    ghost use Rattle.plural_base.specs.CategoriesLeft.{categories_left};
+    ghost use Rattle.plural_base.specs.Inner.CategoriesLeft.{categories_left};
 
     ghost view = { categories_left };
 }
 
 impl Categories {
-    ghost use Rattle.plural_base.specs.RulesData.{rules_of};
+    ghost use Rattle.plural_base.specs.FiveRules.{rules_of};
 
     // Those whose rule is there, then other.
     pub(crate) fn of(rules: &PluralRulesData<'_>) -> Categories

@@ -3,7 +3,7 @@
 ghost use Rattle.std.specs.Prelude.{◌≡◌, ◌↔◌, length, Some, IfSome};
 ghost use Rattle.std.specs.Iterator.{YieldsFirst, UpTo, at_most, item_count};
 ghost use Rattle.std.specs.Iterator.SizeHint.{IsWithinCount};
-ghost use Rattle.plural_base.specs.CategoryNames.{name_of, all_categories};
+ghost use Rattle.plural_base.specs.Categories.{name_of, all_categories};
 
 use std::marker::Model;
 

@@ -20,7 +20,7 @@ pub enum ElementsPackError {
 
 impl fmt::Display for ElementsPackError {
     ghost use Rattle.std.specs.Prelude.{Some};
-    ghost use Rattle.plural_base.specs.JsonErrorTexts.{elements_pack_error_text};
+    ghost use Rattle.plural_base.specs.PluralBaseErrors.{elements_pack_error_text};
 
     ghost output = { λ error. Some (elements_pack_error_text error) };
 
@@ -57,7 +57,7 @@ pub enum JsonError {
 
 impl fmt::Display for JsonError {
     ghost use Rattle.std.specs.Prelude.{Some};
-    ghost use Rattle.plural_base.specs.JsonErrorTexts.{json_error_text};
+    ghost use Rattle.plural_base.specs.PluralBaseErrors.{json_error_text};
 
     ghost output = { λ error. Some (json_error_text error) };
 

@@ -6,11 +6,11 @@ ghost use Rattle.std.specs.Cmp.Lexicographic.{slice_cmp};
 ghost use Rattle.std.specs.Ordering.{nat_cmp};
 ghost use Rattle.plural_base.specs.declared.category.PluralCategory.{PluralCategory};
 ghost use Rattle.plural_base.specs.DocumentJson.{document_shape, found, map_shape, rows_shape};
-ghost use Rattle.plural_base.specs.ProviderRows.{range_rows_of, rows_of};
+ghost use Rattle.plural_base.specs.Inner.JsonSteps.{range_rows_of, rows_of};
 ghost use Rattle.plural_base.specs.Providers.{Loads, LoadsRanges};
-ghost use Rattle.plural_base.specs.RulesData.{rules_of};
+ghost use Rattle.plural_base.specs.FiveRules.{rules_of};
 ghost use Rattle.plural_base.specs.RulesJson.{rules_shape, Answers};
-ghost use Rattle.plural_base.specs.TextReaders.{TextReader, TellsTexts};
+ghost use Rattle.plural_base.specs.RuleTexts.{TextReader, TellsTexts};
 ghost use Rattle.serde_json.specs.Find.{as_object};
 ghost use Rattle.serde_json.specs.View.{view, members_view};
 ghost use Rattle.serde_json.specs.Written.{has_float};
@@ -39,7 +39,7 @@ pub struct JsonProvider {
 
 impl Model for JsonProvider {
     ghost use Rattle.plural_base.specs.DocumentJson.{Document};
-    ghost use Rattle.plural_base.specs.ProviderRows.{range_rows_of, rows_of};
+    ghost use Rattle.plural_base.specs.Inner.JsonSteps.{range_rows_of, rows_of};
 
     ghost Value = { Document };
 

@@ -1,12 +1,10 @@
 //! What is true of all rules and ranges.
 
 ghost use Rattle.plural_base.specs.ChoiceLaws.{BoundIsWidestForChoice, KeptChoiceIsExact};
-ghost use Rattle.plural_base.specs.RangeKeys.{RangeBytesDiffer};
-ghost use Rattle.plural_base.specs.RangeTable.{RangesAreTheirMaps};
-ghost use Rattle.plural_base.specs.RuleTexts.{HaveEveryReading, IsAnswerFor, ReadsAs};
-ghost use Rattle.plural_base.specs.TextReaders.{TextsGiveOneAnswer};
+ghost use Rattle.plural_base.specs.Ranges.{RangeBytesDiffer, RangesAreTheirMaps};
+ghost use Rattle.plural_base.specs.RuleTexts.{HaveEveryReading, IsAnswerFor, ReadsAs, TextsGiveOneAnswer};
 ghost use Rattle.plural_reference.specs.Parser.{Reads};
-ghost use Rattle.plural_reference.specs.PrintingLaws.{TextReads};
+ghost use Rattle.plural_reference.specs.Reading.{TextReads};
 
 use plural_reference::laws::exactness;
 use plural_reference::laws::reading::{one_list_of_tokens, one_reading, one_rule};

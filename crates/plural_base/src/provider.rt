@@ -40,7 +40,7 @@ impl Error for DataError {}
 ///
 /// impl PluralsProvider for English {
 ///     ghost use Rattle.std.specs.Prelude.{Some, None, codes, bytes_eq, if◌then◌else◌};
-///     ghost use Rattle.plural_base.specs.RulesData.{rules_of};
+///     ghost use Rattle.plural_base.specs.FiveRules.{rules_of};
 ///
 ///     ghost cardinal = { λ english locale. if bytes_eq locale (codes "en") then Some (rules_of english.cardinal) else None };
 ///

@@ -3,8 +3,8 @@
 ghost use Rattle.std.specs.Prelude.{◌≡◌, ◌↔◌, Some};
 ghost use Rattle.plural_base.specs.declared.raw_category.RawPluralCategory.{RawPluralCategory as Category};
 ghost use Rattle.plural_base.specs.declared.range_key.UnvalidatedPluralRange.{UnvalidatedPluralRange as Key};
-ghost use Rattle.plural_base.specs.CategoryNames.{number_of};
-ghost use Rattle.plural_base.specs.RangeKeys.{category_named, range_byte, range_key, range_named, IsKeyOfText};
+ghost use Rattle.plural_base.specs.Categories.{number_of};
+ghost use Rattle.plural_base.specs.Ranges.{category_named, range_byte, range_key, range_named, IsKeyOfText};
 
 use crate::category::PluralCategory;
 use crate::raw_category::RawPluralCategory;

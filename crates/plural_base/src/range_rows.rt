@@ -5,7 +5,7 @@ ghost use Rattle.std.specs.BTreeMap.{insert_entry};
 ghost use Rattle.std.specs.Cmp.Lexicographic.{slice_cmp};
 ghost use Rattle.std.specs.Ordering.{nat_cmp};
 ghost use Rattle.plural_base.specs.DocumentJson.{map_shape, rows_shape};
-ghost use Rattle.plural_base.specs.ProviderRows.{range_rows_of};
+ghost use Rattle.plural_base.specs.Inner.JsonSteps.{range_rows_of};
 ghost use Rattle.plural_base.specs.RangesJson.{ranges_shape};
 ghost use Rattle.plural_base.specs.RulesJson.{Answers};
 ghost use Rattle.serde_json.specs.View.{view, members_view};

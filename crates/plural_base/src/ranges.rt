@@ -2,7 +2,7 @@
 
 ghost use Rattle.std.specs.Prelude.{◌≡◌, ◌≢◌, ◌==◌, ◌≤◌, ◌⊎◌, Some};
 ghost use Rattle.plural_base.specs.declared.raw_category.RawPluralCategory.{RawPluralCategory as Category};
-ghost use Rattle.plural_base.specs.RangeTable.{category_at, no_ranges, row_size, size_of, with_range};
+ghost use Rattle.plural_base.specs.Ranges.{category_at, no_ranges, row_size, size_of, with_range};
 
 use crate::by_category::ByCategory;
 use crate::raw_category::{ALL, RawPluralCategory};

@@ -2,10 +2,9 @@
 
 ghost use Rattle.std.specs.Prelude.{◌≡◌, ◌≢◌, ◌↔◌, ◌⊎◌, Err, IfOk, IfErr, OnOk, string_bytes};
 ghost use Rattle.plural_base.specs.declared.raw_category.RawPluralCategory.{RawPluralCategory as Category};
-ghost use Rattle.plural_base.specs.RangeKeys.{range_byte, range_text};
-ghost use Rattle.plural_base.specs.RangeSteps as steps;
+ghost use Rattle.plural_base.specs.Ranges.{range_byte, range_text, no_ranges};
+ghost use Rattle.plural_base.specs.Inner.JsonSteps as steps;
 ghost use Rattle.plural_base.specs.RangesJson.{category_shape, key_of_json, key_json, key_shape, members_shape, object_under, ranges_of_json, ranges_shape, IsJsonOfRanges};
-ghost use Rattle.plural_base.specs.RangeTable.{no_ranges};
 ghost use Rattle.serde_json.specs.View.{view, members_view};
 
 use crate::float::holds_float;

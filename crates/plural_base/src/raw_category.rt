@@ -1,7 +1,7 @@
 //! Plural categories by their numbers.
 
 ghost use Rattle.std.specs.Prelude.{◌≡◌};
-ghost use Rattle.plural_base.specs.CategoryNames.{name_of, category_of, raw_category_of};
+ghost use Rattle.plural_base.specs.Categories.{name_of, category_of, raw_category_of};
 
 use crate::category::PluralCategory;
 

@@ -2,10 +2,9 @@
 
 ghost use Rattle.std.specs.Prelude.{◌≡◌, ◌≢◌, ◌↔◌, Option, Some, None, Err, IfOk, IfErr, IsTrue, IsFalse};
 ghost use Rattle.plural_base.specs.declared.category.PluralCategory.{PluralCategory as Category};
-ghost use Rattle.plural_base.specs.JsonRefusals.{refusal_of};
+ghost use Rattle.plural_base.specs.Inner.JsonSteps.{refusal_of};
 ghost use Rattle.plural_base.specs.RulesJson.{rule_shape, rule_of_json, rule_json, Answers};
-ghost use Rattle.plural_base.specs.TextAnswers.{IsTakenAs};
-ghost use Rattle.plural_base.specs.TextReaders.{TextReader, TellsTexts};
+ghost use Rattle.plural_base.specs.RuleTexts.{IsTakenAs, TextReader, TellsTexts};
 ghost use Rattle.serde_json.specs.Find.{as_str};
 ghost use Rattle.serde_json.specs.View.{view};
 ghost use Rattle.serde_json.specs.Written.{has_float};

@@ -24,13 +24,13 @@ impl<'data> Model for PluralRules<'data> {
 
     ghost Value = { FiveRules };
 
-    ghost use Rattle.plural_base.specs.RulesData.{rules_of};
+    ghost use Rattle.plural_base.specs.FiveRules.{rules_of};
 
     ghost view = { λ rules. rules_of rules.data };
 }
 
 impl<'data> PluralRules<'data> {
-    ghost use Rattle.plural_base.specs.RulesData.{rules_of};
+    ghost use Rattle.plural_base.specs.FiveRules.{rules_of};
 
     /// Rules that were handed in.
     pub fn from_data(rules: PluralRulesData<'data>) -> PluralRules<'data>

@@ -3,13 +3,10 @@
 ghost use Rattle.std.specs.Prelude.{◌≡◌, ◌≢◌, ◌↔◌, Option, Some, None, Err, option_map, IfOk, IfErr, IsTrue, IsFalse};
 ghost use Rattle.std.specs.Option.{option_and_then};
 ghost use Rattle.plural_base.specs.declared.category.PluralCategory.{PluralCategory as Category};
-ghost use Rattle.plural_base.specs.RuleTexts.{AreRulesOf};
-ghost use Rattle.plural_base.specs.RulesData.{rules_of};
+ghost use Rattle.plural_base.specs.RuleTexts.{AreRulesOf, IsTakenAs, TextReader, TellsTexts};
+ghost use Rattle.plural_base.specs.FiveRules.{rules_of, five};
 ghost use Rattle.plural_base.specs.RulesJson.{member_shape, optional_rule_json, optional_shape, rules_shape, text_under, texts_in, Answers};
 ghost use Rattle.plural_base.specs.RulesJson as json;
-ghost use Rattle.plural_base.specs.FiveRules.{five};
-ghost use Rattle.plural_base.specs.TextAnswers.{IsTakenAs};
-ghost use Rattle.plural_base.specs.TextReaders.{TextReader, TellsTexts};
 ghost use Rattle.serde_json.specs.Find.{as_str, as_object};
 ghost use Rattle.serde_json.specs.View.{view};
 ghost use Rattle.serde_json.specs.Written.{has_float};

@@ -2,10 +2,9 @@
 
 ghost use Rattle.std.specs.Prelude.{◌≡◌, ◌≢◌, ◌++◌, ◌⊎◌, Some, Err, option_map, codes, IfOk, IfErr};
 ghost use Rattle.std.specs.Option.{option_copied};
-ghost use Rattle.plural_runtime.specs.RuleErrorTexts.{rule_error_text};
-ghost use Rattle.plural_base.specs.CategoryNames.{name_of};
-ghost use Rattle.plural_base.specs.TextAnswers.{IsTakenAs, HasRuleError, IsRefused, IsFirstRefused};
-ghost use Rattle.plural_base.specs.TextReaders.{TextReader, TellsTexts};
+ghost use Rattle.plural_runtime.specs.PluralRuntimeErrors.{rule_error_text};
+ghost use Rattle.plural_base.specs.Categories.{name_of};
+ghost use Rattle.plural_base.specs.RuleTexts.{IsTakenAs, HasRuleError, IsRefused, IsFirstRefused, TextReader, TellsTexts};
 
 use crate::category::PluralCategory;
 use crate::raw_category::RawPluralCategory;
@@ -39,7 +38,7 @@ impl fmt::Display for RulesTextError {
 impl Error for RulesTextError {}
 
 impl PluralRulesData<'static> {
-    ghost use Rattle.plural_base.specs.RulesData.{rules_of};
+    ghost use Rattle.plural_base.specs.FiveRules.{rules_of};
     ghost use Rattle.plural_base.specs.RuleTexts.{AreRulesOf, texts_of};
 
     /// The rules of texts as CLDR writes them (UTS 35 Part 3, Plural Rules Syntax), samples included,

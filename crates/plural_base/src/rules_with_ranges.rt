@@ -3,9 +3,8 @@
 ghost use Rattle.std.specs.Prelude.{◌≡◌};
 ghost use Rattle.plural_runtime.specs.PackedTruth.{packed_truth};
 ghost use Rattle.plural_base.specs.FiveRules.{first_category};
-ghost use Rattle.plural_base.specs.Providers.{of_type};
-ghost use Rattle.plural_base.specs.RangeTable.{resolved};
-ghost use Rattle.plural_base.specs.RulesWithRanges.{MakesBoth, MakesWith};
+ghost use Rattle.plural_base.specs.Providers.{of_type, MakesBoth, MakesWith};
+ghost use Rattle.plural_base.specs.Ranges.{resolved};
 
 use crate::as_plural_rules::AsPluralRules;
 use crate::category::PluralCategory;
@@ -27,7 +26,7 @@ pub struct PluralRulesWithRanges<R> {
 }
 
 impl<R> Model for PluralRulesWithRanges<R> {
-    ghost use Rattle.plural_base.specs.RulesWithRanges.{WithRanges};
+    ghost use Rattle.plural_base.specs.Providers.{WithRanges};
 
     ghost Value = { WithRanges R };
 

@@ -7,7 +7,7 @@ use Rattle.std.specs.Str.Pattern.{FindsText, HasTextAt, LacksTextAt}
 use Rattle.std.specs.Str.Replace.{ReplacesMatches}
 use Rattle.std.proofs.lemmas.List.{drop_at, take-append-drop}
 use Rattle.std.proofs.lemmas.Str.Pattern.{contains_text}
-use Rattle.plural_message.specs.Filling.{placeholder, joined, IsFilling}
+use Rattle.plural_message.specs.Messages.{placeholder, joined, IsFilling}
 
 -- ---- A piece more
 

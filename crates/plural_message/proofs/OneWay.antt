@@ -4,8 +4,7 @@ use Rattle.std.proofs.Common.{◌≡◌, ℕ, ◌≤◌, List, [], ◌∷◌, �
 use Rattle.std.specs.List.{AllByRecursion}
 use Rattle.std.specs.Str.Iter.{HasSubslice}
 use Rattle.std.proofs.lemmas.Bool.Decides.{eqb_tells}
-use Rattle.plural_message.specs.Filling.{joined}
-use Rattle.plural_message.specs.FillingLaws.{OneFilling}
+use Rattle.plural_message.specs.Messages.{joined, OneFilling}
 
 abbrev mark : ℕ → ℕ → List ℕ
 mark o c = o ∷ c ∷ []

@@ -1,5 +1,3 @@
 -- messages
-pub mod Filling
 pub mod Messages
-pub mod MessageErrors
-pub mod FillingLaws
+pub mod PluralMessageErrors

@@ -16,7 +16,7 @@ pub enum MessageError {
 
 impl fmt::Display for MessageError {
     ghost use Rattle.std.specs.Prelude.{Some};
-    ghost use Rattle.plural_message.specs.MessageErrors.{message_error_text};
+    ghost use Rattle.plural_message.specs.PluralMessageErrors.{message_error_text};
 
     ghost output = { λ error. Some (message_error_text error) };
 
@@ -33,7 +33,7 @@ impl Error for MessageError {}
 /// `Number`, but `Memory` where memory was wanting.
 impl From<DecimalError> for MessageError {
     ghost use Rattle.std.specs.Prelude.{◌≡◌};
-    ghost use Rattle.plural_message.specs.MessageErrors.{number_error};
+    ghost use Rattle.plural_message.specs.PluralMessageErrors.{number_error};
 
     ghost from_gives = { λ fault error. error ≡ number_error fault };
 

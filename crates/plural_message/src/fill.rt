@@ -1,7 +1,7 @@
 //! The text of an element with a number in the place of each `{}`.
 
 ghost use Rattle.std.specs.Prelude.{IfOk, string_bytes};
-ghost use Rattle.plural_message.specs.Filling.{IsFilling};
+ghost use Rattle.plural_message.specs.Messages.{IsFilling};
 
 use std::alloc::{AllocError, Global};
 

@@ -1,6 +1,6 @@
 //! What is true of all messages.
 
-ghost use Rattle.plural_message.specs.FillingLaws.{OneFilling};
+ghost use Rattle.plural_message.specs.Messages.{OneFilling};
 
 /// A number's text gives one filling of an element's text.
 pub fn one_filling()

@@ -7,11 +7,9 @@ use Rattle.std.proofs.Math.Nat.{mod-mod_of_dvd, add-mod_right}
 use Rattle.std.specs.Int.{◌∣◌}
 use Rattle.fixed_decimal.specs.Digits.{value_of, AreDigits}
 use Rattle.fixed_decimal.specs.Places.{Places, IsWritten}
-use Rattle.plural_reference.specs.Operands.{Operands}
-use Rattle.plural_reference.specs.DecimalOperands.{IsCutAt, IsExactAt, cut_whole}
+use Rattle.plural_reference.specs.Operands.{Operands, IsCutAt, IsExactAt, cut_whole}
 use Rattle.plural_reference.specs.Truth.{RelationMeaning, range_holds, is_in_ranges, holds_value, operand_value, remainder, under, relation_truth}
-use Rattle.plural_reference.specs.ExactTruth.{whole_of, exact_value, exact_relation_truth}
-use Rattle.plural_reference.specs.Exactness.{IsBoundedAt, AllDivide, IsAdmitted, IsListed}
+use Rattle.plural_reference.specs.Exactness.{whole_of, exact_value, exact_relation_truth, IsBoundedAt, AllDivide, IsAdmitted, IsListed}
 use Rattle.plural_reference.specs.declared.ast.Operand.{Operand}
 use Rattle.plural_reference.specs.declared.ast.Operand.TheVariants.{N, I, V, W, F, T as TOperand, C, E}
 use Rattle.plural_reference.proofs.Numbers.{value_of-below, value_of-drop, power_above}

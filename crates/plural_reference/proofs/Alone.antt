@@ -1,9 +1,9 @@
 -- `i` and `.` that no longer piece begins with.
 use Rattle.std.proofs.Common.{◌≡◌, ◌≢◌, ℕ, List, [], ◌∷◌, Some, refl, ap}
-use Rattle.plural_reference.specs.Ends.{first}
+use Rattle.plural_reference.specs.Lexer.{first}
 use Rattle.plural_reference.specs.declared.ast.Operand.TheVariants.{I}
 use Rattle.plural_reference.specs.declared.token.Token.TheVariants.{Operand, Dot}
-use Rattle.plural_reference.specs.Scan.{tokens_of, tokens_from}
+use Rattle.plural_reference.specs.Inner.Scan.{tokens_of, tokens_from}
 use Rattle.plural_reference.proofs.ScanComplete.{no_eq}
 
 pub i_alone : (byte : ℕ) (rest : List ℕ) → byte ≡ 105 → first rest ≢ Some 110 → tokens_of (byte ∷ rest) ≡ Operand I ∷ tokens_of rest

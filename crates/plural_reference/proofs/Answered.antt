@@ -11,9 +11,8 @@ use Rattle.plural_reference.specs.Parser.{Reads, Faulty}
 use Rattle.plural_reference.specs.Reading.{AnswersExactly, IsAnswer, AnswersUnlessMemory}
 use Rattle.plural_reference.specs.ReadingLaws.{HasOneReading}
 use Rattle.plural_reference.specs.Samples.{ReadsRule, FaultyRule}
-use Rattle.plural_reference.specs.Reader.{run, begin}
-use Rattle.plural_reference.specs.SampleSteps.{ReadsAllSamples}
-use Rattle.plural_reference.specs.SampleReader.{after_sections, run_samples}
+use Rattle.plural_reference.specs.Inner.Reader.{run, begin}
+use Rattle.plural_reference.specs.Inner.SampleReader.{ReadsAllSamples, after_sections, run_samples}
 use Rattle.plural_reference.proofs.ScanSound.{tokens_are}
 use Rattle.plural_reference.proofs.ReaderSound.{Said, said}
 use Rattle.plural_reference.proofs.Readings.{one_reading}

@@ -11,9 +11,8 @@ use Rattle.std.proofs.Math.ListN.{get_or-eq_default, get_or-append}
 use Rattle.std.specs.Int.{◌∣◌}
 use Rattle.fixed_decimal.specs.Digits.{value_of, AreDigits}
 use Rattle.fixed_decimal.specs.Places.{Places, IsWritten, digit_at, shift_right}
-use Rattle.plural_reference.specs.Operands.{Operands}
-use Rattle.plural_reference.specs.DecimalOperands.{HasFraction, cut_whole}
-use Rattle.plural_reference.specs.DigitsFrom.{digits_from}
+use Rattle.plural_reference.specs.Operands.{Operands, HasFraction, cut_whole}
+use Rattle.plural_reference.specs.Inner.OperandReader.{digits_from}
 use Rattle.plural_reference.proofs.Numbers.{value_of-append, power_above}
 
 -- ---- digits from a place down

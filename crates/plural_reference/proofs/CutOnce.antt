@@ -10,10 +10,9 @@ use Rattle.plural_reference.specs.declared.ast.Operand.TheVariants.{I}
 use Rattle.plural_reference.specs.declared.ast.Operator.TheVariants.{NotEq}
 use Rattle.plural_reference.specs.declared.token.Token.{Token}
 use Rattle.plural_reference.specs.declared.token.Token.TheVariants.{Operand, Operator, Dot, Or, And, Decimal, Integer, Ellipsis}
-use Rattle.plural_reference.specs.Ends.{first}
-use Rattle.plural_reference.specs.Lexer.{Word, marks, keywords, MayFollow, IsDigitRun, IsBegun, BeginsNone, IsPiece, space, mark, keyword, number, unknown, too_large, broken, cut_off, Piece, IsCut}
+use Rattle.plural_reference.specs.Lexer.{first, Word, marks, keywords, MayFollow, IsDigitRun, IsBegun, BeginsNone, IsPiece, space, mark, keyword, number, unknown, too_large, broken, cut_off, Piece, IsCut}
 use Rattle.plural_reference.specs.ReadingLaws.{HaveOneCut}
-use Rattle.plural_reference.specs.Scan.{Scan, between, in_keyword, in_number, after_i, after_point, begin, keyword_move, tokens_of}
+use Rattle.plural_reference.specs.Inner.Scan.{Scan, between, in_keyword, in_number, after_i, after_point, begin, keyword_move, tokens_of}
 use Rattle.plural_reference.proofs.ScanComplete.{no_more, no_eq, digit_yes, digit_no, begin_digit, begin_unknown, piece_scans}
 use Rattle.plural_reference.proofs.ScanSound.{has_tokens}
 

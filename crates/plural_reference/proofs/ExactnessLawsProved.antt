@@ -10,9 +10,9 @@ use Rattle.std.proofs.Math.Nat.{dvd-mul_left, dvd-add_iff_right, pow-le-pow_righ
 use Rattle.std.specs.Int.{◌∣◌}
 use Rattle.fixed_decimal.specs.Digits.{value_of, AreDigits}
 use Rattle.fixed_decimal.specs.Places.{Places, IsWritten, digit_at, shift_right}
-use Rattle.plural_reference.specs.DecimalOperands.{cut_whole}
+use Rattle.plural_reference.specs.Operands.{cut_whole}
 use Rattle.plural_reference.specs.Truth.{is_in_ranges, holds_value, range_holds, remainder}
-use Rattle.plural_reference.specs.ExactTruth.{whole_of, parts}
+use Rattle.plural_reference.specs.Exactness.{whole_of, parts}
 use Rattle.plural_reference.specs.ExactnessLaws.{HoldsWholeNumbers, ShiftedPlaces, LongValue, IsTwice, BoundIsWidest}
 use Rattle.plural_reference.proofs.Numbers.{value_of-below, power_above}
 use Rattle.plural_reference.proofs.Fractions.{exact_whole, IsWritten-shift_right}

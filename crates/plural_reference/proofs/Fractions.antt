@@ -6,8 +6,7 @@ use Rattle.std.proofs.Math.Nat.{mod-eq_of_lt}
 use Rattle.std.specs.Int.{◌∣◌}
 use Rattle.fixed_decimal.specs.Digits.{value_of, AreDigits}
 use Rattle.fixed_decimal.specs.Places.{Places, IsWritten, one_right, shift_right}
-use Rattle.plural_reference.specs.Operands.{Operands}
-use Rattle.plural_reference.specs.DecimalOperands.{HasFraction, IsCutAt, IsExactAt}
+use Rattle.plural_reference.specs.Operands.{Operands, HasFraction, IsCutAt, IsExactAt}
 use Rattle.plural_reference.proofs.Numbers.{value_of-append-div, value_of-append-mod, AreDigits-append, AreDigits-drop}
 
 -- ---- the shift keeps a written number

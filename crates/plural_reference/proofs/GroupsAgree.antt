@@ -3,8 +3,7 @@ use Rattle.std.proofs.Common.{◌≡◌, List, [], ◌∷◌, refl, ◌∙◌, a
 use Rattle.std.specs.List.{AllByRecursion, list_all}
 use Rattle.fixed_decimal.specs.Places.{shift_right}
 use Rattle.plural_reference.specs.Truth.{some_group, is_true_of, relation_truth, meaning_of, groups_of}
-use Rattle.plural_reference.specs.ExactTruth.{exact_relation_truth}
-use Rattle.plural_reference.specs.Exactness.{IsAdmitted}
+use Rattle.plural_reference.specs.Exactness.{exact_relation_truth, IsAdmitted}
 use Rattle.plural_reference.specs.ExactnessLaws.{RelationsAgree, GroupsAgree, ConditionsAgree}
 use Rattle.plural_reference.proofs.Fractions.{IsWritten-shift_right}
 use Rattle.plural_reference.proofs.Agreement.{relation_agrees}

@@ -1,10 +1,9 @@
 -- A text names one list of operands at most.
 use Rattle.std.proofs.Common.{◌≡◌, ℕ, suc, inl, inr, List, [], ◌∷◌, ◌++◌, sym, ◌∙◌, ap, subst, length, arith, get_or, lit<}
 use Rattle.fixed_decimal.specs.Digits.{value_of, text_of}
-use Rattle.plural_reference.specs.Operands.{Operands}
-use Rattle.plural_reference.specs.DecimalOperands.{HasFraction}
+use Rattle.plural_reference.specs.Operands.{Operands, HasFraction}
 use Rattle.plural_reference.specs.OperandText.{WritesCount, WritesExponent, WritesUnsignedOperands}
-use Rattle.plural_reference.specs.OperandReader.{HasNo, WritesWhole, WritesPointed}
+use Rattle.plural_reference.specs.Inner.OperandReader.{HasNo, WritesWhole, WritesPointed}
 use Rattle.plural_reference.specs.OperandLaws.{OneNamed}
 use Rattle.plural_reference.proofs.Fractions.{one_fraction}
 use Rattle.plural_reference.proofs.OperandLawsProved.{one_record}

@@ -7,8 +7,7 @@ use Rattle.std.proofs.Math.Nat.{add-mod_right, mod-mod, dvd-mul_left}
 use Rattle.std.specs.Int.{◌∣◌}
 use Rattle.fixed_decimal.specs.Digits.{value_of}
 use Rattle.fixed_decimal.specs.Places.{Places, IsWritten, shift_right}
-use Rattle.plural_reference.specs.Operands.{Operands, of_whole, of_wide}
-use Rattle.plural_reference.specs.DecimalOperands.{HasFraction, IsCutAt, IsExactAt, all_digits_value, cut_whole}
+use Rattle.plural_reference.specs.Operands.{Operands, of_whole, of_wide, HasFraction, IsCutAt, IsExactAt, all_digits_value, cut_whole}
 use Rattle.plural_reference.specs.OperandLaws.{SameBelowLimit, CongruentFromLimit, NothingIsCut, OneCut, OneExact, TellTheNumber}
 use Rattle.plural_reference.proofs.Numbers.{value_of-append-div, value_of-append-mod}
 use Rattle.plural_reference.proofs.Fractions.{SameFraction, one_fraction, exact_whole, exact_fraction, cut_fraction, IsWritten-shift_right}

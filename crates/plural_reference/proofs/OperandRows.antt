@@ -7,13 +7,11 @@ use Rattle.std.proofs.Math.Nat.{dvd-mul_right}
 use Rattle.std.specs.Int.{◌∣◌}
 use Rattle.fixed_decimal.specs.Digits.{AreDigits, value_of}
 use Rattle.fixed_decimal.specs.Places.{Places}
-use Rattle.plural_reference.specs.Operands.{Operands, of_whole}
-use Rattle.plural_reference.specs.DecimalOperands.{AreExact, AreCut, HasFraction}
+use Rattle.plural_reference.specs.Operands.{Operands, of_whole, AreExact, AreCut, HasFraction}
 use Rattle.plural_reference.specs.OperandText.{IsWord, WritesCount, WritesFraction, WritesOperands}
-use Rattle.plural_reference.specs.OperandReader.{HasNo, WritesPointed}
+use Rattle.plural_reference.specs.Inner.OperandReader.{HasNo, WritesPointed}
 use Rattle.plural_reference.specs.Truth.{RelationMeaning, relation_truth}
-use Rattle.plural_reference.specs.ExactTruth.{exact_value, exact_relation_truth}
-use Rattle.plural_reference.specs.Exactness.{IsWithinBound, AllDivide}
+use Rattle.plural_reference.specs.Exactness.{exact_value, exact_relation_truth, IsWithinBound, AllDivide}
 use Rattle.plural_reference.specs.declared.ast.Operand.TheVariants.{N, I}
 use Rattle.plural_reference.specs.declared.ast.Operator.TheVariants.{Eq, NotEq}
 use Rattle.plural_reference.proofs.OperandTexts.{names_pointed}

@@ -11,7 +11,7 @@ use Rattle.std.specs.Str.Parse.{AllDigits, ParsesUnsigned}
 use Rattle.fixed_decimal.specs.Digits.{value_of, AreDigits, text_of}
 use Rattle.plural_reference.specs.Operands.{Operands}
 use Rattle.plural_reference.specs.OperandText.{IsWord, WritesCount, WritesExponent, WritesUnsignedOperands, WritesOperands, FailsOperands, ReadsOperands}
-use Rattle.plural_reference.specs.OperandReader.{Answers, WritesDigits, HasNo, EndsInExponent, WritesWhole, WritesPointed}
+use Rattle.plural_reference.specs.Inner.OperandReader.{Answers, WritesDigits, HasNo, EndsInExponent, WritesWhole, WritesPointed}
 use Rattle.plural_reference.specs.declared.operands.error.OperandsError.{OperandsError}
 use Rattle.plural_reference.specs.declared.operands.error.OperandsError.TheVariants.{Invalid}
 

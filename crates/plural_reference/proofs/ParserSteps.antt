@@ -15,10 +15,9 @@ use Rattle.plural_reference.specs.declared.error.ReadError.TheVariants.{Parse, M
 use Rattle.plural_reference.specs.Reading.{IsFault}
 use Rattle.plural_reference.specs.declared.token.Token.{Token}
 use Rattle.plural_reference.specs.declared.token.Token.TheVariants.{Operator, DotDot, Comma, Modulo, And, Or, At}
-use Rattle.plural_reference.specs.Ends.{first}
+use Rattle.plural_reference.specs.Lexer.{first}
 use Rattle.plural_reference.specs.Parser.{value_of, operand_of, value_fault, operator_fault, IsUnconditional}
-use Rattle.plural_reference.specs.Reader.{Before, Opened, State, before_operand, after_operand, before_item, after_item, relation_of, with_relation, with_group, condition_of, no_operand, refuse, run, begin}
-use Rattle.plural_reference.specs.ReaderSteps.{ReadsItem, ReadsItems, ReadsExpression, NoDots, NoOperand, Completes, ReadsGroups}
+use Rattle.plural_reference.specs.Inner.Reader.{Before, Opened, State, before_operand, after_operand, before_item, after_item, relation_of, with_relation, with_group, condition_of, no_operand, refuse, run, begin, ReadsItem, ReadsItems, ReadsExpression, NoDots, NoOperand, Completes, ReadsGroups}
 use Rattle.plural_reference.proofs.ReaderComplete.{before_item_stop, before_end_stop, after_modulo_stop, operator_stop, after_operand_stop, operand_stop}
 
 pub no_item : (old : List Token) (o : Opened) (xs : List RangeListItem) → value_fault (first old) ≡ Some ExpectedValue → run (before_item o xs) old ≡ Err ExpectedValue

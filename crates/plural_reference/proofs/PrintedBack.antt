@@ -7,9 +7,10 @@ use Rattle.plural_reference.specs.declared.ast.Samples as samples
 use Rattle.plural_reference.specs.declared.token.Token.{Token}
 use Rattle.plural_reference.specs.Lexer.{AreTokensOf}
 use Rattle.plural_reference.specs.Parser.{ReadsUpTo}
-use Rattle.plural_reference.specs.PrintingLaws.{TextReads, IsSpellable, SpellableConditionsPrintBack, ConditionsPrintBack, RuleHasSmallRuns, RulesPrintBack}
+use Rattle.plural_reference.specs.PrintingLaws.{IsSpellable, SpellableConditionsPrintBack, ConditionsPrintBack, RuleHasSmallRuns, RulesPrintBack}
+use Rattle.plural_reference.specs.Reading.{TextReads}
 use Rattle.plural_reference.specs.Samples.{ReadsRule}
-use Rattle.plural_reference.specs.Scan.{tokens_of, tokens_from}
+use Rattle.plural_reference.specs.Inner.Scan.{tokens_of, tokens_from}
 use Rattle.plural_reference.specs.Serializer.{condition_text, samples_text, rule_text}
 use Rattle.plural_reference.proofs.PrintedConditions.{condition_reads_back}
 use Rattle.plural_reference.proofs.PrintedRules.{AreReadSamples, samples_are_read, SamplesReadBack, samples_read_back}

@@ -16,10 +16,10 @@ use Rattle.plural_reference.specs.declared.ast.Relation.{Relation}
 use Rattle.plural_reference.specs.declared.ast.Value.{Value}
 use Rattle.plural_reference.specs.declared.token.Token.{Token}
 use Rattle.plural_reference.specs.declared.token.Token.TheVariants.{Operand, Operator, DotDot, Comma, Or, And, Modulo, At, E}
-use Rattle.plural_reference.specs.Ends.{first}
+use Rattle.plural_reference.specs.Lexer.{first}
 use Rattle.plural_reference.specs.Parser.{operand_of, IsItem, IsModulus, IsExpression, IsRelation, IsAndCondition, IsCondition, Continues, IsUnconditional, ReadsUpTo}
 use Rattle.plural_reference.specs.PrintingLaws.{FitsToken, IsSpellableItem, IsSpellableRelation, IsSpellableGroup, IsSpellable}
-use Rattle.plural_reference.specs.Scan.{tokens_of, tokens_from}
+use Rattle.plural_reference.specs.Inner.Scan.{tokens_of, tokens_from}
 use Rattle.plural_reference.specs.Serializer.{joined, prefixed, value_text, operand_text, operator_text, expression_text, item_text, relation_text, and_condition_text, condition_text}
 use Rattle.plural_reference.proofs.Alone.{i_alone}
 use Rattle.plural_reference.proofs.PrintedTokens.{below_digits, Scans, scans_then, Spells, joined_spells, EndsRun, number_spells}

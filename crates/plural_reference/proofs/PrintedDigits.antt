@@ -14,11 +14,10 @@ use Rattle.plural_reference.specs.declared.ast.Operand.TheVariants.{C}
 use Rattle.plural_reference.specs.declared.ast.RangeListItem.TheVariants as items
 use Rattle.plural_reference.specs.declared.token.Token.{Token}
 use Rattle.plural_reference.specs.declared.token.Token.TheVariants.{Operand, Number, Zero, Dot, E}
-use Rattle.plural_reference.specs.Lexer.{max_number}
-use Rattle.plural_reference.specs.Ends.{first}
+use Rattle.plural_reference.specs.Lexer.{max_number, first}
 use Rattle.plural_reference.specs.Parser.{IsItem}
 use Rattle.plural_reference.specs.Samples.{IsDigits, IsExponentMark, IsFraction, IsExponent, token_text}
-use Rattle.plural_reference.specs.Scan.{tokens_of, tokens_from}
+use Rattle.plural_reference.specs.Inner.Scan.{tokens_of, tokens_from}
 use Rattle.plural_reference.proofs.Alone.{point_alone}
 use Rattle.plural_reference.proofs.PrintedTokens.{below_digits, above_digits, Scans, Spells, EndsRun, AreDigits, numerals, small_fits, run_gives, number_spells}
 use Rattle.plural_reference.proofs.SampleParserSteps.{digit_again}

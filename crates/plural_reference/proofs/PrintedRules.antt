@@ -10,7 +10,7 @@ use Rattle.plural_reference.specs.declared.token.Token.TheVariants.{At, Decimal,
 use Rattle.plural_reference.specs.Parser.{IsUnconditional}
 use Rattle.plural_reference.specs.PrintingLaws.{ListHasSmallRuns}
 use Rattle.plural_reference.specs.Samples.{IsSampleType, IsSampleList, Section, AreSections, with_list, samples_of, ReadsSamples}
-use Rattle.plural_reference.specs.Scan.{tokens_of, tokens_from}
+use Rattle.plural_reference.specs.Inner.Scan.{tokens_of, tokens_from}
 use Rattle.plural_reference.specs.Serializer.{prefixed, sample_list_text, samples_text}
 use Rattle.plural_reference.proofs.PrintedDigits.{EndsSample, space_breaks}
 use Rattle.plural_reference.proofs.PrintedSamples.{IsSpelled, list_spells}

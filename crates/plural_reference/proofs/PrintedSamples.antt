@@ -18,7 +18,7 @@ use Rattle.plural_reference.specs.declared.token.Token.TheVariants.{Operand, Num
 use Rattle.plural_reference.specs.Lexer.{max_number}
 use Rattle.plural_reference.specs.PrintingLaws.{HasSmallRuns, ListHasSmallRuns}
 use Rattle.plural_reference.specs.Samples.{IsDigits, IsExponentMark, IsFraction, IsExponent, SampleParts, IsSampleOf, token_text, IsSample, IsUpper, IsSampleRange, IsEllipsis, IsSampleList}
-use Rattle.plural_reference.specs.Scan.{tokens_from}
+use Rattle.plural_reference.specs.Inner.Scan.{tokens_from}
 use Rattle.plural_reference.specs.Serializer.{joined, prefixed, sample_text, sample_range_text, ellipsis_text, sample_list_text}
 use Rattle.plural_reference.proofs.PrintedDigits.{EndsSample, comma_breaks, sample_ends_run, Retold, text_digits, digits_retold, fraction_retold, fraction_follows, exponent_retold, exponent_follows}
 use Rattle.plural_reference.proofs.PrintedTokens.{below_digits, above_digits, Scans, scans_then, Spells, joined_spells, EndsRun, AreDigits, small_fits, nonempty_of}

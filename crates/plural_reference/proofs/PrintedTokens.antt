@@ -12,10 +12,9 @@ use Rattle.std.specs.Str.Parse.{digits_value}
 use Rattle.plural_reference.specs.declared.ast.RangeListItem.TheVariants as items
 use Rattle.plural_reference.specs.declared.token.Token.{Token}
 use Rattle.plural_reference.specs.declared.token.Token.TheVariants.{Number, Zero}
-use Rattle.plural_reference.specs.Lexer.{IsDigitRun, max_number}
-use Rattle.plural_reference.specs.Ends.{first}
+use Rattle.plural_reference.specs.Lexer.{IsDigitRun, max_number, first}
 use Rattle.plural_reference.specs.Parser.{Separated, IsItem}
-use Rattle.plural_reference.specs.Scan.{tokens_of, tokens_from}
+use Rattle.plural_reference.specs.Inner.Scan.{tokens_of, tokens_from}
 use Rattle.plural_reference.specs.Serializer.{joined}
 use Rattle.plural_reference.proofs.ScanComplete.{run_scans}
 

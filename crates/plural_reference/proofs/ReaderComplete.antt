@@ -15,9 +15,9 @@ use Rattle.plural_reference.specs.declared.token.Token.TheVariants.{Operator, Do
 use Rattle.plural_reference.specs.declared.error.ParseError.{ParseError}
 use Rattle.plural_reference.specs.declared.error.ParseError.TheVariants.{ExpectedValue, ExpectedAndCondition, ExpectedRelation}
 use Rattle.plural_reference.specs.Parser as places
-use Rattle.plural_reference.specs.Ends.{first, last}
+use Rattle.plural_reference.specs.Lexer.{first, last}
 use Rattle.plural_reference.specs.Parser.{value_of, operand_of, IsItem, IsExpression, IsModulus, IsRelation, IsAndCondition, IsCondition, Separated, Continues, EndsInValue, IsUnconditional, ReadsUpTo, Faulty, last_item, ConditionThen, IsBeforeOperand, IsAfterOperand, IsAfterModulo, IsAfterModulus, IsBeforeValue, Waits, fault, operand_fault, operator_fault, value_fault}
-use Rattle.plural_reference.specs.Reader.{Before, Opened, State, before_operand, after_operand, after_modulo, after_modulus, before_item, after_item, before_end, relation_of, with_relation, with_group, condition_of, refuse, value_move, proceed, run, begin, Outcome, no_operand}
+use Rattle.plural_reference.specs.Inner.Reader.{Before, Opened, State, before_operand, after_operand, after_modulo, after_modulus, before_item, after_item, before_end, relation_of, with_relation, with_group, condition_of, refuse, value_move, proceed, run, begin, Outcome, no_operand}
 
 -- one item
 pub run_item : (o : Opened) (xs : List RangeListItem) (tokens : List Token) (x : RangeListItem) (rest : List Token) → IsItem tokens x → run (before_item o xs) (tokens ++ rest) ≡ run (after_item o xs x) rest

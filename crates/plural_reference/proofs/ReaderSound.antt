@@ -14,7 +14,7 @@ use Rattle.plural_reference.specs.declared.error.ParseError.{ParseError}
 use Rattle.plural_reference.specs.declared.error.ParseError.TheVariants.{ExpectedValue, ExpectedAndCondition, ExpectedRelation, ExpectedOperand}
 use Rattle.plural_reference.specs.Parser as places
 use Rattle.plural_reference.specs.Parser.{value_of, operand_of, IsItem, IsExpression, IsModulus, IsRelation, IsAndCondition, IsCondition, Separated, Continues, EndsInValue, IsUnconditional, ReadsUpTo, Faulty, last_item, ConditionThen, IsBeforeOperand, IsAfterOperand, IsAfterModulo, IsAfterModulus, IsBeforeValue, Waits, fault, operand_fault, operator_fault, value_fault}
-use Rattle.plural_reference.specs.Reader.{Before, Opened, State, before_operand, after_operand, after_modulo, after_modulus, before_item, after_item, before_end, relation_of, with_relation, with_group, condition_of, Move, go, finish, refuse, operand_move, item_move, dots_move, operator_move, operand_next, step, at_end, proceed, run, begin, Outcome, no_operand}
+use Rattle.plural_reference.specs.Inner.Reader.{Before, Opened, State, before_operand, after_operand, after_modulo, after_modulus, before_item, after_item, before_end, relation_of, with_relation, with_group, condition_of, Move, go, finish, refuse, operand_move, item_move, dots_move, operator_move, operand_next, step, at_end, proceed, run, begin, Outcome, no_operand}
 use Rattle.plural_reference.proofs.ReaderComplete.{last_item-complete}
 
 -- parts, each with the separator behind it

@@ -5,7 +5,7 @@ use Rattle.plural_reference.specs.declared.error.ParseError.{ParseError}
 use Rattle.plural_reference.specs.declared.token.Token.{Token}
 use Rattle.plural_reference.specs.Parser.{Reads, Faulty}
 use Rattle.plural_reference.specs.ReadingLaws.{HasOneReading, HaveOneReading}
-use Rattle.plural_reference.specs.Reader.{run, begin, Outcome}
+use Rattle.plural_reference.specs.Inner.Reader.{run, begin, Outcome}
 use Rattle.plural_reference.proofs.ReaderComplete.{reads_run, faulty_run}
 use Rattle.plural_reference.proofs.ReaderSound.{Said, said}
 

@@ -17,10 +17,10 @@ use Rattle.plural_reference.specs.declared.token.Token.TheVariants.{Operand, Ope
 use Rattle.plural_reference.specs.Lexer.{AreTokensOf, broken}
 use Rattle.plural_reference.specs.Parser.{Reads, Faulty, after_and}
 use Rattle.std.specs.Fmt.{digits}
-use Rattle.plural_reference.specs.PrintingLaws.{TextReads, TextFaulty}
+use Rattle.plural_reference.specs.Reading.{TextReads, TextFaulty}
 use Rattle.plural_reference.specs.Serializer.{condition_text}
-use Rattle.plural_reference.specs.Scan.{tokens_of, tokens_from}
-use Rattle.plural_reference.specs.Reader.{run, begin}
+use Rattle.plural_reference.specs.Inner.Scan.{tokens_of, tokens_from}
+use Rattle.plural_reference.specs.Inner.Reader.{run, begin}
 use Rattle.plural_reference.proofs.ScanSound.{has_tokens, tokens_are}
 use Rattle.plural_reference.proofs.ReaderSound.{said, Said}
 use Rattle.plural_reference.proofs.Readings.{not_both}

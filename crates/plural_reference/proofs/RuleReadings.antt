@@ -8,8 +8,8 @@ use Rattle.plural_reference.specs.declared.token.Token.{Token}
 use Rattle.plural_reference.specs.Parser.{ReadsUpTo}
 use Rattle.plural_reference.specs.Samples.{Section, samples_of, ReadsSamples, ReadsRule, FaultyRule}
 use Rattle.plural_reference.specs.ReadingLaws.{HasOneReading, HaveOneRule}
-use Rattle.plural_reference.specs.Reader.{run, begin, Outcome}
-use Rattle.plural_reference.specs.SampleReader.{after_sections, run_samples, SampleOutcome}
+use Rattle.plural_reference.specs.Inner.Reader.{run, begin, Outcome}
+use Rattle.plural_reference.specs.Inner.SampleReader.{after_sections, run_samples, SampleOutcome}
 use Rattle.plural_reference.proofs.ReaderComplete.{reads_run, faulty_run}
 use Rattle.plural_reference.proofs.ReaderSound.{Said, said}
 use Rattle.plural_reference.proofs.SampleSound.{SaidSamples, said_samples}

@@ -14,11 +14,11 @@ use Rattle.plural_reference.specs.declared.error.ParseError.{ParseError}
 use Rattle.plural_reference.specs.declared.error.ParseError.TheVariants.{ExpectedValue, ExpectedSampleType}
 use Rattle.plural_reference.specs.Lexer.{ellipsis}
 use Rattle.plural_reference.specs.Samples.{ReadsRule, FaultyRule}
-use Rattle.plural_reference.specs.PrintingLaws.{TextReads, TextFaulty}
+use Rattle.plural_reference.specs.Reading.{TextReads, TextFaulty}
 use Rattle.plural_reference.specs.Serializer.{rule_text}
-use Rattle.plural_reference.specs.Scan.{tokens_of, tokens_from}
-use Rattle.plural_reference.specs.Reader.{run}
-use Rattle.plural_reference.specs.SampleReader.{run_samples}
+use Rattle.plural_reference.specs.Inner.Scan.{tokens_of, tokens_from}
+use Rattle.plural_reference.specs.Inner.Reader.{run}
+use Rattle.plural_reference.specs.Inner.SampleReader.{run_samples}
 use Rattle.plural_reference.proofs.ScanSound.{has_tokens}
 use Rattle.plural_reference.proofs.RuleReadings.{rule_of, Given, given}
 

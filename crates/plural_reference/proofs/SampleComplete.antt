@@ -12,10 +12,10 @@ use Rattle.plural_reference.specs.declared.ast.SampleRange.{SampleRange}
 use Rattle.plural_reference.specs.declared.error.ParseError.{ParseError}
 use Rattle.plural_reference.specs.declared.token.Token.{Token}
 use Rattle.plural_reference.specs.declared.token.Token.TheVariants.{Operand, Number, Zero, Dot, Comma, At, Decimal, Integer, Ellipsis, Tilde, E}
-use Rattle.plural_reference.specs.Ends.{first}
+use Rattle.plural_reference.specs.Lexer.{first}
 use Rattle.plural_reference.specs.Parser.{Separated, value_fault}
 use Rattle.plural_reference.specs.Samples.{IsDigits, IsExponentMark, IsSampleType, IsFraction, IsExponent, SampleParts, IsSampleOf, token_text, IsSample, IsUpper, IsSampleRange, IsEllipsis, IsSampleList, Section, AreSections, open_range, last_sample, has_exponent, has_point, Takes, ContinuesSamples, SectionsThen, IsAfterAt, IsBeforeSample, IsAfterComma, IsAfterMark, FaultyInSamples, sample_fault, type_fault, fault_in_samples}
-use Rattle.plural_reference.specs.SampleReader.{Partial, SampleState, after_sections, behind_at, awaits_sample, behind_comma, in_sample, behind_mark, range_of, with_sections, ranges_with, begin_list, SampleOutcome, sample_proceed, run_samples, joins, tilde_move}
+use Rattle.plural_reference.specs.Inner.SampleReader.{Partial, SampleState, after_sections, behind_at, awaits_sample, behind_comma, in_sample, behind_mark, range_of, with_sections, ranges_with, begin_list, SampleOutcome, sample_proceed, run_samples, joins, tilde_move}
 use Rattle.plural_reference.specs.Samples as places
 use Rattle.plural_reference.proofs.ReaderComplete.{last-push}
 use Rattle.plural_reference.proofs.SampleSound.{ReadsSections, open-done, last_sample-range, both_false, left_false, right_false}

@@ -16,12 +16,11 @@ use Rattle.plural_reference.specs.declared.parser.samples.SampleType.{SampleType
 use Rattle.plural_reference.specs.declared.parser.samples.SampleType.TheVariants as types
 use Rattle.plural_reference.specs.declared.token.Token.{Token}
 use Rattle.plural_reference.specs.declared.token.Token.TheVariants.{Operand, Number, Zero, Dot, Comma, At, Ellipsis, Tilde, E}
-use Rattle.plural_reference.specs.Ends.{first}
+use Rattle.plural_reference.specs.Lexer.{first}
 use Rattle.plural_reference.specs.Parser.{value_of}
-use Rattle.plural_reference.specs.ReaderSteps.{TakesValue}
+use Rattle.plural_reference.specs.Inner.Reader.{TakesValue}
 use Rattle.plural_reference.specs.Samples.{Section, IsDigits, IsExponentMark, IsSampleType, Takes, token_text, has_exponent, has_point, type_fault, sample_fault, samples_of, with_list}
-use Rattle.plural_reference.specs.SampleReader.{Partial, after_sections, behind_at, awaits_sample, behind_comma, in_sample, behind_mark, with_sections, ranges_with, begin_list, run_samples}
-use Rattle.plural_reference.specs.SampleSteps.{type_token, sample_at, joined_list, TakesText, NoDigits, NoMark, ReadsDigits, ReadsNumber, JoinsExponent, ReadsExponent, ReadsSample, ReadsRange, ReadsRanges, ReadsSampleList, ReadsLists, ReadsAllSamples}
+use Rattle.plural_reference.specs.Inner.SampleReader.{Partial, after_sections, behind_at, awaits_sample, behind_comma, in_sample, behind_mark, with_sections, ranges_with, begin_list, run_samples, type_token, sample_at, joined_list, TakesText, NoDigits, NoMark, ReadsDigits, ReadsNumber, JoinsExponent, ReadsExponent, ReadsSample, ReadsRange, ReadsRanges, ReadsSampleList, ReadsLists, ReadsAllSamples}
 use Rattle.plural_reference.proofs.SampleSound.{left_false, right_false}
 use Rattle.plural_reference.proofs.SampleComplete.{any-append, digits_no_mark, digits_no_point, digit_run, point_run, mark_run, after_mark_run, first_digit_run, first_point_run, first_mark_run, at_start, tilde_run, comma_run, ellipsis_run, type_run, joins_ends, tilde_ends, type_stop, sample_stop, mark_stop}
 

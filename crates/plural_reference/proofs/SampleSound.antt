@@ -11,10 +11,10 @@ use Rattle.plural_reference.specs.declared.ast.SampleRange.{SampleRange}
 use Rattle.plural_reference.specs.declared.error.ParseError.TheVariants.{ExpectedValue}
 use Rattle.plural_reference.specs.declared.token.Token.{Token}
 use Rattle.plural_reference.specs.declared.token.Token.TheVariants.{Operand, Number, Zero, Dot, Comma, At, Decimal, Integer, Ellipsis, Tilde, E}
-use Rattle.plural_reference.specs.Ends.{first}
+use Rattle.plural_reference.specs.Lexer.{first}
 use Rattle.plural_reference.specs.Parser.{Separated}
 use Rattle.plural_reference.specs.Samples.{IsDigits, IsExponentMark, IsSampleType, IsFraction, IsExponent, SampleParts, IsSampleOf, token_text, IsSample, IsUpper, IsSampleRange, IsEllipsis, IsSampleList, Section, AreSections, open_range, last_sample, has_exponent, has_point, Takes, ContinuesSamples, SectionsThen, IsAfterAt, IsBeforeSample, IsAfterComma, IsAfterMark, FaultyInSamples, sample_fault}
-use Rattle.plural_reference.specs.SampleReader.{Partial, SampleState, after_sections, behind_at, awaits_sample, behind_comma, in_sample, behind_mark, range_of, with_sections, ranges_with, begin_list, SampleMove, goes, ends, refuses, sample_step, samples_at_end, SampleOutcome, sample_proceed, run_samples, joins, tilde_move, in_move, mark_move, at_move, section_move, comma_move, sample_move}
+use Rattle.plural_reference.specs.Inner.SampleReader.{Partial, SampleState, after_sections, behind_at, awaits_sample, behind_comma, in_sample, behind_mark, range_of, with_sections, ranges_with, begin_list, SampleMove, goes, ends, refuses, sample_step, samples_at_end, SampleOutcome, sample_proceed, run_samples, joins, tilde_move, in_move, mark_move, at_move, section_move, comma_move, sample_move}
 use Rattle.plural_reference.specs.Samples as places
 use Rattle.plural_reference.proofs.ReaderSound.{Terminated, Separated-last, Terminated-push, Terminated-front}
 use Rattle.plural_reference.proofs.ReaderComplete.{last-push}

@@ -5,7 +5,7 @@ use Rattle.std.specs.Char.{is_ascii_digit, digit_value}
 use Rattle.plural_reference.specs.declared.ast.Operand.TheVariants.{I}
 use Rattle.plural_reference.specs.declared.token.Token.{Token}
 use Rattle.plural_reference.specs.declared.token.Token.TheVariants.{Operand, Dot, DotDot, Junk}
-use Rattle.plural_reference.specs.Scan.{Start, gives, opens, Scan, between, in_keyword, in_number, after_i, after_point, starts, look_up, start_move, begin, number_token, keyword_move, then_begin, step, Move, tokens_from, tokens_of}
+use Rattle.plural_reference.specs.Inner.Scan.{Start, gives, opens, Scan, between, in_keyword, in_number, after_i, after_point, starts, look_up, start_move, begin, number_token, keyword_move, then_begin, step, Move, tokens_from, tokens_of}
 
 -- an open piece gives at most one token
 abbrev pending : Scan → ℕ

@@ -11,10 +11,9 @@ use Rattle.std.specs.Str.Parse.{digits_value}
 use Rattle.plural_reference.specs.declared.ast.Operand.TheVariants.{I}
 use Rattle.plural_reference.specs.declared.token.Token.{Token}
 use Rattle.plural_reference.specs.declared.token.Token.TheVariants.{Operand, Zero, Dot, DotDot, Junk, Integer}
-use Rattle.plural_reference.specs.Ends.{first}
-use Rattle.plural_reference.specs.Lexer.{Word, marks, keywords, IsDigitRun, max_number, IsBegun, BeginsNone, IsPiece, space, mark, keyword, number, unknown, too_large, broken, cut_off, AreTokensOf}
+use Rattle.plural_reference.specs.Lexer.{first, Word, marks, keywords, IsDigitRun, max_number, IsBegun, BeginsNone, IsPiece, space, mark, keyword, number, unknown, too_large, broken, cut_off, AreTokensOf}
 use Rattle.plural_reference.proofs.ScanComplete.{cut_scans}
-use Rattle.plural_reference.specs.Scan.{Start, gives, opens, Scan, between, in_keyword, in_number, after_i, after_point, starts, look_up, start_move, begin, number_token, keyword_move, then_begin, step, at_end, Move, tokens_from, tokens_of}
+use Rattle.plural_reference.specs.Inner.Scan.{Start, gives, opens, Scan, between, in_keyword, in_number, after_i, after_point, starts, look_up, start_move, begin, number_token, keyword_move, then_begin, step, at_end, Move, tokens_from, tokens_of}
 
 heads : (a b : ℕ) (xs ys : List ℕ) → a ∷ xs ≡ b ∷ ys → a ≡ b
 heads a b xs ys e = cc

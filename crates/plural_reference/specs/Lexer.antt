@@ -1,6 +1,5 @@
--- How a text is cut into pieces, and the tokens of the pieces (UTS 35 Part 3, Plural Rules Syntax; what is no piece of a
--- rule is one token Junk, so that every text has tokens).
-use Rattle.std.specs.Prelude.{◌≡◌, ◌≢◌, ◌≤◌, ◌<◌, ℕ, List, [], ◌∷◌, ◌++◌, Option, Some, None, IfSome, All, Contains, codes}
+-- The ends of a list.
+use Rattle.std.specs.Prelude.{List, [], ◌∷◌, Option, Some, None, ◌≡◌, ◌≢◌, ◌≤◌, ◌<◌, ℕ, ◌++◌, IfSome, All, Contains, codes}
 use Rattle.std.specs.List.{filter_map}
 use Rattle.std.specs.Char.{IsAsciiDigit}
 use Rattle.std.specs.Str.Parse.{digits_value}
@@ -8,7 +7,20 @@ use Rattle.plural_reference.specs.declared.ast.Operand.TheVariants.{N, I, F, T, 
 use Rattle.plural_reference.specs.declared.ast.Operator.TheVariants.{Eq, NotEq}
 use Rattle.plural_reference.specs.declared.token.Token.{Token}
 use Rattle.plural_reference.specs.declared.token.Token.TheVariants.{Operand, Operator, Number, Zero, Dot, DotDot, Comma, Or, And, Modulo, Junk, At, Decimal, Integer, Ellipsis, Tilde, E}
-use Rattle.plural_reference.specs.Ends.{first}
+
+-- the first of a list
+abbrev pub first : {A : Type 0} → List A → Option A
+first [] = None
+first (x ∷ xs) = Some x
+
+-- the last of a list
+abbrev pub last : {A : Type 0} → List A → Option A
+last [] = None
+last (x ∷ []) = Some x
+last (x ∷ y ∷ ys) = last (y ∷ ys)
+
+-- ---- How a text is cut into pieces, and the tokens of the pieces (UTS 35 Part 3, Plural Rules Syntax; what is no piece of a
+-- rule is one token Junk, so that every text has tokens).
 
 -- a piece that is always spelled in one way, and its token
 abbrev pub Word : Type 0

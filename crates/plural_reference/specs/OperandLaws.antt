@@ -1,11 +1,10 @@
 -- What holds of the operands of every number.
 use Rattle.std.specs.Prelude.{◌≡◌, ℕ, ◌%◌, ◌<◌, ◌≤◌, ◌↔◌, List, length}
 use Rattle.fixed_decimal.specs.Places.{Places, IsWritten, shift_right}
-use Rattle.plural_reference.specs.Operands.{Operands, kept_places, kept_limit, of_whole, of_wide}
+use Rattle.plural_reference.specs.Operands.{Operands, kept_places, kept_limit, of_whole, of_wide, AreCut, AreExact, all_digits_value}
 use Rattle.plural_reference.specs.OperandText.{WritesOperands}
-use Rattle.plural_reference.specs.ExactTruth.{parts}
+use Rattle.plural_reference.specs.Exactness.{parts}
 use Rattle.plural_reference.specs.ReadingLaws.{ThereIsOne}
-use Rattle.plural_reference.specs.DecimalOperands.{AreCut, AreExact, all_digits_value}
 
 -- a whole number below 10 ^ 18 has the same operands at 64 and at 128 bits
 abbrev pub SameBelowLimit : Type 0

@@ -4,8 +4,7 @@
 -- A count is digits, perhaps behind a `+`. All of the integer part is kept, and nothing is moved by the exponent.
 use Rattle.std.specs.Prelude.{◌≡◌, ◌≢◌, ℕ, ◌<◌, ◌^◌, ◌⊎◌, List, [], ◌++◌, length, codes, Result, Ok, Err}
 use Rattle.fixed_decimal.specs.Digits.{AreDigits, value_of, text_of}
-use Rattle.plural_reference.specs.Operands.{Operands}
-use Rattle.plural_reference.specs.DecimalOperands.{HasFraction}
+use Rattle.plural_reference.specs.Operands.{Operands, HasFraction}
 use Rattle.plural_reference.specs.declared.operands.error.OperandsError.{OperandsError}
 use Rattle.plural_reference.specs.declared.operands.error.OperandsError.TheVariants.{Empty, Invalid}
 

@@ -4,7 +4,10 @@
 --     of_whole n      those of a whole number: no fraction, no exponent
 --     of_wide n      those that are kept of an integer of 128 bits
 --     kept_places, kept_limit      18 and 10 ^ 18: what is kept of a longer number
-use Rattle.std.specs.Prelude.{ℕ, ◌+◌, ◌%◌, ◌^◌, nat_lt, if◌then◌else◌}
+use Rattle.std.specs.Prelude.{ℕ, ◌+◌, ◌%◌, ◌^◌, nat_lt, if◌then◌else◌, ◌≡◌, ◌-◌, ◌/◌, ◌≤◌, List, ◌++◌, length, take, drop, nat_le}
+use Rattle.std.specs.Int.{◌∣◌}
+use Rattle.fixed_decimal.specs.Digits.{value_of}
+use Rattle.fixed_decimal.specs.Places.{Places, shift_right}
 
 pub record Operands : Type 0 where
   pub i : ℕ
@@ -29,3 +32,48 @@ kept_limit = 10 ^ kept_places
 -- the same below 10 ^ 18; from there on i has the last 18 digits, and 10 ^ 18 besides
 abbrev pub of_wide : ℕ → Operands
 of_wide n = of_whole (if nat_lt n kept_limit then n else n % kept_limit + kept_limit)
+
+-- ---- Which operands a written number has (UTS 35 Part 3, Plural Operand Meanings). The number is given by its digits x and its
+-- compact exponent e: the point goes e places to the right before the digits count.
+--     AreExact x e o      the exact operands, whatever the number's length
+--     AreCut x e o      the kept operands: the last 18 integer digits and the first 18 fraction digits count
+
+-- The fraction digits that are shown are so many, and write this number. w is the least count of them with the number
+-- divisible by 10 ^ (shown - w), and t is what that division gives.
+pub record HasFraction (o : Operands) (shown written : ℕ) : Type 0 where
+  pub v : o.v ≡ shown
+  pub f : o.f ≡ written
+  pub w_divides : 10 ^ (shown - o.w) ∣ written
+  pub w_least : (k : ℕ) → 10 ^ (shown - k) ∣ written → o.w ≤ k
+  pub t : o.t ≡ written / 10 ^ (shown - o.w)
+
+-- ---- Exact operands
+
+-- the whole number that all digits write: the number itself is so many parts of 10 ^ (count of its fraction digits)
+abbrev pub all_digits_value : Places → ℕ
+all_digits_value y = value_of (y.whole ++ y.fraction)
+
+-- of the digits as they stand, and an exponent
+pub record IsExactAt (y : Places) (e : ℕ) (o : Operands) : Type 0 where
+  pub i : o.i ≡ all_digits_value y / 10 ^ length y.fraction
+  pub fraction : HasFraction o (length y.fraction) (all_digits_value y % 10 ^ length y.fraction)
+  pub c : o.c ≡ e
+
+abbrev pub AreExact : Places → ℕ → Operands → Type 0
+AreExact x e o = IsExactAt (shift_right e x) e o
+
+-- ---- Kept operands
+
+-- the number that at most 18 digits write; of more, what the last 18 write, and 10 ^ 18 besides
+abbrev pub cut_whole : List ℕ → ℕ
+cut_whole ds =
+    if nat_le (length ds) kept_places then value_of ds else value_of (drop (length ds - kept_places) ds) + kept_limit
+
+-- of the digits as they stand, and an exponent
+pub record IsCutAt (y : Places) (e : ℕ) (o : Operands) : Type 0 where
+  pub i : o.i ≡ cut_whole y.whole
+  pub fraction : HasFraction o (length (take kept_places y.fraction)) (value_of (take kept_places y.fraction))
+  pub c : o.c ≡ e
+
+abbrev pub AreCut : Places → ℕ → Operands → Type 0
+AreCut x e o = IsCutAt (shift_right e x) e o

@@ -16,7 +16,7 @@ use Rattle.plural_reference.specs.declared.error.ParseError.{ParseError}
 use Rattle.plural_reference.specs.declared.error.ParseError.TheVariants.{ExpectedAndCondition, ExpectedRelation, ExpectedOperator, ExpectedOperand, ExpectedValue}
 use Rattle.plural_reference.specs.declared.token.Token.{Token}
 use Rattle.plural_reference.specs.declared.token.Token.TheVariants.{Operand, Operator, Number, Zero, DotDot, Comma, Or, And, Modulo, At, E}
-use Rattle.plural_reference.specs.Ends.{first, last}
+use Rattle.plural_reference.specs.Lexer.{first, last}
 
 -- the value that a token is
 abbrev pub value_of : Token → Option Value

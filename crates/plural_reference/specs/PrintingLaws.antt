@@ -11,21 +11,11 @@ use Rattle.plural_reference.specs.declared.ast.Relation.{Relation}
 use Rattle.plural_reference.specs.declared.ast.Rule.{Rule}
 use Rattle.plural_reference.specs.declared.ast.SampleList.{SampleList}
 use Rattle.plural_reference.specs.declared.ast.Value.{Value}
-use Rattle.plural_reference.specs.declared.error.ParseError.{ParseError}
-use Rattle.plural_reference.specs.declared.token.Token.{Token}
-use Rattle.plural_reference.specs.Lexer.{AreTokensOf, max_number}
-use Rattle.plural_reference.specs.Ends.{first, last}
+use Rattle.plural_reference.specs.Lexer.{max_number, first, last}
+use Rattle.plural_reference.specs.Reading.{TextReads}
 use Rattle.plural_reference.specs.Parser.{Reads}
 use Rattle.plural_reference.specs.Samples.{ReadsRule}
 use Rattle.plural_reference.specs.Serializer.{condition_text, rule_text}
-
--- the text is read as x: x is read from its tokens
-abbrev pub TextReads : {A : Type 0} → (List Token → A → Type 0) → List ℕ → A → Type 0
-TextReads Read text x = (tokens : List Token) × AreTokensOf text tokens × Read tokens x
-
--- the text has this fault: its tokens have it
-abbrev pub TextFaulty : (List Token → ParseError → Type 0) → List ℕ → ParseError → Type 0
-TextFaulty Fault text kind = (tokens : List Token) × AreTokensOf text tokens × Fault tokens kind
 
 -- ---- conditions
 

@@ -15,7 +15,7 @@ use Rattle.plural_reference.specs.declared.error.ParseError.{ParseError}
 use Rattle.plural_reference.specs.declared.error.ParseError.TheVariants.{ExpectedSampleType}
 use Rattle.plural_reference.specs.declared.token.Token.{Token}
 use Rattle.plural_reference.specs.declared.token.Token.TheVariants.{Operand, Number, Zero, Dot, Comma, At, Decimal, Integer, Ellipsis, Tilde, E}
-use Rattle.plural_reference.specs.Ends.{first, last}
+use Rattle.plural_reference.specs.Lexer.{first, last}
 use Rattle.plural_reference.specs.Parser.{Separated, ReadsUpTo, Faulty, value_of, value_fault}
 
 -- ---- kinds of token

@@ -13,6 +13,7 @@ use Rattle.plural_reference.specs.declared.ast.RangeListItem.TheVariants as item
 use Rattle.plural_reference.specs.declared.ast.Relation.{Relation}
 use Rattle.plural_reference.specs.declared.ast.Value.{Value}
 use Rattle.plural_reference.specs.Operands.{Operands}
+use Rattle.plural_reference.specs.declared.ast.Expression.{Expression}
 
 -- ---- A value in ranges
 
@@ -104,3 +105,29 @@ meaning_of relation = record {
 -- the groups of a condition
 abbrev pub groups_of : Condition → List (List Relation)
 groups_of condition = map (λ group. group.0) condition.0
+
+-- ---- When a condition, as a tree, is true at six operand numbers.
+
+-- a modulus is there and is 0
+abbrev pub is_zero_modulus : Option Value → Bool
+is_zero_modulus None = false
+is_zero_modulus (Some modulus) = modulus.0 == 0
+
+-- the value of an expression: there is none of n where w isn't 0, and none by a modulus 0
+abbrev pub tree_value : Operands → Expression → Option ℕ
+tree_value number expression =
+    if is_zero_modulus expression.modulus then None
+    else option_map (remainder (modulus_of expression.modulus)) (operand_value expression.operand number)
+
+-- without a value a relation of a tree is false, under `!=` too
+abbrev pub holds_by : Relation → Option ℕ → Bool
+holds_by relation None = false
+holds_by relation (Some value) = under relation.operator (is_in_ranges (ranges_of relation.range_list) value)
+
+-- the relation of a tree is true of the operands
+abbrev pub tree_relation_truth : Operands → Relation → Bool
+tree_relation_truth number relation = holds_by relation (tree_value number relation.expression)
+
+-- the condition is true of the operands
+abbrev pub tree_truth : Operands → Condition → Bool
+tree_truth number condition = is_true_of (tree_relation_truth number) (groups_of condition)

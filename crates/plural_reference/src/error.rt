@@ -1,7 +1,7 @@
 //! Why a text isn't read.
 
 ghost use Rattle.std.specs.Prelude.{◌≡◌, Some};
-ghost use Rattle.plural_reference.specs.ReadErrorTexts.{parse_error_text, read_error_text, lexer_error_text};
+ghost use Rattle.plural_reference.specs.PluralReferenceErrors.{parse_error_text, read_error_text, lexer_error_text};
 ghost use Rattle.plural_reference.specs.declared.error.ReadError.TheVariants.{Memory, Parse};
 
 use std::alloc::{AllocError, AllocFailed};

@@ -1,10 +1,9 @@
 //! A text as tokens (UTS 35 Part 3, Plural Rules Syntax).
 
 ghost use Rattle.std.specs.Prelude.{◌≡◌, ◌≢◌, ◌≤◌, ◌+◌, ◌*◌, ◌∷◌, ℕ, Some, length, MatchOption};
-ghost use Rattle.plural_reference.specs.Ends.{first};
+ghost use Rattle.plural_reference.specs.Lexer.{first, AreTokensOf, blank};
 ghost use Rattle.std.specs.Iterator.{YieldsFirst, item_count};
-ghost use Rattle.plural_reference.specs.Lexer.{AreTokensOf, blank};
-ghost use Rattle.plural_reference.specs.Scan.{tokens_of, keyword_tokens, bounded};
+ghost use Rattle.plural_reference.specs.Inner.Scan.{tokens_of, keyword_tokens, bounded};
 
 use crate::ast;
 use crate::token::Token;
@@ -21,7 +20,7 @@ pub struct Lexer<'l> {
 impl<'l> Model for Lexer<'l> {
     ghost use Rattle.std.specs.Prelude.{List};
     ghost use Rattle.plural_reference.specs.declared.token.Token.{Token};
-    ghost use Rattle.plural_reference.specs.Scan.{tokens_of};
+    ghost use Rattle.plural_reference.specs.Inner.Scan.{tokens_of};
 
     ghost Value = { List Token };
 
@@ -47,7 +46,7 @@ impl<'l> Iterator for Lexer<'l> {
 
     ghost remaining = { item_count (λ l. l) };
 
-    #[tactic(auto, unfolding(crate::specs::Scan::tokens_from))]
+    #[tactic(auto, unfolding(crate::specs::Inner::Scan::tokens_from))]
     fn next(&mut self) -> Option<Token> {
         while let [first, rest @ ..] = self.rest {
             if *first != b' ' {
@@ -63,7 +62,7 @@ impl<'l> Iterator for Lexer<'l> {
 
 // The token that the byte begins, and the bytes behind it.
 #[inline]
-#[tactic(auto, using(crate::proofs::Alone::i_alone, crate::proofs::Alone::point_alone), unfolding(crate::specs::Scan::tokens_from))]
+#[tactic(auto, using(crate::proofs::Alone::i_alone, crate::proofs::Alone::point_alone), unfolding(crate::specs::Inner::Scan::tokens_from))]
 fn token_at(first: u8, rest: &[u8]) -> (Token, &[u8])
     requires { first ≢ blank }
     ensures { tokens_of (first ∷ rest.now) ≡ result.0 ∷ tokens_of result.1.now }
@@ -113,7 +112,7 @@ fn strip_byte(text: &[u8], byte: u8) -> Option<&[u8]>
 }
 
 // The token of a keyword, where these bytes of it are still awaited, and the bytes behind it.
-#[tactic(auto, unfolding(crate::specs::Scan::tokens_from))]
+#[tactic(auto, unfolding(crate::specs::Inner::Scan::tokens_from))]
 fn keyword<'a>(expected: &[u8], token: Token, text: &'a [u8]) -> (Token, &'a [u8])
     ensures { keyword_tokens expected.now token text.now ≡ result.0 ∷ tokens_of result.1.now }
 {
@@ -131,7 +130,7 @@ fn keyword<'a>(expected: &[u8], token: Token, text: &'a [u8]) -> (Token, &'a [u8
 }
 
 // The token of the number that begins with the digit, and the bytes behind it.
-#[tactic(auto, unfolding(crate::specs::Scan::tokens_from))]
+#[tactic(auto, unfolding(crate::specs::Inner::Scan::tokens_from))]
 fn number(first: u8, text: &[u8]) -> (Token, &[u8])
     requires low { 49 ≤ first }
     requires high { first ≤ 57 }

@@ -5,15 +5,12 @@ mod samples;
 ghost use Rattle.std.specs.Prelude.{◌≡◌, ◌≢◌, ◌∷◌, [], Some, None, Ok, Err, length, ◌≤◌, MatchBool, MatchOption, MatchResult};
 ghost use Rattle.plural_reference.specs.declared.token.Token.TheVariants as token;
 ghost use Rattle.plural_reference.specs.declared.token.Token.TheVariants.{Comma};
-ghost use Rattle.plural_reference.specs.Lexer.{AreTokensOf};
-ghost use Rattle.plural_reference.specs.Ends.{first};
+ghost use Rattle.plural_reference.specs.Lexer.{AreTokensOf, first};
 ghost use Rattle.plural_reference.specs.Parser.{Reads, Faulty, operand_of, value_of, value_fault};
 ghost use Rattle.plural_reference.specs.declared.error.ParseError.TheVariants.{ExpectedValue};
 ghost use Rattle.plural_reference.specs.Samples.{ReadsRule, FaultyRule};
 ghost use Rattle.plural_reference.specs.Reading.{AnswersExactly, IsAnswer};
-ghost use Rattle.plural_reference.specs.Reader.{run, begin};
-ghost use Rattle.plural_reference.specs.ReaderSteps.{TakesValue, NoValue, TakesOperand, NoOperand, NoOperator, ReadsItem, ReadsItems, ReadsExpression, ReadsRelation, ReadsWholeGroup, ReadsOption};
-ghost use Rattle.plural_reference.specs.ReaderSteps.{FailsAtItem, FailsAtItems, FailsAtOperand, FailsAtGroup};
+ghost use Rattle.plural_reference.specs.Inner.Reader.{run, begin, TakesValue, NoValue, TakesOperand, NoOperand, NoOperator, ReadsItem, ReadsItems, ReadsExpression, ReadsRelation, ReadsWholeGroup, ReadsOption, FailsAtItem, FailsAtItems, FailsAtOperand, FailsAtGroup};
 
 use crate::ast::{
     AndCondition, Condition, Expression, Operand, Operator, RangeList, RangeListItem, Relation,

@@ -2,8 +2,7 @@
 
 ghost use Rattle.std.specs.Prelude.{◌≡◌};
 ghost use Rattle.std.specs.List.{list_all, list_any};
-ghost use Rattle.plural_reference.specs.Truth.{operand_value, is_in_ranges, ends_of, ranges_of};
-ghost use Rattle.plural_reference.specs.Resolver.{tree_truth, tree_relation_truth, tree_value};
+ghost use Rattle.plural_reference.specs.Truth.{operand_value, is_in_ranges, ends_of, ranges_of, tree_truth, tree_relation_truth, tree_value};
 
 use crate::ast::{
     AndCondition, Condition, Expression, Operand, Operator, RangeList, RangeListItem, Relation,

@@ -7,7 +7,7 @@ use Rattle.plural_runtime.specs.declared.kinds.Operand.{Operand}
 use Rattle.plural_runtime.specs.declared.kinds.Operand.TheVariants.{N, I, V, W, F, T, C, E}
 use Rattle.plural_runtime.specs.declared.first_byte.AndOrPolarityOperand.{AndOrPolarityOperand}
 use Rattle.plural_runtime.specs.RuleKinds.{byte_of, operator_of, packed_operand_of, polarity_of, tree_operand_of}
-use Rattle.plural_runtime.specs.RuleReading.{and_or_in, operand_in, operator_in}
+use Rattle.plural_runtime.specs.Inner.RuleReading.{and_or_in, operand_in, operator_in}
 use Rattle.plural_runtime.proofs.ItemBytes.{kind_again}
 
 polarity_again : (polarity : Polarity) → polarity_of (operator_of polarity) ≡ polarity

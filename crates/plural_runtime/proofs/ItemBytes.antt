@@ -5,7 +5,7 @@ use Rattle.std.specs.List.{AllByRecursion}
 use Rattle.std.specs.Int.{w32, to_le_bytes}
 use Rattle.std.specs.Cmp.{first_so, second_so}
 use Rattle.std.proofs.lemmas.Bool.{cases_lt, le-ltb, lt-ltb, eqb-true, le-leb, leb-true}
-use Rattle.packed_list.specs.ListReading.{AreBytes}
+use Rattle.packed_list.specs.Inner.ListReading.{AreBytes}
 use Rattle.plural_runtime.specs.declared.kinds.AndOr.{AndOr}
 use Rattle.plural_runtime.specs.declared.kinds.AndOr.TheVariants.{And, Or}
 use Rattle.plural_reference.specs.declared.ast.Operator.{Operator}
@@ -13,9 +13,8 @@ use Rattle.plural_reference.specs.declared.ast.Operator.TheVariants.{Eq, NotEq}
 use Rattle.plural_reference.specs.declared.ast.Operand.{Operand}
 use Rattle.plural_reference.specs.declared.ast.Operand.TheVariants.{N, I, V, W, F, T, C, E}
 use Rattle.plural_runtime.specs.PackedRelations.{PackedRelation, FitsBytes}
-use Rattle.plural_runtime.specs.RuleBytes.{and_or_bit, operator_bit, operand_number, first_byte, range_bytes, relation_bytes}
-use Rattle.plural_runtime.specs.RuleReading.{and_or_in, operator_in, operand_in, operand_numbered, operand_or_n, number_of, range_in, ranges_in, relation_in}
-use Rattle.plural_runtime.specs.RuleFaults.{is_item_length, is_relation}
+use Rattle.plural_runtime.specs.RuleBytes.{and_or_bit, operator_bit, operand_number, first_byte, range_bytes, relation_bytes, is_item_length, is_relation}
+use Rattle.plural_runtime.specs.Inner.RuleReading.{and_or_in, operator_in, operand_in, operand_numbered, operand_or_n, number_of, range_in, ranges_in, relation_in}
 
 pub record KindAgain (and_or : AndOr) (operator : Operator) (operand : Operand) : Type 0 where
   pub mark : and_or_in (first_byte and_or operator operand) ≡ and_or

@@ -3,7 +3,7 @@ use Rattle.std.proofs.Common.{◌≡◌, ℕ, zero, suc, ◌*◌, ◌/◌, ◌<�
 use Rattle.std.specs.Prelude.{slice_get}
 use Rattle.std.proofs.lemmas.Bool.{cases_eq, eq-eqb, ne_eqb}
 use Rattle.plural_runtime.specs.RuleKinds.{ends, range_or_value}
-use Rattle.plural_runtime.specs.RuleReading.{range_in, ranges_in}
+use Rattle.plural_runtime.specs.Inner.RuleReading.{range_in, ranges_in}
 
 pub length-ranges_in : (bytes : List ℕ) → length (ranges_in bytes) ≡ length bytes / 8
 length-ranges_in [] = refl

@@ -2,8 +2,7 @@
 use Rattle.std.proofs.Common.{◌≡◌, ℕ, List, [], ◌∷◌, map, refl, sym, ap, Bool, true, false}
 use Rattle.std.specs.Prelude.{◌==◌}
 use Rattle.std.proofs.lemmas.Bool.{eqb-true}
-use Rattle.plural_reference.specs.Truth.{ends_of, meaning_of, modulus_of, RelationMeaning}
-use Rattle.plural_reference.specs.Resolver.{is_zero_modulus}
+use Rattle.plural_reference.specs.Truth.{ends_of, meaning_of, modulus_of, RelationMeaning, is_zero_modulus}
 use Rattle.plural_runtime.specs.PackedTree.{unpacked_range, unpacked_modulus, unpacked_meaning}
 
 pub range_again : (range : ℕ × ℕ) → ends_of (unpacked_range range) ≡ range

@@ -6,9 +6,7 @@ use Rattle.std.proofs.lemmas.List.Sums.{sum_by-cons}
 use Rattle.plural_reference.specs.Operands.{Operands}
 use Rattle.plural_runtime.specs.PackedRelations.{PackedRelation, groups}
 use Rattle.plural_reference.specs.Truth.{range_holds, is_in_ranges}
-use Rattle.plural_runtime.specs.PackedTruth.{is_true_at}
-use Rattle.plural_runtime.specs.PackedTruth.{group_truth}
-use Rattle.plural_runtime.specs.NeededRanges.{with_earlier_from, needed_of_list, needed_of_relation, needed_of_group}
+use Rattle.plural_runtime.specs.PackedTruth.{is_true_at, group_truth, with_earlier_from, needed_of_list, needed_of_relation, needed_of_group}
 
 -- the needed ranges, one after the other
 abbrev pub needed_from : ℕ → List (ℕ × ℕ) → ℕ

@@ -5,8 +5,7 @@ use Rattle.std.proofs.lemmas.List.Sums.{sum_by-cons}
 use Rattle.plural_reference.specs.Operands.{Operands}
 use Rattle.plural_runtime.specs.PackedRelations.{PackedRelation}
 use Rattle.plural_reference.specs.Truth.{range_holds, operand_value, remainder}
-use Rattle.plural_runtime.specs.PackedTruth.{is_true_at}
-use Rattle.plural_runtime.specs.NeededRanges.{needed_of_value, needed_of_relation, needed_ranges, all_ranges}
+use Rattle.plural_runtime.specs.PackedTruth.{is_true_at, needed_of_value, needed_of_relation, needed_ranges, all_ranges}
 use Rattle.plural_runtime.proofs.NeededGroups.{needed_from, needed_of_list-is}
 use Rattle.plural_runtime.proofs.Walks.{ends_true, is_looked_at, holds_after, needed_left, needed_left-is}
 

@@ -6,9 +6,8 @@ use Rattle.plural_reference.specs.declared.ast.Condition.{Condition}
 use Rattle.plural_reference.specs.PrintingLaws.{IsSpellable, ConditionsOfTextsAreSpellable, SpellableConditionsPrintBack}
 use Rattle.plural_runtime.specs.PackedRelations.{PackedRelation}
 use Rattle.plural_runtime.specs.RuleBytes.{relation_bytes}
-use Rattle.plural_runtime.specs.PackedTree.{packed, unpacked, has_large_value}
-use Rattle.plural_runtime.specs.Packing.{packing}
-use Rattle.plural_runtime.specs.RuleLaws.{PrintedRulesPackAgain}
+use Rattle.plural_runtime.specs.PackedTree.{packed, unpacked, has_large_value, packing}
+use Rattle.plural_runtime.specs.RuleText.{PrintedRulesPackAgain}
 use Rattle.plural_runtime.proofs.PackedTrees.{packing-high, packing-ok}
 use Rattle.plural_runtime.proofs.SpellableTrees.{spellable_is_small, spellable_again}
 use Rattle.plural_runtime.proofs.TreeGroups.{packed-unpacked}

@@ -3,7 +3,7 @@ use Rattle.std.proofs.Common.{◌≡◌, ℕ, ◌+◌, ◌-◌, ◌%◌, ◌<◌
 use Rattle.std.specs.Prelude.{◌||◌, if◌then◌else◌, ◌==◌}
 use Rattle.std.specs.List.{list_any}
 use Rattle.std.proofs.lemmas.Bool.{eqb-true, eqb-false}
-use Rattle.plural_runtime.specs.RuleReading.{range_in, ranges_in}
+use Rattle.plural_runtime.specs.Inner.RuleReading.{range_in, ranges_in}
 use Rattle.plural_reference.specs.Truth.{range_holds}
 use Rattle.plural_runtime.proofs.NeededGroups.{needed_from}
 

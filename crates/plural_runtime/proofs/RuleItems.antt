@@ -7,12 +7,11 @@ use Rattle.std.specs.Cmp.{first_so, second_so}
 use Rattle.std.proofs.lemmas.List.{drop_more}
 use Rattle.std.proofs.lemmas.Bool.{le-ltb, le-leb, leb-true, ltb-false}
 use Rattle.packed_list.specs.declared.error.ListError.{ListError}
-use Rattle.packed_list.specs.ListReading.{AreBytes, items_in, IsList}
+use Rattle.packed_list.specs.Inner.ListReading.{AreBytes, items_in, IsList}
 use Rattle.packed_list.specs.ListBytes.{ListBytes}
 use Rattle.plural_runtime.specs.PackedRelations.{PackedRelation, FitsBytes}
-use Rattle.plural_runtime.specs.RuleBytes.{relation_bytes, RuleBytes}
-use Rattle.plural_runtime.specs.RuleReading.{relation_in, relations_in, IsRule}
-use Rattle.plural_runtime.specs.RuleFaults.{is_item_length, is_relation, item_fault, or_else, first_fault}
+use Rattle.plural_runtime.specs.RuleBytes.{relation_bytes, RuleBytes, is_item_length, is_relation, item_fault, or_else, first_fault}
+use Rattle.plural_runtime.specs.Inner.RuleReading.{relation_in, relations_in, IsRule}
 use Rattle.plural_runtime.specs.declared.error.RuleBytesError.{RuleBytesError}
 use Rattle.plural_runtime.specs.declared.error.RuleBytesError.TheVariants as errors
 use Rattle.plural_runtime.proofs.ItemBytes.{packed_is_relation, relation-fits, relation_again, relation_spelled}

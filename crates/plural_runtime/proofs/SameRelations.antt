@@ -10,9 +10,8 @@ use Rattle.plural_reference.specs.declared.ast.Operator.TheVariants.{Eq, NotEq}
 use Rattle.plural_runtime.specs.declared.kinds.AndOr.{AndOr}
 use Rattle.plural_runtime.specs.declared.kinds.AndOr.TheVariants.{And, Or}
 use Rattle.plural_runtime.specs.PackedRelations.{PackedRelation}
-use Rattle.plural_runtime.specs.RuleBytes.{and_or_bit, operator_bit, operand_number}
-use Rattle.plural_runtime.specs.RuleReading.{and_or_in, operator_in, operand_numbered, operand_or_n, ranges_in}
-use Rattle.plural_runtime.specs.RelationEquality.{relation_numbers, is_same_relation}
+use Rattle.plural_runtime.specs.RuleBytes.{and_or_bit, operator_bit, operand_number, relation_numbers, is_same_relation}
+use Rattle.plural_runtime.specs.Inner.RuleReading.{and_or_in, operator_in, operand_numbered, operand_or_n, ranges_in, lent_relation}
 use Rattle.plural_runtime.specs.declared.first_byte.AndOrPolarityOperand.{AndOrPolarityOperand}
 use Rattle.plural_runtime.specs.declared.kinds.Polarity.{Polarity}
 use Rattle.plural_runtime.specs.declared.kinds.Polarity.TheVariants.{Positive, Negative}
@@ -20,7 +19,6 @@ use Rattle.plural_runtime.specs.declared.kinds.Operand.{Operand as PackedOperand
 use Rattle.plural_runtime.specs.declared.kinds.Operand.TheVariants as packed
 use Rattle.plural_runtime.specs.declared.relation.Relation.{Relation}
 use Rattle.plural_runtime.specs.RuleKinds.{operator_of, tree_operand_of, polarity_of, packed_operand_of}
-use Rattle.plural_runtime.specs.RuleViews.{lent_relation}
 
 -- the relation of numbers
 abbrev pairs : List ℕ → List (ℕ × ℕ)

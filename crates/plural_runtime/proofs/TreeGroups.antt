@@ -11,7 +11,7 @@ use Rattle.plural_runtime.specs.declared.range.RangeOrValue.{RangeOrValue}
 use Rattle.plural_runtime.specs.RuleKinds.{item_of, range_or_value}
 use Rattle.plural_runtime.specs.PackedRelations.{PackedRelation, groups, at_front, cut_before}
 use Rattle.plural_runtime.specs.PackedTree.{packed_relation, packed_and_condition, packed_groups, packed, unpacked_range, unpacked_relation, unpacked_groups, unpacked}
-use Rattle.plural_runtime.specs.OpenGroup.{done_before, open_before}
+use Rattle.plural_runtime.specs.Inner.TreeWalk.{done_before, open_before}
 use Rattle.plural_runtime.proofs.Meanings.{meaning_again}
 use Rattle.plural_runtime.proofs.Walks.{first_group}
 

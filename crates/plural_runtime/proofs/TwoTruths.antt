@@ -9,8 +9,7 @@ use Rattle.plural_reference.specs.declared.ast.Operator.{Operator}
 use Rattle.plural_reference.specs.declared.ast.Operator.TheVariants.{Eq, NotEq}
 use Rattle.plural_reference.specs.declared.ast.Operand.{Operand}
 use Rattle.plural_reference.specs.declared.ast.Operand.TheVariants.{N, I, V, W, F, T, C, E}
-use Rattle.plural_reference.specs.Truth.{operand_value, remainder, holds_value, is_in_ranges, under, RelationMeaning, some_group, is_true_of}
-use Rattle.plural_reference.specs.Resolver.{tree_value, holds_by, tree_relation_truth, tree_truth}
+use Rattle.plural_reference.specs.Truth.{operand_value, remainder, holds_value, is_in_ranges, under, RelationMeaning, some_group, is_true_of, tree_value, holds_by, tree_relation_truth, tree_truth}
 use Rattle.plural_runtime.specs.declared.kinds.AndOr.{AndOr}
 use Rattle.plural_runtime.specs.declared.kinds.AndOr.TheVariants.{And, Or}
 use Rattle.plural_runtime.specs.PackedRelations.{PackedRelation, groups, at_front, cut_before}

@@ -1,7 +1,7 @@
 -- The definitions at worked examples.
 use Rattle.std.proofs.Common.{◌≡◌, ℕ, List, [], ◌∷◌, refl, true, false, Some, None, codes}
 use Rattle.std.specs.Fmt.{digits}
-use Rattle.packed_list.specs.ListReading.{items_in}
+use Rattle.packed_list.specs.Inner.ListReading.{items_in}
 use Rattle.plural_reference.specs.Operands.{Operands}
 use Rattle.plural_reference.specs.declared.ast.Condition.{Condition}
 use Rattle.plural_reference.specs.declared.ast.Relation.{Relation}
@@ -9,15 +9,13 @@ use Rattle.plural_reference.specs.declared.ast.Operator.TheVariants.{Eq, NotEq}
 use Rattle.plural_reference.specs.declared.ast.Operand.TheVariants.{N, I, V}
 use Rattle.plural_reference.specs.declared.ast.RangeListItem.TheVariants as item
 use Rattle.plural_reference.specs.Serializer.{condition_text}
-use Rattle.plural_reference.specs.Resolver.{tree_truth}
+use Rattle.plural_reference.specs.Truth.{tree_truth}
 use Rattle.plural_runtime.specs.declared.kinds.AndOr.TheVariants.{And, Or}
 use Rattle.plural_runtime.specs.declared.error.RuleBytesError.TheVariants as errors
 use Rattle.plural_runtime.specs.PackedRelations.{PackedRelation}
-use Rattle.plural_runtime.specs.RuleBytes.{relation_bytes, packed_bytes, range_bytes}
-use Rattle.plural_runtime.specs.RuleReading.{relation_in, relations_in}
-use Rattle.plural_runtime.specs.RuleFaults.{first_fault}
-use Rattle.plural_runtime.specs.PackedTruth.{packed_truth}
-use Rattle.plural_runtime.specs.NeededRanges.{needed_ranges}
+use Rattle.plural_runtime.specs.RuleBytes.{relation_bytes, packed_bytes, range_bytes, first_fault}
+use Rattle.plural_runtime.specs.Inner.RuleReading.{relation_in, relations_in}
+use Rattle.plural_runtime.specs.PackedTruth.{packed_truth, needed_ranges}
 use Rattle.plural_runtime.specs.PackedTree.{packed, unpacked, condition_of, has_large_value}
 
 -- a whole number

@@ -1,17 +1,9 @@
 pub mod PackedRelations
 pub mod RuleBytes
-pub mod RelationEquality
-pub mod RuleFaults
 pub mod PackedTruth
-pub mod NeededRanges
 pub mod PackedTree
 pub mod RuleKinds
-pub mod Packing
-pub mod RuleErrorTexts
-pub mod RuleLaws
-pub mod RuleViews
--- not definitions of the subject
-pub mod RuleReading
-pub mod OpenGroup
+pub mod PluralRuntimeErrors
 pub mod RuleText
-pub mod TreeWalk
+pub mod Inner
+-- not definitions of the subject

@@ -1,5 +1,5 @@
 -- The relations that a tree is packed to, and the tree of relations.
-use Rattle.std.specs.Prelude.{ℕ, List, [], ◌∷◌, ◌++◌, map, flat_map, Bool, if◌then◌else◌, ◌==◌, Option, Some, None, nat_lt, true, false, not, ◌||◌}
+use Rattle.std.specs.Prelude.{ℕ, List, [], ◌∷◌, ◌++◌, map, flat_map, Bool, if◌then◌else◌, ◌==◌, Option, Some, None, nat_lt, true, false, not, ◌||◌, ◌≡◌, ◌⊎◌, Result, Ok, Err}
 use Rattle.std.specs.List.{list_any, list_all}
 use Rattle.plural_reference.specs.declared.ast.Condition.{Condition}
 use Rattle.plural_reference.specs.declared.ast.Relation.{Relation}
@@ -14,6 +14,11 @@ use Rattle.plural_reference.specs.Truth.{meaning_of, groups_of, RelationMeaning}
 use Rattle.plural_runtime.specs.declared.kinds.AndOr.{AndOr}
 use Rattle.plural_runtime.specs.declared.kinds.AndOr.TheVariants.{And, Or}
 use Rattle.plural_runtime.specs.PackedRelations.{PackedRelation, groups}
+use Rattle.packed_list.specs.ListBytes.{has_high_start}
+use Rattle.plural_reference.specs.declared.error.ParseError.TheVariants.{ValueTooLarge}
+use Rattle.plural_runtime.specs.declared.error.RuleError.{RuleError}
+use Rattle.plural_runtime.specs.declared.error.RuleError.TheVariants.{Parse, StartLimit, Memory}
+use Rattle.plural_runtime.specs.RuleBytes.{relation_bytes}
 
 -- ---- Packing
 
@@ -97,3 +102,15 @@ is_negated_n _ _ = false
 -- no relation does
 abbrev pub has_no_negated_n : List PackedRelation → Bool
 has_no_negated_n relations = list_all (λ relation. not (is_negated_n relation.meaning.operator relation.meaning.operand)) relations
+
+-- ---- What packing a tree answers.
+
+-- the relations of a tree, or why it can't be packed: a value above 32 bits anywhere in it, else a start above 65535
+unfoldable pub packing : Condition → Result (List PackedRelation) RuleError
+packing condition =
+    if has_large_value condition then Err (Parse ValueTooLarge)
+    else (if has_high_start (map relation_bytes (packed condition)) then Err StartLimit else Ok (packed condition))
+
+-- this is answered, or want of memory
+abbrev pub Packs : Condition → Result (List PackedRelation) RuleError → Type 0
+Packs condition result = (result ≡ packing condition) ⊎ (result ≡ Err Memory)

@@ -1,5 +1,5 @@
 -- The bytes of a rule: a packed list whose items are its relations.
-use Rattle.std.specs.Prelude.{ℕ, ◌+◌, List, ◌∷◌, ◌++◌, map, flat_map}
+use Rattle.std.specs.Prelude.{ℕ, ◌+◌, List, ◌∷◌, ◌++◌, map, flat_map, ◌-◌, ◌%◌, [], length, slice_index, Bool, if◌then◌else◌, ◌==◌, ◌&&◌, nat_lt, nat_le, not, Option, Some, None, nat_eq}
 use Rattle.std.specs.List.{AllByRecursion}
 use Rattle.std.specs.Int.{w32, to_le_bytes}
 use Rattle.packed_list.specs.ListBytes.{ListBytes, list_bytes}
@@ -10,6 +10,9 @@ use Rattle.plural_reference.specs.declared.ast.Operator.TheVariants.{Eq, NotEq}
 use Rattle.plural_runtime.specs.declared.kinds.AndOr.{AndOr}
 use Rattle.plural_runtime.specs.declared.kinds.AndOr.TheVariants.{And, Or}
 use Rattle.plural_runtime.specs.PackedRelations.{PackedRelation, FitsBytes}
+use Rattle.plural_runtime.specs.declared.error.RuleBytesError.{RuleBytesError}
+use Rattle.plural_runtime.specs.declared.error.RuleBytesError.TheVariants as errors
+use Rattle.std.specs.Cmp.Lexicographic.{pointwise}
 
 -- bit 7 of a relation's first byte
 abbrev pub and_or_bit : AndOr → ℕ
@@ -52,3 +55,40 @@ packed_bytes relations = list_bytes (map relation_bytes relations)
 pub record RuleBytes (relations : List PackedRelation) (bytes : List ℕ) : Type 0 where
   pub fit : AllByRecursion FitsBytes relations
   pub packed : ListBytes (map relation_bytes relations) bytes
+
+-- ---- What is wrong with the items of a packed list that is no rule.
+
+-- an item's length is 5 and a multiple of 8
+abbrev pub is_item_length : ℕ → Bool
+is_item_length n = nat_le 5 n && ((n - 5) % 8 == 0)
+
+-- an item is a relation: its length, and the operand in bits 0 to 5 of its first byte
+abbrev pub is_relation : List ℕ → Bool
+is_relation item = is_item_length (length item) && nat_le (slice_index item 0 % 64) 7
+
+-- what is wrong with the item at a place: its length before its operand
+abbrev pub item_fault : ℕ → List ℕ → Option RuleBytesError
+item_fault place item =
+    if not (is_item_length (length item)) then Some (errors.ItemLength place)
+    else (if nat_lt 7 (slice_index item 0 % 64) then Some (errors.Operand place) else None)
+
+abbrev pub or_else : Option RuleBytesError → Option RuleBytesError → Option RuleBytesError
+or_else None other = other
+or_else (Some fault) other = Some fault
+
+-- what is wrong with the first bad item, if there is one; the first item stands at the given place
+abbrev pub first_fault : ℕ → List (List ℕ) → Option RuleBytesError
+first_fault place [] = None
+first_fault place (item ∷ items) = or_else (item_fault place item) (first_fault (place + 1) items)
+
+-- ---- When two packed relations are the same.
+
+-- what a relation is made of, as numbers: its mark, its operator, its operand, its modulus and both ends of its ranges
+abbrev pub relation_numbers : PackedRelation → List ℕ
+relation_numbers relation =
+    and_or_bit relation.and_or ∷ operator_bit relation.meaning.operator ∷ operand_number relation.meaning.operand ∷ relation.meaning.modulus
+    ∷ flat_map (λ range. range.0 ∷ range.1 ∷ []) relation.meaning.ranges
+
+-- all of these are equal
+abbrev pub is_same_relation : PackedRelation → PackedRelation → Bool
+is_same_relation relation other = pointwise nat_eq (relation_numbers relation) (relation_numbers other)

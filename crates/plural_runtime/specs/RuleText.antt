@@ -1,9 +1,9 @@
 -- Not a definition of the subject: the printed text of packed relations, one after the other.
-use Rattle.std.specs.Prelude.{ℕ, List, [], ◌∷◌, ◌++◌, codes, Bool, true, false, if◌then◌else◌, ◌==◌}
+use Rattle.std.specs.Prelude.{ℕ, List, [], ◌∷◌, ◌++◌, codes, Bool, true, false, if◌then◌else◌, ◌==◌, ◌≡◌, None, Ok}
 use Rattle.std.specs.Fmt.{decimal}
 use Rattle.plural_reference.specs.declared.ast.Operator.{Operator}
 use Rattle.plural_reference.specs.declared.ast.Operator.TheVariants.{Eq, NotEq}
-use Rattle.plural_reference.specs.Serializer.{joined, operand_text}
+use Rattle.plural_reference.specs.Serializer.{joined, operand_text, condition_text}
 use Rattle.plural_reference.specs.Truth.{RelationMeaning}
 use Rattle.plural_runtime.specs.declared.kinds.AndOr.{AndOr}
 use Rattle.plural_runtime.specs.declared.kinds.AndOr.TheVariants.{And, Or}
@@ -11,6 +11,10 @@ use Rattle.plural_runtime.specs.declared.range.RangeOrValue.{RangeOrValue}
 use Rattle.plural_runtime.specs.declared.range.RangeOrValue.TheVariants.{Range, Value}
 use Rattle.plural_runtime.specs.PackedRelations.{PackedRelation}
 use Rattle.plural_runtime.specs.RuleKinds.{range_or_value}
+use Rattle.plural_reference.specs.declared.ast.Rule.{Rule as TreeRule}
+use Rattle.plural_reference.specs.Reading.{TextReads}
+use Rattle.plural_reference.specs.Samples.{ReadsRule}
+use Rattle.plural_runtime.specs.PackedTree.{unpacked, packing}
 
 -- what stands before a relation, which may be the first
 abbrev pub mark_text : Bool → AndOr → List ℕ
@@ -42,3 +46,10 @@ others_shown (relation ∷ relations) = (mark_text false relation.and_or ++ rela
 abbrev pub relations_shown : List PackedRelation → List ℕ
 relations_shown [] = []
 relations_shown (relation ∷ relations) = (mark_text true relation.and_or ++ relation_shown relation.meaning) ++ others_shown relations
+
+-- ---- Rules that are packed from texts, printed and packed again.
+
+-- of a rule that is read from a text and packs, the text that is printed is read as the tree of the packed rule, and that tree packs to the same relations
+abbrev pub PrintedRulesPackAgain : Type 0
+PrintedRulesPackAgain = (text : List ℕ) (rule : TreeRule) (relations : List PackedRelation) → TextReads ReadsRule text rule → packing rule.condition ≡ Ok relations →
+    TextReads ReadsRule (condition_text (unpacked relations)) (record { condition = unpacked relations; samples = None }) × (packing (unpacked relations) ≡ Ok relations)

@@ -18,7 +18,7 @@ pub enum RuleBytesError {
 
 impl fmt::Display for RuleBytesError {
     ghost use Rattle.std.specs.Prelude.{Some};
-    ghost use Rattle.plural_runtime.specs.RuleErrorTexts.{rule_bytes_error_text};
+    ghost use Rattle.plural_runtime.specs.PluralRuntimeErrors.{rule_bytes_error_text};
 
     ghost output = { λ error. Some (rule_bytes_error_text error) };
 
@@ -46,7 +46,7 @@ pub enum RuleError {
 
 impl fmt::Display for RuleError {
     ghost use Rattle.std.specs.Prelude.{Some};
-    ghost use Rattle.plural_runtime.specs.RuleErrorTexts.{rule_error_text};
+    ghost use Rattle.plural_runtime.specs.PluralRuntimeErrors.{rule_error_text};
 
     ghost output = { λ error. Some (rule_error_text error) };
 

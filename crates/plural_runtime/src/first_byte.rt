@@ -2,7 +2,7 @@
 
 ghost use Rattle.std.specs.Prelude.{◌≡◌, IfSome, Some, option_map};
 ghost use Rattle.plural_runtime.specs.RuleKinds.{byte_of, operator_of, tree_operand_of};
-ghost use Rattle.plural_runtime.specs.RuleReading.{and_or_in, operand_in, operator_in};
+ghost use Rattle.plural_runtime.specs.Inner.RuleReading.{and_or_in, operand_in, operator_in};
 
 use crate::kinds::{AndOr, Operand, Polarity};
 

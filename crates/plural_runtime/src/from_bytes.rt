@@ -1,11 +1,9 @@
 //! Reads bytes as a rule.
 
 ghost use Rattle.std.specs.Prelude.{◌≡◌, ◌↔◌, List, ℕ, IfOk, MatchResult, Ok, Err, Some, None};
-ghost use Rattle.packed_list.specs.ListBytes.{ListBytes};
-ghost use Rattle.packed_list.specs.ListFaults.{HasFault};
+ghost use Rattle.packed_list.specs.ListBytes.{ListBytes, HasFault};
 ghost use Rattle.plural_runtime.specs.PackedRelations.{PackedRelation};
-ghost use Rattle.plural_runtime.specs.RuleBytes.{RuleBytes};
-ghost use Rattle.plural_runtime.specs.RuleFaults.{item_fault, first_fault};
+ghost use Rattle.plural_runtime.specs.RuleBytes.{RuleBytes, item_fault, first_fault};
 
 use crate::error::RuleBytesError;
 use crate::rule::Rule;

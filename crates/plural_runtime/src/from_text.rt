@@ -5,7 +5,7 @@ ghost use Rattle.plural_reference.specs.declared.ast.Rule.{Rule as TreeRule};
 ghost use Rattle.plural_reference.specs.declared.token.Token.{Token};
 ghost use Rattle.plural_reference.specs.Lexer.{AreTokensOf};
 ghost use Rattle.plural_reference.specs.Samples.{ReadsRule, FaultyRule};
-ghost use Rattle.plural_runtime.specs.Packing.{Packs};
+ghost use Rattle.plural_runtime.specs.PackedTree.{Packs};
 
 use crate::error::RuleError;
 use crate::rule::Rule;

@@ -1,8 +1,8 @@
 //! Reads the parts of a packed relation in place.
 
 ghost use Rattle.std.specs.Prelude.{◌≡◌, ◌%◌, ◌==◌, length, IsTrue};
-ghost use Rattle.plural_runtime.specs.RuleFaults.{is_relation};
-ghost use Rattle.plural_runtime.specs.RuleReading.{relation_in, ranges_in};
+ghost use Rattle.plural_runtime.specs.RuleBytes.{is_relation};
+ghost use Rattle.plural_runtime.specs.Inner.RuleReading.{relation_in, ranges_in};
 ghost use Rattle.plural_runtime.specs.RuleKinds.{operator_of, tree_operand_of};
 
 use crate::first_byte::{and_or_of, operand_of, polarity_of};
@@ -10,7 +10,7 @@ use crate::kinds::{AndOr, Operand, Polarity};
 
 // How the relation of an item is joined to the one before it.
 #[inline]
-#[tactic(auto, unfolding(crate::specs::RuleReading::relation_in))]
+#[tactic(auto, unfolding(crate::specs::Inner::RuleReading::relation_in))]
 pub(crate) fn and_or_at(item: &[u8]) -> AndOr
     requires { IsTrue (is_relation item.now) }
     ensures { result ≡ (relation_in item.now).and_or }
@@ -20,7 +20,7 @@ pub(crate) fn and_or_at(item: &[u8]) -> AndOr
 
 // Whether the value is to be in the list of an item.
 #[inline]
-#[tactic(auto, unfolding(crate::specs::RuleReading::relation_in))]
+#[tactic(auto, unfolding(crate::specs::Inner::RuleReading::relation_in))]
 pub(crate) fn polarity_at(item: &[u8]) -> Polarity
     requires { IsTrue (is_relation item.now) }
     ensures { operator_of result ≡ (relation_in item.now).meaning.operator }
@@ -29,7 +29,7 @@ pub(crate) fn polarity_at(item: &[u8]) -> Polarity
 }
 
 // What of a number the relation of an item looks at.
-#[tactic(auto, unfolding(crate::specs::RuleReading::relation_in))]
+#[tactic(auto, unfolding(crate::specs::Inner::RuleReading::relation_in))]
 pub(crate) fn operand_at(item: &[u8]) -> Operand
     requires { IsTrue (is_relation item.now) }
     ensures { tree_operand_of result ≡ (relation_in item.now).meaning.operand }
@@ -42,7 +42,7 @@ pub(crate) fn operand_at(item: &[u8]) -> Operand
 
 // The modulus of an item, or 0.
 #[inline]
-#[tactic(auto, unfolding(crate::specs::RuleReading::relation_in))]
+#[tactic(auto, unfolding(crate::specs::Inner::RuleReading::relation_in))]
 pub(crate) fn modulo_at(item: &[u8]) -> u32
     requires { IsTrue (is_relation item.now) }
     ensures { result ≡ (relation_in item.now).meaning.modulus }
@@ -52,7 +52,7 @@ pub(crate) fn modulo_at(item: &[u8]) -> u32
 
 // The ranges of an item.
 #[inline]
-#[tactic(auto, unfolding(crate::specs::RuleReading::relation_in))]
+#[tactic(auto, unfolding(crate::specs::Inner::RuleReading::relation_in))]
 pub(crate) fn ranges_at(item: &[u8]) -> &[u8]
     requires { IsTrue (is_relation item.now) }
     ensures ranges { ranges_in result.now ≡ (relation_in item.now).meaning.ranges }

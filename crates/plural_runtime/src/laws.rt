@@ -2,14 +2,13 @@
 
 ghost use Rattle.std.specs.Prelude.{◌≡◌, ◌↔◌, ◌⊎◌, ◌≤◌, ℕ, List, IsTrue};
 ghost use Rattle.plural_reference.specs.Operands.{Operands};
-ghost use Rattle.plural_reference.specs.Resolver.{tree_truth};
+ghost use Rattle.plural_reference.specs.Truth.{tree_truth};
 ghost use Rattle.plural_runtime.specs.PackedRelations.{PackedRelation};
 ghost use Rattle.plural_runtime.specs.RuleBytes.{RuleBytes};
-ghost use Rattle.plural_runtime.specs.RuleReading.{relations_in};
+ghost use Rattle.plural_runtime.specs.Inner.RuleReading.{relations_in};
 ghost use Rattle.plural_runtime.specs.PackedTree.{packed, unpacked, has_no_negated_n};
-ghost use Rattle.plural_runtime.specs.PackedTruth.{packed_truth};
-ghost use Rattle.plural_runtime.specs.NeededRanges.{needed_ranges, all_ranges};
-ghost use Rattle.plural_runtime.specs.RuleLaws.{PrintedRulesPackAgain};
+ghost use Rattle.plural_runtime.specs.PackedTruth.{packed_truth, needed_ranges, all_ranges};
+ghost use Rattle.plural_runtime.specs.RuleText.{PrintedRulesPackAgain};
 
 use packed_list::laws::read_again;
 use plural_reference::laws::printing::{

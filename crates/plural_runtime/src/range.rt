@@ -2,7 +2,7 @@
 
 ghost use Rattle.std.specs.Prelude.{◌≡◌, length};
 ghost use Rattle.plural_runtime.specs.RuleBytes.{range_bytes};
-ghost use Rattle.plural_runtime.specs.RuleReading.{range_in};
+ghost use Rattle.plural_runtime.specs.Inner.RuleReading.{range_in};
 ghost use Rattle.plural_runtime.specs.RuleKinds.{ends, item_of, ItemGives, range_or_value};
 
 use plural_reference::{ParseError, ast};

@@ -1,9 +1,8 @@
 //! One relation of a packed rule: its checked bytes, and what they say.
 
 ghost use Rattle.std.specs.Prelude.{◌≡◌, ◌↔◌, ◌*◌, ◌/◌, ◌<◌, drop, flat_map, IsTrue, length, ◌%◌, ◌==◌};
-ghost use Rattle.plural_runtime.specs.RuleBytes.{range_bytes, relation_bytes};
-ghost use Rattle.plural_runtime.specs.RuleFaults.{is_relation};
-ghost use Rattle.plural_runtime.specs.RuleReading.{range_in, ranges_in, relation_in};
+ghost use Rattle.plural_runtime.specs.RuleBytes.{range_bytes, relation_bytes, is_relation};
+ghost use Rattle.plural_runtime.specs.Inner.RuleReading.{range_in, ranges_in, relation_in};
 ghost use Rattle.plural_runtime.specs.RuleKinds.{range_or_value};
 
 use crate::first_byte::AndOrPolarityOperand;
@@ -30,10 +29,8 @@ pub struct Relation<'a> {
 
 impl<'a> RelationULE<'a> {
     ghost use Rattle.std.specs.Prelude.{◌≡◌, IsTrue};
-    ghost use Rattle.plural_runtime.specs.RuleBytes.{relation_bytes};
-    ghost use Rattle.plural_runtime.specs.RuleFaults.{is_relation};
-    ghost use Rattle.plural_runtime.specs.RuleReading.{relation_in};
-    ghost use Rattle.plural_runtime.specs.RuleViews.{item_relation, lent_relation};
+    ghost use Rattle.plural_runtime.specs.RuleBytes.{relation_bytes, is_relation};
+    ghost use Rattle.plural_runtime.specs.Inner.RuleReading.{relation_in, item_relation, lent_relation};
 
     // The relation of an item that was checked.
     #[inline]
@@ -73,7 +70,7 @@ impl<'a> RelationULE<'a> {
 impl<'a> Relation<'a> {
     ghost use Rattle.std.specs.Prelude.{◌≡◌, ◌==◌, length, option_map, slice_get};
     ghost use Rattle.plural_runtime.specs.RuleKinds.{operator_of, range_or_value, tree_operand_of};
-    ghost use Rattle.plural_runtime.specs.RuleViews.{lent_relation};
+    ghost use Rattle.plural_runtime.specs.Inner.RuleReading.{lent_relation};
 
     /// How it is joined to the one before it.
     #[inline]
@@ -140,8 +137,8 @@ impl<'a> PartialEq for Relation<'a> {
     ghost use Rattle.std.specs.Prelude.{◌≡◌, ◌↔◌, IsTrue};
     ghost use Rattle.std.specs.Cmp.{on_per, partial_equiv_from_equiv};
     ghost use Rattle.std.specs.Cmp.Lexicographic.{nat_list_eq_equiv};
-    ghost use Rattle.plural_runtime.specs.RelationEquality.{is_same_relation, relation_numbers};
-    ghost use Rattle.plural_runtime.specs.RuleViews.{lent_relation};
+    ghost use Rattle.plural_runtime.specs.RuleBytes.{is_same_relation, relation_numbers};
+    ghost use Rattle.plural_runtime.specs.Inner.RuleReading.{lent_relation};
 
     ghost eq = { λ relation other. is_same_relation (lent_relation relation) (lent_relation other) };
 
@@ -164,8 +161,8 @@ impl<'a> PartialEq for Relation<'a> {
 impl<'a> Eq for Relation<'a> {
     ghost use Rattle.std.specs.Cmp.{on_equiv};
     ghost use Rattle.std.specs.Cmp.Lexicographic.{nat_list_eq_equiv};
-    ghost use Rattle.plural_runtime.specs.RelationEquality.{relation_numbers};
-    ghost use Rattle.plural_runtime.specs.RuleViews.{lent_relation};
+    ghost use Rattle.plural_runtime.specs.RuleBytes.{relation_numbers};
+    ghost use Rattle.plural_runtime.specs.Inner.RuleReading.{lent_relation};
 
     ghost laws = { on_equiv (λ relation. relation_numbers (lent_relation relation)) nat_list_eq_equiv };
 }

@@ -3,9 +3,8 @@
 ghost use Rattle.std.specs.Prelude.{◌≡◌, map, IsTrue, length, Some, IfSome, ◌≤◌};
 ghost use Rattle.std.specs.List.{list_all};
 ghost use Rattle.std.specs.Iterator.{YieldsFirstBy, item_count, UpTo, at_most};
-ghost use Rattle.plural_runtime.specs.RuleFaults.{is_relation};
-ghost use Rattle.plural_runtime.specs.RuleReading.{relation_in};
-ghost use Rattle.plural_runtime.specs.RuleViews.{item_relation};
+ghost use Rattle.plural_runtime.specs.RuleBytes.{is_relation};
+ghost use Rattle.plural_runtime.specs.Inner.RuleReading.{relation_in, item_relation};
 
 use crate::relation::RelationULE;
 use packed_list::Items;
@@ -24,8 +23,8 @@ impl<'a> Model for Relations<'a> {
 
     ghost Value = { List PackedRelation };
 
-    ghost use Rattle.plural_runtime.specs.RuleFaults.{is_relation};
-    ghost use Rattle.plural_runtime.specs.RuleReading.{relation_in};
+    ghost use Rattle.plural_runtime.specs.RuleBytes.{is_relation};
+    ghost use Rattle.plural_runtime.specs.Inner.RuleReading.{relation_in};
 
     ghost view = { λ relations. map relation_in relations.items };
 

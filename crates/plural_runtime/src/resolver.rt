@@ -3,10 +3,9 @@
 ghost use Rattle.std.specs.Prelude.{◌≡◌, ◌≤◌, ◌+◌, ◌<◌, ◌%◌, ◌==◌, min, length, option_map, IsTrue};
 ghost use Rattle.std.specs.Fn.{iterate};
 ghost use Rattle.plural_reference.specs.Truth.{holds_value, is_in_ranges, operand_value, range_holds, remainder};
-ghost use Rattle.plural_runtime.specs.RuleFaults.{is_relation};
-ghost use Rattle.plural_runtime.specs.RuleReading.{relation_in, range_in, ranges_in};
-ghost use Rattle.plural_runtime.specs.PackedTruth.{packed_truth, is_true_at};
-ghost use Rattle.plural_runtime.specs.NeededRanges.{needed_ranges, all_ranges, needed_of_relation, needed_of_list};
+ghost use Rattle.plural_runtime.specs.RuleBytes.{is_relation};
+ghost use Rattle.plural_runtime.specs.Inner.RuleReading.{relation_in, range_in, ranges_in};
+ghost use Rattle.plural_runtime.specs.PackedTruth.{packed_truth, is_true_at, needed_ranges, all_ranges, needed_of_relation, needed_of_list};
 
 use crate::item::{and_or_at, modulo_at, polarity_at, ranges_at};
 use crate::kinds::{AndOr, Polarity};
@@ -97,7 +96,7 @@ fn is_in_list<C: Counter>(item: &[u8], operands: &PluralOperands, counter: &mut 
 
 // The value of an item's operand: none of n where the fraction isn't zero.
 #[inline]
-#[tactic(auto, unfolding(crate::specs::RuleReading::relation_in))]
+#[tactic(auto, unfolding(crate::specs::Inner::RuleReading::relation_in))]
 fn value_at(item: &[u8], operands: &PluralOperands) -> Option<u64>
     requires { IsTrue (is_relation item.now) }
     ensures { result ≡ operand_value (relation_in item.now).meaning.operand operands.now }

@@ -2,10 +2,8 @@
 
 ghost use Rattle.std.specs.Prelude.{◌≡◌, List, map, length, slice_get, option_map, IfOk, IsTrue, ◌==◌};
 ghost use Rattle.std.specs.List.{list_all};
-ghost use Rattle.plural_runtime.specs.RuleBytes.{RuleBytes, relation_bytes};
-ghost use Rattle.plural_runtime.specs.RuleFaults.{is_relation};
-ghost use Rattle.plural_runtime.specs.RuleReading.{IsRule, relation_in};
-ghost use Rattle.plural_runtime.specs.RuleViews.{item_relation};
+ghost use Rattle.plural_runtime.specs.RuleBytes.{RuleBytes, relation_bytes, is_relation};
+ghost use Rattle.plural_runtime.specs.Inner.RuleReading.{IsRule, relation_in, item_relation};
 
 use crate::laws::one_encoding;
 use crate::relation::RelationULE;
@@ -32,7 +30,7 @@ impl<'data> Model for Rule<'data> {
 
     ghost Value = { List PackedRelation };
 
-    ghost use Rattle.plural_runtime.specs.RuleReading.{relations_in, IsRule};
+    ghost use Rattle.plural_runtime.specs.Inner.RuleReading.{relations_in, IsRule};
 
     ghost view = { λ rule. relations_in (cow_slice_items rule.bytes) };
 
@@ -122,7 +120,7 @@ impl<'data> Rule<'data> {
 
     // The items that the relations are packed in.
     #[inline]
-    #[tactic(auto, unfolding(crate::specs::RuleReading::relations_in))]
+    #[tactic(auto, unfolding(crate::specs::Inner::RuleReading::relations_in))]
     pub(crate) fn list(&self) -> PackedList<'_>
         ensures relations { map relation_in result ≡ self.now }
         ensures items { IsTrue (list_all is_relation result) }

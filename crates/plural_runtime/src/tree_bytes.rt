@@ -5,7 +5,7 @@ ghost use Rattle.std.specs.Int.{w32, to_le_bytes};
 ghost use Rattle.plural_reference.specs.Truth.{ends_of, modulus_of};
 ghost use Rattle.plural_runtime.specs.RuleBytes.{first_byte, range_bytes};
 ghost use Rattle.plural_runtime.specs.PackedTree.{packed};
-ghost use Rattle.plural_runtime.specs.TreeWalk.{relations_left};
+ghost use Rattle.plural_runtime.specs.Inner.TreeWalk.{relations_left};
 
 use crate::first_byte::AndOrPolarityOperand;
 use crate::kinds::{AndOr, Operand, Polarity};
@@ -53,7 +53,7 @@ impl<'a> TreeRelations<'a> {
 impl<'a> ByteItems for TreeRelations<'a> {
     ghost use Rattle.std.specs.Prelude.{map};
     ghost use Rattle.plural_runtime.specs.RuleBytes.{relation_bytes};
-    ghost use Rattle.plural_runtime.specs.TreeWalk.{relations_left};
+    ghost use Rattle.plural_runtime.specs.Inner.TreeWalk.{relations_left};
 
     type Item = TreeRelation<'a>;
 

@@ -4,7 +4,7 @@ use Rattle.std.specs.Str.{IsUtf8, is_utf8}
 use Rattle.std.proofs.lemmas.Str.{is_utf8-from_IsUtf8, IsUtf8-from_is_utf8}
 use Rattle.serde_json.specs.Data.{Data}
 use Rattle.serde_json.specs.Read.{read}
-use Rattle.plurals_cli.specs.InputRules.{or_fault, value_of}
+use Rattle.plurals_cli.specs.Input.{or_fault, value_of}
 use Rattle.plurals_cli.specs.declared.error.RunError.TheVariants.{Json}
 
 pub value_there : (bytes : List ℕ) (d : Data) → IsUtf8 bytes → read bytes ≡ Some d → or_fault Json (value_of bytes) ≡ Ok d

@@ -3,11 +3,10 @@ use Rattle.std.proofs.Common.{◌≡◌, ℕ, codes, List, Option, Some, None, R
 use Rattle.icu_plurals.specs.declared.PluralRuleType.{PluralRuleType}
 use Rattle.icu_plurals.specs.declared.JsonError.{JsonError}
 use Rattle.icu_plurals.specs.DocumentJson.{document_of_json, found}
-use Rattle.icu_plurals.specs.TextReaders.{TextReader}
+use Rattle.icu_plurals.specs.RuleTexts.{TextReader}
 use Rattle.plurals_cli.specs.Answer.{AnswersFrom, Gives, Text}
 use Rattle.serde_json.specs.Find.{get}
-use Rattle.plurals_cli.specs.InputElements.{document_with, elements_beside, elements_for, elements_of, elements_of_json}
-use Rattle.plurals_cli.specs.InputRules.{◌>>=◌, GivesValue, document_of, or_bad, or_fault, ranged_for, ranged_of, rows_for, rules_for, rules_of, value_of}
+use Rattle.plurals_cli.specs.Input.{document_with, elements_beside, elements_for, elements_of, elements_of_json, ◌>>=◌, GivesValue, document_of, or_bad, or_fault, ranged_for, ranged_of, rows_for, rules_for, rules_of, value_of}
 use Rattle.plurals_cli.specs.declared.error.RunError.{RunError}
 use Rattle.plurals_cli.specs.declared.error.RunError.TheVariants.{Usage, Condition, Number, Read, TooLong, Json, Document, Locale, Write, Memory}
 

@@ -4,7 +4,7 @@ use Rattle.std.proofs.lemmas.Bool.{le-ltb, lt-ltb}
 use Rattle.std.proofs.lemmas.List.{append-nil, length-append}
 use Rattle.std.specs.Io.KnownBytes.{Consumes, IsAtEnd}
 use Rattle.plurals_cli.specs.Answer.{IsInput}
-use Rattle.plurals_cli.specs.InputRules.{most_bytes, unless_long}
+use Rattle.plurals_cli.specs.Input.{most_bytes, unless_long}
 use Rattle.plurals_cli.specs.declared.error.RunError.{RunError}
 use Rattle.plurals_cli.specs.declared.error.RunError.TheVariants.{TooLong}
 

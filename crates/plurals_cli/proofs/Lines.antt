@@ -2,7 +2,7 @@
 use Rattle.std.proofs.Common.{◌≡◌, ℕ, List, Result, Ok, Err, subst}
 use Rattle.std.specs.Cow.{cow_str_bytes}
 use Rattle.plurals_cli.specs.Answer.{AnswersFrom, Gives, Text}
-use Rattle.plurals_cli.specs.InputRules.{GivesValue}
+use Rattle.plurals_cli.specs.Input.{GivesValue}
 use Rattle.plurals_cli.specs.declared.error.RunError.{RunError}
 use Rattle.plurals_cli.specs.declared.error.RunError.TheVariants.{Usage, Condition, Number, Read, TooLong, Json, Document, Locale, Write, Memory}
 

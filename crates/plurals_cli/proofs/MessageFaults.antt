@@ -4,8 +4,7 @@ use Rattle.std.specs.Prelude.{String}
 use Rattle.std.specs.declared.alloc.Global.{Global}
 use Rattle.icu_plurals.specs.declared.DecimalError.{DecimalError}
 use Rattle.icu_plurals.specs.declared.DecimalError.TheVariants as decimal
-use Rattle.icu_plurals.specs.Compact.{CompactNumber}
-use Rattle.icu_plurals.specs.Written.{WritesCompact, IsCompactOverLimit}
+use Rattle.icu_plurals.specs.Written.{CompactNumber, WritesCompact, IsCompactOverLimit}
 use Rattle.plural_message.specs.declared.MessageError.{MessageError}
 use Rattle.plural_message.specs.declared.MessageError.TheVariants.{Number}
 use Rattle.plurals_cli.specs.NumberWords.{HasNoFault}

@@ -2,10 +2,10 @@
 use Rattle.std.proofs.Common.{◌≡◌, ◌≤◌, inl, inr, ℕ, List, length, Option, Some, None, Result, Ok, Err, refl, sym, subst, ap}
 use Rattle.std.specs.Prelude.{⊤}
 use Rattle.std.specs.Io.KnownBytes.{IsAtEnd, Keeps}
-use Rattle.icu_plurals.specs.Compact.{CompactNumber}
+use Rattle.icu_plurals.specs.Written.{CompactNumber}
 use Rattle.plurals_cli.specs.Answer.{AnswersFrom, AnswersNumber, Gives, GivesAfterReading, IsAnswered, IsInput, IsRead, Text}
-use Rattle.plurals_cli.specs.InputBytes.{GivesInput}
-use Rattle.plurals_cli.specs.InputRules.{most_bytes, unless_long}
+use Rattle.plurals_cli.specs.Inner.InputBytes.{GivesInput}
+use Rattle.plurals_cli.specs.Input.{most_bytes, unless_long}
 use Rattle.plurals_cli.specs.NumberWords.{GivesNumber, IsNumberOf}
 use Rattle.plurals_cli.specs.declared.error.RunError.{RunError}
 use Rattle.plurals_cli.specs.declared.error.RunError.TheVariants.{Usage, Condition, Number, Read, TooLong, Json, Document, Locale, Write, Memory}

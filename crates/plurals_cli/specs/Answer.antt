@@ -12,18 +12,16 @@ use Rattle.icu_plurals.specs.declared.DecimalError.TheVariants.{Syntax, Limit}
 use Rattle.icu_plurals.specs.declared.provider.rules.reference.ast.Condition.{Condition as Tree}
 use Rattle.icu_plurals.specs.declared.provider.rules.reference.Token.{Token}
 use Rattle.icu_plurals.specs.FiveRules.{FiveRules}
-use Rattle.icu_plurals.specs.Compact.{CompactNumber}
+use Rattle.icu_plurals.specs.Written.{CompactNumber}
 use Rattle.icu_plurals.specs.Lexer.{AreTokensOf}
 use Rattle.icu_plurals.specs.Operands.{of_whole}
 use Rattle.icu_plurals.specs.Parser.{Reads, Faulty}
-use Rattle.icu_plurals.specs.Resolver.{tree_truth}
-use Rattle.icu_plurals.specs.TextReaders.{TextReader}
+use Rattle.icu_plurals.specs.Truth.{tree_truth}
+use Rattle.icu_plurals.specs.RuleTexts.{TextReader}
 use Rattle.plurals_cli.specs.Commands.{Command, test, category, range, print, select, message}
-use Rattle.plurals_cli.specs.ElementLines.{IsElementLine, IsMessageLine}
-use Rattle.plurals_cli.specs.InputElements.{ElementsAndRules, elements_in}
-use Rattle.plurals_cli.specs.InputRules.{RangedRules, most_bytes, ranged_in, rules_in}
+use Rattle.plurals_cli.specs.Lines.{IsElementLine, IsMessageLine, AreRuleLines, IsCategoryLine, IsRangeLine}
+use Rattle.plurals_cli.specs.Input.{ElementsAndRules, elements_in, RangedRules, most_bytes, ranged_in, rules_in}
 use Rattle.plurals_cli.specs.NumberWords.{HasNoFault, IsNumberFault, IsNumberOf}
-use Rattle.plurals_cli.specs.RuleLines.{AreRuleLines, IsCategoryLine, IsRangeLine}
 use Rattle.plurals_cli.specs.declared.error.RunError.{RunError}
 use Rattle.plurals_cli.specs.declared.error.RunError.TheVariants.{Usage, Condition, Number, Read, TooLong, Write, Memory}
 

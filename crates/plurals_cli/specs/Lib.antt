@@ -1,10 +1,7 @@
 pub mod Commands
 pub mod NumberWords
-pub mod InputRules
-pub mod RuleLines
-pub mod InputElements
-pub mod ElementLines
+pub mod Input
+pub mod Lines
 pub mod Answer
 -- not definitions of the subject
-pub mod CommandWords
-pub mod InputBytes
+pub mod Inner

@@ -1,11 +1,11 @@
 //! The command `category`.
 
-ghost use Rattle.icu_plurals.specs.TextReaders.{TextReader, TellsTexts};
-ghost use Rattle.icu_plurals.specs.CategoryNames.{name_of};
+ghost use Rattle.icu_plurals.specs.RuleTexts.{TextReader, TellsTexts};
+ghost use Rattle.icu_plurals.specs.Categories.{name_of};
 ghost use Rattle.std.specs.Prelude.{◌≡◌};
 ghost use Rattle.plurals_cli.specs.Answer.{AnswersFrom, Gives};
-ghost use Rattle.plurals_cli.specs.InputRules.{rules_of};
-ghost use Rattle.plurals_cli.specs.RuleLines.{IsCategoryLine, line};
+ghost use Rattle.plurals_cli.specs.Input.{rules_of};
+ghost use Rattle.plurals_cli.specs.Lines.{IsCategoryLine, line};
 
 use crate::document::{document_of, rules_for};
 use crate::error::RunError;

@@ -2,7 +2,7 @@
 
 ghost use Rattle.std.specs.Prelude.{◌≡◌, map, option_map};
 ghost use Rattle.plurals_cli.specs.Commands.{command_of, of_two, of_three, of_four, type_of};
-ghost use Rattle.plurals_cli.specs.CommandWords.{seen};
+ghost use Rattle.plurals_cli.specs.Inner.CommandWords.{seen};
 
 use icu_plurals::PluralRuleType;
 

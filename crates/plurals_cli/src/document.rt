@@ -2,9 +2,9 @@
 
 ghost use Rattle.serde_json.specs.View.{view};
 ghost use Rattle.icu_plurals.specs.DocumentJson.{document_of_json};
-ghost use Rattle.icu_plurals.specs.RulesData.{rules_of as data_of};
-ghost use Rattle.icu_plurals.specs.TextReaders.{TextReader, TellsTexts};
-ghost use Rattle.plurals_cli.specs.InputRules.{GivesValue, document_of, or_bad, or_fault, ranged_for, rules_for, value_of};
+ghost use Rattle.icu_plurals.specs.FiveRules.{rules_of as data_of};
+ghost use Rattle.icu_plurals.specs.RuleTexts.{TextReader, TellsTexts};
+ghost use Rattle.plurals_cli.specs.Input.{GivesValue, document_of, or_bad, or_fault, ranged_for, rules_for, value_of};
 ghost use Rattle.plurals_cli.specs.declared.error.RunError.TheVariants.{Json};
 
 use crate::error::RunError;

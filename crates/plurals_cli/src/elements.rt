@@ -3,9 +3,8 @@
 ghost use Rattle.std.specs.Prelude.{codes};
 ghost use Rattle.serde_json.specs.Find.{get};
 ghost use Rattle.serde_json.specs.View.{view};
-ghost use Rattle.icu_plurals.specs.TextReaders.{TextReader, TellsTexts};
-ghost use Rattle.plurals_cli.specs.InputElements.{document_with, elements_of_json};
-ghost use Rattle.plurals_cli.specs.InputRules.{GivesValue, or_bad};
+ghost use Rattle.icu_plurals.specs.RuleTexts.{TextReader, TellsTexts};
+ghost use Rattle.plurals_cli.specs.Input.{document_with, elements_of_json, GivesValue, or_bad};
 
 use crate::document::{document_in, value_of};
 use crate::error::RunError;

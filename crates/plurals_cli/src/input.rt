@@ -3,7 +3,7 @@
 ghost use Rattle.std.specs.Prelude.{◌≡◌, ◌+◌, ◌≤◌, List, ℕ, length, Ok, Err, IfOk, vec_len};
 ghost use Rattle.std.specs.Io.KnownBytes.{Consumes, IsAtEnd};
 ghost use Rattle.plurals_cli.specs.Answer.{IsRead};
-ghost use Rattle.plurals_cli.specs.InputBytes.{GivesInput};
+ghost use Rattle.plurals_cli.specs.Inner.InputBytes.{GivesInput};
 
 use crate::error::RunError;
 use std::alloc::Global;

@@ -2,8 +2,8 @@
 
 ghost use Rattle.std.specs.Prelude.{◌≡◌, IfOk, Ok, string_bytes};
 ghost use Rattle.std.specs.Cow.{cow_str_bytes};
-ghost use Rattle.plurals_cli.specs.InputRules.{GivesValue};
-ghost use Rattle.plurals_cli.specs.RuleLines.{line};
+ghost use Rattle.plurals_cli.specs.Input.{GivesValue};
+ghost use Rattle.plurals_cli.specs.Lines.{line};
 
 use crate::error::RunError;
 use std::alloc::{AllocError, Global};

@@ -1,9 +1,9 @@
 //! The command `message`.
 
-ghost use Rattle.icu_plurals.specs.TextReaders.{TextReader, TellsTexts};
+ghost use Rattle.icu_plurals.specs.RuleTexts.{TextReader, TellsTexts};
 ghost use Rattle.plurals_cli.specs.Answer.{AnswersFrom, Gives};
-ghost use Rattle.plurals_cli.specs.ElementLines.{IsMessageLine};
-ghost use Rattle.plurals_cli.specs.InputElements.{elements_of};
+ghost use Rattle.plurals_cli.specs.Lines.{IsMessageLine};
+ghost use Rattle.plurals_cli.specs.Input.{elements_of};
 ghost use Rattle.plurals_cli.specs.NumberWords.{HasNoFault};
 
 use crate::document::rules_for;

@@ -1,11 +1,11 @@
 //! The command `print`.
 
 ghost use Rattle.std.specs.Prelude.{◌≡◌, ◌++◌, OnOk, IfOk, string_bytes};
-ghost use Rattle.icu_plurals.specs.RulesData.{rules_of as data_of};
-ghost use Rattle.icu_plurals.specs.TextReaders.{TextReader, TellsTexts};
+ghost use Rattle.icu_plurals.specs.FiveRules.{rules_of as data_of};
+ghost use Rattle.icu_plurals.specs.RuleTexts.{TextReader, TellsTexts};
 ghost use Rattle.plurals_cli.specs.Answer.{AnswersFrom, Gives};
-ghost use Rattle.plurals_cli.specs.InputRules.{rules_of};
-ghost use Rattle.plurals_cli.specs.RuleLines.{AreRuleLines, rule_line, rule_lines};
+ghost use Rattle.plurals_cli.specs.Input.{rules_of};
+ghost use Rattle.plurals_cli.specs.Lines.{AreRuleLines, rule_line, rule_lines};
 
 use crate::document::{document_of, rules_for};
 use crate::error::RunError;

@@ -1,9 +1,9 @@
 //! The command `range`.
 
-ghost use Rattle.icu_plurals.specs.TextReaders.{TextReader, TellsTexts};
+ghost use Rattle.icu_plurals.specs.RuleTexts.{TextReader, TellsTexts};
 ghost use Rattle.plurals_cli.specs.Answer.{AnswersFrom, Gives};
-ghost use Rattle.plurals_cli.specs.InputRules.{ranged_of};
-ghost use Rattle.plurals_cli.specs.RuleLines.{IsRangeLine};
+ghost use Rattle.plurals_cli.specs.Input.{ranged_of};
+ghost use Rattle.plurals_cli.specs.Lines.{IsRangeLine};
 
 use crate::category_command::line_of;
 use crate::document::{document_of, ranged_for};

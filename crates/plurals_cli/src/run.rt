@@ -1,14 +1,13 @@
 //! Answers the words of a command line.
 
 ghost use Rattle.std.specs.Prelude.{◌≡◌, List, ℕ, map, Some};
-ghost use Rattle.icu_plurals.specs.TextReaders.{TextReader, TellsTexts};
+ghost use Rattle.icu_plurals.specs.RuleTexts.{TextReader, TellsTexts};
 ghost use Rattle.plurals_cli.specs.Answer.{AnswersCommand, AnswersCategory, AnswersFrom, AnswersMessage, AnswersRange, AnswersSelect, GivesAfterReading, IsAnswered, IsInput, IsNotRead, IsRead, NeedsInput};
-ghost use Rattle.plurals_cli.specs.CommandWords.{seen};
+ghost use Rattle.plurals_cli.specs.Inner.CommandWords.{seen};
 ghost use Rattle.plurals_cli.specs.Commands.{command_of};
-ghost use Rattle.plurals_cli.specs.InputElements.{elements_in};
-ghost use Rattle.plurals_cli.specs.InputRules.{ranged_in, rules_in};
+ghost use Rattle.plurals_cli.specs.Input.{elements_in, ranged_in, rules_in};
 ghost use Rattle.plurals_cli.specs.NumberWords.{HasNoFault};
-ghost use Rattle.plurals_cli.specs.RuleLines.{AreRuleLines};
+ghost use Rattle.plurals_cli.specs.Lines.{AreRuleLines};
 
 use crate::category_command::category_line;
 use crate::command::{Command, command_of};

@@ -1,9 +1,9 @@
 //! The command `select`.
 
-ghost use Rattle.icu_plurals.specs.TextReaders.{TextReader, TellsTexts};
+ghost use Rattle.icu_plurals.specs.RuleTexts.{TextReader, TellsTexts};
 ghost use Rattle.plurals_cli.specs.Answer.{AnswersFrom, Gives};
-ghost use Rattle.plurals_cli.specs.ElementLines.{IsElementLine};
-ghost use Rattle.plurals_cli.specs.InputElements.{elements_of};
+ghost use Rattle.plurals_cli.specs.Lines.{IsElementLine};
+ghost use Rattle.plurals_cli.specs.Input.{elements_of};
 
 use crate::document::rules_for;
 use crate::elements::document_with;

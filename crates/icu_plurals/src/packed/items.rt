@@ -3,7 +3,7 @@
 ghost use Rattle.std.specs.Prelude.{◌≡◌, ◌/◌, ◌%◌, ◌<◌, MatchResult, IsOk, IsTrue, Err};
 ghost use Rattle.std.specs.Str.{is_utf8};
 ghost use Rattle.icu_plurals.specs.ElementsFaults.{HasItemsFault, first_fault, item_fault};
-ghost use Rattle.icu_plurals.specs.ElementsReading.{AreGoodItems};
+ghost use Rattle.icu_plurals.specs.Inner.ElementsReading.{AreGoodItems};
 
 use crate::packed::error::ElementsBytesError;
 use packed_list::PackedList;

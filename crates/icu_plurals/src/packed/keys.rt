@@ -1,7 +1,7 @@
 //! The keys of the items beside the default of packed elements.
 
 ghost use Rattle.std.specs.Prelude.{◌≡◌};
-ghost use Rattle.icu_plurals.specs.ElementsReading.{category_key};
+ghost use Rattle.icu_plurals.specs.Inner.ElementsReading.{category_key};
 
 use plural_base::PluralCategory;
 

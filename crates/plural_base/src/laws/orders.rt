@@ -2,7 +2,7 @@
 
 ghost use Rattle.std.specs.Prelude.{◌≡◌, None};
 ghost use Rattle.std.specs.Ordering.{nat_cmp};
-ghost use Rattle.plural_base.specs.CategoryNames.{number_of, place_of};
+ghost use Rattle.plural_base.specs.Categories.{number_of, place_of};
 
 use crate::category::PluralCategory;
 use crate::options::{PluralRuleType, PluralRulesOptions};

@@ -3,8 +3,8 @@
 ghost use Rattle.std.specs.Prelude.{◌≡◌, ◌^◌, ◌<◌, ◌≤◌, ◌≤ℤ◌, pos, neg_ℤ};
 ghost use Rattle.fixed_decimal.specs.Digits.{value_of};
 ghost use Rattle.fixed_decimal.specs.Places.{IsWritten};
-ghost use Rattle.plural_reference.specs.DecimalOperands.{AreCut};
-ghost use Rattle.plural_reference.specs.DigitsFrom.{digits_from};
+ghost use Rattle.plural_reference.specs.Operands.{AreCut};
+ghost use Rattle.plural_reference.specs.Inner.OperandReader.{digits_from};
 
 use crate::operands::PluralOperands;
 use crate::operands::integers::LIMIT;

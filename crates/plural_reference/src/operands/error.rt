@@ -1,7 +1,7 @@
 //! Why a text names no operands.
 
 ghost use Rattle.std.specs.Prelude.{◌≡◌, Some};
-ghost use Rattle.plural_reference.specs.OperandsErrorTexts.{operands_error_text};
+ghost use Rattle.plural_reference.specs.PluralReferenceErrors.{operands_error_text};
 ghost use Rattle.plural_reference.specs.declared.operands.error.OperandsError.TheVariants.{Invalid};
 
 use std::error::Error;

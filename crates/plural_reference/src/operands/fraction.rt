@@ -2,7 +2,7 @@
 
 ghost use Rattle.std.specs.Prelude.{◌≡◌, ℕ, ◌-◌, ◌/◌, ◌^◌, ◌≤◌};
 ghost use Rattle.std.specs.Int.{◌∣◌};
-ghost use Rattle.plural_reference.specs.DecimalOperands.{HasFraction};
+ghost use Rattle.plural_reference.specs.Operands.{HasFraction};
 
 use crate::operands::PluralOperands;
 

@@ -2,7 +2,7 @@
 
 ghost use Rattle.std.specs.Prelude.{◌≡◌, IfOk, IfErr, ℕ, List};
 ghost use Rattle.plural_reference.specs.OperandText.{WritesCount, WritesUnsignedOperands, ReadsOperands};
-ghost use Rattle.plural_reference.specs.OperandReader.{Answers, WritesDigits, EndsInExponent, WritesWhole, WritesPointed};
+ghost use Rattle.plural_reference.specs.Inner.OperandReader.{Answers, WritesDigits, EndsInExponent, WritesWhole, WritesPointed};
 ghost use Rattle.plural_reference.specs.declared.operands.error.OperandsError.TheVariants.{Invalid};
 
 use crate::operands::{OperandsError, PluralOperands};

@@ -3,10 +3,7 @@
 ghost use Rattle.std.specs.Prelude.{◌≡◌, ◌≤◌, ◌∷◌, [], Some, Err, IfOk, OnOk, false, length, string_bytes, MatchOption, MatchResult};
 ghost use Rattle.plural_reference.specs.Reading.{IsAnswer};
 ghost use Rattle.plural_reference.specs.Samples.{IsExponentMark, has_exponent, token_text};
-ghost use Rattle.plural_reference.specs.SampleReader.{after_sections, run_samples};
-ghost use Rattle.plural_reference.specs.SampleSteps.{TakesText, NoDigits, NoMark, NoType, type_token, joined_list};
-ghost use Rattle.plural_reference.specs.SampleSteps.{ReadsDigits, ReadsNumber, ReadsExponent, ReadsSample, ReadsRange, ReadsSampleList, ReadsAllSamples};
-ghost use Rattle.plural_reference.specs.SampleSteps.{FailsInSample, FailsAtSample, FailsAtRange, FailsAtList};
+ghost use Rattle.plural_reference.specs.Inner.SampleReader.{after_sections, run_samples, TakesText, NoDigits, NoMark, NoType, type_token, joined_list, ReadsDigits, ReadsNumber, ReadsExponent, ReadsSample, ReadsRange, ReadsSampleList, ReadsAllSamples, FailsInSample, FailsAtSample, FailsAtRange, FailsAtList};
 
 use super::Parser;
 use crate::ast::{DecimalValue, Operand, SampleList, SampleRange, Samples};

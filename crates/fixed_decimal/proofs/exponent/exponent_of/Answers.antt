@@ -1,7 +1,7 @@
 use Rattle.std.proofs.Common.{◌≡◌, ◌-◌, ◌<◌, [], ◌∷◌, ℕ, List, drop, take, length, get_or, arith, rules, subst, sym, ap}
 use Rattle.std.proofs.lemmas.List.{take_rest}
 use Rattle.fixed_decimal.specs.Written.{HasExponent}
-use Rattle.fixed_decimal.specs.TextParts.{WritesUpToThree}
+use Rattle.fixed_decimal.specs.Inner.TextParts.{WritesUpToThree}
 use Rattle.fixed_decimal.proofs.Exponents.{exponent_from, exponent_to}
 use Rattle.fixed_decimal.proofs.exponent.exponent_of.Goals as goal
 

@@ -1,7 +1,7 @@
 use Rattle.std.proofs.Common.{◌≡◌, ◌<◌, ◌^◌, ◌≤◌, length, take, arith, ap}
 use Rattle.std.proofs.lemmas.List.{length-take-le, take-map}
 use Rattle.fixed_decimal.specs.Digits.{value_of, AreDigits}
-use Rattle.fixed_decimal.specs.TextParts.{digits_in}
+use Rattle.fixed_decimal.specs.Inner.TextParts.{digits_in}
 use Rattle.fixed_decimal.proofs.Spans.{AreDigits-take}
 use Rattle.fixed_decimal.proofs.Points.{digits_back, length-digits_in}
 use Rattle.fixed_decimal.proofs.Values.{value_of-most}

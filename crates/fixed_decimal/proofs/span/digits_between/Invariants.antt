@@ -1,5 +1,5 @@
 use Rattle.std.proofs.Common.{◌≡◌, ◌-◌, ◌+◌, take, drop, vec_len, vec_capacity}
-use Rattle.fixed_decimal.specs.TextParts.{written_digits}
+use Rattle.fixed_decimal.specs.Inner.TextParts.{written_digits}
 use Rattle.fixed_decimal.proofs.span.digits_between.Given as goal
 
 abbrev pub invariant-loop-index : goal.invariant-loop-index

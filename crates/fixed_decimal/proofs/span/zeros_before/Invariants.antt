@@ -1,5 +1,5 @@
 use Rattle.std.proofs.Common.{◌-◌, ◌≤◌}
-use Rattle.fixed_decimal.specs.TextParts.{written_digits, AreZeros}
+use Rattle.fixed_decimal.specs.Inner.TextParts.{written_digits, AreZeros}
 use Rattle.fixed_decimal.proofs.span.zeros_before.Given as goal
 
 abbrev pub invariant-loop-at : goal.invariant-loop-at

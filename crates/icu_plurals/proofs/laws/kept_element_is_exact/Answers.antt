@@ -1,7 +1,7 @@
 use Rattle.std.proofs.Common.{refl, ◌∙◌}
 use Rattle.std.specs.Prelude.{unwrap_or}
 use Rattle.plural_reference.specs.ExactnessLaws.{IsKept}
-use Rattle.plural_base.specs.RuleModuli.{moduli_of}
+use Rattle.plural_base.specs.FiveRules.{moduli_of}
 use Rattle.icu_plurals.specs.Elements.{of_category}
 use Rattle.icu_plurals.proofs.ExplicitNumbers.{explicit_at-exact}
 use Rattle.icu_plurals.proofs.laws.kept_element_is_exact.Goals as goal

@@ -1,6 +1,6 @@
 use Rattle.std.proofs.Common.{sym, ap, ◌∙◌}
 use Rattle.icu_plurals.specs.PackedElements.{elements_bytes}
-use Rattle.icu_plurals.specs.ElementsReading.{elements_in}
+use Rattle.icu_plurals.specs.Inner.ElementsReading.{elements_in}
 use Rattle.icu_plurals.proofs.ElementsAgain.{elements_in_one}
 use Rattle.icu_plurals.proofs.laws.one_encoding_of_elements.Goals as goal
 

@@ -1,6 +1,6 @@
 use Rattle.std.proofs.Common.{arith, ◌≡◌, ◌+◌, ◌-◌, ◌*◌, ◌≤◌, sym, ap, ◌∙◌, subst, inl, inr, length}
 use Rattle.std.proofs.lemmas.Bool.{cases_lt}
-use Rattle.packed_list.specs.ListFaults.{start_at}
+use Rattle.packed_list.specs.ListBytes.{start_at}
 use Rattle.packed_list.proofs.ListPlaces.{start_at-positive}
 use Rattle.packed_list.proofs.starts.are_starts.Goals as goal
 use Rattle.packed_list.proofs.starts.are_starts.Goals.{then-start-before-via-then-start-before, then-start-before-via-else-start-before+then-bytes-count}

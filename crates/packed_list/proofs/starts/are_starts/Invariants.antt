@@ -1,5 +1,5 @@
 use Rattle.std.proofs.Common.{◌≡◌, ℕ, ◌+◌, ◌*◌, ◌<◌, ◌≤◌, length}
-use Rattle.packed_list.specs.ListFaults.{start_at}
+use Rattle.packed_list.specs.ListBytes.{start_at}
 use Rattle.packed_list.proofs.starts.are_starts.Given as goal
 
 -- No start so far is bad, and the last one is remembered.

@@ -1,5 +1,5 @@
 use Rattle.std.proofs.Common.{Some, option_map, sym, ap, ◌∙◌}
-use Rattle.plural_base.specs.RulesData.{rules_of}
+use Rattle.plural_base.specs.FiveRules.{rules_of}
 use Rattle.plural_base.proofs.Rows.{found_rows}
 use Rattle.plural_base.proofs.json_provider.load.Goals as goal
 

@@ -1,6 +1,6 @@
 use Rattle.std.proofs.Common.{ap, ◌∙◌}
-use Rattle.plural_base.specs.ProviderRows.{rows_of}
-use Rattle.plural_base.specs.RulesData.{rules_of}
+use Rattle.plural_base.specs.Inner.JsonSteps.{rows_of}
+use Rattle.plural_base.specs.FiveRules.{rules_of}
 use Rattle.plural_base.proofs.Rows.{rows_by-insert_entry}
 use Rattle.plural_base.proofs.json_provider.put.Goals as goal
 

@@ -1,9 +1,9 @@
 use Rattle.std.proofs.Common.{◌≡◌, ◌++◌}
 use Rattle.std.specs.Map.{keys_of}
 use Rattle.plural_base.specs.DocumentJson.{rows_shape}
-use Rattle.plural_base.specs.ProviderRows.{rows_of}
+use Rattle.plural_base.specs.Inner.JsonSteps.{rows_of}
 use Rattle.plural_base.specs.RulesJson.{rules_shape}
-use Rattle.plural_base.specs.TextReaders.{TextReader, TellsTexts}
+use Rattle.plural_base.specs.RuleTexts.{TextReader, TellsTexts}
 use Rattle.plural_base.proofs.Rows.{Ascend, key_bytes}
 use Rattle.plural_base.proofs.RowsRead.{behind}
 use Rattle.serde_json.specs.View.{members_view}

@@ -1,4 +1,4 @@
-use Rattle.plural_base.specs.ByCategory.{at}
+use Rattle.plural_base.specs.Ranges.{at}
 use Rattle.plural_base.proofs.RawCategories.{same_things}
 use Rattle.plural_base.proofs.laws.ranges_are_their_maps.Goals as goal
 

@@ -1,5 +1,5 @@
 use Rattle.std.proofs.Common.{◌≡◌, Some, None, sym, ap, ◌∙◌}
-use Rattle.plural_base.specs.CategoryNames.{category_of, raw_category_of}
+use Rattle.plural_base.specs.Categories.{category_of, raw_category_of}
 use Rattle.plural_base.proofs.RangeNames.{category_named_none, named_category, same_name}
 use Rattle.plural_base.proofs.range_key.category_of_name.Goals as goal
 

@@ -1,5 +1,5 @@
 use Rattle.std.proofs.Common.{ap, ◌∙◌}
-use Rattle.plural_base.specs.ProviderRows.{range_rows_of}
+use Rattle.plural_base.specs.Inner.JsonSteps.{range_rows_of}
 use Rattle.plural_base.proofs.Rows.{rows_by-insert_entry}
 use Rattle.plural_base.proofs.range_rows.put_ranges.Goals as goal
 

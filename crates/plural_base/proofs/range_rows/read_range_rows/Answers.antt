@@ -4,7 +4,7 @@ use Rattle.std.specs.Cmp.Lexicographic.{slice_cmp}
 use Rattle.std.specs.Map.{keys_of}
 use Rattle.std.specs.Ordering.{nat_cmp}
 use Rattle.plural_base.specs.DocumentJson.{rows_shape}
-use Rattle.plural_base.specs.ProviderRows.{range_rows_of}
+use Rattle.plural_base.specs.Inner.JsonSteps.{range_rows_of}
 use Rattle.plural_base.specs.RangesJson.{ranges_shape}
 use Rattle.serde_json.specs.View.{view, members_view}
 use Rattle.plural_base.proofs.Rows.{Ascend, key_bytes, ascend_bytes}

@@ -1,7 +1,7 @@
 use Rattle.std.proofs.Common.{◌≡◌, ◌++◌}
 use Rattle.std.specs.Map.{keys_of}
 use Rattle.plural_base.specs.DocumentJson.{rows_shape}
-use Rattle.plural_base.specs.ProviderRows.{range_rows_of}
+use Rattle.plural_base.specs.Inner.JsonSteps.{range_rows_of}
 use Rattle.plural_base.specs.RangesJson.{ranges_shape}
 use Rattle.plural_base.proofs.Rows.{Ascend, key_bytes}
 use Rattle.plural_base.proofs.RowsRead.{behind}

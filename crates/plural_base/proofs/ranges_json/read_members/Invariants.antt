@@ -1,6 +1,6 @@
 use Rattle.std.proofs.Common.{◌≡◌}
 use Rattle.plural_base.specs.RangesJson.{members_shape}
-use Rattle.plural_base.specs.RangeTable.{no_ranges}
+use Rattle.plural_base.specs.Ranges.{no_ranges}
 use Rattle.serde_json.specs.View.{members_view}
 use Rattle.plural_base.proofs.ranges_json.read_members.Given as goal
 

@@ -1,7 +1,7 @@
 use Rattle.std.proofs.Common.{refl, ◌∙◌}
 use Rattle.plural_base.specs.declared.raw_category.RawPluralCategory.TheVariants.{Other}
-use Rattle.plural_base.specs.CategoryNames.{all_raw_categories}
-use Rattle.plural_base.specs.RangeSteps.{put_row}
+use Rattle.plural_base.specs.Categories.{all_raw_categories}
+use Rattle.plural_base.specs.Inner.JsonSteps.{put_row}
 use Rattle.serde_json.specs.View.{members_view}
 use Rattle.plural_base.proofs.RangesWritten.{next_fold}
 use Rattle.plural_base.proofs.ranges_json.write_members.Goals as goal

@@ -1,6 +1,6 @@
 use Rattle.std.proofs.Common.{◌≡◌, drop, fold}
-use Rattle.plural_base.specs.CategoryNames.{all_raw_categories}
-use Rattle.plural_base.specs.RangeSteps.{put_row, range_members}
+use Rattle.plural_base.specs.Categories.{all_raw_categories}
+use Rattle.plural_base.specs.Inner.JsonSteps.{put_row, range_members}
 use Rattle.serde_json.specs.View.{members_view}
 use Rattle.plural_base.proofs.ranges_json.write_members.Given as goal
 

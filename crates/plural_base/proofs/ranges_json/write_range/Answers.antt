@@ -1,6 +1,6 @@
 use Rattle.std.proofs.Common.{◌≡◌, string_bytes, ap, ◌∙◌}
-use Rattle.plural_base.specs.CategoryNames.{raw_name_of}
-use Rattle.plural_base.specs.RangeKeys.{range_text}
+use Rattle.plural_base.specs.Categories.{raw_name_of}
+use Rattle.plural_base.specs.Ranges.{range_text}
 use Rattle.serde_json.specs.Data.{string, put}
 use Rattle.serde_json.specs.View.{members_view}
 use Rattle.serde_json.specs.declared.value.Value as json

@@ -1,8 +1,8 @@
 use Rattle.std.proofs.Common.{get_or, ap, ◌∙◌}
 use Rattle.plural_base.specs.declared.raw_category.RawPluralCategory.TheVariants.{Other}
-use Rattle.plural_base.specs.CategoryNames.{all_raw_categories}
-use Rattle.plural_base.specs.RangeSteps.{put_range}
-use Rattle.plural_base.specs.RangeTable.{category_at}
+use Rattle.plural_base.specs.Categories.{all_raw_categories}
+use Rattle.plural_base.specs.Inner.JsonSteps.{put_range}
+use Rattle.plural_base.specs.Ranges.{category_at}
 use Rattle.serde_json.specs.View.{members_view}
 use Rattle.plural_base.proofs.RangesWritten.{next_fold}
 use Rattle.plural_base.proofs.ranges_json.write_row.Goals as goal

@@ -1,7 +1,7 @@
 use Rattle.std.proofs.Common.{◌≡◌, drop, fold}
-use Rattle.plural_base.specs.CategoryNames.{all_raw_categories}
-use Rattle.plural_base.specs.RangeSteps.{put_range, put_row}
-use Rattle.plural_base.specs.RangeTable.{category_at}
+use Rattle.plural_base.specs.Categories.{all_raw_categories}
+use Rattle.plural_base.specs.Inner.JsonSteps.{put_range, put_row}
+use Rattle.plural_base.specs.Ranges.{category_at}
 use Rattle.serde_json.specs.View.{members_view}
 use Rattle.plural_base.proofs.ranges_json.write_row.Given as goal
 

@@ -1,5 +1,5 @@
 use Rattle.std.proofs.Common.{◌≡◌, ◌==◌, length, false}
-use Rattle.plural_reference.specs.Resolver.{tree_relation_truth}
+use Rattle.plural_reference.specs.Truth.{tree_relation_truth}
 use Rattle.plural_reference.proofs.Folds.{is_true_of-map}
 use Rattle.plural_reference.proofs.resolver.test_condition.Goals as goal
 

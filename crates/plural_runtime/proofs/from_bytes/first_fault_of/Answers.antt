@@ -1,5 +1,5 @@
 use Rattle.std.proofs.Common.{arith, ◌∙◌, sym, ◌+◌, drop}
-use Rattle.plural_runtime.specs.RuleFaults.{first_fault}
+use Rattle.plural_runtime.specs.RuleBytes.{first_fault}
 use Rattle.plural_runtime.proofs.RuleItems.{first_fault_step, or_else_some, or_else_none}
 use Rattle.plural_runtime.proofs.from_bytes.first_fault_of.Goals as goal
 

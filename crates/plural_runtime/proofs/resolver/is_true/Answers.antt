@@ -3,9 +3,9 @@ use Rattle.std.specs.Cmp.{second_so}
 use Rattle.std.specs.Fn.{iterate}
 use Rattle.std.specs.List.{list_all}
 use Rattle.plural_runtime.specs.declared.kinds.AndOr.TheVariants.{And, Or}
-use Rattle.plural_runtime.specs.RuleFaults.{is_relation}
-use Rattle.plural_runtime.specs.RuleReading.{relation_in}
-use Rattle.plural_runtime.specs.NeededRanges.{needed_of_relation}
+use Rattle.plural_runtime.specs.RuleBytes.{is_relation}
+use Rattle.plural_runtime.specs.Inner.RuleReading.{relation_in}
+use Rattle.plural_runtime.specs.PackedTruth.{needed_of_relation}
 use Rattle.plural_runtime.proofs.Counts.{steps_left}
 use Rattle.plural_runtime.proofs.Walks.{is_read, needed_left, needed_left-is, truth_left, truth_left-is, walk_reads}
 use Rattle.plural_runtime.proofs.resolver.is_true.Goals.{in-Or+else-holds, in-And+else-not-holds}

@@ -1,9 +1,9 @@
 use Rattle.std.proofs.Common.{Ok, sym, ap, ◌∙◌}
 use Rattle.std.proofs.lemmas.Result.{err_from_is_err_and}
 use Rattle.icu_plurals.specs.DocumentJson.{Document}
-use Rattle.icu_plurals.specs.RulesData.{rules_of as data_of}
-use Rattle.plurals_cli.specs.InputRules.{document_of, rules_for}
-use Rattle.plurals_cli.specs.RuleLines.{IsCategoryLine}
+use Rattle.icu_plurals.specs.FiveRules.{rules_of as data_of}
+use Rattle.plurals_cli.specs.Input.{document_of, rules_for}
+use Rattle.plurals_cli.specs.Lines.{IsCategoryLine}
 use Rattle.plurals_cli.proofs.Faults.{both, handed_on, no_first, no_second}
 use Rattle.plurals_cli.proofs.category_command.category_line.Goals as goal
 

@@ -1,6 +1,6 @@
 use Rattle.serde_json.specs.View.{view}
 use Rattle.icu_plurals.specs.DocumentJson.{Document, document_of_json}
-use Rattle.plurals_cli.specs.InputRules.{or_bad, or_fault, value_of}
+use Rattle.plurals_cli.specs.Input.{or_bad, or_fault, value_of}
 use Rattle.plurals_cli.specs.declared.error.RunError.TheVariants.{Json}
 use Rattle.plurals_cli.proofs.Faults.{of_second}
 use Rattle.plurals_cli.proofs.document.document_of.Goals as goal

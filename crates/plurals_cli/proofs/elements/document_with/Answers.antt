@@ -4,8 +4,7 @@ use Rattle.serde_json.specs.Find.{get}
 use Rattle.serde_json.specs.View.{view}
 use Rattle.icu_plurals.specs.DocumentJson.{Document, document_of_json}
 use Rattle.icu_plurals.specs.PackedElements.{PackedElements}
-use Rattle.plurals_cli.specs.InputElements.{elements_beside, elements_of_json}
-use Rattle.plurals_cli.specs.InputRules.{◌>>=◌, or_bad, or_fault, value_of}
+use Rattle.plurals_cli.specs.Input.{elements_beside, elements_of_json, ◌>>=◌, or_bad, or_fault, value_of}
 use Rattle.plurals_cli.specs.declared.elements.WithElements.{WithElements}
 use Rattle.plurals_cli.specs.declared.error.RunError.TheVariants.{Json}
 use Rattle.plurals_cli.proofs.Faults.{after, handed_on, of_second, refused_first}

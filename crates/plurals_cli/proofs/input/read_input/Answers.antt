@@ -1,5 +1,5 @@
 use Rattle.std.proofs.Common.{length, refl}
-use Rattle.plurals_cli.specs.InputRules.{most_bytes}
+use Rattle.plurals_cli.specs.Input.{most_bytes}
 use Rattle.plurals_cli.proofs.Inputs.{long_by_one, longer}
 use Rattle.plurals_cli.proofs.input.read_input.Goals as goal
 

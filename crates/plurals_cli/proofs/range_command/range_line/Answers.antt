@@ -1,11 +1,11 @@
 use Rattle.std.proofs.Common.{ap, subst, ◌∙◌}
 use Rattle.std.proofs.lemmas.Result.{err_from_is_err_and}
 use Rattle.icu_plurals.specs.declared.PluralCategory.{PluralCategory}
-use Rattle.icu_plurals.specs.CategoryNames.{name_of}
+use Rattle.icu_plurals.specs.Categories.{name_of}
 use Rattle.icu_plurals.specs.DocumentJson.{Document}
 use Rattle.icu_plurals.specs.FiveRules.{FiveRules}
-use Rattle.plurals_cli.specs.InputRules.{RangedRules, document_of, ranged_for}
-use Rattle.plurals_cli.specs.RuleLines.{IsCategoryOf, IsRangeLine, line}
+use Rattle.plurals_cli.specs.Input.{RangedRules, document_of, ranged_for}
+use Rattle.plurals_cli.specs.Lines.{IsCategoryOf, IsRangeLine, line}
 use Rattle.plurals_cli.proofs.Faults.{both, handed_on, no_first, no_second}
 use Rattle.plurals_cli.proofs.range_command.range_line.Goals as goal
 

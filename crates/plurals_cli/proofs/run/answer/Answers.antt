@@ -1,6 +1,6 @@
 use Rattle.std.proofs.Common.{Some, sym, subst}
 use Rattle.plurals_cli.specs.Answer.{AnswersCommand, AnswersTest, GivesAfterReading, NeedsInput}
-use Rattle.plurals_cli.specs.CommandWords.{seen}
+use Rattle.plurals_cli.specs.Inner.CommandWords.{seen}
 use Rattle.plurals_cli.specs.declared.command.Command.{Command as Words}
 use Rattle.plurals_cli.proofs.Inputs.{some_input}
 use Rattle.plurals_cli.proofs.Readings.{implied}

@@ -1,8 +1,8 @@
 use Rattle.std.proofs.Common.{inr, refl}
 use Rattle.std.proofs.lemmas.Result.{err_from_is_err_and}
 use Rattle.plurals_cli.specs.Answer.{AnswersCategory, AnswersFrom}
-use Rattle.plurals_cli.specs.InputRules.{rules_in, rules_of}
-use Rattle.plurals_cli.specs.RuleLines.{IsCategoryLine}
+use Rattle.plurals_cli.specs.Input.{rules_in, rules_of}
+use Rattle.plurals_cli.specs.Lines.{IsCategoryLine}
 use Rattle.plurals_cli.proofs.Faults.{handed_on, not_too_long}
 use Rattle.plurals_cli.proofs.Inputs.{some_input}
 use Rattle.plurals_cli.proofs.Readings.{no_input, no_number, of_all, to_the_end}

@@ -1,8 +1,8 @@
 use Rattle.std.proofs.Common.{refl}
 use Rattle.std.proofs.lemmas.Result.{err_from_is_err_and}
 use Rattle.plurals_cli.specs.Answer.{AnswersFrom}
-use Rattle.plurals_cli.specs.InputRules.{rules_of}
-use Rattle.plurals_cli.specs.RuleLines.{AreRuleLines}
+use Rattle.plurals_cli.specs.Input.{rules_of}
+use Rattle.plurals_cli.specs.Lines.{AreRuleLines}
 use Rattle.plurals_cli.proofs.Faults.{handed_on, not_too_long}
 use Rattle.plurals_cli.proofs.Readings.{no_input, of_all, to_the_end}
 use Rattle.plurals_cli.proofs.run.print_answer.Goals as goal

@@ -1,8 +1,8 @@
 use Rattle.std.proofs.Common.{inr, refl}
 use Rattle.std.proofs.lemmas.Result.{err_from_is_err_and}
 use Rattle.plurals_cli.specs.Answer.{AnswersFrom, AnswersNumber, AnswersRange}
-use Rattle.plurals_cli.specs.InputRules.{ranged_in, ranged_of}
-use Rattle.plurals_cli.specs.RuleLines.{IsRangeLine}
+use Rattle.plurals_cli.specs.Input.{ranged_in, ranged_of}
+use Rattle.plurals_cli.specs.Lines.{IsRangeLine}
 use Rattle.plurals_cli.proofs.Faults.{handed_on, ranged_not_long}
 use Rattle.plurals_cli.proofs.Inputs.{some_input}
 use Rattle.plurals_cli.proofs.Readings.{no_input, no_number, no_second_number, of_all, to_the_end}

@@ -1,8 +1,8 @@
 use Rattle.std.proofs.Common.{inr, refl}
 use Rattle.std.proofs.lemmas.Result.{err_from_is_err_and}
 use Rattle.plurals_cli.specs.Answer.{AnswersFrom, AnswersSelect}
-use Rattle.plurals_cli.specs.InputElements.{elements_in, elements_of}
-use Rattle.plurals_cli.specs.ElementLines.{IsElementLine}
+use Rattle.plurals_cli.specs.Input.{elements_in, elements_of}
+use Rattle.plurals_cli.specs.Lines.{IsElementLine}
 use Rattle.plurals_cli.proofs.Faults.{handed_on, elements_not_long}
 use Rattle.plurals_cli.proofs.Inputs.{some_input}
 use Rattle.plurals_cli.proofs.Readings.{no_input, no_number, of_all, to_the_end}

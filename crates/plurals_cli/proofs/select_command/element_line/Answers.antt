@@ -1,13 +1,10 @@
 use Rattle.std.proofs.Common.{Ok, Err, ap, refl, sym, ◌∙◌}
 use Rattle.std.proofs.lemmas.Result.{err_from_is_err_and}
-use Rattle.icu_plurals.specs.ElementChoice.{IsKeptElement}
-use Rattle.icu_plurals.specs.Elements.{element_at}
+use Rattle.icu_plurals.specs.Elements.{IsKeptElement, element_at}
 use Rattle.icu_plurals.specs.PackedElements.{PackedValue, elements_of as values_of}
-use Rattle.icu_plurals.specs.RulesData.{rules_of as data_of}
-use Rattle.plurals_cli.specs.ElementLines.{IsElementLine}
-use Rattle.plurals_cli.specs.InputElements.{ElementsAndRules, document_with, elements_for, elements_of}
-use Rattle.plurals_cli.specs.InputRules.{rules_for}
-use Rattle.plurals_cli.specs.RuleLines.{line}
+use Rattle.icu_plurals.specs.FiveRules.{rules_of as data_of}
+use Rattle.plurals_cli.specs.Lines.{IsElementLine, line}
+use Rattle.plurals_cli.specs.Input.{ElementsAndRules, document_with, elements_for, elements_of, rules_for}
 use Rattle.plurals_cli.specs.declared.elements.WithElements.{WithElements}
 use Rattle.plurals_cli.proofs.Faults.{after, handed_on, no_first, none_given, of_first, of_second}
 use Rattle.plurals_cli.proofs.Lines.{of_line}

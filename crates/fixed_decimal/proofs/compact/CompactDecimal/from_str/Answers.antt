@@ -1,9 +1,8 @@
 use Rattle.std.proofs.Common.{◌≡◌, ◌∙◌, Err, sym, ap, subst, refl, arith}
 use Rattle.std.proofs.lemmas.Result.{err_from_is_err_and}
-use Rattle.fixed_decimal.specs.Written.{WritesUnsigned, WritesDecimal, HasExponent, WritesCompact, IsCompactOverLimit}
+use Rattle.fixed_decimal.specs.Written.{WritesUnsigned, WritesDecimal, HasExponent, WritesCompact, IsCompactOverLimit, CompactNumber}
 use Rattle.fixed_decimal.specs.Places.{IsWithinLimit}
-use Rattle.fixed_decimal.specs.Compact.{CompactNumber}
-use Rattle.fixed_decimal.specs.TextParts.{number_at}
+use Rattle.fixed_decimal.specs.Inner.TextParts.{number_at}
 use Rattle.fixed_decimal.specs.declared.decimal.Decimal.{Decimal}
 use Rattle.fixed_decimal.specs.declared.error.DecimalError.TheVariants.{Syntax, Limit}
 use Rattle.fixed_decimal.proofs.Points.{reads_at}

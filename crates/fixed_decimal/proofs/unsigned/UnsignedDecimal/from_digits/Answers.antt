@@ -1,6 +1,6 @@
 use Rattle.std.proofs.Common.{◌≡◌, ◌+◌, max, length, arith, subst, sym}
 use Rattle.fixed_decimal.specs.Places.{or_zero}
-use Rattle.fixed_decimal.specs.TextParts.{digits_in, written_digits, AreZeros}
+use Rattle.fixed_decimal.specs.Inner.TextParts.{digits_in, written_digits, AreZeros}
 use Rattle.fixed_decimal.specs.declared.unsigned.UnsignedDecimal.TheInside.{Inside}
 use Rattle.fixed_decimal.proofs.Points.{length-digits_in}
 use Rattle.fixed_decimal.proofs.Making.{spans, places_of_all, written_are_digits, length-written, length-whole_digits}

@@ -1,7 +1,7 @@
 use Rattle.std.proofs.Common.{◌≡◌, ◌+◌, ◌-◌, ℕ, List, length, take, drop, min, arith, ◌∙◌, ap}
 use Rattle.std.proofs.lemmas.List.{take_rest, drop_min, drop-drop}
 use Rattle.std.proofs.lemmas.Result.{IfOk-weaker}
-use Rattle.fixed_decimal.specs.TextParts.{number_of, number_at}
+use Rattle.fixed_decimal.specs.Inner.TextParts.{number_of, number_at}
 use Rattle.fixed_decimal.proofs.unsigned.UnsignedDecimal.from_point.Goals as goal
 
 -- what stands behind the point

@@ -2,7 +2,7 @@ use Rattle.std.proofs.Common.{◌≡◌, ◌<◌, ◌^◌, ◌∙◌, ℕ, List,
 use Rattle.std.specs.Fmt.{decimal}
 use Rattle.fixed_decimal.specs.Digits.{IsNumeral}
 use Rattle.fixed_decimal.specs.Places.{Places}
-use Rattle.fixed_decimal.specs.TextParts.{AllDigitBytes, number_of}
+use Rattle.fixed_decimal.specs.Inner.TextParts.{AllDigitBytes, number_of}
 use Rattle.fixed_decimal.proofs.Numerals.{decimal_bytes, decimal_numeral}
 use Rattle.fixed_decimal.proofs.unsigned.UnsignedDecimal.from_u128.Goals as goal
 use Rattle.fixed_decimal.proofs.unsigned.UnsignedDecimal.from_u128.Goals.{After-as_bytes-digits}

@@ -1,6 +1,6 @@
 use Rattle.std.proofs.Common.{ℕ, ◌+◌, ap, sym, ◌∙◌, subst}
 use Rattle.fixed_decimal.specs.Places.{Places, IsOverLimit, shift_right}
-use Rattle.fixed_decimal.specs.UnsignedInside.{places_of}
+use Rattle.fixed_decimal.specs.Inner.UnsignedInside.{places_of}
 use Rattle.fixed_decimal.proofs.Spans.{right_view, right_over, right_within}
 use Rattle.fixed_decimal.proofs.unsigned.UnsignedDecimal.move_right.Goals as goal
 

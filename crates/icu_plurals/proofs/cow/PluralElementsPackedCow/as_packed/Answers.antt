@@ -1,6 +1,6 @@
 use Rattle.std.proofs.Common.{sym, ◌∙◌, subst}
 use Rattle.std.specs.Cow.{cow_slice_items}
-use Rattle.icu_plurals.specs.ElementsReading.{AreElements}
+use Rattle.icu_plurals.specs.Inner.ElementsReading.{AreElements}
 use Rattle.icu_plurals.specs.PackedElements.{ElementsBytes}
 use Rattle.icu_plurals.proofs.CheckedElements.{same_elements}
 use Rattle.icu_plurals.proofs.cow.PluralElementsPackedCow.as_packed.Goals as goal

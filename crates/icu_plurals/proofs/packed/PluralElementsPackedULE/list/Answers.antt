@@ -3,7 +3,7 @@ use Rattle.std.specs.Prelude.{option_map, unwrap_or}
 use Rattle.std.specs.List.{list_all}
 use Rattle.packed_list.specs.ListBytes.{ListBytes}
 use Rattle.icu_plurals.specs.PackedElements.{item_bytes, items_of}
-use Rattle.icu_plurals.specs.ElementsReading.{elements_in, is_item, item_in}
+use Rattle.icu_plurals.specs.Inner.ElementsReading.{elements_in, is_item, item_in}
 use Rattle.icu_plurals.proofs.ElementsAgain.{items_again, packed_are_items}
 use Rattle.icu_plurals.proofs.packed.PluralElementsPackedULE.list.Goals as goal
 

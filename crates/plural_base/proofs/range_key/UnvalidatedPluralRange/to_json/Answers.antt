@@ -3,7 +3,7 @@ use Rattle.std.proofs.lemmas.Result.{err_from_is_err_and}
 use Rattle.plural_base.specs.declared.json_error.JsonError.{JsonError}
 use Rattle.plural_base.specs.declared.json_error.JsonError.TheVariants.{RangeKey, Memory}
 use Rattle.plural_base.specs.declared.raw_category.RawPluralCategory.{RawPluralCategory}
-use Rattle.plural_base.specs.RangeKeys.{range_byte}
+use Rattle.plural_base.specs.Ranges.{range_byte}
 use Rattle.plural_base.proofs.range_key.UnvalidatedPluralRange.to_json.Goals as goal
 
 -- a byte that names a range is refused by no key

@@ -1,6 +1,6 @@
 use Rattle.std.proofs.Common.{ap, ◌∙◌}
 use Rattle.plural_base.specs.RangesJson.{object_under}
-use Rattle.plural_base.specs.RangeSteps.{range_members}
+use Rattle.plural_base.specs.Inner.JsonSteps.{range_members}
 use Rattle.serde_json.specs.Data.{object}
 use Rattle.serde_json.proofs.Views.{view-Object}
 use Rattle.plural_base.proofs.RangeMembers.{are_members}

@@ -1,6 +1,6 @@
 use Rattle.std.proofs.Common.{◌∙◌}
 use Rattle.plural_reference.specs.ExactnessLaws.{IsKept}
-use Rattle.plural_base.specs.RuleModuli.{moduli_of}
+use Rattle.plural_base.specs.FiveRules.{moduli_of}
 use Rattle.plural_base.proofs.ExactCategories.{first_category-exact}
 use Rattle.plural_base.proofs.rules.PluralRules.category_for_compact.Goals as goal
 

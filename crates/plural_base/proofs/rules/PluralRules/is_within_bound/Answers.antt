@@ -1,5 +1,5 @@
 use Rattle.std.proofs.Common.{◌∙◌, refl, sym, inl, inr, arith}
-use Rattle.plural_base.specs.RuleModuli.{moduli_of}
+use Rattle.plural_base.specs.FiveRules.{moduli_of}
 use Rattle.plural_base.proofs.Moduli.{tests_tell}
 use Rattle.plural_base.proofs.rules.PluralRules.is_within_bound.Goals as goal
 

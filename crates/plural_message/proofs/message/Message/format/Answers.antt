@@ -3,16 +3,14 @@ use Rattle.std.proofs.lemmas.Result.{err_from_is_err_and}
 use Rattle.fixed_decimal.specs.Places.{Places}
 use Rattle.fixed_decimal.specs.declared.error.DecimalError.{DecimalError}
 use Rattle.fixed_decimal.specs.declared.error.DecimalError.TheVariants.{Syntax, Limit, Memory as no_memory}
-use Rattle.icu_plurals.specs.DecimalOperands.{AreCut}
-use Rattle.icu_plurals.specs.ElementChoice.{IsKeptElement}
-use Rattle.icu_plurals.specs.Elements.{Elements, element_at}
-use Rattle.icu_plurals.specs.ElementsViews.{lent_value}
+use Rattle.icu_plurals.specs.Operands.{AreCut, Operands}
+use Rattle.icu_plurals.specs.Elements.{IsKeptElement, Elements, element_at}
+use Rattle.icu_plurals.specs.Inner.ElementsReading.{lent_value}
 use Rattle.icu_plurals.specs.FiveRules.{FiveRules}
-use Rattle.icu_plurals.specs.Operands.{Operands}
 use Rattle.icu_plurals.specs.PackedElements.{PackedValue}
 use Rattle.plural_message.specs.declared.error.MessageError.{MessageError}
 use Rattle.plural_message.specs.declared.error.MessageError.TheVariants.{Number}
-use Rattle.plural_message.specs.MessageErrors.{number_error}
+use Rattle.plural_message.specs.PluralMessageErrors.{number_error}
 use Rattle.plural_message.proofs.message.Message.format.Goals as goal
 
 -- the element that is answered at the kept operands

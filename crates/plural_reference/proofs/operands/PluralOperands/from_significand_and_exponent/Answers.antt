@@ -2,7 +2,7 @@ use Rattle.std.proofs.Common.{◌≡◌, ◌+◌, ◌-◌, ◌^◌, ◌<◌, min
 use Rattle.std.proofs.lemmas.Int.{ints}
 use Rattle.fixed_decimal.specs.Digits.{value_of}
 use Rattle.fixed_decimal.specs.Places.{shift_right}
-use Rattle.plural_reference.specs.DecimalOperands.{cut_whole}
+use Rattle.plural_reference.specs.Operands.{cut_whole}
 use Rattle.plural_reference.proofs.Conversion.{length-whole, length-fraction, short_whole, long_whole, cut_fraction_of, same_fraction_of}
 use Rattle.plural_reference.proofs.operands.PluralOperands.from_significand_and_exponent.Goals as goal
 use Rattle.plural_reference.proofs.operands.PluralOperands.from_significand_and_exponent.Goals.{then-whole-le-KEPT, else-whole-le-KEPT}

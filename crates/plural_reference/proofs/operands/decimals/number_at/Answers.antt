@@ -1,7 +1,7 @@
 use Rattle.std.proofs.Common.{◌≡◌, ℕ, suc, ◌+◌, ◌*◌, ◌^◌, ◌<◌, arith, to_z, of_z, sym, ap, subst, ◌∙◌}
 use Rattle.std.specs.Int.{w16}
 use Rattle.fixed_decimal.specs.Digits.{value_of}
-use Rattle.plural_reference.specs.DigitsFrom.{digits_from}
+use Rattle.plural_reference.specs.Inner.OperandReader.{digits_from}
 use Rattle.std.proofs.lemmas.Int.{ints}
 use Rattle.plural_reference.proofs.Conversion.{Grows, one_more, below_limit}
 use Rattle.plural_reference.proofs.operands.decimals.number_at.Goals as goal

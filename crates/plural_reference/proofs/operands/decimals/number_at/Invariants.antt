@@ -1,6 +1,6 @@
 use Rattle.std.proofs.Common.{◌≡◌, ◌^◌, ◌<◌}
 use Rattle.fixed_decimal.specs.Digits.{value_of}
-use Rattle.plural_reference.specs.DigitsFrom.{digits_from}
+use Rattle.plural_reference.specs.Inner.OperandReader.{digits_from}
 use Rattle.plural_reference.proofs.operands.decimals.number_at.Given as goal
 
 abbrev pub invariant-loop-index : goal.invariant-loop-index

@@ -1,7 +1,7 @@
 use Rattle.std.proofs.Common.{◌≢◌, Some, length}
 use Rattle.plural_reference.specs.declared.token.Token.TheVariants.{And}
-use Rattle.plural_reference.specs.Ends.{first}
-use Rattle.plural_reference.specs.ReaderSteps.{ReadsGroups}
+use Rattle.plural_reference.specs.Lexer.{first}
+use Rattle.plural_reference.specs.Inner.Reader.{ReadsGroups}
 use Rattle.plural_reference.proofs.parser.Parser.condition.Given as goal
 
 -- the groups so far are read

@@ -1,5 +1,5 @@
 use Rattle.std.proofs.Common.{◌≤◌, length, string_bytes}
-use Rattle.plural_reference.specs.SampleSteps.{ReadsDigits}
+use Rattle.plural_reference.specs.Inner.SampleReader.{ReadsDigits}
 use Rattle.plural_reference.proofs.parser.Parser.digits.Given as goal
 
 -- the digits so far have joined the text

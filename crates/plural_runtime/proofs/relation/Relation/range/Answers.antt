@@ -1,7 +1,7 @@
 use Rattle.std.proofs.Common.{arith, ap, sym, ◌∙◌, Some}
 use Rattle.std.specs.Prelude.{option_map}
 use Rattle.plural_runtime.specs.RuleKinds.{range_or_value}
-use Rattle.plural_runtime.specs.RuleReading.{ranges_in}
+use Rattle.plural_runtime.specs.Inner.RuleReading.{ranges_in}
 use Rattle.std.proofs.lemmas.Option.{slice_get_past}
 use Rattle.plural_runtime.proofs.ItemRanges.{length-ranges_in, slice_get-ranges_in}
 use Rattle.plural_runtime.proofs.relation.Relation.range.Goals as goal

@@ -3,7 +3,7 @@ use Rattle.plural_reference.specs.Lexer.{AreTokensOf}
 use Rattle.plural_reference.specs.declared.error.ParseError.TheVariants.{ValueTooLarge}
 use Rattle.plural_reference.specs.Reading.{IsAnswer}
 use Rattle.plural_reference.specs.Samples.{ReadsRule, FaultyRule}
-use Rattle.plural_runtime.specs.Packing.{Packs}
+use Rattle.plural_runtime.specs.PackedTree.{Packs}
 use Rattle.plural_runtime.proofs.FaultKinds.{never_too_large, packing_not_large}
 use Rattle.plural_runtime.proofs.SpellableTrees.{spellable_is_small}
 use Rattle.plural_runtime.proofs.rule.Rule.from_str.Goals as goal

@@ -2,9 +2,8 @@ use Rattle.std.proofs.Common.{arith, true, ◌≡◌, ◌∙◌, sym, ap, subst,
 use Rattle.std.specs.Prelude.{Ok, map}
 use Rattle.std.specs.List.{AllByRecursion, list_all}
 use Rattle.packed_list.specs.ListBytes.{ListBytes}
-use Rattle.packed_list.specs.ListReading.{AreBytes}
-use Rattle.plural_runtime.specs.RuleFaults.{first_fault, is_relation}
-use Rattle.plural_runtime.specs.RuleBytes.{relation_bytes}
+use Rattle.packed_list.specs.Inner.ListReading.{AreBytes}
+use Rattle.plural_runtime.specs.RuleBytes.{first_fault, is_relation, relation_bytes}
 use Rattle.plural_runtime.proofs.RuleItems.{is_rule, items_pass, no_fault, relations_in_one, first_fault-list}
 use Rattle.plural_runtime.proofs.rule.Rule.parse_bytes.Goals as goal
 

@@ -1,0 +1,131 @@
+-- A reader of the bytes of packed elements, for the view of checked bytes, the laws and private contracts. Not a definition of the subject.
+use Rattle.std.specs.Prelude.{◌≡◌, ℕ, ◌/◌, ◌%◌, List, [], ◌∷◌, map, take, drop, Bool, false, ◌&&◌, nat_le, if◌then◌else◌, nat_lt, IsTrue, Option, Some, None, unwrap_or, ⊤, option_map, ◌+◌, ◌++◌, length}
+use Rattle.std.proofs.Props.{props}
+use Rattle.std.specs.List.{AllByRecursion, AllByRecursion-prop}
+use Rattle.std.specs.Str.{is_utf8}
+use Rattle.packed_list.specs.ListBytes.{ListBytes, list_bytes}
+use Rattle.packed_list.specs.Inner.ListReading.{items_in}
+use Rattle.plural_base.specs.declared.category.PluralCategory.{PluralCategory}
+use Rattle.plural_base.specs.declared.category.PluralCategory.TheVariants.{Zero, One, Two, Few, Many, Other}
+use Rattle.icu_plurals.specs.declared.packed.error.ElementsBytesError.{ElementsBytesError}
+use Rattle.icu_plurals.specs.declared.packed.error.ElementsBytesError.TheVariants as errors
+use Rattle.icu_plurals.specs.ElementsFaults.{ElementsParts, IsShort, HasPadding, first_fault}
+use Rattle.icu_plurals.specs.PackedElements.{PackedValue, PackedItem, PackedElements, IsPackedItem, CanPackItems, ElementsBytes, items_of, item_bytes, zero_key, one_key, two_key, few_key, many_key}
+use Rattle.icu_plurals.specs.declared.packed.parts.Parts.{Parts}
+use Rattle.std.specs.Borrow.{Bor}
+use Rattle.icu_plurals.specs.declared.packed.PluralElementsPackedULE.{PluralElementsPackedULE}
+use Rattle.icu_plurals.specs.declared.packed.metadata.FourBitMetadata.{FourBitMetadata}
+use Rattle.icu_plurals.specs.declared.encode.items.Item.{Item}
+
+-- the item that bytes hold
+abbrev pub item_in : List ℕ → PackedItem
+item_in [] = record { key = 0; value = record { metadata = 0; text = [] } }
+item_in (byte ∷ text) = record { key = byte / 16; value = record { metadata = byte % 16; text = text } }
+
+-- the packed elements that bytes hold, with their first byte and what stands behind it
+abbrev pub elements_behind : ℕ → List ℕ → PackedElements
+elements_behind first [] = record { default = record { metadata = first % 16; text = [] }; items = None }
+elements_behind first (len ∷ bytes) =
+    if nat_lt first 128 then record { default = record { metadata = first % 16; text = len ∷ bytes }; items = None }
+    else record { default = record { metadata = first % 16; text = take len bytes }; items = Some (map item_in (items_in (drop len bytes))) }
+
+-- the packed elements that bytes hold, if they are those of some
+unfoldable pub elements_in : List ℕ → PackedElements
+elements_in [] = record { default = record { metadata = 0; text = [] }; items = None }
+elements_in (first ∷ bytes) = elements_behind first bytes
+
+-- the bytes are those of the packed elements that they hold
+abbrev pub AreElements : List ℕ → Type 0
+AreElements bytes = ElementsBytes (elements_in bytes) bytes
+
+-- ---- a fact that bytes have in one way at most
+
+CanPackItems-prop : (default : PackedValue) (items : Option (List PackedItem)) → IsProp (CanPackItems default items)
+CanPackItems-prop default None = hlevel props
+CanPackItems-prop default (Some items) = hlevel props
+
+IsPackedItems-prop : (items : List PackedItem) → IsProp (AllByRecursion IsPackedItem items)
+IsPackedItems-prop items = AllByRecursion-prop IsPackedItem (λ item. hlevel props) items
+
+pub ElementsBytes-prop : (packed : PackedElements) (bytes : List ℕ) → IsProp (ElementsBytes packed bytes)
+ElementsBytes-prop packed bytes = hlevel (props, IsPackedItems-prop (items_of packed), CanPackItems-prop packed.default packed.items)
+
+-- ---- what is found on the way
+
+-- there is no byte, or the text is cut short
+abbrev pub HasPlaceFault : List ℕ → ElementsBytesError → Type 0
+HasPlaceFault bytes errors.Empty = bytes ≡ []
+HasPlaceFault bytes errors.Short = IsShort bytes
+HasPlaceFault bytes fault = ⊥
+
+-- an item has a key of the seven, and a text that is UTF-8
+abbrev pub is_item : List ℕ → Bool
+is_item [] = false
+is_item (byte ∷ text) = nat_le (byte / 16) 6 && is_utf8 text
+
+-- what is left is a list without a bad item
+abbrev pub AreGoodItems : List ℕ → Type 0
+AreGoodItems rest = (items : List (List ℕ)) × ListBytes items rest × (first_fault 0 items ≡ None)
+
+abbrev pub IsGoodRest : Option (List ℕ) → Type 0
+IsGoodRest None = ⊤
+IsGoodRest (Some rest) = AreGoodItems rest
+
+abbrev pub AreGoodParts : ElementsParts → Type 0
+AreGoodParts parts = (¬ (HasPadding parts.first)) × IsTrue (is_utf8 parts.text) × IsGoodRest parts.rest
+
+-- ---- what parts show
+
+-- the parts are those of packed elements
+pub record AreShown (parts : ElementsParts) (packed : PackedElements) : Type 0 where
+  pub default_value : record { metadata = parts.first % 16; text = parts.text } ≡ packed.default
+  pub text : IsTrue (is_utf8 parts.text)
+  pub list : ListBytes (map item_bytes (items_of packed)) (unwrap_or parts.rest [])
+  pub fit : AllByRecursion IsPackedItem (items_of packed)
+
+-- the key of a category's value: other's is the default
+abbrev pub category_key : PluralCategory → Option ℕ
+category_key Zero = Some zero_key
+category_key One = Some one_key
+category_key Two = Some two_key
+category_key Few = Some few_key
+category_key Many = Some many_key
+category_key Other = None
+
+-- ---- What private contracts see of the parts of packed elements.
+
+abbrev pub lent_parts : Parts → ElementsParts
+lent_parts parts = record { first = parts.first; text = parts.text.now; rest = option_map (λ rest. rest.now) parts.rest }
+
+-- ---- What contracts see of packed elements and of their values that are lent.
+
+-- the number that metadata are
+abbrev pub number_of : FourBitMetadata → ℕ
+number_of metadata = metadata.value
+
+-- metadata and a text that is lent
+abbrev pub lent_value : FourBitMetadata × Bor (List ℕ) → PackedValue
+lent_value value = record { metadata = number_of value.0; text = value.1.now }
+
+-- the packed elements in checked bytes
+abbrev pub lent_elements : PluralElementsPackedULE → PackedElements
+lent_elements packed = elements_in packed.bytes.now
+
+-- ---- Not a definition of the subject: the bytes of items that lend their texts.
+
+-- the bytes of an item
+abbrev pub bytes_of : Item → List ℕ
+bytes_of item = item.first ∷ item.text.now
+
+-- the bytes of each item
+abbrev pub lent_bytes : List Item → List (List ℕ)
+lent_bytes items = map bytes_of items
+
+-- what stands before the default's text: its metadata alone, or bit 7 with the metadata and the length of the text
+abbrev pub head_with : PackedValue → List (List ℕ) → List ℕ
+head_with default [] = default.metadata ∷ []
+head_with default (item ∷ items) = (128 + default.metadata) ∷ length default.text ∷ []
+
+-- the bytes of a default and the byte items beside it
+abbrev pub bytes_with_items : PackedValue → List (List ℕ) → List ℕ
+bytes_with_items default items = head_with default items ++ (default.text ++ list_bytes items)

@@ -1,0 +1,2 @@
+-- No definitions of the subject: readers and steps, of which views and private contracts speak.
+pub mod ListReading

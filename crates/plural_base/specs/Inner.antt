@@ -1,0 +1,4 @@
+-- No definitions of the subject: readers and steps, of which views and private contracts speak.
+pub mod CategoriesLeft
+pub mod ModulusTests
+pub mod JsonSteps

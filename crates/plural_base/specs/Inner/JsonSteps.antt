@@ -1,0 +1,50 @@
+-- Not a definition of the subject: the error that the code makes of a rule's.
+use Rattle.std.specs.Prelude.{Option, fold, Some, None, List, map, String, string_bytes}
+use Rattle.plural_runtime.specs.declared.error.RuleError.{RuleError}
+use Rattle.plural_runtime.specs.declared.error.RuleError.TheVariants as fault
+use Rattle.plural_base.specs.declared.category.PluralCategory.{PluralCategory}
+use Rattle.plural_base.specs.declared.json_error.JsonError.{JsonError}
+use Rattle.plural_base.specs.declared.json_error.JsonError.TheVariants.{Rule, Memory}
+use Rattle.plural_base.specs.declared.ranges.PluralRanges.{PluralRanges}
+use Rattle.plural_base.specs.declared.raw_category.RawPluralCategory.{RawPluralCategory}
+use Rattle.plural_base.specs.Categories.{all_raw_categories}
+use Rattle.plural_base.specs.Ranges.{range_text, category_at}
+use Rattle.plural_base.specs.RangesJson.{name_json}
+use Rattle.serde_json.specs.Data.{Members, no_members, put}
+use Rattle.std.specs.declared.alloc.Global.{Global}
+use Rattle.plural_base.specs.declared.rules_data.PluralRulesData.{PluralRulesData}
+use Rattle.plural_base.specs.DocumentJson.{Rows}
+use Rattle.plural_base.specs.FiveRules.{FiveRules, rules_of}
+
+-- want of memory names no category
+abbrev pub refusal_of : Option PluralCategory → RuleError → JsonError
+refusal_of category (fault.Parse kind) = Rule category (fault.Parse kind)
+refusal_of category fault.StartLimit = Rule category fault.StartLimit
+refusal_of category fault.Memory = Memory
+
+-- ---- Not a definition of the subject: the members that the code puts for ranges, one after the other.
+
+-- a range that has a category is put
+abbrev pub put_range : RawPluralCategory → RawPluralCategory → Members → Option RawPluralCategory → Members
+put_range start end members None = members
+put_range start end members (Some category) = put (range_text start end) (name_json category) members
+
+-- those with this start
+abbrev pub put_row : PluralRanges → Members → RawPluralCategory → Members
+put_row ranges members start = fold (λ ms end. put_range start end ms (category_at ranges start end)) members all_raw_categories
+
+-- all of them
+abbrev pub range_members : PluralRanges → Members
+range_members ranges = fold (put_row ranges) no_members all_raw_categories
+
+-- ---- Not a definition of the subject: the rows of a map of the provider from JSON.
+
+-- each value as it is seen
+abbrev pub rows_by : {V A : Type 0} → (V → A) → List (String Global × V) → Rows A
+rows_by seen entries = map (λ entry. (string_bytes entry.0, seen entry.1)) entries
+
+abbrev pub rows_of : List (String Global × PluralRulesData) → Rows FiveRules
+rows_of = rows_by rules_of
+
+abbrev pub range_rows_of : List (String Global × PluralRanges) → Rows PluralRanges
+range_rows_of = rows_by (λ ranges. ranges)

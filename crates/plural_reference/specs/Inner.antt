@@ -1,0 +1,5 @@
+-- No definitions of the subject: readers and steps, of which views and private contracts speak.
+pub mod Scan
+pub mod Reader
+pub mod SampleReader
+pub mod OperandReader

@@ -1,0 +1,240 @@
+-- Not a definition of the subject: a reader of conditions, token by token. The parser's private contracts cite it; that it
+-- answers what the grammar says is proved.
+use Rattle.std.specs.Prelude.{List, [], ◌∷◌, ◌++◌, Option, Some, None, Result, Ok, Err, ◌≡◌, ◌≢◌}
+use Rattle.plural_reference.specs.declared.ast.AndCondition.{AndCondition}
+use Rattle.plural_reference.specs.declared.ast.Condition.{Condition}
+use Rattle.plural_reference.specs.declared.ast.Expression.{Expression}
+use Rattle.plural_reference.specs.declared.ast.Operand as operand
+use Rattle.plural_reference.specs.declared.ast.Operator as operator
+use Rattle.plural_reference.specs.declared.ast.RangeListItem.{RangeListItem}
+use Rattle.plural_reference.specs.declared.ast.RangeListItem.TheVariants as items
+use Rattle.plural_reference.specs.declared.ast.Relation.{Relation}
+use Rattle.plural_reference.specs.declared.ast.Value.{Value}
+use Rattle.plural_reference.specs.declared.error.ParseError.{ParseError}
+use Rattle.plural_reference.specs.declared.error.ParseError.TheVariants.{ExpectedAndCondition, ExpectedRelation, ExpectedOperator, ExpectedOperand, ExpectedValue}
+use Rattle.plural_reference.specs.declared.token.Token.{Token}
+use Rattle.plural_reference.specs.declared.token.Token.TheVariants.{Operator, DotDot, Comma, Or, And, Modulo, At}
+use Rattle.plural_reference.specs.Parser.{value_of, operand_of, value_fault, operand_fault, operator_fault, IsUnconditional}
+use Rattle.plural_reference.specs.declared.token.Token.TheVariants as token
+use Rattle.plural_reference.specs.Lexer.{first}
+
+-- what is complete before the relation that is being read
+pub record Before : Type 0 where
+  pub groups : List AndCondition
+  pub relations : List Relation
+
+-- what is complete of the relation that is being read
+pub record Opened : Type 0 where
+  pub before : Before
+  pub expression : Expression
+  pub operator : operator.Operator
+
+-- what is awaited, and what is complete
+pub data State : Type 0 where
+  before_operand : Before → State
+  after_operand : Before → operand.Operand → State
+  after_modulo : Before → operand.Operand → State
+  after_modulus : Before → Expression → State
+  before_item : Opened → List RangeListItem → State
+  after_item : Opened → List RangeListItem → RangeListItem → State
+  before_end : Opened → List RangeListItem → Value → State
+
+-- the relation with these items
+abbrev pub relation_of : Opened → List RangeListItem → Relation
+relation_of o xs = record { expression = o.expression; operator = o.operator; range_list = record { 0 = xs } }
+
+-- the relation joins the group
+abbrev pub with_relation : Before → Relation → Before
+with_relation b r = record { groups = b.groups; relations = b.relations ++ r ∷ [] }
+
+-- the same, where the group ends
+abbrev pub with_group : Before → Before
+with_group b = record { groups = b.groups ++ (record { 0 = b.relations }) ∷ []; relations = [] }
+
+-- the condition that ends here
+abbrev pub condition_of : Before → Condition
+condition_of b = record { 0 = b.groups ++ (record { 0 = b.relations }) ∷ [] }
+
+-- what a token does: it leads on, ends the condition, or is a fault
+pub data Move : Type 0 where
+  go : State → Move
+  finish : Condition → Move
+  refuse : ParseError → Move
+
+-- no operand: the end, or At
+abbrev pub no_operand : List AndCondition → List Relation → Move
+no_operand [] [] = finish (record { 0 = [] })
+no_operand (g ∷ gs) [] = refuse ExpectedAndCondition
+no_operand gs (r ∷ rs) = refuse ExpectedRelation
+
+-- the token where an operand is awaited
+abbrev pub operand_move : Option operand.Operand → Token → Before → Move
+operand_move (Some o) t b = go (after_operand b o)
+operand_move None At b = no_operand b.groups b.relations
+operand_move None _ b = refuse ExpectedOperand
+
+-- where a value is
+abbrev pub value_move : Option Value → (Value → State) → Move
+value_move None next = refuse ExpectedValue
+value_move (Some v) next = go (next v)
+
+-- where an operator is
+abbrev pub operator_move : Token → Before → Expression → Move
+operator_move (Operator op) b e = go (before_item (record { before = b; expression = e; operator = op }) [])
+operator_move _ b e = refuse ExpectedOperator
+
+-- dots behind an item
+abbrev pub dots_move : Opened → List RangeListItem → RangeListItem → Move
+dots_move o xs (items.Value v) = go (before_end o xs v)
+dots_move o xs (items.Range a b) = finish (condition_of (with_relation o.before (relation_of o (xs ++ (items.Range a b) ∷ []))))
+
+-- a token behind an item
+abbrev pub item_move : Opened → List RangeListItem → RangeListItem → Token → Move
+item_move o xs x And = go (before_operand (with_relation o.before (relation_of o (xs ++ x ∷ []))))
+item_move o xs x Or = go (before_operand (with_group (with_relation o.before (relation_of o (xs ++ x ∷ [])))))
+item_move o xs x Comma = go (before_item o (xs ++ x ∷ []))
+item_move o xs x DotDot = dots_move o xs x
+item_move o xs x _ = finish (condition_of (with_relation o.before (relation_of o (xs ++ x ∷ []))))
+
+-- a token behind an operand
+abbrev pub operand_next : Token → Before → operand.Operand → Move
+operand_next Modulo b o = go (after_modulo b o)
+operand_next t b o = operator_move t b (record { operand = o; modulus = None })
+
+-- what a token does
+abbrev pub step : State → Token → Move
+step (before_operand b) t = operand_move (operand_of t) t b
+step (after_operand b o) t = operand_next t b o
+step (after_modulo b o) t = value_move (value_of t) (λ v. after_modulus b (record { operand = o; modulus = Some v }))
+step (after_modulus b e) t = operator_move t b e
+step (before_item o xs) t = value_move (value_of t) (λ v. after_item o xs (items.Value v))
+step (after_item o xs x) t = item_move o xs x t
+step (before_end o xs v) t = value_move (value_of t) (λ w. after_item o xs (items.Range v w))
+
+-- where the tokens end
+abbrev pub at_end : State → Move
+at_end (before_operand b) = no_operand b.groups b.relations
+at_end (after_operand b o) = refuse ExpectedOperator
+at_end (after_modulo b o) = refuse ExpectedValue
+at_end (after_modulus b e) = refuse ExpectedOperator
+at_end (before_item o xs) = refuse ExpectedValue
+at_end (after_item o xs x) = finish (condition_of (with_relation o.before (relation_of o (xs ++ x ∷ []))))
+at_end (before_end o xs v) = refuse ExpectedValue
+
+-- the condition, and the tokens that are left
+abbrev pub Outcome : Type 0
+Outcome = Result (Condition × List Token) ParseError
+
+-- what follows a move
+abbrev pub proceed : Move → List Token → (State → Outcome) → Outcome
+proceed (go s) rest next = next s
+proceed (finish c) rest next = Ok (c, rest)
+proceed (refuse e) rest next = Err e
+
+-- what the reader answers from a state on
+unfoldable pub run : State → List Token → Outcome
+run s [] = proceed (at_end s) [] (λ _. Err ExpectedValue)
+run s (t ∷ ts) = proceed (step s t) (t ∷ ts) (λ next. run next ts)
+
+-- where the reader begins
+abbrev pub begin : State
+begin = before_operand (record { groups = []; relations = [] })
+
+-- ---- Not a definition of the subject: what the parts of the parser do, as steps of the reader of conditions. Their private
+-- contracts cite it, and no public clause does.
+
+-- no dots follow a single value
+abbrev pub NoDots : RangeListItem → List Token → Type 0
+NoDots (items.Value v) rest = first rest ≢ Some DotDot
+NoDots (items.Range a b) rest = Unit {0}
+
+-- an item is read wherever one is awaited
+pub record ReadsItem (old : List Token) (x : RangeListItem) (new : List Token) : Type 0 where
+  pub run_is : (o : Opened) (xs : List RangeListItem) → run (before_item o xs) old ≡ run (after_item o xs x) new
+  pub no_dots : NoDots x new
+
+-- a list with these items is read wherever one is awaited; a comma may follow
+pub record ReadsItems (old : List Token) (ys : List RangeListItem) (new : List Token) : Type 0 where
+  pub front : List RangeListItem
+  pub item : RangeListItem
+  pub items_are : ys ≡ front ++ item ∷ []
+  pub run_is : (o : Opened) → run (before_item o []) old ≡ run (after_item o front item) new
+  pub no_dots : NoDots item new
+
+-- from the state the reader comes to the end of a relation, and b is complete
+pub record Completes (from : State) (old : List Token) (b : Before) (new : List Token) : Type 0 where
+  pub opened : Opened
+  pub front : List RangeListItem
+  pub item : RangeListItem
+  pub run_is : run from old ≡ run (after_item opened front item) new
+  pub complete : with_relation opened.before (relation_of opened (front ++ item ∷ [])) ≡ b
+  pub no_dots : NoDots item new
+  pub no_comma : first new ≢ Some Comma
+
+-- an optional part: it is there, or no operand begins it and nothing is taken
+abbrev pub ReadsOption : {A : Type 0} → (List Token → A → List Token → Type 0) → List Token → Option A → List Token → Type 0
+ReadsOption Read old None new = IsUnconditional old × (new ≡ old)
+ReadsOption Read old (Some x) new = Read old x new
+
+-- an expression is read wherever an operand is awaited: an operator behind it leads to the items, and any other token is a fault
+pub record ReadsExpression (old : List Token) (e : Expression) (new : List Token) : Type 0 where
+  pub goes_on : (b : Before) (op : operator.Operator) (rest : List Token) → new ≡ token.Operator op ∷ rest → run (before_operand b) old ≡ run (before_item (record { before = b; expression = e; operator = op }) []) rest
+  pub stops : (b : Before) → operator_fault (first new) ≡ Some ExpectedOperator → run (before_operand b) old ≡ Err ExpectedOperator
+
+-- the first token is the value
+abbrev pub TakesValue : List Token → Value → List Token → Type 0
+TakesValue old v new = (t : Token) × (old ≡ t ∷ new) × (value_of t ≡ Some v)
+
+-- no value comes next
+abbrev pub NoValue : List Token → ParseError → Type 0
+NoValue old e = (e ≡ ExpectedValue) × (value_fault (first old) ≡ Some ExpectedValue)
+
+-- no operator comes next
+abbrev pub NoOperator : List Token → ParseError → Type 0
+NoOperator old e = (e ≡ ExpectedOperator) × (operator_fault (first old) ≡ Some ExpectedOperator)
+
+-- the first token is the operand
+abbrev pub TakesOperand : List Token → operand.Operand → List Token → Type 0
+TakesOperand old o new = (t : Token) × (old ≡ t ∷ new) × (operand_of t ≡ Some o)
+
+-- a token that is no operand comes next: a fault wherever one is awaited
+abbrev pub NoOperand : List Token → ParseError → Type 0
+NoOperand old e = (e ≡ ExpectedOperand) × ((at_end : Option ParseError) → operand_fault at_end (first old) ≡ Some ExpectedOperand)
+
+-- groups that are read from the beginning; Or may follow
+pub record ReadsGroups (old : List Token) (groups : List AndCondition) (new : List Token) : Type 0 where
+  pub before : Before
+  pub completes : Completes begin old before new
+  pub groups_are : groups ≡ before.groups ++ (record { 0 = before.relations }) ∷ []
+
+-- behind these groups
+abbrev pub before_group : List AndCondition → State
+before_group groups = before_operand (record { groups = groups; relations = [] })
+
+-- a group is read behind any others
+abbrev pub ReadsGroup : List Token → AndCondition → List Token → Type 0
+ReadsGroup old c new = (groups : List AndCondition) → Completes (before_group groups) old (record { groups = groups; relations = c.0 }) new
+
+-- a group is read behind any others, and no relation follows it
+abbrev pub ReadsWholeGroup : List Token → AndCondition → List Token → Type 0
+ReadsWholeGroup old c new = ReadsGroup old c new × (first new ≢ Some And)
+
+-- a relation is read wherever one is awaited
+abbrev pub ReadsRelation : List Token → Relation → List Token → Type 0
+ReadsRelation old r new = (b : Before) → Completes (before_operand b) old (with_relation b r) new
+
+-- the reader stops with this fault wherever an item is awaited
+abbrev pub FailsAtItem : List Token → ParseError → Type 0
+FailsAtItem old e = (o : Opened) (xs : List RangeListItem) → run (before_item o xs) old ≡ Err e
+
+-- the same wherever a list of items is awaited
+abbrev pub FailsAtItems : List Token → ParseError → Type 0
+FailsAtItems old e = (o : Opened) → run (before_item o []) old ≡ Err e
+
+-- the same wherever an operand is awaited
+abbrev pub FailsAtOperand : List Token → ParseError → Type 0
+FailsAtOperand old e = (b : Before) → run (before_operand b) old ≡ Err e
+
+-- the same wherever a group is awaited
+abbrev pub FailsAtGroup : List Token → ParseError → Type 0
+FailsAtGroup old e = (groups : List AndCondition) → run (before_group groups) old ≡ Err e
