@@ -13,10 +13,11 @@ use Rattle.plural_reference.specs.ReadingLaws.{HasOneReading}
 use Rattle.plural_reference.specs.Samples.{ReadsRule, FaultyRule}
 use Rattle.plural_reference.specs.Inner.Reader.{run, begin}
 use Rattle.plural_reference.specs.Inner.SampleReader.{ReadsAllSamples, after_sections, run_samples}
+use Rattle.plural_reference.specs.Inner.RuleReader.{rule_of, of_condition, with_samples}
 use Rattle.plural_reference.proofs.ScanSound.{tokens_are}
 use Rattle.plural_reference.proofs.ReaderSound.{Said, said}
 use Rattle.plural_reference.proofs.Readings.{one_reading}
-use Rattle.plural_reference.proofs.RuleReadings.{rule_of, of_condition, with_samples, Given, given, one_rule}
+use Rattle.plural_reference.proofs.RuleReadings.{Given, given, one_rule}
 
 -- ---- one answer
 

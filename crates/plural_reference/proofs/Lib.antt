@@ -27,6 +27,7 @@ pub mod SampleComplete
 pub mod SampleParserSteps
 pub mod RuleReadings
 pub mod RuleRows
+pub mod RuleTexts
 pub mod TokensFit
 pub mod PrintedTokens
 pub mod SpellableConditions
