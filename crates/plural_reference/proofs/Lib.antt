@@ -18,14 +18,15 @@ pub mod ScanSize
 pub mod Alone
 pub mod CutOnce
 pub mod ParserSteps
-pub mod Answered
 pub mod Rows
 pub mod Writes
 pub mod SampleRows
 pub mod SampleSound
 pub mod SampleComplete
 pub mod SampleParserSteps
+pub mod SampleSinks
 pub mod RuleReadings
+pub mod Answered
 pub mod RuleRows
 pub mod RuleTexts
 pub mod TokensFit
