@@ -5,7 +5,11 @@ ghost use Rattle.std.specs.Fmt.{decimal};
 ghost use Rattle.plural_reference.specs.Inner.SampleReader.{IsKept};
 
 use crate::ast::SampleRange;
+use itoa::Buffer;
 use std::alloc::{AllocError, Global};
+
+// Room for the text of a sample: CLDR's have at most 12 bytes.
+const TEXT_ROOM: usize = 16;
 
 // Takes the texts and ranges of samples, and keeps them or leaves them out: then the texts and lists that it was given stay empty.
 pub(super) trait Sink {
@@ -37,11 +41,12 @@ impl Sink for Kept {
     ghost keeps = { true };
 
     fn begin(alloc: Global) -> Result<String, AllocError> {
-        Ok(String::new(alloc))
+        String::with_capacity(alloc, TEXT_ROOM)
     }
 
     fn push_number(text: &mut String, number: u32) -> Result<(), AllocError> {
-        write!(text, "{number}")
+        let mut digits = Buffer::new();
+        text.push_str(digits.format(number))
     }
 
     fn push_mark(text: &mut String, mark: &str) -> Result<(), AllocError> {
