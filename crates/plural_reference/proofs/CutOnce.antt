@@ -1,5 +1,6 @@
 -- A text is cut in one way: the scan, asked for the bytes of the first piece.
-use Rattle.std.proofs.Common.{◌≡◌, ◌≢◌, ◌*◌, ◌+◌, ℕ, List, [], ◌∷◌, ◌++◌, Option, Some, None, refl, sym, ap, ◌∙◌, append_assoc, cond, nat_eq, length, subst, arith}
+use Rattle.std.proofs.Common.{◌≡◌, ◌≢◌, ◌*◌, ◌+◌, ℕ, List, [], ◌∷◌, ◌++◌, Option, Some, None, refl, sym, ap, ◌∙◌,
+    append_assoc, cond, nat_eq, length, subst, arith}
 use Rattle.std.proofs.lemmas.Bool.{eq-eqb}
 use Rattle.std.proofs.lemmas.List.{append-nil, append_cancel_left}
 use Rattle.std.proofs.lemmas.List.Elements.{All-contains, All-from_recursion, recursion_from_All}
@@ -10,7 +11,8 @@ use Rattle.plural_reference.specs.declared.ast.Operand.TheVariants.{I}
 use Rattle.plural_reference.specs.declared.ast.Operator.TheVariants.{NotEq}
 use Rattle.plural_reference.specs.declared.token.Token.{Token}
 use Rattle.plural_reference.specs.declared.token.Token.TheVariants.{Operand, Operator, Dot, Or, And, Decimal, Integer, Ellipsis}
-use Rattle.plural_reference.specs.Lexer.{first, Word, marks, keywords, MayFollow, IsDigitRun, IsBegun, BeginsNone, IsPiece, space, mark, keyword, number, unknown, too_large, broken, cut_off, Piece, IsCut}
+use Rattle.plural_reference.specs.Lexer.{first, Word, marks, keywords, MayFollow, IsDigitRun, IsBegun, BeginsNone,
+    IsPiece, space, mark, keyword, number, unknown, too_large, broken, cut_off, Piece, IsCut}
 use Rattle.plural_reference.specs.ReadingLaws.{HaveOneCut}
 use Rattle.plural_reference.specs.Inner.Scan.{Scan, between, in_keyword, in_number, after_i, after_point, begin, keyword_move, tokens_of}
 use Rattle.plural_reference.proofs.ScanComplete.{no_more, no_eq, digit_yes, digit_no, begin_digit, begin_unknown, piece_scans}
@@ -69,7 +71,10 @@ point_bitten (b ∷ bs) h = rw (no_eq b 46 (λ e. h.1 refl (ap Some e))) refl
 
 marks_bitten : AllByRecursion MarkBitten marks
 unfolding piece_from
-marks_bitten = (λ _ _. refl, (λ _ _. refl, (λ _ _. refl, (λ _ _. refl, (λ _ _. refl, (λ _ _. refl, (i_bitten, (λ _ _. refl, (λ _ _. refl, (λ _ _. refl, (point_bitten, (λ _ _. refl, (λ _ _. refl, (λ _ _. refl, (λ _ _. refl, (λ _ _. refl, tt))))))))))))))))
+marks_bitten =
+    (λ _ _. refl, (λ _ _. refl, (λ _ _. refl, (λ _ _. refl, (λ _ _. refl, (λ _ _. refl, (i_bitten, (λ _ _. refl,
+        (λ _ _. refl, (λ _ _. refl, (point_bitten, (λ _ _. refl, (λ _ _. refl, (λ _ _. refl, (λ _ _. refl, (λ _ _. refl,
+        tt))))))))))))))))
 
 keywords_bitten : AllByRecursion KeywordBitten keywords
 unfolding piece_from
@@ -77,7 +82,9 @@ keywords_bitten = (λ _. refl, (λ _. refl, (λ _. refl, (λ _. refl, (λ _. ref
 
 -- ---- broken keywords
 
-tail_bitten : (k : ℕ) (ks : List ℕ) (t : Token) (begun : List ℕ) (next : ℕ) (more rest : List ℕ) → k ∷ ks ≡ begun ++ next ∷ more → piece_from (in_keyword k ks t) (begun ++ rest) ≡ begun ++ piece_from (in_keyword next more t) rest
+tail_bitten : (k : ℕ) (ks : List ℕ) (t : Token) (begun : List ℕ) (next : ℕ) (more rest : List ℕ)
+    → k ∷ ks ≡ begun ++ next ∷ more
+    → piece_from (in_keyword k ks t) (begun ++ rest) ≡ begun ++ piece_from (in_keyword next more t) rest
 unfolding piece_from
 tail_bitten k ks t [] next more rest h = let same_k : k ≡ next = cc in let same_ks : ks ≡ more = cc in rw (same_k, same_ks) refl
 tail_bitten k [] t (b ∷ bs) next more rest h = absurd (no_more b bs next more k h)
@@ -87,9 +94,13 @@ tail_bitten k (l ∷ ls) t (b ∷ bs) next more rest h =
     rw (← same_k, eq-eqb k k refl) (ap (λ x. k ∷ x) (tail_bitten l ls t bs next more rest tail))
 
 abbrev BegunBitten : Word → Type 0
-BegunBitten w = (begun : List ℕ) (next : ℕ) (more rest : List ℕ) → w.0 ≡ begun ++ next ∷ more → begun ≢ [] → begun ≢ codes "i" → first_piece (begun ++ rest) ≡ begun ++ piece_from (in_keyword next more w.1) rest
+BegunBitten w =
+    (begun : List ℕ) (next : ℕ) (more rest : List ℕ) → w.0 ≡ begun ++ next ∷ more → begun ≢ [] → begun ≢ codes "i"
+        → first_piece (begun ++ rest) ≡ begun ++ piece_from (in_keyword next more w.1) rest
 
-begun_from : (first_byte k : ℕ) (ks : List ℕ) (t : Token) → ((rest : List ℕ) → first_piece (first_byte ∷ rest) ≡ first_byte ∷ piece_from (in_keyword k ks t) rest) → BegunBitten (first_byte ∷ k ∷ ks, t)
+begun_from : (first_byte k : ℕ) (ks : List ℕ) (t : Token)
+    → ((rest : List ℕ) → first_piece (first_byte ∷ rest) ≡ first_byte ∷ piece_from (in_keyword k ks t) rest)
+    → BegunBitten (first_byte ∷ k ∷ ks, t)
 begun_from f k ks t h [] next more rest e ne ni = absurd (ne refl)
 begun_from f k ks t h (b ∷ bs) next more rest e ne ni =
     let same_f : f ≡ b = cc in
@@ -122,12 +133,18 @@ begun_bitten = (
   ),
 )
 
-begun_leads : (begun : List ℕ) (next : ℕ) (rest : List ℕ) (h : IsBegun begun next) → first_piece (begun ++ rest) ≡ begun ++ piece_from (in_keyword next h.more h.word.1) rest
-begun_leads begun next rest h = All-contains BegunBitten keywords h.word (All-from_recursion BegunBitten keywords begun_bitten) h.is_keyword begun next h.more rest h.spelling h.nonempty h.not_i
+begun_leads : (begun : List ℕ) (next : ℕ) (rest : List ℕ) (h : IsBegun begun next)
+    → first_piece (begun ++ rest) ≡ begun ++ piece_from (in_keyword next h.more h.word.1) rest
+begun_leads begun next rest h =
+    All-contains BegunBitten keywords h.word (All-from_recursion BegunBitten keywords begun_bitten) h.is_keyword begun
+        next h.more rest h.spelling h.nonempty h.not_i
 
-broken_bitten : (begun : List ℕ) (next b : ℕ) (rest : List ℕ) → IsBegun begun next → b ≢ next → first_piece ((begun ++ b ∷ []) ++ rest) ≡ begun ++ b ∷ []
+broken_bitten : (begun : List ℕ) (next b : ℕ) (rest : List ℕ) → IsBegun begun next → b ≢ next
+    → first_piece ((begun ++ b ∷ []) ++ rest) ≡ begun ++ b ∷ []
 unfolding piece_from
-broken_bitten begun next b rest h differs = ap first_piece (append_assoc begun (b ∷ []) rest) ∙ begun_leads begun next (b ∷ rest) h ∙ rw (no_eq b next differs) refl
+broken_bitten begun next b rest h differs =
+    ap first_piece (append_assoc begun (b ∷ []) rest) ∙ begun_leads begun next (b ∷ rest) h
+        ∙ rw (no_eq b next differs) refl
 
 cut_off_bitten : (begun : List ℕ) (next : ℕ) → IsBegun begun next → first_piece (begun ++ []) ≡ begun
 unfolding piece_from
@@ -135,11 +152,13 @@ cut_off_bitten begun next h = begun_leads begun next [] h ∙ append-nil begun
 
 -- ---- numbers and other bytes
 
-digits_bitten : (n : ℕ) (digits rest : List ℕ) → AllByRecursion IsAsciiDigit digits → IfSome (first rest) (λ d. ¬ (IsAsciiDigit d)) → piece_from (in_number n) (digits ++ rest) ≡ digits
+digits_bitten : (n : ℕ) (digits rest : List ℕ) → AllByRecursion IsAsciiDigit digits
+    → IfSome (first rest) (λ d. ¬ (IsAsciiDigit d)) → piece_from (in_number n) (digits ++ rest) ≡ digits
 unfolding piece_from
 digits_bitten n [] [] all whole = refl
 digits_bitten n [] (b ∷ bs) all whole = rw (digit_no b whole) refl
-digits_bitten n (d ∷ ds) rest all whole = rw (digit_yes d all.0) (ap (λ x. d ∷ x) (digits_bitten (n * 10 + digit_value d) ds rest all.1 whole))
+digits_bitten n (d ∷ ds) rest all whole =
+    rw (digit_yes d all.0) (ap (λ x. d ∷ x) (digits_bitten (n * 10 + digit_value d) ds rest all.1 whole))
 
 run_bitten : (digits rest : List ℕ) → IsDigitRun digits rest → first_piece (digits ++ rest) ≡ digits
 unfolding piece_from
@@ -157,8 +176,10 @@ unknown_bitten b rest h = rw (begin_unknown b h) refl
 piece_bitten : (piece rest : List ℕ) (token : Option Token) → IsPiece piece rest token → first_piece (piece ++ rest) ≡ piece
 unfolding piece_from
 piece_bitten piece rest token (space e t) = rw e refl
-piece_bitten piece rest token (mark t c f k) = All-contains MarkBitten marks (piece, t) (All-from_recursion MarkBitten marks marks_bitten) c rest f
-piece_bitten piece rest token (keyword t c k) = All-contains KeywordBitten keywords (piece, t) (All-from_recursion KeywordBitten keywords keywords_bitten) c rest
+piece_bitten piece rest token (mark t c f k) =
+    All-contains MarkBitten marks (piece, t) (All-from_recursion MarkBitten marks marks_bitten) c rest f
+piece_bitten piece rest token (keyword t c k) =
+    All-contains KeywordBitten keywords (piece, t) (All-from_recursion KeywordBitten keywords keywords_bitten) c rest
 piece_bitten piece rest token (number r small k) = run_bitten piece rest r
 piece_bitten piece rest token (unknown b e n k) = rw e (unknown_bitten b rest n)
 piece_bitten piece rest token (too_large r large k) = run_bitten piece rest r
@@ -173,15 +194,22 @@ pushed_not_empty [] b e = cc
 pushed_not_empty (x ∷ xs) b e = cc
 
 marks_not_empty : AllByRecursion (λ (w : Word). w.0 ≢ []) marks
-marks_not_empty = (not_empty _ _, (not_empty _ _, (not_empty _ _, (not_empty _ _, (not_empty _ _, (not_empty _ _, (not_empty _ _, (not_empty _ _, (not_empty _ _, (not_empty _ _, (not_empty _ _, (not_empty _ _, (not_empty _ _, (not_empty _ _, (not_empty _ _, (not_empty _ _, tt))))))))))))))))
+marks_not_empty =
+    (not_empty _ _, (not_empty _ _, (not_empty _ _, (not_empty _ _, (not_empty _ _, (not_empty _ _, (not_empty _ _,
+        (not_empty _ _, (not_empty _ _, (not_empty _ _, (not_empty _ _, (not_empty _ _, (not_empty _ _, (not_empty _ _,
+        (not_empty _ _, (not_empty _ _, tt))))))))))))))))
 
 keywords_not_empty : AllByRecursion (λ (w : Word). w.0 ≢ []) keywords
 keywords_not_empty = (not_empty _ _, (not_empty _ _, (not_empty _ _, (not_empty _ _, (not_empty _ _, (not_empty _ _, tt))))))
 
 piece_not_empty : (piece rest : List ℕ) (token : Option Token) → IsPiece piece rest token → piece ≢ []
 piece_not_empty piece rest token (space e t) = rw e (not_empty 32 [])
-piece_not_empty piece rest token (mark t c f k) = All-contains (λ (w : Word). w.0 ≢ []) marks (piece, t) (All-from_recursion (λ (w : Word). w.0 ≢ []) marks marks_not_empty) c
-piece_not_empty piece rest token (keyword t c k) = All-contains (λ (w : Word). w.0 ≢ []) keywords (piece, t) (All-from_recursion (λ (w : Word). w.0 ≢ []) keywords keywords_not_empty) c
+piece_not_empty piece rest token (mark t c f k) =
+    All-contains (λ (w : Word). w.0 ≢ []) marks (piece, t)
+        (All-from_recursion (λ (w : Word). w.0 ≢ []) marks marks_not_empty) c
+piece_not_empty piece rest token (keyword t c k) =
+    All-contains (λ (w : Word). w.0 ≢ []) keywords (piece, t)
+        (All-from_recursion (λ (w : Word). w.0 ≢ []) keywords keywords_not_empty) c
 piece_not_empty piece rest token (number r small k) = r.nonempty
 piece_not_empty piece rest token (unknown b e n k) = rw e (not_empty b [])
 piece_not_empty piece rest token (too_large r large k) = r.nonempty
@@ -206,11 +234,15 @@ record SamePiece (p q : Piece) (a b : List ℕ) : Type 0 where
   piece_is : p ≡ q
   rest_is : a ≡ b
 
-same_piece : (text a b : List ℕ) (p q : Piece) → text ≡ p.0 ++ a → IsPiece p.0 a p.1 → text ≡ q.0 ++ b → IsPiece q.0 b q.1 → SamePiece p q a b
+same_piece : (text a b : List ℕ) (p q : Piece) → text ≡ p.0 ++ a → IsPiece p.0 a p.1 → text ≡ q.0 ++ b
+    → IsPiece q.0 b q.1 → SamePiece p q a b
 same_piece text a b p q e h f k =
     let bytes : p.0 ≡ q.0 = sym (piece_bitten p.0 a p.1 h) ∙ ap first_piece (sym e ∙ f) ∙ piece_bitten q.0 b q.1 k in
     let rest : a ≡ b = append_cancel_left p.0 a b (sym e ∙ f ∙ ap (λ x. x ++ b) (sym bytes)) in
-    let token : p.1 ≡ q.1 = same_token p.1 q.1 (tokens_of a) (sym (piece_scans p.0 a p.1 h) ∙ ap tokens_of (sym e ∙ f) ∙ piece_scans q.0 b q.1 k ∙ ap (λ x. cons_option q.1 (tokens_of x)) (sym rest)) in
+    let token : p.1 ≡ q.1 =
+        same_token p.1 q.1 (tokens_of a)
+            (sym (piece_scans p.0 a p.1 h) ∙ ap tokens_of (sym e ∙ f) ∙ piece_scans q.0 b q.1 k
+                ∙ ap (λ x. cons_option q.1 (tokens_of x)) (sym rest)) in
     record { piece_is = λ i. (bytes i, token i); rest_is = rest }
 
 pub one_cut : (text : List ℕ) (ps qs : List Piece) → IsCut text ps → IsCut text qs → ps ≡ qs

@@ -10,17 +10,20 @@ use Rattle.plural_reference.proofs.Agreement.{relation_agrees}
 
 -- ---- tests that agree on all members agree on groups of them
 
-all_agree : {A : Type 0} (p q : A → Bool) (K : A → Type 0) (group : List A) → ((a : A) → K a → p a ≡ q a) → AllByRecursion K group → list_all p group ≡ list_all q group
+all_agree : {A : Type 0} (p q : A → Bool) (K : A → Type 0) (group : List A) → ((a : A) → K a → p a ≡ q a)
+    → AllByRecursion K group → list_all p group ≡ list_all q group
 all_agree p q K [] h k = refl
 all_agree p q K (a ∷ group) h k =
     ap (λ b. b && list_all p group) (h a k.0) ∙ ap (λ b. q a && b) (all_agree p q K group h k.1)
 
-some_agree : {A : Type 0} (p q : A → Bool) (K : A → Type 0) (groups : List (List A)) → ((a : A) → K a → p a ≡ q a) → AllByRecursion (AllByRecursion K) groups → some_group p groups ≡ some_group q groups
+some_agree : {A : Type 0} (p q : A → Bool) (K : A → Type 0) (groups : List (List A)) → ((a : A) → K a → p a ≡ q a)
+    → AllByRecursion (AllByRecursion K) groups → some_group p groups ≡ some_group q groups
 some_agree p q K [] h k = refl
 some_agree p q K (group ∷ groups) h k =
     ap (λ b. b || some_group p groups) (all_agree p q K group h k.0) ∙ ap (λ b. list_all q group || b) (some_agree p q K groups h k.1)
 
-pub groups_agree_by : {A : Type 0} (p q : A → Bool) (K : A → Type 0) (groups : List (List A)) → ((a : A) → K a → p a ≡ q a) → AllByRecursion (AllByRecursion K) groups → is_true_of p groups ≡ is_true_of q groups
+pub groups_agree_by : {A : Type 0} (p q : A → Bool) (K : A → Type 0) (groups : List (List A))
+    → ((a : A) → K a → p a ≡ q a) → AllByRecursion (AllByRecursion K) groups → is_true_of p groups ≡ is_true_of q groups
 groups_agree_by p q K [] h k = refl
 groups_agree_by p q K (group ∷ groups) h k = some_agree p q K (group ∷ groups) h k
 
@@ -32,8 +35,11 @@ relations_agree x e moduli cut exact relation h k =
 
 pub groups_agree : GroupsAgree
 groups_agree x e moduli cut exact groups h k =
-    groups_agree_by (relation_truth cut) (exact_relation_truth exact) (IsAdmitted moduli) groups (λ relation a. relations_agree x e moduli cut exact relation h a) k
+    groups_agree_by (relation_truth cut) (exact_relation_truth exact) (IsAdmitted moduli) groups
+        (λ relation a. relations_agree x e moduli cut exact relation h a) k
 
 pub conditions_agree : ConditionsAgree
 conditions_agree x e moduli cut exact condition h k =
-    groups_agree_by (λ r. relation_truth cut (meaning_of r)) (λ r. exact_relation_truth exact (meaning_of r)) (λ r. IsAdmitted moduli (meaning_of r)) (groups_of condition) (λ r a. relations_agree x e moduli cut exact (meaning_of r) h a) k
+    groups_agree_by (λ r. relation_truth cut (meaning_of r)) (λ r. exact_relation_truth exact (meaning_of r))
+        (λ r. IsAdmitted moduli (meaning_of r)) (groups_of condition)
+        (λ r a. relations_agree x e moduli cut exact (meaning_of r) h a) k

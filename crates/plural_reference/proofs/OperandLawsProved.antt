@@ -1,5 +1,6 @@
 -- Laws on the operands of every number.
-use Rattle.std.proofs.Common.{◌≡◌, ℕ, zero, suc, ◌+◌, ◌-◌, ◌*◌, ◌/◌, ◌%◌, ◌^◌, ◌≤◌, ◌↔◌, inl, inr, List, refl, sym, ◌∙◌, ap, subst, length, take, arith, ltb}
+use Rattle.std.proofs.Common.{◌≡◌, ℕ, zero, suc, ◌+◌, ◌-◌, ◌*◌, ◌/◌, ◌%◌, ◌^◌, ◌≤◌, ◌↔◌, inl, inr, List, refl, sym, ◌∙◌,
+    ap, subst, length, take, arith, ltb}
 use Rattle.std.proofs.lemmas.Bool.{lt-ltb, le-ltb, cond-true, cond-false, cases_eq}
 use Rattle.std.proofs.lemmas.List.{take_all}
 use Rattle.std.proofs.lemmas.Nat.{div-add-mod'}
@@ -24,13 +25,16 @@ congruent_from_limit n h =
 
 -- ---- short numbers
 
-short_at : (y : Places) (e : ℕ) (o : Operands) → IsWritten y → length y.whole ≤ 18 → length y.fraction ≤ 18 → IsCutAt y e o ↔ IsExactAt y e o
+short_at : (y : Places) (e : ℕ) (o : Operands) → IsWritten y → length y.whole ≤ 18 → length y.fraction ≤ 18
+    → IsCutAt y e o ↔ IsExactAt y e o
 short_at y e o h i f =
     let c : cut_whole y.whole ≡ value_of y.whole = cut_whole-short y.whole i in
     let t : take 18 y.fraction ≡ y.fraction = take_all 18 y.fraction f in (
       λ k. record {
         i = k.i ∙ c ∙ sym (value_of-append-div y.whole y.fraction h.fraction);
-        fraction = subst (λ (n : ℕ). HasFraction o (length y.fraction) n) (sym (value_of-append-mod y.whole y.fraction h.fraction)) (cut_fraction y e o f k);
+        fraction =
+            subst (λ (n : ℕ). HasFraction o (length y.fraction) n)
+                (sym (value_of-append-mod y.whole y.fraction h.fraction)) (cut_fraction y e o f k);
         c = k.c;
       },
       λ k. record {
@@ -52,7 +56,8 @@ six_parts : (o : Operands) → o ≡ six o.i o.v o.w o.f o.t o.c
 unfolding six
 six_parts o = refl
 
-same_six : (a b : Operands) → a.i ≡ b.i → a.v ≡ b.v → a.w ≡ b.w → a.f ≡ b.f → a.t ≡ b.t → a.c ≡ b.c → six a.i a.v a.w a.f a.t a.c ≡ six b.i b.v b.w b.f b.t b.c
+same_six : (a b : Operands) → a.i ≡ b.i → a.v ≡ b.v → a.w ≡ b.w → a.f ≡ b.f → a.t ≡ b.t → a.c ≡ b.c
+    → six a.i a.v a.w a.f a.t a.c ≡ six b.i b.v b.w b.f b.t b.c
 same_six a b i v w f t c = cc
 
 pub one_record : (a b : Operands) → a.i ≡ b.i → SameFraction a b → a.c ≡ b.c → a ≡ b
@@ -64,7 +69,8 @@ record IsLeast (shown written w t : ℕ) : Type 0 where
   pub least : (k : ℕ) → 10 ^ (shown - k) ∣ written → w ≤ k
   pub quotient : t ≡ written / 10 ^ (shown - w)
 
-found : (left number shown written : ℕ) → written ≡ number * 10 ^ (shown - left) → ((k : ℕ) → 10 ^ (shown - k) ∣ written → left ≤ k) → IsLeast shown written left number
+found : (left number shown written : ℕ) → written ≡ number * 10 ^ (shown - left)
+    → ((k : ℕ) → 10 ^ (shown - k) ∣ written → left ≤ k) → IsLeast shown written left number
 found left number shown written e l = record {
   divides = subst (λ (n : ℕ). 10 ^ (shown - left) ∣ n) (sym e) (dvd-mul_left (10 ^ (shown - left)) number);
   least = l;
@@ -76,25 +82,30 @@ least_from zero number shown written h e = (0, number, found zero number shown w
 least_from (suc left) number shown written h e =
     elim (cases_eq (number % 10) 0) [
       | inl none ↦
-          let less : written ≡ number / 10 * 10 ^ (shown - (suc left - 1)) = one_zero_less number shown (suc left) written (omega arith) h e none in
+          let less : written ≡ number / 10 * 10 ^ (shown - (suc left - 1)) =
+              one_zero_less number shown (suc left) written (omega arith) h e none in
           let same : suc left - 1 ≡ left = omega arith in
           least_from left (number / 10) shown written (omega arith) (subst (λ (j : ℕ). written ≡ number / 10 * 10 ^ (shown - j)) same less)
       | inr some ↦ (suc left, number, found (suc left) number shown written e (no_fewer number shown (suc left) written h e some))
     ]
 
 least_of : (shown written : ℕ) → (w t : ℕ) × IsLeast shown written w t
-least_of shown written = least_from shown written shown written (omega arith) (let z : shown - shown ≡ 0 = omega arith in subst (λ (j : ℕ). written ≡ written * 10 ^ j) (sym z) (omega arith))
+least_of shown written =
+    least_from shown written shown written (omega arith)
+        (let z : shown - shown ≡ 0 = omega arith in subst (λ (j : ℕ). written ≡ written * 10 ^ j) (sym z) (omega arith))
 
 -- the operands of an integer part, a fraction and an exponent
 made : (i shown written c : ℕ) → (o : Operands) × (o.i ≡ i) × HasFraction o shown written × (o.c ≡ c)
 made i shown written c =
     let l : (w t : ℕ) × IsLeast shown written w t = least_of shown written in
-    (record { i = i; v = shown; w = l.0; f = written; t = l.1; c = c }, refl, record { v = refl; f = refl; w_divides = l.2.divides; w_least = l.2.least; t = l.2.quotient }, refl)
+    (record { i = i; v = shown; w = l.0; f = written; t = l.1; c = c }, refl,
+        record { v = refl; f = refl; w_divides = l.2.divides; w_least = l.2.least; t = l.2.quotient }, refl)
 
 pub one_cut : OneCut
 one_cut x e =
     let y : Places = shift_right e x in
-    let m : (o : Operands) × (o.i ≡ cut_whole y.whole) × HasFraction o (length (take 18 y.fraction)) (value_of (take 18 y.fraction)) × (o.c ≡ e)
+    let m : (o : Operands) × (o.i ≡ cut_whole y.whole)
+            × HasFraction o (length (take 18 y.fraction)) (value_of (take 18 y.fraction)) × (o.c ≡ e)
     = made (cut_whole y.whole) (length (take 18 y.fraction)) (value_of (take 18 y.fraction)) e in
     let k : IsCutAt y e m.0 = record { i = m.1; fraction = m.2; c = m.3 } in
     (m.0, k, λ b h. one_record b m.0 (h.i ∙ sym k.i) (one_fraction b m.0 _ _ h.fraction k.fraction) (h.c ∙ sym k.c))
@@ -102,7 +113,8 @@ one_cut x e =
 pub one_exact : OneExact
 one_exact x e =
     let y : Places = shift_right e x in
-    let m : (o : Operands) × (o.i ≡ all_digits_value y / 10 ^ length y.fraction) × HasFraction o (length y.fraction) (all_digits_value y % 10 ^ length y.fraction) × (o.c ≡ e)
+    let m : (o : Operands) × (o.i ≡ all_digits_value y / 10 ^ length y.fraction)
+            × HasFraction o (length y.fraction) (all_digits_value y % 10 ^ length y.fraction) × (o.c ≡ e)
     = made (all_digits_value y / 10 ^ length y.fraction) (length y.fraction) (all_digits_value y % 10 ^ length y.fraction) e in
     let k : IsExactAt y e m.0 = record { i = m.1; fraction = m.2; c = m.3 } in
     (m.0, k, λ b h. one_record b m.0 (h.i ∙ sym k.i) (one_fraction b m.0 _ _ h.fraction k.fraction) (h.c ∙ sym k.c))

@@ -19,7 +19,8 @@ use Rattle.plural_reference.specs.Parser.{IsItem}
 use Rattle.plural_reference.specs.Samples.{IsDigits, IsExponentMark, IsFraction, IsExponent, token_text}
 use Rattle.plural_reference.specs.Inner.Scan.{tokens_of, tokens_from}
 use Rattle.plural_reference.proofs.Alone.{point_alone}
-use Rattle.plural_reference.proofs.PrintedTokens.{below_digits, above_digits, Scans, Spells, EndsRun, AreDigits, numerals, small_fits, run_gives, number_spells}
+use Rattle.plural_reference.proofs.PrintedTokens.{below_digits, above_digits, Scans, Spells, EndsRun, AreDigits,
+    numerals, small_fits, run_gives, number_spells}
 use Rattle.plural_reference.proofs.SampleParserSteps.{digit_again}
 use Rattle.plural_reference.proofs.TokensFit.{TokenFits, AllFit}
 
@@ -60,7 +61,8 @@ pub text_digits : (tokens : List Token) → AllFit tokens → AllByRecursion IsD
 text_digits [] f h = tt
 text_digits (t ∷ ts) f h = are_append (token_text t) (flat_map token_text ts) (token_digits t f.0 h.0) (text_digits ts f.1 h.1)
 
-after_zero : (d : ℕ) (ds : List ℕ) → d ≡ 48 → Spells EndsRun (Retold (AllByRecursion IsDigits)) ds ds → Spells EndsRun (Retold (AllByRecursion IsDigits)) (d ∷ ds) (d ∷ ds)
+after_zero : (d : ℕ) (ds : List ℕ) → d ≡ 48 → Spells EndsRun (Retold (AllByRecursion IsDigits)) ds ds
+    → Spells EndsRun (Retold (AllByRecursion IsDigits)) (d ∷ ds) (d ∷ ds)
 unfolding tokens_from
 after_zero d ds e s = record {
   tokens = Zero ∷ s.tokens;
@@ -68,11 +70,19 @@ after_zero d ds e s = record {
   scans = record { gives = λ rest f. rw e (ap (λ ts. Zero ∷ ts) (s.scans.gives rest f)) };
 }
 
-one_run : (d : ℕ) (ds : List ℕ) → d ≢ 48 → AreDigits (d ∷ ds) → digits_value 10 (d ∷ ds) ≤ max_number → Spells EndsRun (Retold (AllByRecursion IsDigits)) (d ∷ ds) (d ∷ ds)
+one_run : (d : ℕ) (ds : List ℕ) → d ≢ 48 → AreDigits (d ∷ ds) → digits_value 10 (d ∷ ds) ≤ max_number
+    → Spells EndsRun (Retold (AllByRecursion IsDigits)) (d ∷ ds) (d ∷ ds)
 one_run d ds other h small = record {
   tokens = Number (digits_value 10 (d ∷ ds)) ∷ [];
   part = ((tt, tt), append-nil _ ∙ decimal-digits_value numerals (d ∷ ds) h (omega arith) (λ e. absurd (other e)) (small_fits _ small));
-  scans = record { gives = λ rest f. run_gives (d ∷ ds) rest (record { begins = other; nonempty = λ e. cc; all_digits = All-from_recursion IsAsciiDigit (d ∷ ds) h; whole = f }) small };
+  scans =
+      record
+          { gives =
+              λ rest f. run_gives (d ∷ ds) rest
+                  (record
+                      { begins = other; nonempty = λ e. cc; all_digits = All-from_recursion IsAsciiDigit (d ∷ ds) h;
+                          whole = f })
+                  small };
 }
 
 -- digits are zeros, and then a number
@@ -91,7 +101,9 @@ no_point_first [] [] h k e = cc
 no_point_first [] (b ∷ bs) h k e = let same : b ≡ 46 = cc in k.1 same
 no_point_first (d ∷ ds) rest h k e = let same : d ≡ 46 = cc in omega (arith, h.0.0)
 
-pub fraction_retold : (f : List Token) → AllFit f → IsFraction f → ((ds : List ℕ) → AreDigits ds → flat_map token_text f ≡ 46 ∷ ds → digits_value 10 ds ≤ max_number) → Spells EndsSample (Retold IsFraction) (flat_map token_text f) (flat_map token_text f)
+pub fraction_retold : (f : List Token) → AllFit f → IsFraction f
+    → ((ds : List ℕ) → AreDigits ds → flat_map token_text f ≡ 46 ∷ ds → digits_value 10 ds ≤ max_number)
+    → Spells EndsSample (Retold IsFraction) (flat_map token_text f) (flat_map token_text f)
 unfolding tokens_from
 fraction_retold [] a h small = record { tokens = []; part = (tt, refl); scans = record { gives = λ rest f. refl } }
 fraction_retold (Dot ∷ ts) a h small =
@@ -101,7 +113,11 @@ fraction_retold (Dot ∷ ts) a h small =
     record {
       tokens = Dot ∷ s.tokens;
       part = (s.part.0, ap (λ l. 46 ∷ l) s.part.1);
-      scans = record { gives = λ rest f. point_alone 46 (ds ++ rest) refl (no_point_first ds rest are f) ∙ ap (λ l. Dot ∷ l) (s.scans.gives rest (sample_ends_run rest f)) };
+      scans =
+          record
+              { gives =
+                  λ rest f. point_alone 46 (ds ++ rest) refl (no_point_first ds rest are f)
+                      ∙ ap (λ l. Dot ∷ l) (s.scans.gives rest (sample_ends_run rest f)) };
     }
 fraction_retold (_ ∷ ts) a h small = absurd h
 
@@ -112,7 +128,8 @@ fraction_follows (_ ∷ ts) h rest k = absurd h
 
 -- ---- an exponent
 
-digit_retold : (t : Token) → TokenFits t → IsDigits t → (u : Token) × IsDigits u × (token_text u ≡ token_text t) × Scans EndsRun (token_text t) (u ∷ [])
+digit_retold : (t : Token) → TokenFits t → IsDigits t
+    → (u : Token) × IsDigits u × (token_text u ≡ token_text t) × Scans EndsRun (token_text t) (u ∷ [])
 unfolding tokens_from
 digit_retold Zero f h = (Zero, tt, refl, record { gives = λ rest k. refl })
 digit_retold (Number n) f h =
@@ -121,25 +138,37 @@ digit_retold (Number n) f h =
     (s.part.0, again.0, again.1, subst (λ (ts : List Token). Scans EndsRun (decimal n) ts) s.part.1 s.scans)
 digit_retold _ f h = absurd h
 
-mark_retold : (m t : Token) → TokenFits t → IsExponentMark m → IsDigits t → Spells EndsSample (Retold IsExponent) (flat_map token_text (m ∷ t ∷ [])) (flat_map token_text (m ∷ t ∷ []))
+mark_retold : (m t : Token) → TokenFits t → IsExponentMark m → IsDigits t
+    → Spells EndsSample (Retold IsExponent) (flat_map token_text (m ∷ t ∷ [])) (flat_map token_text (m ∷ t ∷ []))
 unfolding tokens_from
 mark_retold E t f h k =
     let u = digit_retold t f k in
     record {
       tokens = E ∷ u.0 ∷ [];
       part = ((tt, u.1), ap (λ l. 101 ∷ (l ++ [])) u.2);
-      scans = record { gives = λ rest s. ap (λ ts. E ∷ ts) (ap (λ l. tokens_of (l ++ rest)) (append-nil (token_text t)) ∙ u.3.gives rest (sample_ends_run rest s)) };
+      scans =
+          record
+              { gives =
+                  λ rest s. ap (λ ts. E ∷ ts)
+                      (ap (λ l. tokens_of (l ++ rest)) (append-nil (token_text t))
+                          ∙ u.3.gives rest (sample_ends_run rest s)) };
     }
 mark_retold (Operand C) t f h k =
     let u = digit_retold t f k in
     record {
       tokens = Operand C ∷ u.0 ∷ [];
       part = ((tt, u.1), ap (λ l. 99 ∷ (l ++ [])) u.2);
-      scans = record { gives = λ rest s. ap (λ ts. Operand C ∷ ts) (ap (λ l. tokens_of (l ++ rest)) (append-nil (token_text t)) ∙ u.3.gives rest (sample_ends_run rest s)) };
+      scans =
+          record
+              { gives =
+                  λ rest s. ap (λ ts. Operand C ∷ ts)
+                      (ap (λ l. tokens_of (l ++ rest)) (append-nil (token_text t))
+                          ∙ u.3.gives rest (sample_ends_run rest s)) };
     }
 mark_retold _ t f h k = absurd h
 
-pub exponent_retold : (e : List Token) → AllFit e → IsExponent e → Spells EndsSample (Retold IsExponent) (flat_map token_text e) (flat_map token_text e)
+pub exponent_retold : (e : List Token) → AllFit e → IsExponent e
+    → Spells EndsSample (Retold IsExponent) (flat_map token_text e) (flat_map token_text e)
 exponent_retold [] f h = record { tokens = []; part = (tt, refl); scans = record { gives = λ rest s. refl } }
 exponent_retold (m ∷ t ∷ []) f h = mark_retold m t f.1.0 h.0 h.1
 exponent_retold (m ∷ []) f h = absurd h
@@ -152,6 +181,7 @@ mark_follows _ rest h = absurd h
 
 pub exponent_follows : (e : List Token) → IsExponent e → (rest : List ℕ) → EndsSample rest → EndsSample (flat_map token_text e ++ rest)
 exponent_follows [] h rest k = k
-exponent_follows (m ∷ t ∷ []) h rest k = subst EndsSample (sym (append_assoc (token_text m) (flat_map token_text (t ∷ [])) rest)) (mark_follows m _ h.0)
+exponent_follows (m ∷ t ∷ []) h rest k =
+    subst EndsSample (sym (append_assoc (token_text m) (flat_map token_text (t ∷ [])) rest)) (mark_follows m _ h.0)
 exponent_follows (m ∷ []) h rest k = absurd h
 exponent_follows (m ∷ t ∷ u ∷ us) h rest k = absurd h

@@ -1,5 +1,6 @@
 -- The tokens of printed texts, one text after another.
-use Rattle.std.proofs.Common.{◌≡◌, ◌≢◌, ◌≤◌, ◌<◌, ◌^◌, ℕ, zero, suc, List, [], ◌∷◌, ◌++◌, length, get_or, refl, sym, ap, ◌∙◌, append_assoc, arith, rules}
+use Rattle.std.proofs.Common.{◌≡◌, ◌≢◌, ◌≤◌, ◌<◌, ◌^◌, ℕ, zero, suc, List, [], ◌∷◌, ◌++◌, length, get_or, refl, sym, ap,
+    ◌∙◌, append_assoc, arith, rules}
 use Rattle.std.proofs.lemmas.Bool.{le-leb}
 use Rattle.std.proofs.lemmas.Fmt.{decimal_is_IsNumeral, first_decimal, digits_decimal}
 use Rattle.std.proofs.lemmas.List.Elements.{All-from_recursion}
@@ -22,7 +23,8 @@ use Rattle.plural_reference.proofs.ScanComplete.{run_scans}
 pub record Scans (Follows : List ℕ → Type 0) (text : List ℕ) (tokens : List Token) : Type 0 where
   pub gives : (rest : List ℕ) → Follows rest → tokens_of (text ++ rest) ≡ tokens ++ tokens_of rest
 
-pub scans_then : (First Last : List ℕ → Type 0) (a b : List ℕ) (s t : List Token) → Scans First a s → Scans Last b t → ((rest : List ℕ) → Last rest → First (b ++ rest)) → Scans Last (a ++ b) (s ++ t)
+pub scans_then : (First Last : List ℕ → Type 0) (a b : List ℕ) (s t : List Token) → Scans First a s → Scans Last b t
+    → ((rest : List ℕ) → Last rest → First (b ++ rest)) → Scans Last (a ++ b) (s ++ t)
 scans_then First Last a b s t h k f = record {
   gives = λ rest l.
       ap tokens_of (append_assoc a b rest)
@@ -38,8 +40,12 @@ pub record Spells {A : Type 0} (Follows : List ℕ → Type 0) (Part : List Toke
   pub scans : Scans Follows text tokens
 
 -- parts with separators between them
-module _ {A : Type 0} (Follows : List ℕ → Type 0) (Part : List Token → A → Type 0) (text : A → List ℕ) (separator : List ℕ) (mark : Token) (gives_mark : (rest : List ℕ) → tokens_of (separator ++ rest) ≡ mark ∷ tokens_of rest) (may_follow : (rest : List ℕ) → Follows (separator ++ rest)) where
-  pub joined_spells : (xs : List A) → xs ≢ [] → AllByRecursion (λ x. Spells Follows Part (text x) x) xs → Spells Follows (Separated mark Part) (joined separator text xs) xs
+module _ {A : Type 0} (Follows : List ℕ → Type 0) (Part : List Token → A → Type 0) (text : A → List ℕ)
+    (separator : List ℕ) (mark : Token)
+    (gives_mark : (rest : List ℕ) → tokens_of (separator ++ rest) ≡ mark ∷ tokens_of rest)
+    (may_follow : (rest : List ℕ) → Follows (separator ++ rest)) where
+  pub joined_spells : (xs : List A) → xs ≢ [] → AllByRecursion (λ x. Spells Follows Part (text x) x) xs
+      → Spells Follows (Separated mark Part) (joined separator text xs) xs
   joined_spells [] some h = absurd (some refl)
   joined_spells (x ∷ []) some h = record { tokens = h.0.tokens; part = h.0.part; scans = h.0.scans }
   joined_spells (x ∷ y ∷ ys) some h =
@@ -49,7 +55,9 @@ module _ {A : Type 0} (Follows : List ℕ → Type 0) (Part : List Token → A �
         part = (h.0.tokens, more.tokens, refl, h.0.part, more.part);
         scans = record {
           gives = λ rest f.
-              ap tokens_of (append_assoc (text x ++ separator) (joined separator text (y ∷ ys)) rest ∙ append_assoc (text x) separator (joined separator text (y ∷ ys) ++ rest))
+              ap tokens_of
+                  (append_assoc (text x ++ separator) (joined separator text (y ∷ ys)) rest
+                      ∙ append_assoc (text x) separator (joined separator text (y ∷ ys) ++ rest))
               ∙ h.0.scans.gives _ (may_follow _)
               ∙ ap (λ ts. h.0.tokens ++ ts) (gives_mark _ ∙ ap (λ ts. mark ∷ ts) (more.scans.gives rest f))
               ∙ sym (append_assoc h.0.tokens (mark ∷ more.tokens) (tokens_of rest));
@@ -99,7 +107,8 @@ run_of_number n rest low high ends =
     }
 
 -- the tokens of a run that isn't too large
-pub run_gives : (ds rest : List ℕ) → IsDigitRun ds rest → digits_value 10 ds ≤ max_number → tokens_of (ds ++ rest) ≡ Number (digits_value 10 ds) ∷ tokens_of rest
+pub run_gives : (ds rest : List ℕ) → IsDigitRun ds rest → digits_value 10 ds ≤ max_number
+    → tokens_of (ds ++ rest) ≡ Number (digits_value 10 ds) ∷ tokens_of rest
 run_gives ds rest run small = run_scans ds rest run ∙ rw (le-leb (digits_value 10 ds) max_number small) refl
 
 -- the text of a number is one token
@@ -111,5 +120,10 @@ number_spells (suc k) h =
     record {
       tokens = Number (suc k) ∷ [];
       part = (Number (suc k), refl, refl);
-      scans = record { gives = λ rest f. run_gives (decimal (suc k)) rest (run_of_number (suc k) rest (omega arith) h f) (rw value_is h) ∙ ap (λ n. Number n ∷ tokens_of rest) value_is };
+      scans =
+          record
+              { gives =
+                  λ rest f. run_gives (decimal (suc k)) rest (run_of_number (suc k) rest (omega arith) h f)
+                          (rw value_is h)
+                      ∙ ap (λ n. Number n ∷ tokens_of rest) value_is };
     }

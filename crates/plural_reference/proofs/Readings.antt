@@ -13,7 +13,9 @@ same_ok : {A B : Type 0} (r : Result A B) (x y : A) → r ≡ Ok x → r ≡ Ok 
 same_ok r x y h k = cc
 
 one_condition : (tokens : List Token) (c d : Condition) → Reads tokens c → Reads tokens d → c ≡ d
-one_condition tokens c d h k = let e = same_ok (run begin tokens) (c, h.0) (d, k.0) (reads_run tokens c h.0 h.1) (reads_run tokens d k.0 k.1) in λ i. (e i).0
+one_condition tokens c d h k =
+    let e = same_ok (run begin tokens) (c, h.0) (d, k.0) (reads_run tokens c h.0 h.1) (reads_run tokens d k.0 k.1) in
+    λ i. (e i).0
 
 one_fault : (tokens : List Token) (e f : ParseError) → Faulty tokens e → Faulty tokens f → e ≡ f
 one_fault tokens e f h k = let a = faulty_run tokens e h in let b = faulty_run tokens f k in cc
@@ -23,7 +25,8 @@ not_both tokens c e h k = let a = reads_run tokens c h.0 h.1 in let b = faulty_r
 
 -- as the reader answers
 one_of : (tokens : List Token) (r : Outcome) → Said tokens r → HasOneReading Reads Faulty tokens
-one_of tokens (Ok (c, rest)) h = inl ((c, (rest, h), (λ d k. one_condition tokens d c k (rest, h))), (λ kind k. not_both tokens c kind (rest, h) k))
+one_of tokens (Ok (c, rest)) h =
+    inl ((c, (rest, h), (λ d k. one_condition tokens d c k (rest, h))), (λ kind k. not_both tokens c kind (rest, h) k))
 one_of tokens (Err kind) h = inr ((kind, h, (λ other k. one_fault tokens other kind k h)), (λ c k. not_both tokens c kind k h))
 
 pub one_reading : HaveOneReading

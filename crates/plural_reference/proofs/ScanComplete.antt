@@ -1,5 +1,6 @@
 -- A cut of a text has the tokens of the scan.
-use Rattle.std.proofs.Common.{◌≡◌, ◌≢◌, ◌≤◌, ◌+◌, ◌*◌, ℕ, List, [], ◌∷◌, ◌++◌, Option, Some, refl, sym, ap, ◌∙◌, append_assoc, true, false, nat_eq, arith, ⊎_elim}
+use Rattle.std.proofs.Common.{◌≡◌, ◌≢◌, ◌≤◌, ◌+◌, ◌*◌, ℕ, List, [], ◌∷◌, ◌++◌, Option, Some, refl, sym, ap, ◌∙◌,
+    append_assoc, true, false, nat_eq, arith, ⊎_elim}
 use Rattle.std.proofs.lemmas.Bool.{eq-eqb, le-leb, lt-leb}
 use Rattle.std.proofs.lemmas.Bool.Decides.{eqb_tells, leb_tells, nat_tests}
 use Rattle.std.proofs.lemmas.List.Elements.{All-contains, All-from_recursion, recursion_from_All}
@@ -11,8 +12,10 @@ use Rattle.plural_reference.specs.declared.ast.Operand.TheVariants.{I}
 use Rattle.plural_reference.specs.declared.ast.Operator.TheVariants.{NotEq}
 use Rattle.plural_reference.specs.declared.token.Token.{Token}
 use Rattle.plural_reference.specs.declared.token.Token.TheVariants.{Operand, Operator, Dot, Or, And, Junk, Decimal, Integer, Ellipsis}
-use Rattle.plural_reference.specs.Lexer.{first, Word, marks, keywords, MayFollow, IsDigitRun, IsBegun, BeginsNone, IsPiece, space, mark, keyword, number, unknown, too_large, broken, cut_off, Piece, IsCut}
-use Rattle.plural_reference.specs.Inner.Scan.{Start, between, in_keyword, in_number, starts, look_up, begin, number_token, tokens_from, tokens_of}
+use Rattle.plural_reference.specs.Lexer.{first, Word, marks, keywords, MayFollow, IsDigitRun, IsBegun, BeginsNone,
+    IsPiece, space, mark, keyword, number, unknown, too_large, broken, cut_off, Piece, IsCut}
+use Rattle.plural_reference.specs.Inner.Scan.{Start, between, in_keyword, in_number, starts, look_up, begin,
+    number_token, tokens_from, tokens_of}
 
 pub no_more : (b : ℕ) (bs : List ℕ) (next : ℕ) (more : List ℕ) (k : ℕ) → k ∷ [] ≡ (b ∷ bs) ++ next ∷ more → ⊥
 no_more b [] next more k h = cc
@@ -85,7 +88,9 @@ keywords_scan = (λ rest. refl, (λ rest. refl, (λ rest. refl, (λ rest. refl, 
 -- ---- broken keywords
 
 -- the part of a keyword that stands there leads to the bytes that are awaited
-keyword_tail : (k : ℕ) (ks : List ℕ) (t : Token) (begun : List ℕ) (next : ℕ) (more rest : List ℕ) → k ∷ ks ≡ begun ++ next ∷ more → tokens_from (in_keyword k ks t) (begun ++ rest) ≡ tokens_from (in_keyword next more t) rest
+keyword_tail : (k : ℕ) (ks : List ℕ) (t : Token) (begun : List ℕ) (next : ℕ) (more rest : List ℕ)
+    → k ∷ ks ≡ begun ++ next ∷ more
+    → tokens_from (in_keyword k ks t) (begun ++ rest) ≡ tokens_from (in_keyword next more t) rest
 unfolding tokens_from
 keyword_tail k ks t [] next more rest h = let same_k : k ≡ next = cc in let same_ks : ks ≡ more = cc in rw (same_k, same_ks) refl
 keyword_tail k [] t (b ∷ bs) next more rest h = absurd (no_more b bs next more k h)
@@ -95,9 +100,13 @@ keyword_tail k (l ∷ ls) t (b ∷ bs) next more rest h =
     rw (← same_k, eq-eqb k k refl) (keyword_tail l ls t bs next more rest tail)
 
 abbrev BegunScans : Word → Type 0
-BegunScans w = (begun : List ℕ) (next : ℕ) (more rest : List ℕ) → w.0 ≡ begun ++ next ∷ more → begun ≢ [] → begun ≢ codes "i" → tokens_of (begun ++ rest) ≡ tokens_from (in_keyword next more w.1) rest
+BegunScans w =
+    (begun : List ℕ) (next : ℕ) (more rest : List ℕ) → w.0 ≡ begun ++ next ∷ more → begun ≢ [] → begun ≢ codes "i"
+        → tokens_of (begun ++ rest) ≡ tokens_from (in_keyword next more w.1) rest
 
-begun_from : (first_byte k : ℕ) (ks : List ℕ) (t : Token) → ((rest : List ℕ) → tokens_of (first_byte ∷ rest) ≡ tokens_from (in_keyword k ks t) rest) → BegunScans (first_byte ∷ k ∷ ks, t)
+begun_from : (first_byte k : ℕ) (ks : List ℕ) (t : Token)
+    → ((rest : List ℕ) → tokens_of (first_byte ∷ rest) ≡ tokens_from (in_keyword k ks t) rest)
+    → BegunScans (first_byte ∷ k ∷ ks, t)
 begun_from f k ks t h [] next more rest e ne ni = absurd (ne refl)
 begun_from f k ks t h (b ∷ bs) next more rest e ne ni =
     let same_f : f ≡ b = cc in
@@ -133,12 +142,18 @@ begun_scan = (
   ),
 )
 
-begun_leads : (begun : List ℕ) (next : ℕ) (rest : List ℕ) (h : IsBegun begun next) → tokens_of (begun ++ rest) ≡ tokens_from (in_keyword next h.more h.word.1) rest
-begun_leads begun next rest h = All-contains BegunScans keywords h.word (All-from_recursion BegunScans keywords begun_scan) h.is_keyword begun next h.more rest h.spelling h.nonempty h.not_i
+begun_leads : (begun : List ℕ) (next : ℕ) (rest : List ℕ) (h : IsBegun begun next)
+    → tokens_of (begun ++ rest) ≡ tokens_from (in_keyword next h.more h.word.1) rest
+begun_leads begun next rest h =
+    All-contains BegunScans keywords h.word (All-from_recursion BegunScans keywords begun_scan) h.is_keyword begun next
+        h.more rest h.spelling h.nonempty h.not_i
 
-broken_scans : (begun : List ℕ) (next b : ℕ) (rest : List ℕ) → IsBegun begun next → b ≢ next → tokens_of ((begun ++ b ∷ []) ++ rest) ≡ Junk ∷ tokens_of rest
+broken_scans : (begun : List ℕ) (next b : ℕ) (rest : List ℕ) → IsBegun begun next → b ≢ next
+    → tokens_of ((begun ++ b ∷ []) ++ rest) ≡ Junk ∷ tokens_of rest
 unfolding tokens_from
-broken_scans begun next b rest h differs = ap tokens_of (append_assoc begun (b ∷ []) rest) ∙ begun_leads begun next (b ∷ rest) h ∙ rw (no_eq b next differs) refl
+broken_scans begun next b rest h differs =
+    ap tokens_of (append_assoc begun (b ∷ []) rest) ∙ begun_leads begun next (b ∷ rest) h
+        ∙ rw (no_eq b next differs) refl
 
 cut_off_scans : (begun : List ℕ) (next : ℕ) → IsBegun begun next → tokens_of (begun ++ []) ≡ Junk ∷ []
 unfolding tokens_from
@@ -150,9 +165,13 @@ pub digit_yes : (b : ℕ) → IsAsciiDigit b → is_ascii_digit b ≡ true
 digit_yes b h = grind (arith, nat_tests)
 
 pub digit_no : (b : ℕ) → (IsAsciiDigit b → ⊥) → is_ascii_digit b ≡ false
-digit_no b h = ⊎_elim (λ low. ⊎_elim (λ high. absurd (h (low.1, high.1))) (λ high. rw (low.0, high.0) refl) (leb_tells b 57)) (λ low. rw low.0 refl) (leb_tells 48 b)
+digit_no b h =
+    ⊎_elim (λ low. ⊎_elim (λ high. absurd (h (low.1, high.1))) (λ high. rw (low.0, high.0) refl) (leb_tells b 57))
+        (λ low. rw low.0 refl) (leb_tells 48 b)
 
-number_scans : (n : ℕ) (digits rest : List ℕ) → AllByRecursion IsAsciiDigit digits → IfSome (first rest) (λ d. ¬ (IsAsciiDigit d)) → tokens_from (in_number n) (digits ++ rest) ≡ number_token (digits_value_after 10 n digits) ∷ tokens_of rest
+number_scans : (n : ℕ) (digits rest : List ℕ) → AllByRecursion IsAsciiDigit digits
+    → IfSome (first rest) (λ d. ¬ (IsAsciiDigit d))
+    → tokens_from (in_number n) (digits ++ rest) ≡ number_token (digits_value_after 10 n digits) ∷ tokens_of rest
 unfolding tokens_from
 number_scans n [] [] all whole = refl
 number_scans n [] (b ∷ bs) all whole = rw (digit_no b whole) refl
@@ -161,7 +180,8 @@ number_scans n (d ∷ ds) rest all whole = rw (digit_yes d all.0) (number_scans 
 pub begin_digit : (d : ℕ) → IsAsciiDigit d → d ≢ 48 → begin d ≡ ([], in_number (0 * 10 + digit_value d))
 begin_digit d h k = let low : 49 ≤ d = omega arith in rw (no_eq d 32 (omega arith), le-leb 49 d low, le-leb d 57 h.1) refl
 
-pub run_scans : (digits rest : List ℕ) → IsDigitRun digits rest → tokens_of (digits ++ rest) ≡ number_token (digits_value 10 digits) ∷ tokens_of rest
+pub run_scans : (digits rest : List ℕ) → IsDigitRun digits rest
+    → tokens_of (digits ++ rest) ≡ number_token (digits_value 10 digits) ∷ tokens_of rest
 unfolding tokens_from
 run_scans [] rest h = absurd (h.nonempty refl)
 run_scans (d ∷ ds) rest h =
@@ -174,14 +194,29 @@ none_found : (b : ℕ) (ss : List (ℕ × Start)) → AllByRecursion (λ (s : �
 none_found b [] h = refl
 none_found b (s ∷ ss) h = rw (no_eq b s.0 h.0) (none_found b ss h.1)
 
+-- a text that begins with another byte than b: the two bytes differ
+other_byte : {b c : ℕ} → Some c ≢ Some b → b ≢ c
+other_byte h e = h (ap Some (sym e))
+
 no_start : (b : ℕ) → All (λ (word : Word). first word.0 ≢ Some b) (marks ++ keywords) → AllByRecursion (λ (s : ℕ × Start). b ≢ s.0) starts
-no_start b h = let r = recursion_from_All (λ (word : Word). first word.0 ≢ Some b) (marks ++ keywords) h in
-    (λ e. r.0 (ap Some (sym e)), (λ e. r.1.0 (ap Some (sym e)), (λ e. r.1.1.0 (ap Some (sym e)), (λ e. r.1.1.1.0 (ap Some (sym e)), (λ e. r.1.1.1.1.0 (ap Some (sym e)), (λ e. r.1.1.1.1.1.0 (ap Some (sym e)), (λ e. r.1.1.1.1.1.1.0 (ap Some (sym e)), (λ e. r.1.1.1.1.1.1.1.0 (ap Some (sym e)), (λ e. r.1.1.1.1.1.1.1.1.0 (ap Some (sym e)), (λ e. r.1.1.1.1.1.1.1.1.1.0 (ap Some (sym e)), (λ e. r.1.1.1.1.1.1.1.1.1.1.0 (ap Some (sym e)), (λ e. r.1.1.1.1.1.1.1.1.1.1.1.1.0 (ap Some (sym e)), (λ e. r.1.1.1.1.1.1.1.1.1.1.1.1.1.0 (ap Some (sym e)), (λ e. r.1.1.1.1.1.1.1.1.1.1.1.1.1.1.0 (ap Some (sym e)), (λ e. r.1.1.1.1.1.1.1.1.1.1.1.1.1.1.1.0 (ap Some (sym e)), (λ e. r.1.1.1.1.1.1.1.1.1.1.1.1.1.1.1.1.0 (ap Some (sym e)), (λ e. r.1.1.1.1.1.1.1.1.1.1.1.1.1.1.1.1.1.0 (ap Some (sym e)), (λ e. r.1.1.1.1.1.1.1.1.1.1.1.1.1.1.1.1.1.1.0 (ap Some (sym e)), (λ e. r.1.1.1.1.1.1.1.1.1.1.1.1.1.1.1.1.1.1.1.0 (ap Some (sym e)), (λ e. r.1.1.1.1.1.1.1.1.1.1.1.1.1.1.1.1.1.1.1.1.0 (ap Some (sym e)), tt))))))))))))))))))))
+no_start b h =
+    let r = recursion_from_All (λ (word : Word). first word.0 ≢ Some b) (marks ++ keywords) h in
+    (other_byte r.0, (other_byte r.1.0, (other_byte r.1.1.0, (other_byte r.1.1.1.0, (other_byte r.1.1.1.1.0,
+    (other_byte r.1.1.1.1.1.0, (other_byte r.1.1.1.1.1.1.0, (other_byte r.1.1.1.1.1.1.1.0,
+    (other_byte r.1.1.1.1.1.1.1.1.0, (other_byte r.1.1.1.1.1.1.1.1.1.0, (other_byte r.1.1.1.1.1.1.1.1.1.1.0,
+    (other_byte r.1.1.1.1.1.1.1.1.1.1.1.1.0, (other_byte r.1.1.1.1.1.1.1.1.1.1.1.1.1.0,
+    (other_byte r.1.1.1.1.1.1.1.1.1.1.1.1.1.1.0, (other_byte r.1.1.1.1.1.1.1.1.1.1.1.1.1.1.1.0,
+    (other_byte r.1.1.1.1.1.1.1.1.1.1.1.1.1.1.1.1.0, (other_byte r.1.1.1.1.1.1.1.1.1.1.1.1.1.1.1.1.1.0,
+    (other_byte r.1.1.1.1.1.1.1.1.1.1.1.1.1.1.1.1.1.1.0, (other_byte r.1.1.1.1.1.1.1.1.1.1.1.1.1.1.1.1.1.1.1.0,
+    (other_byte r.1.1.1.1.1.1.1.1.1.1.1.1.1.1.1.1.1.1.1.1.0, tt))))))))))))))))))))
 
 pub begin_unknown : (b : ℕ) → BeginsNone b → begin b ≡ (Junk ∷ [], between)
 begin_unknown b h =
     let none = none_found b starts (no_start b h.2) in
-    ⊎_elim (λ low. ⊎_elim (λ high. absurd (h.1 (omega arith, high.1))) (λ high. rw (no_eq b 32 h.0, low.0, high.0) none) (leb_tells b 57)) (λ low. rw (no_eq b 32 h.0, low.0) none) (leb_tells 49 b)
+    ⊎_elim
+        (λ low. ⊎_elim (λ high. absurd (h.1 (omega arith, high.1))) (λ high. rw (no_eq b 32 h.0, low.0, high.0) none)
+            (leb_tells b 57))
+        (λ low. rw (no_eq b 32 h.0, low.0) none) (leb_tells 49 b)
 
 unknown_scans : (b : ℕ) (rest : List ℕ) → BeginsNone b → tokens_of (b ∷ rest) ≡ Junk ∷ tokens_of rest
 unfolding tokens_from
@@ -189,11 +224,15 @@ unknown_scans b rest h = rw (begin_unknown b h) refl
 
 -- ---- pieces and cuts
 
-pub piece_scans : (piece rest : List ℕ) (token : Option Token) → IsPiece piece rest token → tokens_of (piece ++ rest) ≡ cons_option token (tokens_of rest)
+pub piece_scans : (piece rest : List ℕ) (token : Option Token) → IsPiece piece rest token
+    → tokens_of (piece ++ rest) ≡ cons_option token (tokens_of rest)
 unfolding tokens_from
 piece_scans piece rest token (space e t) = rw (e, t) refl
-piece_scans piece rest token (mark t c f k) = All-contains MarkScans marks (piece, t) (All-from_recursion MarkScans marks marks_scan) c rest f ∙ rw k refl
-piece_scans piece rest token (keyword t c k) = All-contains KeywordScans keywords (piece, t) (All-from_recursion KeywordScans keywords keywords_scan) c rest ∙ rw k refl
+piece_scans piece rest token (mark t c f k) =
+    All-contains MarkScans marks (piece, t) (All-from_recursion MarkScans marks marks_scan) c rest f ∙ rw k refl
+piece_scans piece rest token (keyword t c k) =
+    All-contains KeywordScans keywords (piece, t) (All-from_recursion KeywordScans keywords keywords_scan) c rest
+        ∙ rw k refl
 piece_scans piece rest token (number r small k) = run_scans piece rest r ∙ rw (k, le-leb _ _ small) refl
 piece_scans piece rest token (unknown b e n k) = rw (e, k) (unknown_scans b rest n)
 piece_scans piece rest token (too_large r large k) = run_scans piece rest r ∙ rw (k, lt-leb _ _ large) refl

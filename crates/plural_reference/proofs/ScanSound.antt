@@ -1,5 +1,6 @@
 -- Every text has a cut, with the tokens of the scan.
-use Rattle.std.proofs.Common.{◌≡◌, ◌≢◌, ◌<◌, ◌≤◌, ◌+◌, ◌*◌, ℕ, List, [], ◌∷◌, ◌++◌, Option, Some, None, refl, sym, ap, ◌∙◌, subst, append_assoc, inl, inr, cond, Bool, true, false, nat_eq, arith, ⊎_elim, lit<}
+use Rattle.std.proofs.Common.{◌≡◌, ◌≢◌, ◌<◌, ◌≤◌, ◌+◌, ◌*◌, ℕ, List, [], ◌∷◌, ◌++◌, Option, Some, None, refl, sym, ap,
+    ◌∙◌, subst, append_assoc, inl, inr, cond, Bool, true, false, nat_eq, arith, ⊎_elim, lit<}
 use Rattle.std.proofs.lemmas.Bool.{eqb-false, true≢false}
 use Rattle.std.proofs.lemmas.Bool.Decides.{eqb_tells, leb_tells}
 use Rattle.std.proofs.lemmas.List.Elements.{All-from_recursion}
@@ -11,9 +12,12 @@ use Rattle.std.specs.Str.Parse.{digits_value}
 use Rattle.plural_reference.specs.declared.ast.Operand.TheVariants.{I}
 use Rattle.plural_reference.specs.declared.token.Token.{Token}
 use Rattle.plural_reference.specs.declared.token.Token.TheVariants.{Operand, Zero, Dot, DotDot, Junk, Integer}
-use Rattle.plural_reference.specs.Lexer.{first, Word, marks, keywords, IsDigitRun, max_number, IsBegun, BeginsNone, IsPiece, space, mark, keyword, number, unknown, too_large, broken, cut_off, AreTokensOf}
+use Rattle.plural_reference.specs.Lexer.{first, Word, marks, keywords, IsDigitRun, max_number, IsBegun, BeginsNone,
+    IsPiece, space, mark, keyword, number, unknown, too_large, broken, cut_off, AreTokensOf}
 use Rattle.plural_reference.proofs.ScanComplete.{cut_scans}
-use Rattle.plural_reference.specs.Inner.Scan.{Start, gives, opens, Scan, between, in_keyword, in_number, after_i, after_point, starts, look_up, start_move, begin, number_token, keyword_move, then_begin, step, at_end, Move, tokens_from, tokens_of}
+use Rattle.plural_reference.specs.Inner.Scan.{Start, gives, opens, Scan, between, in_keyword, in_number, after_i,
+    after_point, starts, look_up, start_move, begin, number_token, keyword_move, then_begin, step, at_end, Move,
+    tokens_from, tokens_of}
 
 heads : (a b : ℕ) (xs ys : List ℕ) → a ∷ xs ≡ b ∷ ys → a ≡ b
 heads a b xs ys e = cc
@@ -38,7 +42,8 @@ some_inj : {A : Type 0} {x y : A} → Some x ≡ Some y → x ≡ y
 some_inj e = cc
 
 -- one more piece
-more_tokens : (piece rest : List ℕ) (token : Option Token) (ts : List Token) → IsPiece piece rest token → AreTokensOf rest ts → AreTokensOf (piece ++ rest) (cons_option token ts)
+more_tokens : (piece rest : List ℕ) (token : Option Token) (ts : List Token) → IsPiece piece rest token
+    → AreTokensOf rest ts → AreTokensOf (piece ++ rest) (cons_option token ts)
 more_tokens piece rest token ts h k = ((piece, token) ∷ k.0, (rest, refl, h, k.1), ap (cons_option token) k.2)
 
 no_tokens : AreTokensOf [] []
@@ -60,9 +65,11 @@ is_begun : (w : List ℕ) (k : ℕ) (ks : List ℕ) (t : Token) → Opened w (in
 is_begun w k ks t h = record { word = (w ++ k ∷ ks, t); more = ks; is_keyword = h.0; spelling = refl; nonempty = h.1; not_i = h.2 }
 
 -- a whole number
-number_piece : (w rest : List ℕ) (n : ℕ) → Opened w (in_number n) → IfSome (first rest) (λ d. ¬ (IsAsciiDigit d)) → IsPiece w rest (Some (number_token n))
+number_piece : (w rest : List ℕ) (n : ℕ) → Opened w (in_number n) → IfSome (first rest) (λ d. ¬ (IsAsciiDigit d))
+    → IsPiece w rest (Some (number_token n))
 number_piece w rest n h whole =
-    let run : IsDigitRun w rest = record { begins = h.1; nonempty = h.2; all_digits = All-from_recursion IsAsciiDigit w h.0; whole = whole } in
+    let run : IsDigitRun w rest =
+        record { begins = h.1; nonempty = h.2; all_digits = All-from_recursion IsAsciiDigit w h.0; whole = whole } in
     ⊎_elim
     (λ small. number run (subst (λ x. x ≤ max_number) h.3 small.1) (rw (small.0, h.3) refl))
     (λ large. too_large run (subst (λ x. max_number < x) h.3 large.1) (rw large.0 refl))
@@ -158,12 +165,24 @@ looks_up b ((c, s) ∷ ss) h = ⊎_elim
     (λ differs. rw differs.0 (looks_up_more b (c, s) ss (look_up b ss) differs.1 (looks_up b ss h.1)))
     (eqb_tells b c)
 
+-- bytes that differ begin different texts
+other_first : {b c : ℕ} → b ≢ c → Some c ≢ Some b
+other_first h e = h (sym (some_inj e))
+
 begins_none : (b : ℕ) → b ≢ 32 → (IsAsciiDigit b → ⊥) → AllByRecursion (λ (s : ℕ × Start). b ≢ s.0) starts → BeginsNone b
 begins_none b no_space no_digit h = (
   no_space,
   no_digit,
   All-from_recursion (λ (word : Word). first word.0 ≢ Some b) (marks ++ keywords)
-      (λ e. h.0 (sym (some_inj e)), (λ e. h.1.0 (sym (some_inj e)), (λ e. h.1.1.0 (sym (some_inj e)), (λ e. h.1.1.1.0 (sym (some_inj e)), (λ e. h.1.1.1.1.0 (sym (some_inj e)), (λ e. h.1.1.1.1.1.0 (sym (some_inj e)), (λ e. h.1.1.1.1.1.1.0 (sym (some_inj e)), (λ e. h.1.1.1.1.1.1.1.0 (sym (some_inj e)), (λ e. h.1.1.1.1.1.1.1.1.0 (sym (some_inj e)), (λ e. h.1.1.1.1.1.1.1.1.1.0 (sym (some_inj e)), (λ e. h.1.1.1.1.1.1.1.1.1.1.0 (sym (some_inj e)), (λ e. h.1.1.1.1.1.1.1.1.1.1.0 (sym (some_inj e)), (λ e. h.1.1.1.1.1.1.1.1.1.1.1.0 (sym (some_inj e)), (λ e. h.1.1.1.1.1.1.1.1.1.1.1.1.0 (sym (some_inj e)), (λ e. h.1.1.1.1.1.1.1.1.1.1.1.1.1.0 (sym (some_inj e)), (λ e. h.1.1.1.1.1.1.1.1.1.1.1.1.1.1.0 (sym (some_inj e)), (λ e. h.1.1.1.1.1.1.1.1.1.1.1.1.1.1.1.0 (sym (some_inj e)), (λ e. h.1.1.1.1.1.1.1.1.1.1.1.1.1.1.1.1.0 (sym (some_inj e)), (λ e. h.1.1.1.1.1.1.1.1.1.1.1.1.1.1.1.1.1.0 (sym (some_inj e)), (λ e. h.1.1.1.1.1.1.1.1.1.1.1.1.1.1.1.1.1.1.0 (sym (some_inj e)), (λ e. h.1.1.1.1.1.1.1.1.1.1.1.1.1.1.1.1.1.1.1.0 (sym (some_inj e)), (λ e. h.1.1.1.1.1.1.0 (sym (some_inj e)), tt)))))))))))))))))))))),
+      (other_first h.0, (other_first h.1.0, (other_first h.1.1.0, (other_first h.1.1.1.0, (other_first h.1.1.1.1.0,
+      (other_first h.1.1.1.1.1.0, (other_first h.1.1.1.1.1.1.0, (other_first h.1.1.1.1.1.1.1.0,
+      (other_first h.1.1.1.1.1.1.1.1.0, (other_first h.1.1.1.1.1.1.1.1.1.0, (other_first h.1.1.1.1.1.1.1.1.1.1.0,
+      (other_first h.1.1.1.1.1.1.1.1.1.1.0, (other_first h.1.1.1.1.1.1.1.1.1.1.1.0,
+      (other_first h.1.1.1.1.1.1.1.1.1.1.1.1.0, (other_first h.1.1.1.1.1.1.1.1.1.1.1.1.1.0,
+      (other_first h.1.1.1.1.1.1.1.1.1.1.1.1.1.1.0, (other_first h.1.1.1.1.1.1.1.1.1.1.1.1.1.1.1.0,
+      (other_first h.1.1.1.1.1.1.1.1.1.1.1.1.1.1.1.1.0, (other_first h.1.1.1.1.1.1.1.1.1.1.1.1.1.1.1.1.1.0,
+      (other_first h.1.1.1.1.1.1.1.1.1.1.1.1.1.1.1.1.1.1.0, (other_first h.1.1.1.1.1.1.1.1.1.1.1.1.1.1.1.1.1.1.1.0,
+      (other_first h.1.1.1.1.1.1.0, tt)))))))))))))))))))))),
 )
 
 -- ---- one byte more
@@ -177,20 +196,30 @@ two_not_i [] k h e = absurd (h refl)
 two_not_i (x ∷ []) k h e = absurd (two_not_one x k 105 e)
 two_not_i (x ∷ y ∷ ys) k h e = absurd (many_not_one x y (ys ++ k ∷ []) 105 e)
 
-one_piece : (b : ℕ) (bs : List ℕ) (s : Start) → StartOk (b, s) → Cuts bs → AreTokensOf (b ∷ bs) ((start_move s).0 ++ tokens_from (start_move s).1 bs)
-one_piece b bs (gives t) h cuts = more_tokens (b ∷ []) bs (Some t) (tokens_of bs) (mark t h.0 ((λ e. absurd (h.1 (heads b 105 [] [] e))), (λ e. absurd (h.2 (heads b 46 [] [] e)))) refl) (cuts between [] refl)
+one_piece : (b : ℕ) (bs : List ℕ) (s : Start) → StartOk (b, s) → Cuts bs
+    → AreTokensOf (b ∷ bs) ((start_move s).0 ++ tokens_from (start_move s).1 bs)
+one_piece b bs (gives t) h cuts =
+    more_tokens (b ∷ []) bs (Some t) (tokens_of bs)
+        (mark t h.0 ((λ e. absurd (h.1 (heads b 105 [] [] e))), (λ e. absurd (h.2 (heads b 46 [] [] e)))) refl)
+        (cuts between [] refl)
 one_piece b bs (opens s) h cuts = cuts s (b ∷ []) h
 
-looked_up : (b : ℕ) (bs : List ℕ) (m : Move) → LooksUp b starts m → b ≢ 32 → (IsAsciiDigit b → ⊥) → Cuts bs → AreTokensOf (b ∷ bs) (m.0 ++ tokens_from m.1 bs)
+looked_up : (b : ℕ) (bs : List ℕ) (m : Move) → LooksUp b starts m → b ≢ 32 → (IsAsciiDigit b → ⊥) → Cuts bs
+    → AreTokensOf (b ∷ bs) (m.0 ++ tokens_from m.1 bs)
 looked_up b bs m (is_there s h e) no_space no_digit cuts = rw e (one_piece b bs s h cuts)
-looked_up b bs m (is_absent h e) no_space no_digit cuts = rw e (more_tokens (b ∷ []) bs (Some Junk) (tokens_of bs) (unknown b refl (begins_none b no_space no_digit h) refl) (cuts between [] refl))
+looked_up b bs m (is_absent h e) no_space no_digit cuts =
+    rw e
+        (more_tokens (b ∷ []) bs (Some Junk) (tokens_of bs) (unknown b refl (begins_none b no_space no_digit h) refl)
+            (cuts between [] refl))
 
 -- `0` is in the table, so no digit that isn't a number's first is left
-no_digit_looked_up : (b : ℕ) (bs : List ℕ) → b ≢ 32 → (b < 49) ⊎ (57 < b) → Cuts bs → AreTokensOf (b ∷ bs) ((look_up b starts).0 ++ tokens_from (look_up b starts).1 bs)
+no_digit_looked_up : (b : ℕ) (bs : List ℕ) → b ≢ 32 → (b < 49) ⊎ (57 < b) → Cuts bs
+    → AreTokensOf (b ∷ bs) ((look_up b starts).0 ++ tokens_from (look_up b starts).1 bs)
 no_digit_looked_up b bs no_space out cuts =
     ⊎_elim
     (λ zero_is. rw zero_is.1 (one_piece 48 bs (gives Zero) ((9, lit< tt, refl), apart 48 105 refl, apart 48 46 refl) cuts))
-    (λ not_zero. looked_up b bs (look_up b starts) (looks_up b starts starts_ok) no_space (λ d. absurd (⊎_elim (λ low. let e : b ≡ 48 = omega arith in not_zero.1 e) (λ high. omega arith) out)) cuts)
+    (λ not_zero. looked_up b bs (look_up b starts) (looks_up b starts starts_ok) no_space
+        (λ d. absurd (⊎_elim (λ low. let e : b ≡ 48 = omega arith in not_zero.1 e) (λ high. omega arith) out)) cuts)
     (eqb_tells b 48)
 
 begin_cuts : (b : ℕ) (bs : List ℕ) → Cuts bs → AreTokensOf (b ∷ bs) ((begin b).0 ++ tokens_from (begin b).1 bs)
@@ -200,7 +229,9 @@ begin_cuts b bs cuts =
     (λ no_space.
     ⊎_elim
     (λ low. ⊎_elim
-    (λ high. rw (no_space.0, low.0, high.0) (cuts (in_number (0 * 10 + digit_value b)) (b ∷ []) (((omega arith, high.1), tt), (λ e. omega arith), not_empty b [], refl)))
+    (λ high. rw (no_space.0, low.0, high.0)
+        (cuts (in_number (0 * 10 + digit_value b)) (b ∷ [])
+            (((omega arith, high.1), tt), (λ e. omega arith), not_empty b [], refl)))
     (λ high. rw (no_space.0, low.0, high.0) (no_digit_looked_up b bs no_space.1 (inr high.1) cuts))
     (leb_tells b 57))
     (λ low. rw (no_space.0, low.0) (no_digit_looked_up b bs no_space.1 (inl low.1) cuts))
@@ -208,18 +239,25 @@ begin_cuts b bs cuts =
     (eqb_tells b 32)
 
 -- a piece that the next byte ends, and what that byte begins
-ended_cuts : (w : List ℕ) (t : Token) (b : ℕ) (bs : List ℕ) → IsPiece w (b ∷ bs) (Some t) → Cuts bs → AreTokensOf (w ++ b ∷ bs) ((then_begin t (begin b)).0 ++ tokens_from (then_begin t (begin b)).1 bs)
+ended_cuts : (w : List ℕ) (t : Token) (b : ℕ) (bs : List ℕ) → IsPiece w (b ∷ bs) (Some t) → Cuts bs
+    → AreTokensOf (w ++ b ∷ bs) ((then_begin t (begin b)).0 ++ tokens_from (then_begin t (begin b)).1 bs)
 ended_cuts w t b bs h cuts = more_tokens w (b ∷ bs) (Some t) ((begin b).0 ++ tokens_from (begin b).1 bs) h (begin_cuts b bs cuts)
 
-keyword_cuts : (w : List ℕ) (k : ℕ) (ks : List ℕ) (t : Token) (bs : List ℕ) → Opened w (in_keyword k ks t) → Cuts bs → AreTokensOf (w ++ k ∷ bs) ((keyword_move ks t).0 ++ tokens_from (keyword_move ks t).1 bs)
-keyword_cuts w k [] t bs h cuts = subst (λ l. AreTokensOf l (t ∷ tokens_of bs)) (append_assoc w (k ∷ []) bs) (more_tokens (w ++ k ∷ []) bs (Some t) (tokens_of bs) (keyword t h.0 refl) (cuts between [] refl))
+keyword_cuts : (w : List ℕ) (k : ℕ) (ks : List ℕ) (t : Token) (bs : List ℕ) → Opened w (in_keyword k ks t) → Cuts bs
+    → AreTokensOf (w ++ k ∷ bs) ((keyword_move ks t).0 ++ tokens_from (keyword_move ks t).1 bs)
+keyword_cuts w k [] t bs h cuts =
+    subst (λ l. AreTokensOf l (t ∷ tokens_of bs)) (append_assoc w (k ∷ []) bs)
+        (more_tokens (w ++ k ∷ []) bs (Some t) (tokens_of bs) (keyword t h.0 refl) (cuts between [] refl))
 keyword_cuts w k (l ∷ ls) t bs h cuts = subst (λ x. AreTokensOf x (tokens_from (in_keyword l ls t) bs)) (append_assoc w (k ∷ []) bs)
-    (cuts (in_keyword l ls t) (w ++ k ∷ []) (subst (λ x. Contains keywords (x, t)) (sym (append_assoc w (k ∷ []) (l ∷ ls))) h.0, pushed_not_empty w k, two_not_i w k h.1))
+    (cuts (in_keyword l ls t) (w ++ k ∷ [])
+        (subst (λ x. Contains keywords (x, t)) (sym (append_assoc w (k ∷ []) (l ∷ ls))) h.0, pushed_not_empty w k,
+            two_not_i w k h.1))
 
 digit_tells : (b : ℕ) → ((is_ascii_digit b ≡ true) × IsAsciiDigit b) ⊎ ((is_ascii_digit b ≡ false) × (IsAsciiDigit b → ⊥))
 digit_tells b =
     ⊎_elim
-    (λ low. ⊎_elim (λ high. inl (rw (low.0, high.0) refl, (low.1, high.1))) (λ high. inr (rw (low.0, high.0) refl, λ d. let le : b ≤ 57 = d.1 in omega arith)) (leb_tells b 57))
+    (λ low. ⊎_elim (λ high. inl (rw (low.0, high.0) refl, (low.1, high.1)))
+        (λ high. inr (rw (low.0, high.0) refl, λ d. let le : b ≤ 57 = d.1 in omega arith)) (leb_tells b 57))
     (λ low. inr (rw low.0 refl, λ d. let le : 48 ≤ b = d.0 in omega arith))
     (leb_tells 48 b)
 
@@ -232,37 +270,59 @@ first_pushed [] b h k = absurd (h refl)
 first_pushed (x ∷ xs) b h k = k
 
 number_pushed : (w : List ℕ) (n b : ℕ) → Opened w (in_number n) → IsAsciiDigit b → Opened (w ++ b ∷ []) (in_number (n * 10 + digit_value b))
-number_pushed w n b h d = (all_pushed w b h.0 d, first_pushed w b h.2 h.1, pushed_not_empty w b, ap (λ x. x * 10 + digit_value b) h.3 ∙ sym (digits_value_push 10 w b))
+number_pushed w n b h d =
+    (all_pushed w b h.0 d, first_pushed w b h.2 h.1, pushed_not_empty w b,
+        ap (λ x. x * 10 + digit_value b) h.3 ∙ sym (digits_value_push 10 w b))
 
 none_is_not_some : {A : Type 0} {x : A} → None ≢ Some x
 none_is_not_some e = cc
 
 -- the second of two moves, by a test that fails
-by_test : (b : ℕ) (w bs : List ℕ) (test : Bool) (m n : Move) → test ≡ false → AreTokensOf (w ++ b ∷ bs) (n.0 ++ tokens_from n.1 bs) → AreTokensOf (w ++ b ∷ bs) ((cond test m n).0 ++ tokens_from (cond test m n).1 bs)
+by_test : (b : ℕ) (w bs : List ℕ) (test : Bool) (m n : Move) → test ≡ false
+    → AreTokensOf (w ++ b ∷ bs) (n.0 ++ tokens_from n.1 bs)
+    → AreTokensOf (w ++ b ∷ bs) ((cond test m n).0 ++ tokens_from (cond test m n).1 bs)
 by_test b w bs true m n e h = absurd (true≢false e)
 by_test b w bs false m n e h = h
 
-said_step : (w : List ℕ) (s : Scan) (b : ℕ) (bs : List ℕ) → Opened w s → Cuts bs → AreTokensOf (w ++ b ∷ bs) ((step s b).0 ++ tokens_from (step s b).1 bs)
-said_step w between b bs h cuts = subst (λ l. AreTokensOf (l ++ b ∷ bs) ((begin b).0 ++ tokens_from (begin b).1 bs)) (sym h) (begin_cuts b bs cuts)
+said_step : (w : List ℕ) (s : Scan) (b : ℕ) (bs : List ℕ) → Opened w s → Cuts bs
+    → AreTokensOf (w ++ b ∷ bs) ((step s b).0 ++ tokens_from (step s b).1 bs)
+said_step w between b bs h cuts =
+    subst (λ l. AreTokensOf (l ++ b ∷ bs) ((begin b).0 ++ tokens_from (begin b).1 bs)) (sym h) (begin_cuts b bs cuts)
 said_step w (in_keyword k ks t) b bs h cuts =
     ⊎_elim
-    (λ same. rw (same.0) (subst (λ x. AreTokensOf (w ++ x ∷ bs) ((keyword_move ks t).0 ++ tokens_from (keyword_move ks t).1 bs)) (sym same.1) (keyword_cuts w k ks t bs h cuts)))
-    (λ differs. rw differs.0 (subst (λ l. AreTokensOf l (Junk ∷ tokens_of bs)) (append_assoc w (b ∷ []) bs) (more_tokens (w ++ b ∷ []) bs (Some Junk) (tokens_of bs) (broken w k b refl (is_begun w k ks t h) differs.1 refl) (cuts between [] refl))))
+    (λ same. rw (same.0)
+        (subst (λ x. AreTokensOf (w ++ x ∷ bs) ((keyword_move ks t).0 ++ tokens_from (keyword_move ks t).1 bs))
+            (sym same.1) (keyword_cuts w k ks t bs h cuts)))
+    (λ differs. rw differs.0
+        (subst (λ l. AreTokensOf l (Junk ∷ tokens_of bs)) (append_assoc w (b ∷ []) bs)
+            (more_tokens (w ++ b ∷ []) bs (Some Junk) (tokens_of bs)
+                (broken w k b refl (is_begun w k ks t h) differs.1 refl) (cuts between [] refl))))
     (eqb_tells b k)
 said_step w (in_number n) b bs h cuts =
     ⊎_elim
-    (λ yes. rw yes.0 (subst (λ l. AreTokensOf l (tokens_from (in_number (n * 10 + digit_value b)) bs)) (append_assoc w (b ∷ []) bs) (cuts (in_number (n * 10 + digit_value b)) (w ++ b ∷ []) (number_pushed w n b h yes.1))))
+    (λ yes. rw yes.0
+        (subst (λ l. AreTokensOf l (tokens_from (in_number (n * 10 + digit_value b)) bs)) (append_assoc w (b ∷ []) bs)
+            (cuts (in_number (n * 10 + digit_value b)) (w ++ b ∷ []) (number_pushed w n b h yes.1))))
     (λ no. rw no.0 (ended_cuts w (number_token n) b bs (number_piece w (b ∷ bs) n h no.1) cuts))
     (digit_tells b)
 said_step w after_i b bs h cuts =
     ⊎_elim
-    (λ same. rw (same.1, h) (cuts (in_keyword 116 (101 ∷ 103 ∷ 101 ∷ 114 ∷ []) Integer) (105 ∷ 110 ∷ []) ((5, lit< tt, refl), not_empty 105 (110 ∷ []), two_not_one 105 110 105)))
-    (λ differs. by_test b w bs (nat_eq b 110) ([], in_keyword 116 (101 ∷ 103 ∷ 101 ∷ 114 ∷ []) Integer) (then_begin (Operand I) (begin b)) differs.0 (rw h (ended_cuts (codes "i") (Operand I) b bs (i_piece (b ∷ bs) (λ e. differs.1 (some_inj e))) cuts)))
+    (λ same. rw (same.1, h)
+        (cuts (in_keyword 116 (101 ∷ 103 ∷ 101 ∷ 114 ∷ []) Integer) (105 ∷ 110 ∷ [])
+            ((5, lit< tt, refl), not_empty 105 (110 ∷ []), two_not_one 105 110 105)))
+    (λ differs. by_test b w bs (nat_eq b 110) ([], in_keyword 116 (101 ∷ 103 ∷ 101 ∷ 114 ∷ []) Integer)
+        (then_begin (Operand I) (begin b)) differs.0
+        (rw h (ended_cuts (codes "i") (Operand I) b bs (i_piece (b ∷ bs) (λ e. differs.1 (some_inj e))) cuts)))
     (eqb_tells b 110)
 said_step w after_point b bs h cuts =
     ⊎_elim
-    (λ same. rw (same.1, h) (more_tokens (codes "..") bs (Some DotDot) (tokens_of bs) (mark DotDot (11, lit< tt, refl) ((λ e. absurd (texts_apart 46 105 (46 ∷ []) [] refl e)), (λ e. absurd (two_not_one 46 46 46 e))) refl) (cuts between [] refl)))
-    (λ differs. by_test b w bs (nat_eq b 46) (DotDot ∷ [], between) (then_begin Dot (begin b)) differs.0 (rw h (ended_cuts (codes ".") Dot b bs (point_piece (b ∷ bs) (λ e. differs.1 (some_inj e))) cuts)))
+    (λ same. rw (same.1, h)
+        (more_tokens (codes "..") bs (Some DotDot) (tokens_of bs)
+            (mark DotDot (11, lit< tt, refl)
+                ((λ e. absurd (texts_apart 46 105 (46 ∷ []) [] refl e)), (λ e. absurd (two_not_one 46 46 46 e))) refl)
+            (cuts between [] refl)))
+    (λ differs. by_test b w bs (nat_eq b 46) (DotDot ∷ [], between) (then_begin Dot (begin b)) differs.0
+        (rw h (ended_cuts (codes ".") Dot b bs (point_piece (b ∷ bs) (λ e. differs.1 (some_inj e))) cuts)))
     (eqb_tells b 46)
 
 said_end : (w : List ℕ) (s : Scan) → Opened w s → AreTokensOf (w ++ []) (at_end s)

@@ -12,7 +12,8 @@ use Rattle.plural_reference.specs.declared.ast.Value.{Value}
 use Rattle.plural_reference.specs.declared.token.Token.{Token}
 use Rattle.plural_reference.specs.declared.token.Token.TheVariants.{Operator, Number, Zero, Comma, Or, And}
 use Rattle.plural_reference.specs.Parser.{Separated, value_of, IsItem, IsModulus, IsRelation, IsAndCondition, IsCondition, ReadsUpTo}
-use Rattle.plural_reference.specs.PrintingLaws.{FitsToken, IsSpellableItem, IsSpellableRelation, IsSpellableGroup, IsSpellable, ConditionsOfTextsAreSpellable}
+use Rattle.plural_reference.specs.PrintingLaws.{FitsToken, IsSpellableItem, IsSpellableRelation, IsSpellableGroup,
+    IsSpellable, ConditionsOfTextsAreSpellable}
 use Rattle.plural_reference.proofs.TokensFit.{TokenFits, AllFit, fit_left, fit_right, tokens_fit}
 
 value_fits : (t : Token) (v : Value) → TokenFits t → value_of t ≡ Some v → FitsToken v
@@ -21,18 +22,22 @@ value_fits Zero v h e = let same : record { 0 = 0 } ≡ v = cc in subst (λ (x :
 value_fits _ v h e = cc
 
 -- what holds of each part holds of all parts between separators
-pub separated_parts : {A : Type 0} (separator : Token) (Part : List Token → A → Type 0) (P : A → Type 0) → ((tokens : List Token) (x : A) → AllFit tokens → Part tokens x → P x) → (tokens : List Token) (xs : List A) → AllFit tokens → Separated separator Part tokens xs → (xs ≢ []) × AllByRecursion P xs
+pub separated_parts : {A : Type 0} (separator : Token) (Part : List Token → A → Type 0) (P : A → Type 0)
+    → ((tokens : List Token) (x : A) → AllFit tokens → Part tokens x → P x) → (tokens : List Token) (xs : List A)
+    → AllFit tokens → Separated separator Part tokens xs → (xs ≢ []) × AllByRecursion P xs
 separated_parts separator Part P each tokens [] f h = absurd h
 separated_parts separator Part P each tokens (x ∷ []) f h = (λ e. cc, (each tokens x f h, tt))
 separated_parts separator Part P each tokens (x ∷ y ∷ ys) f h =
     let fits = subst AllFit h.2 f in (
       λ e. cc,
-      (each h.0 x (fit_left h.0 (separator ∷ h.1) fits) h.3, (separated_parts separator Part P each h.1 (y ∷ ys) (fit_right h.0 (separator ∷ h.1) fits).1 h.4).1),
+      (each h.0 x (fit_left h.0 (separator ∷ h.1) fits) h.3,
+          (separated_parts separator Part P each h.1 (y ∷ ys) (fit_right h.0 (separator ∷ h.1) fits).1 h.4).1),
     )
 
 item_spellable : (tokens : List Token) (x : RangeListItem) → AllFit tokens → IsItem tokens x → IsSpellableItem x
 item_spellable tokens (items.Value v) f h = value_fits h.0 v (subst AllFit h.1 f).0 h.2
-item_spellable tokens (items.Range a b) f h = let fits = subst AllFit h.2 f in (value_fits h.0 a fits.0 h.3, value_fits h.1 b fits.1.1.0 h.4)
+item_spellable tokens (items.Range a b) f h =
+    let fits = subst AllFit h.2 f in (value_fits h.0 a fits.0 h.3, value_fits h.1 b fits.1.1.0 h.4)
 
 modulus_spellable : (tokens : List Token) (m : Option Value) → AllFit tokens → IsModulus tokens m → IfSome m FitsToken
 modulus_spellable tokens None f h = tt
@@ -42,7 +47,9 @@ relation_spellable : (tokens : List Token) (r : Relation) → AllFit tokens → 
 relation_spellable tokens r f h =
     let fits = subst AllFit h.2 f in
     let left = subst AllFit h.3.2 (fit_left h.0 (Operator r.operator ∷ h.1) fits) in
-    let list = separated_parts Comma IsItem IsSpellableItem item_spellable h.1 r.range_list.0 (fit_right h.0 (Operator r.operator ∷ h.1) fits).1 h.4 in
+    let list =
+        separated_parts Comma IsItem IsSpellableItem item_spellable h.1 r.range_list.0
+            (fit_right h.0 (Operator r.operator ∷ h.1) fits).1 h.4 in
     (modulus_spellable h.3.1 r.expression.modulus left.1 h.3.4, list.0, All-from_recursion IsSpellableItem r.range_list.0 list.1)
 
 group_spellable : (tokens : List Token) (g : AndCondition) → AllFit tokens → IsAndCondition tokens g → IsSpellableGroup g
@@ -51,7 +58,9 @@ group_spellable tokens g f h =
     (relations.0, All-from_recursion IsSpellableRelation g.0 relations.1)
 
 condition_spellable : (tokens : List Token) (c : Condition) → AllFit tokens → IsCondition tokens c → IsSpellable c
-condition_spellable tokens c f h = All-from_recursion IsSpellableGroup c.0 (separated_parts Or IsAndCondition IsSpellableGroup group_spellable tokens c.0 f h).1
+condition_spellable tokens c f h =
+    All-from_recursion IsSpellableGroup c.0
+        (separated_parts Or IsAndCondition IsSpellableGroup group_spellable tokens c.0 f h).1
 
 -- what is read from tokens that fit
 pub read_spellable : (tokens : List Token) (c : Condition) (rest : List Token) → AllFit tokens → ReadsUpTo tokens c rest → IsSpellable c
