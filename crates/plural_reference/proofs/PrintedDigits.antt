@@ -79,9 +79,12 @@ one_run d ds other h small = record {
       record
           { gives =
               λ rest f. run_gives (d ∷ ds) rest
-                  (record
-                      { begins = other; nonempty = λ e. cc; all_digits = All-from_recursion IsAsciiDigit (d ∷ ds) h;
-                          whole = f })
+                  (record {
+                    begins = other;
+                    nonempty = λ e. cc;
+                    all_digits = All-from_recursion IsAsciiDigit (d ∷ ds) h;
+                    whole = f;
+                  })
                   small };
 }
 

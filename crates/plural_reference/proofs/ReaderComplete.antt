@@ -147,9 +147,11 @@ pub run_groups : (groups : List AndCondition) (tokens : List Token) (gs : List A
         (record { 0 = groups ++ gs })
 run_groups groups tokens [] h = absurd h
 run_groups groups tokens (g ∷ []) h =
-    record
-        { before = record { groups = groups; relations = g.0 };
-            leads = run_relations (record { groups = groups; relations = [] }) tokens g.0 h; condition_is = refl }
+    record {
+      before = record { groups = groups; relations = g.0 };
+      leads = run_relations (record { groups = groups; relations = [] }) tokens g.0 h;
+      condition_is = refl;
+    }
 run_groups groups tokens (g ∷ k ∷ ks) h =
     let done : Before = record { groups = groups; relations = g.0 } in
     let one : Leads (before_operand (record { groups = groups; relations = [] })) h.0 done =

@@ -338,9 +338,13 @@ comma_place p o x xs h =
       h.whole ∙ ap (λ l. l ++ h.item_tokens) h.opened.whole ∙ ap (λ l. (b ++ (e ++ Operator o.operator ∷ [])) ++ l) f.1
           ∙ (simp append_assoc),
       condition_done _ o.before r
-          (record
-              { before_tokens = b; relation_tokens = e ++ Operator o.operator ∷ f.0; whole = refl;
-                  before = h.opened.before; relation = (e, f.0, refl, h.opened.expression, f.2) }),
+          (record {
+            before_tokens = b;
+            relation_tokens = e ++ Operator o.operator ∷ f.0;
+            whole = refl;
+            before = h.opened.before;
+            relation = (e, f.0, refl, h.opened.expression, f.2);
+          }),
     )
 
 before_value_is : (p : List Token) (o : Opened) (xs : List RangeListItem) → SpellsItems p o xs → IsBeforeValue p
@@ -404,15 +408,21 @@ dots_place p o xs v h = inr (inr (
 said_range_end : (p : List Token) (o : Opened) (xs : List RangeListItem) (v : Value) (t : Token) (ts : List Token)
     → Spells p (before_end o xs v) → SaidOfMove p t ts (step (before_end o xs v) t)
 said_range_end p o xs v (Number n) ts h =
-    record
-        { items_tokens = h.0; item_tokens = h.1 ∷ DotDot ∷ Number n ∷ [];
-            whole = ap (λ l. l ++ Number n ∷ []) h.2 ∙ append_assoc h.0 (h.1 ∷ DotDot ∷ []) (Number n ∷ []);
-            items = h.3; item = (h.1, Number n, refl, h.4, refl) }
+    record {
+      items_tokens = h.0;
+      item_tokens = h.1 ∷ DotDot ∷ Number n ∷ [];
+      whole = ap (λ l. l ++ Number n ∷ []) h.2 ∙ append_assoc h.0 (h.1 ∷ DotDot ∷ []) (Number n ∷ []);
+      items = h.3;
+      item = (h.1, Number n, refl, h.4, refl);
+    }
 said_range_end p o xs v Zero ts h =
-    record
-        { items_tokens = h.0; item_tokens = h.1 ∷ DotDot ∷ Zero ∷ [];
-            whole = ap (λ l. l ++ Zero ∷ []) h.2 ∙ append_assoc h.0 (h.1 ∷ DotDot ∷ []) (Zero ∷ []); items = h.3;
-            item = (h.1, Zero, refl, h.4, refl) }
+    record {
+      items_tokens = h.0;
+      item_tokens = h.1 ∷ DotDot ∷ Zero ∷ [];
+      whole = ap (λ l. l ++ Zero ∷ []) h.2 ∙ append_assoc h.0 (h.1 ∷ DotDot ∷ []) (Zero ∷ []);
+      items = h.3;
+      item = (h.1, Zero, refl, h.4, refl);
+    }
 said_range_end p o xs v _ ts h = (places.before_value, p, _ ∷ ts, refl, dots_place p o xs v h, refl)
 
 said_step : (p : List Token) (s : State) (t : Token) (ts : List Token) → Spells p s → SaidOfMove p t ts (step s t)

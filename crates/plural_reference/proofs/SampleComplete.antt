@@ -301,8 +301,12 @@ ranges_lead s p tokens (r ∷ x ∷ xs) st n h =
           ∙ one.run_is (Comma ∷ (h.1 ++ rest))
           ∙ comma_run one.partial one.text (h.1 ++ rest)
           ∙ ap (λ (q : Partial). run_samples (behind_comma q) (h.1 ++ rest))
-              (λ i. record
-                  { sections = one.sections_are i; type = one.type_is i; ranges = one.ranges_are i; lower = None })
+              (λ i. record {
+                sections = one.sections_are i;
+                type = one.type_is i;
+                ranges = one.ranges_are i;
+                lower = None;
+              })
           ∙ more.run_is rest;
       sections_are = more.sections_are;
       type_is = more.type_is;
@@ -386,9 +390,11 @@ type_run ss _ rest h = absurd h
 sections_lead : (s : SampleState) (done : List Section) (tokens : List Token) (ss : List Section) → Closes s done
     → AreSections tokens ss → LeadsToEnd s tokens (done ++ ss)
 sections_lead s done tokens [] c h =
-    record
-        { state = s; run_is = λ rest. ap (λ l. run_samples s (l ++ rest)) h;
-            closes = subst (Closes s) (sym (append-nil done)) c }
+    record {
+      state = s;
+      run_is = λ rest. ap (λ l. run_samples s (l ++ rest)) h;
+      closes = subst (Closes s) (sym (append-nil done)) c;
+    }
 sections_lead s done tokens (x ∷ xs) c h =
     let one = list_leads done x.type h.0 x.list.sample_ranges x.list.ellipsis h.4 in
     let more = sections_lead one.state (done ++ x ∷ []) h.1 xs one.closes h.5 in

@@ -306,9 +306,18 @@ first_mark : (q : List Token) (p : Partial) (t : Token) → IsExponentMark t →
     → BehindMark (q ++ t ∷ []) p (token_text t)
 unfolding Awaits
 first_mark q p t m h w =
-    record
-        { before = q; sample_tokens = []; mark = t; sample_text = []; whole = refl; partial = h;
-            open_sample = empty_open; is_mark = m; text_is = refl; waits = (t, m, inl (q, refl, w)) }
+    record {
+      before = q;
+      sample_tokens = [];
+      mark = t;
+      sample_text = [];
+      whole = refl;
+      partial = h;
+      open_sample = empty_open;
+      is_mark = m;
+      text_is = refl;
+      waits = (t, m, inl (q, refl, w));
+    }
 
 said_start : (q : List Token) (p : Partial) (t : Token) (ts : List Token) → SpellsPartial q p → Awaits q
     → (sample_fault (Some t) ≡ Some ExpectedValue → FaultyInSamples (q ++ t ∷ ts) ExpectedValue)
@@ -316,8 +325,13 @@ said_start : (q : List Token) (p : Partial) (t : Token) (ts : List Token) → Sp
 said_start q p Zero ts h w bad = first_digit q p Zero tt h
 said_start q p (Number n) ts h w bad = first_digit q p (Number n) tt h
 said_start q p Dot ts h w bad =
-    record
-        { before = q; sample_tokens = Dot ∷ []; whole = refl; partial = h; sample = point_joins [] [] empty_open refl }
+    record {
+      before = q;
+      sample_tokens = Dot ∷ [];
+      whole = refl;
+      partial = h;
+      sample = point_joins [] [] empty_open refl;
+    }
 said_start q p E ts h w bad = first_mark q p E tt h w
 said_start q p (Operand C) ts h w bad = first_mark q p (Operand C) tt h w
 said_start q p _ ts h w bad = bad refl
@@ -433,10 +447,13 @@ module _ (q : List Token) (p : Partial) (text : DecimalValue) (h : InSample q p 
   -- the sample goes on with more tokens
   grown : (t : Token) (longer : DecimalValue) → IsSample (h.sample_tokens ++ t ∷ []) longer → InSample (q ++ t ∷ []) p longer
   grown t longer k =
-      record
-          { before = h.before; sample_tokens = h.sample_tokens ++ t ∷ [];
-              whole = ap (λ l. l ++ t ∷ []) h.whole ∙ append_assoc h.before h.sample_tokens (t ∷ []);
-              partial = h.partial; sample = k }
+      record {
+        before = h.before;
+        sample_tokens = h.sample_tokens ++ t ∷ [];
+        whole = ap (λ l. l ++ t ∷ []) h.whole ∙ append_assoc h.before h.sample_tokens (t ∷ []);
+        partial = h.partial;
+        sample = k;
+      }
 
   grown_by_digit : (t : Token) → IsDigits t → has_exponent text ≡ false → InSample (q ++ t ∷ []) p (text ++ token_text t)
   grown_by_digit t d e = grown t (text ++ token_text t) (digit_joins h.sample_tokens text t (open_sample h.sample_tokens text h.sample e) d)

@@ -165,7 +165,7 @@ looks_up b ((c, s) ∷ ss) h = ⊎_elim
     (λ differs. rw differs.0 (looks_up_more b (c, s) ss (look_up b ss) differs.1 (looks_up b ss h.1)))
     (eqb_tells b c)
 
--- bytes that differ begin different texts
+-- texts that begin with two bytes that differ begin differently
 other_first : {b c : ℕ} → b ≢ c → Some c ≢ Some b
 other_first h e = h (sym (some_inj e))
 
