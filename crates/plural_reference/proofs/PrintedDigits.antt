@@ -76,16 +76,16 @@ one_run d ds other h small = record {
   tokens = Number (digits_value 10 (d ∷ ds)) ∷ [];
   part = ((tt, tt), append-nil _ ∙ decimal-digits_value numerals (d ∷ ds) h (omega arith) (λ e. absurd (other e)) (small_fits _ small));
   scans =
-      record
-          { gives =
-              λ rest f. run_gives (d ∷ ds) rest
-                  (record {
-                    begins = other;
-                    nonempty = λ e. cc;
-                    all_digits = All-from_recursion IsAsciiDigit (d ∷ ds) h;
-                    whole = f;
-                  })
-                  small };
+      record {
+        gives = λ rest f. run_gives (d ∷ ds) rest
+            (record {
+              begins = other;
+              nonempty = λ e. cc;
+              all_digits = All-from_recursion IsAsciiDigit (d ∷ ds) h;
+              whole = f;
+            })
+            small;
+      };
 }
 
 -- digits are zeros, and then a number
@@ -117,10 +117,10 @@ fraction_retold (Dot ∷ ts) a h small =
       tokens = Dot ∷ s.tokens;
       part = (s.part.0, ap (λ l. 46 ∷ l) s.part.1);
       scans =
-          record
-              { gives =
-                  λ rest f. point_alone 46 (ds ++ rest) refl (no_point_first ds rest are f)
-                      ∙ ap (λ l. Dot ∷ l) (s.scans.gives rest (sample_ends_run rest f)) };
+          record {
+            gives = λ rest f. point_alone 46 (ds ++ rest) refl (no_point_first ds rest are f)
+                ∙ ap (λ l. Dot ∷ l) (s.scans.gives rest (sample_ends_run rest f));
+          };
     }
 fraction_retold (_ ∷ ts) a h small = absurd h
 
@@ -150,11 +150,10 @@ mark_retold E t f h k =
       tokens = E ∷ u.0 ∷ [];
       part = ((tt, u.1), ap (λ l. 101 ∷ (l ++ [])) u.2);
       scans =
-          record
-              { gives =
-                  λ rest s. ap (λ ts. E ∷ ts)
-                      (ap (λ l. tokens_of (l ++ rest)) (append-nil (token_text t))
-                          ∙ u.3.gives rest (sample_ends_run rest s)) };
+          record {
+            gives = λ rest s. ap (λ ts. E ∷ ts)
+                (ap (λ l. tokens_of (l ++ rest)) (append-nil (token_text t)) ∙ u.3.gives rest (sample_ends_run rest s));
+          };
     }
 mark_retold (Operand C) t f h k =
     let u = digit_retold t f k in
@@ -162,11 +161,10 @@ mark_retold (Operand C) t f h k =
       tokens = Operand C ∷ u.0 ∷ [];
       part = ((tt, u.1), ap (λ l. 99 ∷ (l ++ [])) u.2);
       scans =
-          record
-              { gives =
-                  λ rest s. ap (λ ts. Operand C ∷ ts)
-                      (ap (λ l. tokens_of (l ++ rest)) (append-nil (token_text t))
-                          ∙ u.3.gives rest (sample_ends_run rest s)) };
+          record {
+            gives = λ rest s. ap (λ ts. Operand C ∷ ts)
+                (ap (λ l. tokens_of (l ++ rest)) (append-nil (token_text t)) ∙ u.3.gives rest (sample_ends_run rest s));
+          };
     }
 mark_retold _ t f h k = absurd h
 

@@ -86,10 +86,10 @@ module _ (type : Token) (prefix : List ℕ) (is_type : IsSampleType type)
         tokens = At ∷ type ∷ list.tokens;
         part = (list.tokens, [], ap (λ ts. At ∷ type ∷ ts) (sym (append-nil list.tokens)), is_type, list.part, refl);
         scans =
-            record
-                { gives =
-                    λ rest f. ap tokens_of (append_assoc prefix (sample_list_text l) rest) ∙ gives _
-                        ∙ ap (λ ts. At ∷ type ∷ ts) (list.scans.gives rest f) };
+            record {
+              gives = λ rest f. ap tokens_of (append_assoc prefix (sample_list_text l) rest) ∙ gives _
+                  ∙ ap (λ ts. At ∷ type ∷ ts) (list.scans.gives rest f);
+            };
       }
 
   section_follows : (list : Option SampleList) (rest : List ℕ) → EndsSample rest

@@ -121,9 +121,9 @@ number_spells (suc k) h =
       tokens = Number (suc k) ∷ [];
       part = (Number (suc k), refl, refl);
       scans =
-          record
-              { gives =
-                  λ rest f. run_gives (decimal (suc k)) rest (run_of_number (suc k) rest (omega arith) h f)
-                          (rw value_is h)
-                      ∙ ap (λ n. Number n ∷ tokens_of rest) value_is };
+          record {
+            gives = λ rest f. run_gives (decimal (suc k)) rest (run_of_number (suc k) rest (omega arith) h f)
+                    (rw value_is h)
+                ∙ ap (λ n. Number n ∷ tokens_of rest) value_is;
+          };
     }

@@ -253,10 +253,13 @@ said_operand_next p b o (Operator op) ts h = record {
   item_tokens = [];
   whole = sym (append-nil _);
   opened =
-      record
-          { before_tokens = h.0; expression_tokens = h.1 ∷ [];
-              whole = ap (λ l. l ++ Operator op ∷ []) h.2 ∙ append_assoc h.0 (h.1 ∷ []) (Operator op ∷ []);
-              before = h.3; expression = (h.1, [], refl, h.4, refl) };
+      record {
+        before_tokens = h.0;
+        expression_tokens = h.1 ∷ [];
+        whole = ap (λ l. l ++ Operator op ∷ []) h.2 ∙ append_assoc h.0 (h.1 ∷ []) (Operator op ∷ []);
+        before = h.3;
+        expression = (h.1, [], refl, h.4, refl);
+      };
   items = refl;
 }
 said_operand_next p b o _ ts h = (places.after_operand, p, _ ∷ ts, refl, (h.0, h.1, o, h.2, spells_operand_is h.0 b h.3, h.4), refl)
@@ -288,13 +291,14 @@ said_operator p b e (Operator op) ts h = record {
   item_tokens = [];
   whole = sym (append-nil _);
   opened =
-      record
-          { before_tokens = h.0; expression_tokens = h.1 ∷ Modulo ∷ h.2 ∷ [];
-              whole = ap (λ l. l ++ Operator op ∷ []) h.4
-                  ∙ append_assoc h.0 (h.1 ∷ Modulo ∷ h.2 ∷ []) (Operator op ∷ []); before = h.5;
-              expression =
-                  (h.1, Modulo ∷ h.2 ∷ [], refl, h.6,
-                      subst (IsModulus (Modulo ∷ h.2 ∷ [])) (sym h.8) (h.2, refl, h.7)) };
+      record {
+        before_tokens = h.0;
+        expression_tokens = h.1 ∷ Modulo ∷ h.2 ∷ [];
+        whole = ap (λ l. l ++ Operator op ∷ []) h.4 ∙ append_assoc h.0 (h.1 ∷ Modulo ∷ h.2 ∷ []) (Operator op ∷ []);
+        before = h.5;
+        expression = (h.1, Modulo ∷ h.2 ∷ [], refl, h.6,
+            subst (IsModulus (Modulo ∷ h.2 ∷ [])) (sym h.8) (h.2, refl, h.7));
+      };
   items = refl;
 }
 said_operator p b e _ ts h = (places.after_modulus, p, _ ∷ ts, refl, is_after_modulus p b e h, refl)

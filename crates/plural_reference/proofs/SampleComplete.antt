@@ -248,8 +248,8 @@ unfolding run_samples
 comma_run p text rest = refl
 
 -- tokens lead from a state to the last sample of ranges
-record LeadsToSample (from : SampleState) (tokens : List Token) (sections : List Section) (type : Token) (ranges : List SampleRange) : Type
-    0 where
+record LeadsToSample (from : SampleState) (tokens : List Token) (sections : List Section) (type : Token)
+    (ranges : List SampleRange) : Type 0 where
   partial : Partial
   text : DecimalValue
   run_is : (rest : List Token) → run_samples from (tokens ++ rest) ≡ run_samples (in_sample partial text) rest
