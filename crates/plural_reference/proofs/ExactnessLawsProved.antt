@@ -1,4 +1,5 @@
--- Laws on the bound, and on relations of exact numbers.
+-- Laws on the bound, and on relations of exact numbers: which ranges hold an exact value, the bound told before the shift,
+-- and that no modulus more can be admitted. The laws of exactness cite it.
 use Rattle.std.proofs.Common.{◌≡◌, ℕ, zero, suc, ◌+◌, ◌-◌, ◌*◌, ◌/◌, ◌%◌, ◌^◌, ◌<◌, ◌≤◌, ◌≤ℤ◌, inl, inr, List, [], ◌∷◌,
     refl, sym, ◌∙◌, ap, subst, length, arith, lit<, ℤ, pos, negsuc, ◌-ℤ◌, get_or, reverse, Bool, true, false, eqb, cond,
     Some, None}
@@ -24,6 +25,7 @@ use Rattle.plural_reference.proofs.Conversion.{length-whole, length-fraction, di
 
 -- ---- whole numbers
 
+-- a number whose whole quotient by a unit is in ranges is some whole number of them, times the unit
 some_whole : (ranges : List (ℕ × ℕ)) (unit count : ℕ) (b : Bool) → b ≡ eqb (count % unit) 0
     → IsTrue (holds_value ranges (cond b (Some (count / unit)) None))
     → (k : ℕ) × IsTrue (is_in_ranges ranges k) × (count ≡ k * unit)
@@ -33,6 +35,7 @@ some_whole ranges unit count true e h =
     (count / unit, h, omega arith)
 some_whole ranges unit count false e h = absurd (false≢true h)
 
+-- a whole number of the ranges, times a unit, has its quotient by the unit in the ranges
 whole_from : (ranges : List (ℕ × ℕ)) (unit count k : ℕ) → 0 < unit → IsTrue (is_in_ranges ranges k) → count ≡ k * unit
     → IsTrue (holds_value ranges (whole_of unit count))
 whole_from ranges unit count k some h e =
@@ -43,6 +46,7 @@ whole_from ranges unit count k some h e =
         cond-true (eqb (count % unit) 0) (Some (count / unit)) None (eq-eqb (count % unit) 0 none) ∙ ap Some quotient in
     ap (holds_value ranges) w ∙ h
 
+-- the exact value of n is in ranges exactly if a whole number of them is what the modulus leaves of the number
 pub holds_whole_numbers : HoldsWholeNumbers
 holds_whole_numbers ranges modulus o = (
   λ h. some_whole ranges (10 ^ o.v) (remainder (modulus * 10 ^ o.v) (parts o)) _ refl h,
@@ -51,6 +55,7 @@ holds_whole_numbers ranges modulus o = (
 
 -- ---- the bound before the shift
 
+-- the point moved to the right: so many more integer places, and fewer fraction places
 pub shifted_places : ShiftedPlaces
 shifted_places x e = (length-whole e x, length-fraction e x)
 
@@ -70,6 +75,7 @@ long_digits (suc d ∷ ds) n h v =
       | inr long ↦ (0, omega arith, omega arith)
     ]
 
+-- digits with one that isn't 0 before the last n write 10 ^ n or more
 long_value_of : (ds : List ℕ) (n i : ℕ) → i + n < length ds → 0 < get_or ds i 0 → 10 ^ n ≤ value_of ds
 long_value_of [] n i h d = absurd (omega arith)
 long_value_of (d ∷ ds) n zero h k =
@@ -96,6 +102,7 @@ digit_index x (pos k) h =
     ]
 digit_index x (negsuc k) h = (length x.whole + k, omega (arith, ints))
 
+-- after the shift the integer digits write 10 ^ n or more exactly if some digit but 0 stands high enough before it
 pub long_value : LongValue
 long_value x e n h =
     let y : Places = shift_right e x in
@@ -133,6 +140,7 @@ double_leaves n m e =
     lay : (n a b r s : ℕ) → a + r ≡ n → b + s ≡ 2 * n → r ≡ s → b ≡ a + n
     lay n a b r s h k e = omega arith
 
+-- 2 * 10 ^ 18 has more than 18 digits
 long_twice : (x : Places) → IsTwice x → 18 < length x.whole
 long_twice x h =
     elim (cases_lt 18 (length x.whole)) [
@@ -144,9 +152,11 @@ long_twice x h =
           absurd (omega arith)
     ]
 
+-- what is kept of 2 * 10 ^ 18 is 10 ^ 18
 cut_twice : (x : Places) → IsTwice x → cut_whole x.whole ≡ 10 ^ 18
 cut_twice x h = cut_whole-long x.whole h.0.digits (long_twice x h) ∙ ap (λ n. n % 10 ^ 18 + 10 ^ 18) h.0.value
 
+-- the digits of 2 * 10 ^ 18 are digits, and there are some
 written_twice : (x : Places) → IsTwice x → IsWritten x
 written_twice x h = record {
   nonempty = (let long : 18 < length x.whole = long_twice x h in omega arith);
@@ -158,6 +168,7 @@ written_twice x h = record {
 pub in_it : (a k : ℕ) → k ≡ a → is_in_ranges ((a, a) ∷ []) k ≡ true
 in_it a k e = or_left (range_holds k (a, a)) false (and_from _ _ (le-leb a k (omega arith)) (le-leb k a (omega arith)))
 
+-- what a range of one number holds is that number
 pub only_it : (a k : ℕ) → is_in_ranges ((a, a) ∷ []) k ≡ true → k ≡ a
 only_it a k h =
     elim (or_cases (range_holds k (a, a)) false h) [
@@ -169,6 +180,7 @@ only_it a k h =
       | inr none ↦ absurd (false≢true none)
     ]
 
+-- a modulus that doesn't divide 10 ^ 18 tells the exact 2 * 10 ^ 18 from what is kept of it
 pub bound_is_widest : BoundIsWidest
 bound_is_widest m x cut exact some other twice c y =
     let r : ℕ = 2 * 10 ^ 18 % m in

@@ -1,4 +1,5 @@
--- What is printed is read as what it was printed from.
+-- What is printed is read as what it was printed from: a spellable condition, a condition that was read from a text, and a rule
+-- that was read from a text and has small runs. The laws of printing cite it.
 use Rattle.std.proofs.Common.{◌≡◌, ℕ, List, [], ◌++◌, Option, Some, None, refl, sym, ap, ◌∙◌, subst, inl, inr}
 use Rattle.std.proofs.lemmas.List.{append-nil}
 use Rattle.std.specs.Prelude.{IfSome}
@@ -21,10 +22,12 @@ use Rattle.plural_reference.proofs.ScanSound.{has_tokens}
 use Rattle.plural_reference.proofs.SpellableConditions.{conditions_of_texts_are_spellable, read_spellable}
 use Rattle.plural_reference.proofs.TokensFit.{AllFit, fit_right, tokens_fit}
 
+-- the tokens that a text gives before the empty rest are its tokens
 whole_text : (text : List ℕ) (tokens : List Token) → tokens_of (text ++ []) ≡ tokens ++ tokens_of [] → AreTokensOf text tokens
 unfolding tokens_from
 whole_text text tokens h = subst (AreTokensOf text) (ap tokens_of (sym (append-nil text)) ∙ h ∙ append-nil tokens) (has_tokens text)
 
+-- a spellable condition is read from its printed text, by itself and as a rule without samples
 pub spellable_conditions_print_back : SpellableConditionsPrintBack
 spellable_conditions_print_back c h =
     let back = condition_reads_back c h in
@@ -32,9 +35,11 @@ spellable_conditions_print_back c h =
     let reads = subst (λ ts. ReadsUpTo ts c []) (append-nil back.tokens) (back.reads [] tt) in
     ((back.tokens, are, ([], reads)), (back.tokens, are, ([], reads, ([], [], [], refl, refl, tt, refl))))
 
+-- a condition that was read from a text is read from its printed text
 pub conditions_print_back : ConditionsPrintBack
 conditions_print_back text c h = (spellable_conditions_print_back c (conditions_of_texts_are_spellable text c h)).0
 
+-- a rule of a spellable condition and of samples as they are read, with small runs, is read from its printed text
 rule_prints_back : (c : Condition) (s : Option samples.Samples) → IsSpellable c → IfSome s AreReadSamples
     → RuleHasSmallRuns (record { condition = c; samples = s })
     → TextReads ReadsRule (rule_text (record { condition = c; samples = s })) (record { condition = c; samples = s })
@@ -56,6 +61,7 @@ rest_fits : (tokens : List Token) (c : Condition) (rest : List Token) → AllFit
 rest_fits tokens c rest f (inl h) = subst AllFit (sym h.1) f
 rest_fits tokens c rest f (inr h) = fit_right h.0 rest (subst AllFit h.1 f)
 
+-- a rule that was read from a text, and has small runs, is read from its printed text
 pub rules_print_back : RulesPrintBack
 rules_print_back text r h small =
     let fits = tokens_fit text h.0 h.1 in

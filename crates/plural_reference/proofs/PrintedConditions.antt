@@ -1,4 +1,5 @@
--- The tokens of a printed condition spell it.
+-- The tokens of a printed condition spell it: item by item, relation by relation, group by group. From spellable conditions to
+-- their printed texts; PrintedBack cites it.
 use Rattle.std.proofs.Common.{◌≡◌, ◌≢◌, ℕ, List, [], ◌∷◌, ◌++◌, Option, Some, None, refl, sym, ap, ◌∙◌, append_assoc, inl, inr, arith}
 use Rattle.std.proofs.lemmas.Bool.{eqb-false}
 use Rattle.std.proofs.lemmas.List.Elements.{All-weaker, recursion_from_All}
@@ -26,11 +27,13 @@ use Rattle.plural_reference.specs.Serializer.{joined, prefixed, value_text, oper
 use Rattle.plural_reference.proofs.Alone.{i_alone}
 use Rattle.plural_reference.proofs.PrintedTokens.{below_digits, Scans, scans_then, Spells, joined_spells, EndsRun, number_spells}
 
+-- one byte is not two that differ
 some_apart : (x y : ℕ) (o : Option ℕ) → x ≢ y → o ≡ Some x → o ≡ Some y → ⊥
 some_apart x y o h e f = let same : x ≡ y = cc in h same
 
 -- ---- items
 
+-- the printed text of an item spells it
 item_spells : (x : RangeListItem) → IsSpellableItem x → Spells EndsRun IsItem (item_text x) x
 unfolding tokens_from
 item_spells (items.Value v) h = number_spells v.0 h
@@ -56,12 +59,15 @@ item_spells (items.Range a b) h =
 
 -- ---- expressions
 
+-- a rest that begins with a space
 abbrev BeginsWithSpace : List ℕ → Type 0
 BeginsWithSpace rest = first rest ≡ Some 32
 
+-- a rest that begins with a space may follow a number
 space_ends : (rest : List ℕ) → BeginsWithSpace rest → EndsRun rest
 space_ends rest h = rw h (below_digits 32 (omega arith))
 
+-- the letter of an operand is one token before a space, that of the operand
 operand_spells : (o : operand.Operand) → (t : Token) × (operand_of t ≡ Some o) × Scans BeginsWithSpace (operand_text o) (t ∷ [])
 unfolding tokens_from
 operand_spells operands.N = (Operand operands.N, refl, record { gives = λ rest f. refl })
@@ -75,6 +81,7 @@ operand_spells operands.T = (Operand operands.T, refl, record { gives = λ rest 
 operand_spells operands.C = (Operand operands.C, refl, record { gives = λ rest f. refl })
 operand_spells operands.E = (E, refl, record { gives = λ rest f. refl })
 
+-- the printed text of a modulus spells it; there is none where there is no modulus
 modulus_spells : (m : Option Value) → IfSome m FitsToken → Spells BeginsWithSpace IsModulus (prefixed (codes " % ") value_text m) m
 unfolding tokens_from
 modulus_spells None h = record { tokens = []; part = refl; scans = record { gives = λ rest f. refl } }
@@ -86,10 +93,12 @@ modulus_spells (Some v) h =
       scans = record { gives = λ rest f. ap (λ ts. Modulo ∷ ts) (value.scans.gives rest (space_ends rest f)) };
     }
 
+-- a space follows an operand, whether its modulus is there or not
 modulus_follows : (m : Option Value) (rest : List ℕ) → BeginsWithSpace rest → BeginsWithSpace (prefixed (codes " % ") value_text m ++ rest)
 modulus_follows None rest h = h
 modulus_follows (Some v) rest h = refl
 
+-- the printed text of an expression spells it
 expression_spells : (e : Expression) → IfSome e.modulus FitsToken → Spells BeginsWithSpace IsExpression (expression_text e) e
 expression_spells e h =
     let left = operand_spells e.operand in
@@ -105,14 +114,17 @@ expression_spells e h =
 
 -- ---- relations
 
+-- an operator between spaces is one token
 operator_gives : (op : operator.Operator) (rest : List ℕ) → tokens_of (32 ∷ (operator_text op ++ 32 ∷ rest)) ≡ Operator op ∷ tokens_of rest
 unfolding tokens_from
 operator_gives Eq rest = refl
 operator_gives NotEq rest = refl
 
+-- the five texts of a relation and a rest, joined from the left and from the right
 regrouped : (a b c d e rest : List ℕ) → ((((a ++ b) ++ c) ++ d) ++ e) ++ rest ≡ a ++ (b ++ (c ++ (d ++ (e ++ rest))))
 regrouped a b c d e rest = simp append_assoc
 
+-- the printed text of a relation spells it
 relation_spells : (r : Relation) → IsSpellableRelation r → Spells EndsRun IsRelation (relation_text r) r
 unfolding tokens_from
 relation_spells r h =
@@ -139,6 +151,7 @@ relation_spells r h =
 
 -- ---- conditions
 
+-- the printed text of an and-condition spells it
 group_spells : (g : AndCondition) → IsSpellableGroup g → Spells EndsRun IsAndCondition (and_condition_text g) g
 unfolding tokens_from
 group_spells g h =
@@ -150,6 +163,7 @@ group_spells g h =
                     h.1)) in
     record { tokens = all.tokens; part = all.part; scans = all.scans }
 
+-- the printed text of a condition with some group spells it
 condition_spells : (c : Condition) → c.0 ≢ [] → IsSpellable c → Spells EndsRun IsCondition (condition_text c) c
 unfolding tokens_from
 condition_spells c some h =
@@ -173,6 +187,7 @@ pub record ReadsBack (c : Condition) : Type 0 where
   pub scans : Scans EndsRun (condition_text c) tokens
   pub reads : (rest : List Token) → IsUnconditional rest → ReadsUpTo (tokens ++ rest) c rest
 
+-- a spellable condition of these groups has such tokens
 reads_groups_back : (groups : List AndCondition) → IsSpellable (record { 0 = groups }) → ReadsBack (record { 0 = groups })
 reads_groups_back [] h = record { tokens = []; scans = record { gives = λ rest f. refl }; reads = λ rest u. inl (refl, refl, u) }
 reads_groups_back (g ∷ gs) h =
@@ -184,5 +199,6 @@ reads_groups_back (g ∷ gs) h =
       reads = λ rest u. inr (spelled.tokens, refl, spelled.part, at_ends (record { 0 = g ∷ gs }) rest u);
     }
 
+-- the tokens of the printed text of a spellable condition are read as it, before At or the end
 pub condition_reads_back : (c : Condition) → IsSpellable c → ReadsBack c
 condition_reads_back c h = reads_groups_back c.0 h

@@ -1,4 +1,5 @@
--- The samples of a rule that is read from a text, and the tokens of their printed text.
+-- The samples of a rule that is read from a text, and the tokens of their printed text, from which they are read again, if they
+-- have small runs. PrintedBack joins this with the condition.
 use Rattle.std.proofs.Common.{◌≡◌, List, [], ◌∷◌, ◌++◌, Option, Some, None, refl, sym, ap, ◌∙◌, subst, append_assoc}
 use Rattle.std.proofs.lemmas.List.{append-nil}
 use Rattle.std.specs.List.{AllByRecursion}
@@ -24,11 +25,13 @@ abbrev HasList : Option SampleList → Option SampleList → Type 0
 HasList None None = ⊥
 HasList _ _ = Unit {0}
 
+-- samples as they are read from a text whose numbers fit
 pub record AreReadSamples (s : samples.Samples) : Type 0 where
   pub integer : IfSome s.integer (λ l. IsSpelled IsSampleList l)
   pub decimal : IfSome s.decimal (λ l. IsSpelled IsSampleList l)
   pub some : HasList s.integer s.decimal
 
+-- where the second list is there, there is one
 has_second : (first : Option SampleList) (l : SampleList) → HasList first (Some l)
 has_second None l = tt
 has_second (Some k) l = tt
@@ -41,15 +44,18 @@ with_list_read Integer l old h k i d = record { integer = k; decimal = d; some =
 with_list_read Decimal l old h k i d = record { integer = i; decimal = k; some = has_second old.integer l }
 with_list_read _ l old h k i d = absurd h
 
+-- a section whose list is spelled by tokens that fit
 abbrev IsSpelledSection : Section → Type 0
 IsSpelledSection s = IsSampleType s.type × IsSpelled IsSampleList s.list
 
+-- sections of tokens that fit are such sections
 sections_spelled : (tokens : List Token) (ss : List Section) → AllFit tokens → AreSections tokens ss → AllByRecursion IsSpelledSection ss
 sections_spelled tokens [] f h = tt
 sections_spelled tokens (s ∷ ss) f h =
     let fits : AllFit (h.0 ++ h.1) = (subst AllFit h.2 f).1.1 in
     ((h.3, (h.0, fit_left h.0 h.1 fits, h.4)), sections_spelled h.1 ss (fit_right h.0 h.1 fits) h.5)
 
+-- samples that are read stay so with the lists of such sections
 sections_read : (ss : List Section) (old : samples.Samples) → AllByRecursion IsSpelledSection ss → AreReadSamples old
     → AreReadSamples (fold (λ before new. with_list new.type new.list before) old ss)
 sections_read [] old h k = k
@@ -57,6 +63,7 @@ sections_read (s ∷ ss) old h k =
     sections_read ss (with_list s.type s.list old) h.1
         (with_list_read s.type s.list old h.0.0 h.0.1 k.integer k.decimal)
 
+-- the samples of such sections are samples as they are read
 are_read : (ss : List Section) → AllByRecursion IsSpelledSection ss → IfSome (samples_of ss) AreReadSamples
 are_read [] h = tt
 are_read (s ∷ ss) h = sections_read ss _ h.1 (with_list_read s.type s.list (record { integer = None; decimal = None }) h.0.0 h.0.1 tt tt)
@@ -69,6 +76,7 @@ samples_are_read tokens s f h =
 
 -- ---- what is printed
 
+-- the section of a list that is there, or none
 abbrev section_of : Token → Option SampleList → List Section
 section_of type None = []
 section_of type (Some l) = (record { type = type; list = l }) ∷ []
@@ -76,6 +84,7 @@ section_of type (Some l) = (record { type = type; list = l }) ∷ []
 module _ (type : Token) (prefix : List ℕ) (is_type : IsSampleType type)
     (gives : (rest : List ℕ) → tokens_of (prefix ++ rest) ≡ At ∷ type ∷ tokens_of rest)
     (may_follow : (rest : List ℕ) → EndsSample (prefix ++ rest)) where
+  -- a list with its type and its prefix is read again from its text, as a section
   section_spells : (list : Option SampleList) → IfSome list (λ l. IsSpelled IsSampleList l)
       → IfSome list ListHasSmallRuns
       → Spells EndsSample AreSections (prefixed prefix sample_list_text list) (section_of type list)
@@ -92,17 +101,20 @@ module _ (type : Token) (prefix : List ℕ) (is_type : IsSampleType type)
             };
       }
 
+  -- a section, and what may follow a sample, may follow one
   section_follows : (list : Option SampleList) (rest : List ℕ) → EndsSample rest
       → EndsSample (prefixed prefix sample_list_text list ++ rest)
   section_follows None rest h = h
   section_follows (Some l) rest h = subst EndsSample (sym (append_assoc prefix (sample_list_text l) rest)) (may_follow _)
 
+-- sections and more sections are sections
 sections_append : (a b : List Token) (ss ts : List Section) → AreSections a ss → AreSections b ts → AreSections (a ++ b) (ss ++ ts)
 sections_append a b [] ts h k = subst (λ l. AreSections (l ++ b) ts) (sym h) k
 sections_append a b (s ∷ ss) ts h k =
     (h.0, h.1 ++ b, ap (λ l. l ++ b) h.2 ∙ ap (λ l. At ∷ s.type ∷ l) (append_assoc h.0 h.1 b), h.3, h.4,
         sections_append h.1 b ss ts h.5 k)
 
+-- the sections of two lists, one of them there, are those of the samples with both
 samples_of-sections : (integer decimal : Option SampleList) → HasList integer decimal
     → samples_of (section_of Integer integer ++ section_of Decimal decimal)
         ≡ Some (record { integer = integer; decimal = decimal })
@@ -111,6 +123,7 @@ samples_of-sections None (Some d) h = refl
 samples_of-sections (Some i) None h = refl
 samples_of-sections (Some i) (Some d) h = refl
 
+-- the tokens of sections are empty, or begin with At
 sections_unconditional : (tokens : List Token) (ss : List Section) → AreSections tokens ss → IsUnconditional tokens
 sections_unconditional tokens [] h = subst IsUnconditional (sym h) tt
 sections_unconditional tokens (s ∷ ss) h = subst IsUnconditional (sym h.2) tt
@@ -123,6 +136,7 @@ pub record SamplesReadBack (s : samples.Samples) : Type 0 where
   pub unconditional : IsUnconditional tokens
   pub reads : ReadsSamples tokens (Some s)
 
+-- samples that were read and have small runs are read from their printed text
 pub samples_read_back : (s : samples.Samples) → AreReadSamples s → IfSome s.integer ListHasSmallRuns
     → IfSome s.decimal ListHasSmallRuns → SamplesReadBack s
 unfolding tokens_from

@@ -1,4 +1,5 @@
--- The tokens of a printed list of samples spell it, though they need not be those that it was read from.
+-- The tokens of a printed list of samples spell it, though they need not be those that it was read from, if a token holds the
+-- number of each run of its digits. From samples that were read to their printed texts; PrintedRules cites it.
 use Rattle.std.proofs.Common.{◌≡◌, ◌≢◌, ◌≤◌, ℕ, Bool, true, false, List, [], ◌∷◌, ◌++◌, Option, Some, None, refl, sym,
     ap, ◌∙◌, subst, append_assoc, arith}
 use Rattle.std.proofs.lemmas.Bool.{eqb-false}
@@ -33,15 +34,18 @@ use Rattle.plural_reference.proofs.TokensFit.{TokenFits, AllFit, fit_left, fit_r
 
 -- ---- a sample
 
+-- a text that is not empty is not empty with another behind it
 append_nonempty : (a b : List ℕ) → a ≢ [] → a ++ b ≢ []
 append_nonempty [] b h = absurd (h refl)
 append_nonempty (x ∷ xs) b h = λ e. cc
 
+-- the text of a run of digits is not empty
 digit_nonempty : (t : Token) → TokenFits t → IsDigits t → token_text t ≢ []
 digit_nonempty Zero f h = λ e. cc
 digit_nonempty (Number n) f h = nonempty_of (decimal n) (decimal_is_IsNumeral n (small_fits n f)).0.0
 digit_nonempty _ f h = absurd h
 
+-- the text of a mark is not empty
 mark_nonempty : (m : Token) → IsExponentMark m → token_text m ≢ []
 mark_nonempty E h = λ e. cc
 mark_nonempty (Operand C) h = λ e. cc
@@ -60,15 +64,19 @@ sample_nonempty [] [] [] a h k l some = absurd (some refl)
 
 module _ (i f e : List Token) (a : AllFit ((i ++ f) ++ e)) (digit : AllByRecursion IsDigits i) (fraction : IsFraction f)
     (exponent : IsExponent e) (some : (i ++ f) ++ e ≢ []) where
+  -- the texts of the integer digits, the fraction and the exponent
   abbrev whole : List ℕ
   whole = (flat_map token_text i ++ flat_map token_text f) ++ flat_map token_text e
 
+  -- the text of the sample is these three texts
   text-parts : flat_map token_text ((i ++ f) ++ e) ≡ whole
   text-parts = flat_map-append (i ++ f) e ∙ ap (λ l. l ++ flat_map token_text e) (flat_map-append i f)
 
+  -- the text of an exponent may follow a sample without one
   exponent_ends : EndsSample (flat_map token_text e)
   exponent_ends = subst EndsSample (append-nil (flat_map token_text e)) (exponent_follows e exponent [] tt)
 
+  -- where the sample has small runs, a token holds its integer digits
   integer_small : HasSmallRuns whole → digits_value 10 (flat_map token_text i) ≤ max_number
   integer_small small = small (flat_map token_text i) (record {
     before = [];
@@ -79,6 +87,7 @@ module _ (i f e : List Token) (a : AllFit ((i ++ f) ++ e)) (digit : AllByRecursi
     ends = fraction_follows f fraction (flat_map token_text e) exponent_ends;
   })
 
+  -- and its fraction digits
   fraction_small : HasSmallRuns whole → (ds : List ℕ) → AreDigits ds → flat_map token_text f ≡ 46 ∷ ds → digits_value 10 ds ≤ max_number
   fraction_small small ds are e' = small ds (record {
     before = flat_map token_text i ++ 46 ∷ [];
@@ -91,6 +100,7 @@ module _ (i f e : List Token) (a : AllFit ((i ++ f) ++ e)) (digit : AllByRecursi
     ends = sample_ends_run (flat_map token_text e) exponent_ends;
   })
 
+  -- the text of the sample gives tokens of a sample, with the same text
   whole_retold : HasSmallRuns whole → Spells EndsSample (Retold (λ tokens. (s : SampleParts) × IsSampleOf tokens s)) whole whole
   whole_retold small =
       let fits = fit_left (i ++ f) e a in
@@ -146,6 +156,7 @@ sample_spells tokens text a h small =
 
 -- ---- ranges and lists
 
+-- the printed text of an upper sample spells it; there is none where there is no sample
 upper_spells : (tokens : List Token) (upper : Option DecimalValue) → AllFit tokens → IsUpper tokens upper
     → IfSome upper HasSmallRuns → Spells EndsSample IsUpper (prefixed (codes "~") sample_text upper) upper
 unfolding tokens_from
@@ -158,6 +169,7 @@ upper_spells tokens (Some text) a h small =
       scans = record { gives = λ rest s. ap (λ ts. Tilde ∷ ts) (sample.scans.gives rest s) };
     }
 
+-- an upper sample, and what may follow a sample, may follow the lower one
 upper_follows : (upper : Option DecimalValue) (rest : List ℕ) → EndsSample rest
     → EndsSample (prefixed (codes "~") sample_text upper ++ rest)
 upper_follows None rest h = h
@@ -167,9 +179,11 @@ upper_follows (Some text) rest h = (above_digits 126 (omega arith), eqb-false 12
 abbrev pub IsSpelled : {A : Type 0} → (List Token → A → Type 0) → A → Type 0
 IsSpelled Part x = (tokens : List Token) × AllFit tokens × Part tokens x
 
+-- both samples of a range have small runs
 abbrev RangeHasSmallRuns : SampleRange → Type 0
 RangeHasSmallRuns r = HasSmallRuns r.lower_val × IfSome r.upper_val HasSmallRuns
 
+-- a range is read again from its text
 range_spells : (r : SampleRange) → IsSpelled IsSampleRange r → RangeHasSmallRuns r → Spells EndsSample IsSampleRange (sample_range_text r) r
 range_spells r h small =
     let k = h.2 in
@@ -186,16 +200,19 @@ range_spells r h small =
               lower.tokens upper.tokens lower.scans upper.scans (upper_follows r.upper_val);
     }
 
+-- what two facts say of each member together, they say of all
 both_give : {A : Type 0} (P Q R : A → Type 0) → ((x : A) → P x → Q x → R x) → (xs : List A) → AllByRecursion P xs
     → AllByRecursion Q xs → AllByRecursion R xs
 both_give P Q R f [] h k = tt
 both_give P Q R f (x ∷ xs) h k = (f x h.0 k.0, both_give P Q R f xs h.1 k.1)
 
+-- the printed text of an ellipsis spells it; there is none where there is no ellipsis
 ellipsis_spells : (more : Bool) → Spells EndsSample IsEllipsis (ellipsis_text more) more
 unfolding tokens_from
 ellipsis_spells false = record { tokens = []; part = refl; scans = record { gives = λ rest s. refl } }
 ellipsis_spells true = record { tokens = Comma ∷ Ellipsis ∷ []; part = refl; scans = record { gives = λ rest s. refl } }
 
+-- an ellipsis, and what may follow a sample, may follow one
 ellipsis_follows : (more : Bool) (rest : List ℕ) → EndsSample rest → EndsSample (ellipsis_text more ++ rest)
 ellipsis_follows false rest h = h
 ellipsis_follows true rest h = comma_breaks

@@ -1,4 +1,6 @@
--- The tokens of printed texts, one text after another.
+-- The tokens of printed texts, one text after another: a text gives its tokens before each rest that may follow it, so that
+-- printed parts can be joined and still be scanned part by part; and a printed number is one token. The other proofs on what
+-- is printed rest on it.
 use Rattle.std.proofs.Common.{◌≡◌, ◌≢◌, ◌≤◌, ◌<◌, ◌^◌, ℕ, zero, suc, List, [], ◌∷◌, ◌++◌, length, get_or, refl, sym, ap,
     ◌∙◌, append_assoc, arith, rules}
 use Rattle.std.proofs.lemmas.Bool.{le-leb}
@@ -23,6 +25,7 @@ use Rattle.plural_reference.proofs.ScanComplete.{run_scans}
 pub record Scans (Follows : List ℕ → Type 0) (text : List ℕ) (tokens : List Token) : Type 0 where
   pub gives : (rest : List ℕ) → Follows rest → tokens_of (text ++ rest) ≡ tokens ++ tokens_of rest
 
+-- a text and one that may follow it give the tokens of both
 pub scans_then : (First Last : List ℕ → Type 0) (a b : List ℕ) (s t : List Token) → Scans First a s → Scans Last b t
     → ((rest : List ℕ) → Last rest → First (b ++ rest)) → Scans Last (a ++ b) (s ++ t)
 scans_then First Last a b s t h k f = record {
@@ -44,6 +47,7 @@ module _ {A : Type 0} (Follows : List ℕ → Type 0) (Part : List Token → A �
     (separator : List ℕ) (mark : Token)
     (gives_mark : (rest : List ℕ) → tokens_of (separator ++ rest) ≡ mark ∷ tokens_of rest)
     (may_follow : (rest : List ℕ) → Follows (separator ++ rest)) where
+  -- where the text of each part spells it, the joined texts spell the parts with separators between them
   pub joined_spells : (xs : List A) → xs ≢ [] → AllByRecursion (λ x. Spells Follows Part (text x) x) xs
       → Spells Follows (Separated mark Part) (joined separator text xs) xs
   joined_spells [] some h = absurd (some refl)
@@ -66,9 +70,11 @@ module _ {A : Type 0} (Follows : List ℕ → Type 0) (Part : List Token → A �
 
 -- ---- numbers
 
+-- a byte below `0` is no digit
 pub below_digits : (b : ℕ) → b < 48 → IsAsciiDigit b → ⊥
 below_digits b h d = omega (arith, d.0)
 
+-- a byte above `9` is no digit
 pub above_digits : (b : ℕ) → 57 < b → IsAsciiDigit b → ⊥
 above_digits b h d = omega (arith, d.1)
 
@@ -76,26 +82,33 @@ above_digits b h d = omega (arith, d.1)
 abbrev pub EndsRun : List ℕ → Type 0
 EndsRun rest = IfSome (first rest) (λ b. ¬ (IsAsciiDigit b))
 
+-- bytes that are digits all
 abbrev pub AreDigits : List ℕ → Type 0
 AreDigits ds = AllByRecursion IsAsciiDigit ds
 
+-- the lemmas on numerals take such bytes as digits
 are_tested : IsDigitsTest AreDigits
 are_tested = search rules
 
+-- and their value as the number that they write
 pub numerals : IsNumeralModel AreDigits (digits_value 10)
 numerals = numerals_by_value AreDigits are_tested
 
+-- a first byte above `0` is not `0`
 not_zero_first : (ds : List ℕ) → 48 < get_or ds 0 0 → IfSome (first ds) (λ d. d ≢ 48)
 not_zero_first [] h = tt
 not_zero_first (d ∷ ds) h = λ e. omega arith
 
+-- a list of some length is not empty
 pub nonempty_of : (ds : List ℕ) → 0 < length ds → ds ≢ []
 nonempty_of [] h e = omega arith
 nonempty_of (d ∷ ds) h e = cc
 
+-- a number that a token holds has 64 bits at most
 pub small_fits : (n : ℕ) → n ≤ max_number → n < 2 ^ 64
 small_fits n h = omega arith
 
+-- a printed number other than 0 is a run of digits
 pub run_of_number : (n : ℕ) (rest : List ℕ) → 0 < n → n ≤ max_number → EndsRun rest → IsDigitRun (decimal n) rest
 run_of_number n rest low high ends =
     let fits = small_fits n high in

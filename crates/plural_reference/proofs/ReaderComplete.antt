@@ -1,4 +1,6 @@
--- What the grammar spells is read, and a fault is answered.
+-- What the grammar spells is read, and a fault is answered: the tokens of a condition lead the reader to its end, and those of
+-- a waiting place lead it to a state that refuses what follows. From the grammar to the reader; Readings and RuleReadings cite
+-- the two last facts, ParserSteps the fault at each state, and the proofs on samples that of the last of a list.
 use Rattle.std.proofs.Common.{◌≡◌, List, [], ◌∷◌, ◌++◌, Option, Some, None, Ok, Err, refl, sym, ap, ◌∙◌, subst, append_assoc, inl, inr}
 use Rattle.std.specs.Prelude.{IfSome, is_some, if◌then◌else◌}
 use Rattle.plural_reference.specs.declared.ast.RangeListItem.{RangeListItem}
@@ -38,6 +40,7 @@ pub record LeadsToItem (o : Opened) (xs : List RangeListItem) (tokens : List Tok
   pub run_is : (rest : List Token) → run (before_item o xs) (tokens ++ rest) ≡ run (after_item o front item) rest
   pub items_are : front ++ item ∷ [] ≡ xs ++ ys
 
+-- items with commas between them lead to the last one
 pub run_items : (o : Opened) (xs : List RangeListItem) (tokens : List Token) (ys : List RangeListItem)
     → Separated Comma IsItem tokens ys → LeadsToItem o xs tokens ys
 unfolding run
@@ -74,12 +77,14 @@ unfolding run
 run_left_by b tokens o None op rest h = rw (h.2, h.3, h.4) refl
 run_left_by b tokens o (Some v) op rest h = rw (h.2, h.3, h.4.1, h.4.2) refl
 
+-- the left side of a relation with its operator leads to where the first item is awaited
 pub run_left : (b : Before) (tokens : List Token) (e : Expression) (op : operator.Operator) (rest : List Token)
     → IsExpression tokens e
     → run (before_operand b) (tokens ++ Operator op ∷ rest)
         ≡ run (before_item (record { before = b; expression = e; operator = op }) []) rest
 run_left b tokens e op rest h = run_left_by b tokens e.operand e.modulus op rest h
 
+-- the tokens of a relation lead to its last item, and complete it
 pub run_relation : (b : Before) (tokens : List Token) (r : Relation) → IsRelation tokens r
     → Leads (before_operand b) tokens (with_relation b r)
 run_relation b tokens r h =
@@ -102,6 +107,7 @@ pub leads_and : (from : State) (tokens : List Token) (b : Before) (rest : List T
 unfolding run
 leads_and from tokens b rest l = l.run_is (And ∷ rest) ∙ ap (λ (c : Before). run (before_operand c) rest) l.complete
 
+-- the same of Or, which completes the group
 pub leads_or : (from : State) (tokens : List Token) (b : Before) (rest : List Token) → Leads from tokens b
     → run from (tokens ++ Or ∷ rest) ≡ run (before_operand (with_group b)) rest
 unfolding run
@@ -119,6 +125,7 @@ leads_from from middle tokens more all b h l = record {
   complete = l.complete;
 }
 
+-- relations with And between them lead to the last item of the last one, and complete the group
 pub run_relations : (b : Before) (tokens : List Token) (rs : List Relation) → Separated And IsRelation tokens rs
     → Leads (before_operand b) tokens (record { groups = b.groups; relations = b.relations ++ rs })
 run_relations b tokens [] h = absurd h
@@ -141,6 +148,7 @@ pub record LeadsToCondition (from : State) (tokens : List Token) (c : Condition)
   pub leads : Leads from tokens before
   pub condition_is : condition_of before ≡ c
 
+-- groups with Or between them lead to the end of the condition that they complete
 pub run_groups : (groups : List AndCondition) (tokens : List Token) (gs : List AndCondition)
     → Separated Or IsAndCondition tokens gs
     → LeadsToCondition (before_operand (record { groups = groups; relations = [] })) tokens
@@ -168,11 +176,13 @@ run_groups groups tokens (g ∷ k ∷ ks) h =
       condition_is = more.condition_is ∙ ap (λ (l : List AndCondition). record { 0 = l }) (append_assoc groups (g ∷ []) (k ∷ ks));
     }
 
+-- the tokens of a condition lead from the beginning to its end
 pub run_condition : (tokens : List Token) (c : Condition) → IsCondition tokens c → LeadsToCondition begin tokens c
 run_condition tokens c h = run_groups [] tokens c.0 h
 
 -- ---- the end of a condition
 
+-- the last of a list with x put behind it is x
 pub last-push : {A : Type 0} (xs : List A) (x : A) → last (xs ++ x ∷ []) ≡ Some x
 last-push [] x = refl
 last-push (y ∷ []) x = refl
@@ -226,11 +236,13 @@ reads_run tokens c rest (inr h) =
 abbrev Arrives : List Token → State → Type 0
 Arrives p s = (rest : List Token) → run begin (p ++ rest) ≡ run s rest
 
+-- what leads to a state leads on with one more token
 arrives_more : (p before : List Token) (t : Token) (s next : State) → p ≡ before ++ t ∷ [] → Arrives before s
     → ((rest : List Token) → run s (t ∷ rest) ≡ run next rest) → Arrives p next
 arrives_more p before t s next e h k rest =
     ap (run begin) (ap (λ l. l ++ rest) e ∙ append_assoc before (t ∷ []) rest) ∙ h (t ∷ rest) ∙ k rest
 
+-- a condition and Or lead to where the operand of a new group is awaited
 arrives_or : (p : List Token) → ConditionThen Or p → (b : Before) × Arrives p (before_operand (with_group b))
 arrives_or p h =
     let to : LeadsToCondition begin h.0 h.1 = run_condition h.0 h.1 h.3 in
@@ -238,6 +250,7 @@ arrives_or p h =
         λ rest. ap (run begin) (ap (λ l. l ++ rest) h.2 ∙ append_assoc h.0 (Or ∷ []) rest)
             ∙ leads_or begin h.0 to.before rest to.leads)
 
+-- a condition and And lead to where the operand of a further relation is awaited
 arrives_and : (p : List Token) → ConditionThen And p → (b : Before) × (r : Relation) × Arrives p (before_operand (with_relation b r))
 arrives_and p h =
     let to : LeadsToCondition begin h.0 h.1 = run_condition h.0 h.1 h.3 in (
@@ -248,36 +261,43 @@ arrives_and p h =
           ∙ ap (λ (b : Before). run (before_operand b) rest) (sym to.leads.complete),
     )
 
+-- tokens that await an operand lead to such a state
 arrives_before_operand : (p : List Token) → IsBeforeOperand p → (b : Before) × Arrives p (before_operand b)
 arrives_before_operand p (inl h) = (record { groups = []; relations = [] }, λ rest. ap (λ l. run begin (l ++ rest)) h)
 arrives_before_operand p (inr (inl h)) = let a = arrives_or p h in (with_group a.0, a.1)
 arrives_before_operand p (inr (inr h)) = let a = arrives_and p h in (with_relation a.0 a.1, a.2)
 
+-- an operand leads behind it
 operand_next_run : (b : Before) (t : Token) (o : operand.Operand) (rest : List Token) → operand_of t ≡ Some o
     → run (before_operand b) (t ∷ rest) ≡ run (after_operand b o) rest
 unfolding run
 operand_next_run b t o rest h = rw h refl
 
+-- tokens that end in an operand lead behind it
 arrives_after_operand : (p : List Token) → IsAfterOperand p → (b : Before) × (o : operand.Operand) × Arrives p (after_operand b o)
 arrives_after_operand p h =
     let a = arrives_before_operand h.0 h.4 in
     (a.0, h.2, arrives_more p h.0 h.1 _ _ h.3 a.1 (λ rest. operand_next_run a.0 h.1 h.2 rest h.5))
 
+-- Modulo behind an operand leads to where a modulus is awaited
 modulo_next_run : (b : Before) (o : operand.Operand) (rest : List Token)
     → run (after_operand b o) (Modulo ∷ rest) ≡ run (after_modulo b o) rest
 unfolding run
 modulo_next_run b o rest = refl
 
+-- tokens that end in an operand and Modulo lead there
 arrives_after_modulo : (p : List Token) → IsAfterModulo p → (b : Before) × (o : operand.Operand) × Arrives p (after_modulo b o)
 arrives_after_modulo p h =
     let a = arrives_after_operand h.0 h.2 in
     (a.0, a.1, arrives_more p h.0 Modulo _ _ h.1 a.2 (modulo_next_run a.0 a.1))
 
+-- a modulus leads behind the whole expression
 modulus_next_run : (b : Before) (o : operand.Operand) (t : Token) (v : Value) (rest : List Token) → value_of t ≡ Some v
     → run (after_modulo b o) (t ∷ rest) ≡ run (after_modulus b (record { operand = o; modulus = Some v })) rest
 unfolding run
 modulus_next_run b o t v rest h = rw h refl
 
+-- tokens that end in a whole modulus lead there
 arrives_after_modulus : (p : List Token) → IsAfterModulus p → (b : Before) × (e : Expression) × Arrives p (after_modulus b e)
 arrives_after_modulus p h =
     let a = arrives_after_modulo h.0 h.4 in
@@ -286,6 +306,7 @@ arrives_after_modulus p h =
 
 -- ---- the fault at each state
 
+-- where an operand is awaited, the fault of what follows is answered, given the one of the end
 pub operand_stop : (b : Before) (ended : Option ParseError) (rest : List Token) (kind : ParseError)
     → ((e : ParseError) → ended ≡ Some e → no_operand b.groups b.relations ≡ refuse e)
     → operand_fault ended (first rest) ≡ Some kind → run (before_operand b) rest ≡ Err kind
@@ -294,6 +315,7 @@ operand_stop b ended [] kind stop h = rw (stop kind h) refl
 operand_stop b ended (At ∷ ts) kind stop h = rw (stop kind h) refl
 operand_stop b ended (_ ∷ ts) kind stop h = cc
 
+-- the fault of what follows is answered where an operator is awaited
 pub operator_stop : (b : Before) (e : Expression) (rest : List Token) (kind : ParseError)
     → operator_fault (first rest) ≡ Some kind → run (after_modulus b e) rest ≡ Err kind
 unfolding run
@@ -301,6 +323,7 @@ operator_stop b e [] kind h = cc
 operator_stop b e (Operator op ∷ ts) kind h = cc
 operator_stop b e (_ ∷ ts) kind h = cc
 
+-- the fault of what follows is answered behind an operand
 pub after_operand_stop : (b : Before) (o : operand.Operand) (rest : List Token) (kind : ParseError)
     → fault places.after_operand (first rest) ≡ Some kind → run (after_operand b o) rest ≡ Err kind
 unfolding run
@@ -309,33 +332,39 @@ after_operand_stop b o (Modulo ∷ ts) kind h = cc
 after_operand_stop b o (Operator op ∷ ts) kind h = cc
 after_operand_stop b o (_ ∷ ts) kind h = cc
 
+-- a token that is no value is answered with a fault, where a value is awaited
 value_stopped : (v : Option Value) (next : Value → State) (ts : List Token) (kind : ParseError) (k : State → Outcome)
     → (if is_some v then None else Some ExpectedValue) ≡ Some kind → proceed (value_move v next) ts k ≡ Err kind
 value_stopped None next ts kind k h = cc
 value_stopped (Some v) next ts kind k h = cc
 
+-- the fault of what follows is answered where a modulus is awaited
 pub after_modulo_stop : (b : Before) (o : operand.Operand) (rest : List Token) (kind : ParseError)
     → value_fault (first rest) ≡ Some kind → run (after_modulo b o) rest ≡ Err kind
 unfolding run
 after_modulo_stop b o [] kind h = cc
 after_modulo_stop b o (t ∷ ts) kind h = value_stopped (value_of t) _ (t ∷ ts) kind _ h
 
+-- the fault of what follows is answered where an item is awaited
 pub before_item_stop : (o : Opened) (xs : List RangeListItem) (rest : List Token) (kind : ParseError)
     → value_fault (first rest) ≡ Some kind → run (before_item o xs) rest ≡ Err kind
 unfolding run
 before_item_stop o xs [] kind h = cc
 before_item_stop o xs (t ∷ ts) kind h = value_stopped (value_of t) _ (t ∷ ts) kind _ h
 
+-- the fault of what follows is answered where the end of a range is awaited
 pub before_end_stop : (o : Opened) (xs : List RangeListItem) (v : Value) (rest : List Token) (kind : ParseError)
     → value_fault (first rest) ≡ Some kind → run (before_end o xs v) rest ≡ Err kind
 unfolding run
 before_end_stop o xs v [] kind h = cc
 before_end_stop o xs v (t ∷ ts) kind h = value_stopped (value_of t) _ (t ∷ ts) kind _ h
 
+-- the end behind Or is the fault ExpectedAndCondition
 no_operand_or : (groups : List AndCondition) (g : AndCondition) → no_operand (groups ++ g ∷ []) [] ≡ refuse ExpectedAndCondition
 no_operand_or [] g = refl
 no_operand_or (k ∷ ks) g = refl
 
+-- the end behind And is the fault ExpectedRelation
 no_operand_and : (groups : List AndCondition) (relations : List Relation) (r : Relation)
     → no_operand groups (relations ++ r ∷ []) ≡ refuse ExpectedRelation
 no_operand_and [] [] r = refl
@@ -350,6 +379,7 @@ operator_next_run : (b : Before) (e : Expression) (op : operator.Operator) (rest
 unfolding run
 operator_next_run b e op rest = refl
 
+-- an operator right behind an operand leads to the first item
 operand_operator_run : (b : Before) (o : operand.Operand) (op : operator.Operator) (rest : List Token)
     → run (after_operand b o) (Operator op ∷ rest)
         ≡ run
@@ -358,11 +388,13 @@ operand_operator_run : (b : Before) (o : operand.Operand) (op : operator.Operato
 unfolding run
 operand_operator_run b o op rest = refl
 
+-- Comma behind an item leads to the next item
 comma_next_run : (o : Opened) (front : List RangeListItem) (item : RangeListItem) (rest : List Token)
     → run (after_item o front item) (Comma ∷ rest) ≡ run (before_item o (front ++ item ∷ [])) rest
 unfolding run
 comma_next_run o front item rest = refl
 
+-- DotDot behind a single value leads to the end of the range
 dots_next_run : (o : Opened) (front : List RangeListItem) (v : Value) (rest : List Token)
     → run (after_item o front (items.Value v)) (DotDot ∷ rest) ≡ run (before_end o front v) rest
 unfolding run
@@ -373,6 +405,7 @@ data WantsValue : State → Type 0 where
   wants_item : (o : Opened) (xs : List RangeListItem) → WantsValue (before_item o xs)
   wants_end : (o : Opened) (xs : List RangeListItem) (v : Value) → WantsValue (before_end o xs v)
 
+-- such a state answers the fault of what follows
 wants_stop : (s : State) → WantsValue s → (rest : List Token) (kind : ParseError) → value_fault (first rest) ≡ Some kind
     → run s rest ≡ Err kind
 wants_stop _ (wants_item o xs) rest kind h = before_item_stop o xs rest kind h
@@ -382,6 +415,7 @@ wants_stop _ (wants_end o xs v) rest kind h = before_end_stop o xs v rest kind h
 value_item : (item : RangeListItem) (v : Value) → Some item ≡ Some (items.Value v) → item ≡ items.Value v
 value_item item v h = cc
 
+-- tokens that await a value lead to such a state
 arrives_before_value : (p : List Token) → IsBeforeValue p → (s : State) × WantsValue s × Arrives p s
 arrives_before_value p (inl (before, op, e, inl h)) =
     let a = arrives_after_operand before h in
@@ -404,6 +438,7 @@ arrives_before_value p (inr (inr (spelled, c, e, h, (v, is_value)))) =
                     item_is
                 ∙ dots_next_run to.leads.opened to.leads.front v rest))
 
+-- tokens that wait at a place, and what is a fault there, are answered with the fault
 waits_run : (place : places.Place) (before rest : List Token) (kind : ParseError) → Waits place before
     → fault place (first rest) ≡ Some kind → run begin (before ++ rest) ≡ Err kind
 waits_run places.start before rest kind w h =

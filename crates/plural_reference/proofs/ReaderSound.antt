@@ -1,4 +1,6 @@
--- What the reader answers is what the grammar says.
+-- What the reader of conditions answers is what the grammar says: the tokens so far spell what its state holds as complete, so
+-- the condition that it ends with is read, and a fault that it stops with is theirs. Readings, Answered, the worked rows and
+-- RuleReadings cite the last lemma, SampleSound those on parts with separators behind them.
 use Rattle.std.proofs.Common.{◌≡◌, List, [], ◌∷◌, ◌++◌, Option, Some, None, Ok, Err, refl, sym, ap, ◌∙◌, subst, append_assoc, inl, inr}
 use Rattle.std.proofs.lemmas.List.{append-nil}
 use Rattle.plural_reference.specs.declared.ast.RangeListItem.{RangeListItem}
@@ -31,6 +33,7 @@ Terminated separator Part tokens (x ∷ xs) =
     (part : List Token) × (rest : List Token) × (tokens ≡ part ++ separator ∷ rest) × Part part x
         × Terminated separator Part rest xs
 
+-- parts with separators behind them, and a last part, are parts with separators between them
 pub Separated-last : {A : Type 0} (separator : Token) (Part : List Token → A → Type 0) (a b : List Token) (xs : List A)
         (x : A)
     → Terminated separator Part a xs → Part b x → Separated separator Part (a ++ b) (xs ++ x ∷ [])
@@ -42,6 +45,7 @@ Separated-last separator Part a b (y ∷ z ∷ zs) x h k =
     (h.0, h.1 ++ b, ap (λ l. l ++ b) h.2 ∙ append_assoc h.0 (separator ∷ h.1) b, h.3,
         Separated-last separator Part h.1 b (z ∷ zs) x h.4 k)
 
+-- parts with separators behind them, and one more of these
 pub Terminated-push : {A : Type 0} (separator : Token) (Part : List Token → A → Type 0) (a b : List Token) (xs : List A)
         (x : A)
     → Terminated separator Part a xs → Part b x → Terminated separator Part (a ++ (b ++ separator ∷ [])) (xs ++ x ∷ [])
@@ -53,6 +57,7 @@ Terminated-push separator Part a b (y ∷ ys) x h k =
 
 -- ---- what the tokens so far spell, by the state that they lead to
 
+-- whole groups, each with Or behind it, and relations of the next group, each with And behind it
 pub record SpellsBefore (p : List Token) (b : Before) : Type 0 where
   pub group_tokens : List Token
   pub relation_tokens : List Token
@@ -60,6 +65,7 @@ pub record SpellsBefore (p : List Token) (b : Before) : Type 0 where
   pub groups : Terminated Or IsAndCondition group_tokens b.groups
   pub relations : Terminated And IsRelation relation_tokens b.relations
 
+-- the same, and then an expression and an operator
 pub record SpellsOpened (p : List Token) (o : Opened) : Type 0 where
   pub before_tokens : List Token
   pub expression_tokens : List Token
@@ -67,6 +73,7 @@ pub record SpellsOpened (p : List Token) (o : Opened) : Type 0 where
   pub before : SpellsBefore before_tokens o.before
   pub expression : IsExpression expression_tokens o.expression
 
+-- the same, and then items, each with Comma behind it
 pub record SpellsItems (p : List Token) (o : Opened) (xs : List RangeListItem) : Type 0 where
   pub opened_tokens : List Token
   pub item_tokens : List Token
@@ -74,6 +81,7 @@ pub record SpellsItems (p : List Token) (o : Opened) (xs : List RangeListItem) :
   pub opened : SpellsOpened opened_tokens o
   pub items : Terminated Comma IsItem item_tokens xs
 
+-- the same, and then an item
 pub record SpellsItem (p : List Token) (o : Opened) (xs : List RangeListItem) (x : RangeListItem) : Type 0 where
   pub items_tokens : List Token
   pub item_tokens : List Token
@@ -89,6 +97,7 @@ pub record SpellsRelation (p : List Token) (b : Before) (r : Relation) : Type 0 
   pub before : SpellsBefore before_tokens b
   pub relation : IsRelation relation_tokens r
 
+-- an item that ends its list completes the relation
 pub relation_done : (p : List Token) (o : Opened) (xs : List RangeListItem) (x : RangeListItem) → SpellsItem p o xs x
     → SpellsRelation p o.before (relation_of o (xs ++ x ∷ []))
 relation_done p o xs x h =
@@ -103,6 +112,7 @@ relation_done p o xs x h =
       relation = (e, it ++ i, refl, h.items.opened.expression, Separated-last Comma IsItem it i xs x h.items.items h.item);
     }
 
+-- a complete relation completes a condition, with the relations and groups before it
 pub condition_done : (p : List Token) (b : Before) (r : Relation) → SpellsRelation p b r → IsCondition p (condition_of (with_relation b r))
 condition_done p b r h =
     subst (λ l. IsCondition l (condition_of (with_relation b r)))
@@ -113,6 +123,7 @@ condition_done p b r h =
         (record { 0 = b.relations ++ r ∷ [] }) h.before.groups
     (Separated-last And IsRelation h.before.relation_tokens h.relation_tokens b.relations r h.before.relations h.relation))
 
+-- a complete relation and And: the relation joins those of the open group
 pub and_done : (p : List Token) (b : Before) (r : Relation) → SpellsRelation p b r → SpellsBefore (p ++ And ∷ []) (with_relation b r)
 and_done p b r h = record {
   group_tokens = h.before.group_tokens;
@@ -122,6 +133,7 @@ and_done p b r h = record {
   relations = Terminated-push And IsRelation h.before.relation_tokens h.relation_tokens b.relations r h.before.relations h.relation;
 }
 
+-- a complete relation and Or: the group is complete, and joins those before it
 pub or_done : (p : List Token) (b : Before) (r : Relation) → SpellsRelation p b r
     → SpellsBefore (p ++ Or ∷ []) (with_group (with_relation b r))
 or_done p b r h = record {
@@ -186,6 +198,7 @@ data OperandPlace (p : List Token) : List AndCondition → List Relation → Typ
   behind_or : (g : AndCondition) (gs : List AndCondition) → ConditionThen Or p → OperandPlace p (g ∷ gs) []
   behind_and : (gs : List AndCondition) (r : Relation) (rs : List Relation) → ConditionThen And p → OperandPlace p gs (r ∷ rs)
 
+-- whole groups and relations, with their Or and And, are at such a place
 operand_place : (p : List Token) (groups : List AndCondition) (relations : List Relation)
     → SpellsBefore p (record { groups = groups; relations = relations }) → OperandPlace p groups relations
 operand_place p [] [] h = at_start (h.whole ∙ (λ i. h.groups i ++ h.relations i))
@@ -199,6 +212,7 @@ operand_place p groups (r ∷ rs) h =
             h.whole ∙ ap (λ l. h.group_tokens ++ l) f.1 ∙ sym (append_assoc h.group_tokens f.0 (And ∷ [])),
             Separated-last Or IsAndCondition h.group_tokens f.0 groups (record { 0 = r ∷ rs }) h.groups f.2)
 
+-- the end or At behind And is the fault ExpectedRelation
 and_place : (p : List Token) (rest : List Token) → ConditionThen And p → IsUnconditional rest → Faulty (p ++ rest) ExpectedRelation
 and_place p [] c u = (places.after_and, p, [], refl, c, refl)
 and_place p (At ∷ ts) c u = (places.after_and, p, At ∷ ts, refl, c, refl)
@@ -227,15 +241,18 @@ bad_operand p groups relations t ts (at_start e) h = (places.start, p, t ∷ ts,
 bad_operand p groups relations t ts (behind_or g gs c) h = (places.after_or, p, t ∷ ts, refl, c, h (Some ExpectedAndCondition))
 bad_operand p groups relations t ts (behind_and gs r rs c) h = (places.after_and, p, t ∷ ts, refl, c, h (Some ExpectedRelation))
 
+-- each such place awaits an operand
 before_operand_is : (p : List Token) (groups : List AndCondition) (relations : List Relation)
     → OperandPlace p groups relations → IsBeforeOperand p
 before_operand_is p groups relations (at_start e) = inl e
 before_operand_is p groups relations (behind_or g gs c) = inr (inl c)
 before_operand_is p groups relations (behind_and gs r rs c) = inr (inr c)
 
+-- behind whole groups and relations, with their Or and And, an operand is awaited
 spells_operand_is : (p : List Token) (b : Before) → SpellsBefore p b → IsBeforeOperand p
 spells_operand_is p b h = before_operand_is p b.groups b.relations (operand_place p b.groups b.relations h)
 
+-- where an operand is awaited, the next token is one, ends the condition, or is a fault
 said_operand : (p : List Token) (b : Before) (t : Token) (ts : List Token) → SpellsBefore p b
     → SaidOfMove p t ts (operand_move (operand_of t) t b)
 said_operand p b (Operand o) ts h = (p, Operand o, refl, h, refl)
@@ -264,11 +281,13 @@ said_operand_next p b o (Operator op) ts h = record {
 }
 said_operand_next p b o _ ts h = (places.after_operand, p, _ ∷ ts, refl, (h.0, h.1, o, h.2, spells_operand_is h.0 b h.3, h.4), refl)
 
+-- an operand and Modulo wait for a modulus
 is_after_modulo : (p q : List Token) (t : Token) (o : operand.Operand) (b : Before) → p ≡ q ++ t ∷ Modulo ∷ []
     → SpellsBefore q b → operand_of t ≡ Some o → IsAfterModulo p
 is_after_modulo p q t o b e h k =
     (q ++ t ∷ [], e ∙ sym (append_assoc q (t ∷ []) (Modulo ∷ [])), (q, t, o, refl, spells_operand_is q b h, k))
 
+-- where a modulus is awaited, the next token is one, or a fault
 said_modulus : (p : List Token) (b : Before) (o : operand.Operand) (t : Token) (ts : List Token)
     → Spells p (after_modulo b o) → SaidOfMove p t ts (step (after_modulo b o) t)
 said_modulus p b o (Number n) ts h =
@@ -279,11 +298,13 @@ said_modulus p b o Zero ts h =
         h.3, h.4, refl, refl)
 said_modulus p b o _ ts h = (places.after_modulo, p, _ ∷ ts, refl, is_after_modulo p h.0 h.1 o b h.2 h.3 h.4, refl)
 
+-- an operand, Modulo and a modulus wait for an operator
 is_after_modulus : (p : List Token) (b : Before) (e : Expression) → Spells p (after_modulus b e) → IsAfterModulus p
 is_after_modulus p b e h =
     (h.0 ++ h.1 ∷ Modulo ∷ [], h.2, h.3, h.4 ∙ sym (append_assoc h.0 (h.1 ∷ Modulo ∷ []) (h.2 ∷ [])),
         is_after_modulo _ h.0 h.1 e.operand b refl h.5 h.6, h.7)
 
+-- where an operator is awaited, the next token is one, or a fault
 said_operator : (p : List Token) (b : Before) (e : Expression) (t : Token) (ts : List Token)
     → Spells p (after_modulus b e) → SaidOfMove p t ts (operator_move t b e)
 said_operator p b e (Operator op) ts h = record {
@@ -351,12 +372,14 @@ comma_place p o x xs h =
           }),
     )
 
+-- where an item is awaited, behind an operator or a comma, a value is
 before_value_is : (p : List Token) (o : Opened) (xs : List RangeListItem) → SpellsItems p o xs → IsBeforeValue p
 before_value_is p o [] h =
     subst IsBeforeValue (sym (h.whole ∙ ap (λ l. h.opened_tokens ++ l) h.items ∙ append-nil h.opened_tokens))
         (operator_place h.opened_tokens o h.opened o.expression.modulus refl)
 before_value_is p o (x ∷ xs) h = inr (inl (comma_place p o x xs h))
 
+-- where an item is awaited, the next token is its first value, or a fault
 said_item : (p : List Token) (o : Opened) (xs : List RangeListItem) (t : Token) (ts : List Token) → SpellsItems p o xs
     → SaidOfMove p t ts (step (before_item o xs) t)
 said_item p o xs (Number n) ts h =
@@ -369,9 +392,11 @@ item_done : (p : List Token) (o : Opened) (xs : List RangeListItem) (x : RangeLi
     → IsCondition p (condition_of (with_relation o.before (relation_of o (xs ++ x ∷ []))))
 item_done p o xs x h = condition_done p o.before _ (relation_done p o xs x h)
 
+-- a range is no single value
 range_is_no_value : (a b v : Value) → Some (items.Range a b) ≡ Some (items.Value v) → ⊥
 range_is_no_value a b v h = cc
 
+-- behind an item, DotDot makes a range of a single value, and ends the condition behind a range
 said_dots : (p : List Token) (o : Opened) (xs : List RangeListItem) (x : RangeListItem) (ts : List Token)
     → SpellsItem p o xs x → SaidOfMove p DotDot ts (dots_move o xs x)
 said_dots p o xs (items.Value v) ts h =
@@ -383,6 +408,7 @@ said_dots p o xs (items.Range a b) ts h =
         (p, refl, item_done p o xs (items.Range a b) h,
             λ k. range_is_no_value a b k.0 (sym (last_item-complete o xs (items.Range a b)) ∙ k.1))
 
+-- behind an item, And, Or, Comma and perhaps DotDot go on, and any other token ends the condition
 said_after_item : (p : List Token) (o : Opened) (xs : List RangeListItem) (x : RangeListItem) (t : Token)
         (ts : List Token)
     → SpellsItem p o xs x → SaidOfMove p t ts (item_move o xs x t)
@@ -409,6 +435,7 @@ dots_place p o xs v h = inr (inr (
   (v, last_item-complete o xs (items.Value v)),
 ))
 
+-- where the end of a range is awaited, the next token is one, or a fault
 said_range_end : (p : List Token) (o : Opened) (xs : List RangeListItem) (v : Value) (t : Token) (ts : List Token)
     → Spells p (before_end o xs v) → SaidOfMove p t ts (step (before_end o xs v) t)
 said_range_end p o xs v (Number n) ts h =
@@ -429,6 +456,7 @@ said_range_end p o xs v Zero ts h =
     }
 said_range_end p o xs v _ ts h = (places.before_value, p, _ ∷ ts, refl, dots_place p o xs v h, refl)
 
+-- whatever the state, the next token leads on, ends the condition or is a fault as the grammar says
 said_step : (p : List Token) (s : State) (t : Token) (ts : List Token) → Spells p s → SaidOfMove p t ts (step s t)
 said_step p (before_operand b) t ts h = said_operand p b t ts h
 said_step p (after_operand b o) t ts h = said_operand_next p b o t ts h
@@ -438,6 +466,7 @@ said_step p (before_item o xs) t ts h = said_item p o xs t ts h
 said_step p (after_item o xs x) t ts h = said_after_item p o xs x t ts h
 said_step p (before_end o xs v) t ts h = said_range_end p o xs v t ts h
 
+-- whatever the state, the end of the tokens ends the condition or is a fault as the grammar says
 said_end : (p : List Token) (s : State) → Spells p s → SaidOf (p ++ []) [] (at_end s)
 said_end p (before_operand b) h = said_no_operand p b.groups b.relations [] (operand_place p b.groups b.relations h) tt
 said_end p (after_operand b o) h = (places.after_operand, p, [], refl, (h.0, h.1, o, h.2, spells_operand_is h.0 b h.3, h.4), refl)
@@ -447,11 +476,13 @@ said_end p (before_item o xs) h = (places.before_value, p, [], refl, before_valu
 said_end p (after_item o xs x) h = inr (p, refl, item_done p o xs x h, tt)
 said_end p (before_end o xs v) h = (places.before_value, p, [], refl, dots_place p o xs v h, refl)
 
+-- what is said of the move at the end is said of the answer
 said_at_end : (tokens : List Token) (m : Move) → SaidOf tokens [] m → Said tokens (proceed m [] (λ _. Err ExpectedValue))
 said_at_end tokens (go s) h = absurd h
 said_at_end tokens (finish c) h = h
 said_at_end tokens (refuse kind) h = h
 
+-- what is said of a move, and of the answer from the next state, is said of the answer from this one
 said_move : (p : List Token) (t : Token) (ts : List Token) (m : Move) → SaidOfMove p t ts m
     → ((next : State) → Spells (p ++ t ∷ []) next → Said ((p ++ t ∷ []) ++ ts) (run next ts))
     → Said (p ++ t ∷ ts) (proceed m (t ∷ ts) (λ next. run next ts))

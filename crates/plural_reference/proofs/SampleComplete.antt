@@ -1,4 +1,6 @@
--- What the grammar of samples spells is read, and a fault is answered.
+-- What the grammar of samples spells is read, and a fault is answered: the tokens of sections lead the reader of samples behind
+-- them, and those of a waiting place lead it to a state that refuses what follows. From the grammar to the reader;
+-- RuleReadings cites the two last facts, the steps of the parser in samples the step that each kind of token makes.
 use Rattle.std.proofs.Common.{◌≡◌, ◌≢◌, ◌<◌, ◌+◌, ◌/◌, ◌%◌, ℕ, zero, suc, Bool, true, false, List, [], ◌∷◌, ◌++◌,
     Option, Some, None, Ok, Err, refl, sym, ap, ◌∙◌, subst, append_assoc, inl, inr, cond, nat_eq, arith}
 use Rattle.std.proofs.lemmas.Bool.{true≢false}
@@ -30,19 +32,23 @@ use Rattle.plural_reference.proofs.ScanComplete.{no_eq}
 
 -- ---- the text of digits has no mark and no point
 
+-- what is found in neither of two texts is not found in both together
 pub any-append : (p : ℕ → Bool) (u v : List ℕ) → list_any p u ≡ false → list_any p v ≡ false → list_any p (u ++ v) ≡ false
 any-append p [] v h k = k
 any-append p (x ∷ u) v h k =
     both_false (p x) (list_any p (u ++ v)) (left_false (p x) (list_any p u) h)
         (any-append p u v (right_false (p x) (list_any p u) h) k)
 
+-- what is found in neither choice of a test is not found in what it chooses
 by_cond : (b : Bool) (x y : List ℕ) (p : ℕ → Bool) → list_any p x ≡ false → list_any p y ≡ false → list_any p (cond b x y) ≡ false
 by_cond true x y p h k = h
 by_cond false x y p h k = k
 
+-- the glyph of the last digit of a number is its byte
 glyph : (n : ℕ) → digit_glyph false (n % 10) ≡ 48 + n % 10
 glyph n = grind (arith, nat_tests)
 
+-- what is no digit is not found among the digits of a number, put before a text without it
 onto_none : (p : ℕ → Bool) → ((d : ℕ) → d < 10 → p (48 + d) ≡ false) → (k n : ℕ) (acc : List ℕ) → list_any p acc ≡ false
     → list_any p (digits_onto k 10 false n acc) ≡ false
 onto_none p h zero n acc e = e
@@ -50,21 +56,26 @@ onto_none p h (suc k) n acc e =
     let here : list_any p (digit_glyph false (n % 10) ∷ acc) ≡ false = both_false _ _ (ap p (glyph n) ∙ h (n % 10) (omega arith)) e in
     by_cond (nat_eq (n / 10) 0) _ _ p here (onto_none p h k (n / 10) (digit_glyph false (n % 10) ∷ acc) here)
 
+-- what is no digit is not found in a printed number
 decimal_none : (p : ℕ → Bool) → ((d : ℕ) → d < 10 → p (48 + d) ≡ false) → (n : ℕ) → list_any p (decimal n) ≡ false
 unfolding digits
 decimal_none p h n = onto_none p h 64 n [] refl
 
+-- a digit is neither `e` nor `c`
 no_mark : (d : ℕ) → d < 10 → (nat_eq (48 + d) 101 || nat_eq (48 + d) 99) ≡ false
 no_mark d h = both_false _ _ (no_eq (48 + d) 101 (λ e. omega arith)) (no_eq (48 + d) 99 (λ e. omega arith))
 
+-- a digit is no point
 no_point : (d : ℕ) → d < 10 → nat_eq (48 + d) 46 ≡ false
 no_point d h = no_eq (48 + d) 46 (λ e. omega arith)
 
+-- the text of a run of digits has no exponent
 pub digits_no_mark : (t : Token) → IsDigits t → has_exponent (token_text t) ≡ false
 digits_no_mark Zero h = refl
 digits_no_mark (Number n) h = decimal_none (λ b. nat_eq b 101 || nat_eq b 99) no_mark n
 digits_no_mark _ h = absurd h
 
+-- the text of a run of digits has no point
 pub digits_no_point : (t : Token) → IsDigits t → has_point (token_text t) ≡ false
 digits_no_point Zero h = refl
 digits_no_point (Number n) h = decimal_none (λ b. nat_eq b 46) no_point n
@@ -72,6 +83,7 @@ digits_no_point _ h = absurd h
 
 -- ---- digits, fractions and exponents
 
+-- digits join a sample without an exponent
 pub digit_run : (p : Partial) (text : DecimalValue) (t : Token) (rest : List Token) → IsDigits t
     → has_exponent text ≡ false
     → run_samples (in_sample p text) (t ∷ rest) ≡ run_samples (in_sample p (text ++ token_text t)) rest
@@ -80,6 +92,7 @@ digit_run p text Zero rest d h = rw h refl
 digit_run p text (Number n) rest d h = rw h refl
 digit_run p text _ rest d h = absurd d
 
+-- so do several runs of digits
 digits_run : (p : Partial) (text : DecimalValue) (ts rest : List Token) → AllByRecursion IsDigits ts
     → has_exponent text ≡ false
     → run_samples (in_sample p text) (ts ++ rest) ≡ run_samples (in_sample p (text ++ flat_map token_text ts)) rest
@@ -89,25 +102,30 @@ digits_run p text (t ∷ ts) rest d h =
     ∙ digits_run p (text ++ token_text t) ts rest d.1 (any-append _ text (token_text t) h (digits_no_mark t d.0))
     ∙ ap (λ x. run_samples (in_sample p x) rest) (append_assoc text (token_text t) (flat_map token_text ts))
 
+-- the text of several runs of digits has no exponent
 all_no_mark : (ts : List Token) → AllByRecursion IsDigits ts → has_exponent (flat_map token_text ts) ≡ false
 all_no_mark [] d = refl
 all_no_mark (t ∷ ts) d = any-append _ (token_text t) (flat_map token_text ts) (digits_no_mark t d.0) (all_no_mark ts d.1)
 
+-- nor a point
 all_no_point : (ts : List Token) → AllByRecursion IsDigits ts → has_point (flat_map token_text ts) ≡ false
 all_no_point [] d = refl
 all_no_point (t ∷ ts) d = any-append _ (token_text t) (flat_map token_text ts) (digits_no_point t d.0) (all_no_point ts d.1)
 
+-- the text of a fraction has no exponent
 fraction_no_mark : (f : List Token) → IsFraction f → has_exponent (flat_map token_text f) ≡ false
 fraction_no_mark [] h = refl
 fraction_no_mark (Dot ∷ ts) h = all_no_mark ts h
 fraction_no_mark (_ ∷ ts) h = absurd h
 
+-- a point joins a sample without an exponent and without a point
 pub point_run : (p : Partial) (text : DecimalValue) (rest : List Token) → has_exponent text ≡ false
     → has_point text ≡ false
     → run_samples (in_sample p text) (Dot ∷ rest) ≡ run_samples (in_sample p (text ++ token_text Dot)) rest
 unfolding run_samples
 point_run p text rest h k = rw (both_false _ _ h k) refl
 
+-- so does a fraction
 fraction_run : (p : Partial) (text : DecimalValue) (f rest : List Token) → IsFraction f → has_exponent text ≡ false
     → has_point text ≡ false
     → run_samples (in_sample p text) (f ++ rest) ≡ run_samples (in_sample p (text ++ flat_map token_text f)) rest
@@ -118,6 +136,7 @@ fraction_run p text (Dot ∷ ts) rest f h k =
     ∙ ap (λ x. run_samples (in_sample p x) rest) (append_assoc text (token_text Dot) (flat_map token_text ts))
 fraction_run p text (_ ∷ ts) rest f h k = absurd f
 
+-- a mark behind a sample without an exponent leads to where its digits are awaited
 pub mark_run : (p : Partial) (text : DecimalValue) (m : Token) (rest : List Token) → IsExponentMark m
     → has_exponent text ≡ false
     → run_samples (in_sample p text) (m ∷ rest) ≡ run_samples (behind_mark p (text ++ token_text m)) rest
@@ -126,6 +145,7 @@ mark_run p text E rest m h = rw h refl
 mark_run p text (Operand C) rest m h = rw h refl
 mark_run p text _ rest m h = absurd m
 
+-- digits behind a mark end the sample with its exponent
 pub after_mark_run : (p : Partial) (text : DecimalValue) (t : Token) (rest : List Token) → IsDigits t
     → run_samples (behind_mark p text) (t ∷ rest) ≡ run_samples (in_sample p (text ++ token_text t)) rest
 unfolding run_samples
@@ -133,6 +153,7 @@ after_mark_run p text Zero rest d = refl
 after_mark_run p text (Number n) rest d = refl
 after_mark_run p text _ rest d = absurd d
 
+-- an exponent joins a sample without one
 exponent_run : (p : Partial) (text : DecimalValue) (e rest : List Token) → IsExponent e → has_exponent text ≡ false
     → run_samples (in_sample p text) (e ++ rest) ≡ run_samples (in_sample p (text ++ flat_map token_text e)) rest
 exponent_run p text [] rest e h = ap (λ x. run_samples (in_sample p x) rest) (sym (append-nil text))
@@ -151,6 +172,7 @@ pub data Starts : SampleState → Partial → Type 0 where
   at_start : (p : Partial) → Starts (awaits_sample p) p
   at_comma : (p : Partial) → Starts (behind_comma p) p
 
+-- digits begin a sample
 pub first_digit_run : (s : SampleState) (p : Partial) (t : Token) (rest : List Token) → Starts s p → IsDigits t
     → run_samples s (t ∷ rest) ≡ run_samples (in_sample p (token_text t)) rest
 unfolding run_samples
@@ -161,12 +183,14 @@ first_digit_run _ _ Zero rest (at_comma p) d = refl
 first_digit_run _ _ (Number n) rest (at_comma p) d = refl
 first_digit_run _ _ _ rest (at_comma p) d = absurd d
 
+-- a point begins a sample
 pub first_point_run : (s : SampleState) (p : Partial) (rest : List Token) → Starts s p
     → run_samples s (Dot ∷ rest) ≡ run_samples (in_sample p (token_text Dot)) rest
 unfolding run_samples
 first_point_run _ _ rest (at_start p) = refl
 first_point_run _ _ rest (at_comma p) = refl
 
+-- a mark begins a sample that is an exponent alone
 pub first_mark_run : (s : SampleState) (p : Partial) (m : Token) (rest : List Token) → Starts s p → IsExponentMark m
     → run_samples s (m ∷ rest) ≡ run_samples (behind_mark p (token_text m)) rest
 unfolding run_samples
@@ -177,6 +201,7 @@ first_mark_run _ _ E rest (at_comma p) d = refl
 first_mark_run _ _ (Operand C) rest (at_comma p) d = refl
 first_mark_run _ _ _ rest (at_comma p) d = absurd d
 
+-- the text of tokens and more tokens is the texts of both
 pub flat_map-append : (a b : List Token) → flat_map token_text (a ++ b) ≡ flat_map token_text a ++ flat_map token_text b
 flat_map-append [] b = refl
 flat_map-append (x ∷ a) b =
@@ -226,6 +251,7 @@ parts_run s p [] [] (m ∷ x ∷ y ∷ ys) rest st d k g n = absurd g
 parts_run s p (t ∷ i) f e rest st d k g n = with_exponent s p (t ∷ i) f e rest st d k g (λ x. cc)
 parts_run s p [] (t ∷ ts) e rest st d k g n = with_exponent s p [] (t ∷ ts) e rest st d k g (λ x. cc)
 
+-- the tokens of a sample lead into it, with its text
 sample_run : (s : SampleState) (p : Partial) (y : List Token) (text : DecimalValue) (rest : List Token) → Starts s p
     → IsSample y text → run_samples s (y ++ rest) ≡ run_samples (in_sample p text) rest
 sample_run s p y text rest st h =
@@ -236,11 +262,13 @@ sample_run s p y text rest st h =
 
 -- ---- ranges
 
+-- Tilde behind a single sample leads to the upper one
 pub tilde_run : (p : Partial) (text : DecimalValue) (rest : List Token) → p.lower ≡ None
     → run_samples (in_sample p text) (Tilde ∷ rest) ≡ run_samples (awaits_sample (record p { lower = Some text })) rest
 unfolding run_samples
 tilde_run p text rest h = rw h refl
 
+-- a comma completes the range, and leads behind itself
 pub comma_run : (p : Partial) (text : DecimalValue) (rest : List Token)
     → run_samples (in_sample p text) (Comma ∷ rest)
         ≡ run_samples (behind_comma (record p { ranges = ranges_with p text; lower = None })) rest
@@ -257,6 +285,7 @@ record LeadsToSample (from : SampleState) (tokens : List Token) (sections : List
   type_is : partial.type ≡ type
   ranges_are : ranges_with partial text ≡ ranges
 
+-- the tokens of a range lead to its last sample
 range_leads : (s : SampleState) (p : Partial) (tokens : List Token) (lower : DecimalValue) (upper : Option DecimalValue)
     → Starts s p → p.lower ≡ None → IsSampleRange tokens (record { lower_val = lower; upper_val = upper })
     → LeadsToSample s tokens p.sections p.type (p.ranges ++ (record { lower_val = lower; upper_val = upper }) ∷ [])
@@ -284,6 +313,7 @@ range_leads s p tokens lower (Some upper) st n h = record {
   ranges_are = refl;
 }
 
+-- ranges with commas between them lead to the last sample of the last one
 ranges_lead : (s : SampleState) (p : Partial) (tokens : List Token) (rs : List SampleRange) → Starts s p
     → p.lower ≡ None → Separated Comma IsSampleRange tokens rs
     → LeadsToSample s tokens p.sections p.type (p.ranges ++ rs)
@@ -321,20 +351,24 @@ data Closes : SampleState → List Section → Type 0 where
   in_last : (p : Partial) (text : DecimalValue) (ss : List Section) → with_sections p (ranges_with p text) false ≡ ss
       → Closes (in_sample p text) ss
 
+-- tokens lead from a state to one behind the sections
 record LeadsToEnd (from : SampleState) (tokens : List Token) (ss : List Section) : Type 0 where
   state : SampleState
   run_is : (rest : List Token) → run_samples from (tokens ++ rest) ≡ run_samples state rest
   closes : Closes state ss
 
+-- an ellipsis behind a comma completes the list
 pub ellipsis_run : (p : Partial) (rest : List Token)
     → run_samples (behind_comma p) (Ellipsis ∷ rest) ≡ run_samples (after_sections (with_sections p p.ranges true)) rest
 unfolding run_samples
 ellipsis_run p rest = refl
 
+-- behind a list with an ellipsis no range is open
 open-ellipsis : (ss : List Section) (t : Token) (rs : List SampleRange)
     → open_range (ss ++ (record { type = t; list = record { sample_ranges = rs; ellipsis = true } }) ∷ []) ≡ None
 open-ellipsis ss t rs = rw last-push refl
 
+-- the tokens of a list lead behind its section
 list_leads : (sections : List Section) (type : Token) (tokens : List Token) (ranges : List SampleRange) (more : Bool)
     → IsSampleList tokens (record { sample_ranges = ranges; ellipsis = more })
     → LeadsToEnd (awaits_sample (begin_list sections type)) tokens
@@ -374,12 +408,14 @@ list_leads sections type tokens ranges true h =
       closes = closed _ (open-ellipsis sections type ranges);
     }
 
+-- At behind whole sections leads to where a type is awaited
 at_run : (s : SampleState) (ss : List Section) (rest : List Token) → Closes s ss
     → run_samples s (At ∷ rest) ≡ run_samples (behind_at ss) rest
 unfolding run_samples
 at_run _ _ rest (closed ss h) = refl
 at_run _ _ rest (in_last p text ss h) = ap (λ x. run_samples (behind_at x) rest) h
 
+-- a type leads to the first sample of its list
 pub type_run : (ss : List Section) (t : Token) (rest : List Token) → IsSampleType t
     → run_samples (behind_at ss) (t ∷ rest) ≡ run_samples (awaits_sample (begin_list ss t)) rest
 unfolding run_samples
@@ -387,6 +423,7 @@ type_run ss Integer rest h = refl
 type_run ss Decimal rest h = refl
 type_run ss _ rest h = absurd h
 
+-- the tokens of sections lead behind them, from a state behind others
 sections_lead : (s : SampleState) (done : List Section) (tokens : List Token) (ss : List Section) → Closes s done
     → AreSections tokens ss → LeadsToEnd s tokens (done ++ ss)
 sections_lead s done tokens [] c h =
@@ -410,6 +447,7 @@ sections_lead s done tokens (x ∷ xs) c h =
       closes = subst (Closes more.state) (append_assoc done (x ∷ []) xs) more.closes;
     }
 
+-- the tokens of sections lead behind them from the beginning
 all_lead : (tokens : List Token) (ss : List Section) → AreSections tokens ss → LeadsToEnd (after_sections []) tokens ss
 all_lead tokens ss h = sections_lead (after_sections []) [] tokens ss (closed [] refl) h
 
@@ -420,6 +458,7 @@ takes_on : (p : Partial) (text : DecimalValue) (P : DecimalValue → Type 0) →
     → IsSomeAnd (open_range (with_sections p (ranges_with p text) false)) (λ r. P (last_sample r))
 takes_on p text P k = rw open-done (subst P (sym (last_sample-range p.lower text)) k)
 
+-- a token that would join a full sample ends the samples
 pub joins_ends : (full : Bool) (next : SampleState) (p : Partial) (text : DecimalValue) (ts : List Token)
         (k : SampleState → SampleOutcome)
     → (full ≡ false → ⊥)
@@ -427,6 +466,7 @@ pub joins_ends : (full : Bool) (next : SampleState) (p : Partial) (text : Decima
 joins_ends true next p text ts k h = refl
 joins_ends false next p text ts k h = absurd (h refl)
 
+-- Tilde behind an upper sample ends the samples
 pub tilde_ends : (lower : Option DecimalValue) (p : Partial) (text : DecimalValue) (ts : List Token)
         (k : SampleState → SampleOutcome)
     → (lower ≡ None → ⊥)
@@ -434,6 +474,7 @@ pub tilde_ends : (lower : Option DecimalValue) (p : Partial) (text : DecimalValu
 tilde_ends None p text ts k h = absurd (h refl)
 tilde_ends (Some lower) p text ts k h = refl
 
+-- what doesn't continue the samples ends them in their last sample
 last_ends : (p : Partial) (text : DecimalValue) (rest : List Token)
     → IfSome (first rest) (λ t. ¬ (ContinuesSamples (with_sections p (ranges_with p text) false) t))
     → run_samples (in_sample p text) rest ≡ Ok (with_sections p (ranges_with p text) false, rest)
@@ -458,6 +499,7 @@ last_ends p text (Operand C ∷ ts) h =
         (λ e. h (takes_on p text (λ x. Takes x (Operand C)) (e, inr tt)))
 last_ends p text (_ ∷ ts) h = refl
 
+-- what doesn't continue the samples ends them behind an ellipsis, or behind no section
 closed_ends : (ss : List Section) (rest : List Token) → IfSome (first rest) (λ t. ¬ (ContinuesSamples ss t))
     → run_samples (after_sections ss) rest ≡ Ok (ss, rest)
 unfolding run_samples
@@ -465,6 +507,7 @@ closed_ends ss [] h = refl
 closed_ends ss (At ∷ ts) h = absurd (h tt)
 closed_ends ss (_ ∷ ts) h = refl
 
+-- what doesn't continue the samples ends them behind whole sections
 state_ends : (s : SampleState) (ss : List Section) (rest : List Token) → Closes s ss
     → IfSome (first rest) (λ t. ¬ (ContinuesSamples ss t)) → run_samples s rest ≡ Ok (ss, rest)
 state_ends _ _ rest (closed ss h) n = closed_ends ss rest n
@@ -481,6 +524,7 @@ reads_samples_run tokens ss rest h =
 
 -- ---- faults
 
+-- the fault of what follows is answered where a type is awaited
 pub type_stop : (ss : List Section) (rest : List Token) (kind : ParseError) → type_fault (first rest) ≡ Some kind
     → run_samples (behind_at ss) rest ≡ Err kind
 unfolding run_samples
@@ -489,6 +533,7 @@ type_stop ss (Integer ∷ ts) kind h = cc
 type_stop ss (Decimal ∷ ts) kind h = cc
 type_stop ss (_ ∷ ts) kind h = cc
 
+-- the fault of what follows is answered where a sample is awaited
 pub sample_stop : (p : Partial) (rest : List Token) (kind : ParseError) → sample_fault (first rest) ≡ Some kind
     → run_samples (awaits_sample p) rest ≡ Err kind
 unfolding run_samples
@@ -500,6 +545,7 @@ sample_stop p (E ∷ ts) kind h = cc
 sample_stop p (Operand C ∷ ts) kind h = cc
 sample_stop p (_ ∷ ts) kind h = cc
 
+-- the fault of what follows is answered behind a comma
 comma_stop : (p : Partial) (rest : List Token) (kind : ParseError)
     → fault_in_samples places.after_comma (first rest) ≡ Some kind → run_samples (behind_comma p) rest ≡ Err kind
 unfolding run_samples
@@ -512,6 +558,7 @@ comma_stop p (E ∷ ts) kind h = cc
 comma_stop p (Operand C ∷ ts) kind h = cc
 comma_stop p (_ ∷ ts) kind h = cc
 
+-- the fault of what follows is answered behind a mark
 pub mark_stop : (p : Partial) (text : DecimalValue) (rest : List Token) (kind : ParseError)
     → value_fault (first rest) ≡ Some kind → run_samples (behind_mark p text) rest ≡ Err kind
 unfolding run_samples
@@ -531,6 +578,7 @@ then_one spelled q t s next e h k rest =
     ap (run_samples (after_sections [])) (ap (λ l. l ++ rest) e ∙ append_assoc spelled (t ∷ []) rest) ∙ h (t ∷ rest)
         ∙ k rest
 
+-- sections and At lead to where a type is awaited
 arrives_at : (q : List Token) → IsAfterAt q → (ss : List Section) × Arrives q (behind_at ss)
 arrives_at q (spelled, ss, e, h, u) =
     let to = all_lead spelled ss h in
@@ -543,15 +591,18 @@ record OpenEnd (s : SampleState) (ss : List Section) : Type 0 where
   state_is : s ≡ in_sample partial text
   open_is : open_range ss ≡ Some (range_of partial.lower text)
 
+-- whole sections with an open range end in the last sample of that range
 open_end : (s : SampleState) (ss : List Section) → Closes s ss → IsSome (open_range ss) → OpenEnd s ss
 open_end _ _ (closed ss h) k = absurd (true≢false (sym k ∙ ap is_some h))
 open_end _ _ (in_last p text ss h) k =
     record { partial = p; text = text; state_is = refl; open_is = ap open_range (sym h) ∙ open-done p text }
 
+-- where something is said of the open range, there is one
 some_open : (o : Option SampleRange) (P : SampleRange → Type 0) → IsSomeAnd o P → IsSome o
 some_open None P h = absurd h
 some_open (Some r) P h = refl
 
+-- a range without an upper sample has no lower one before its last
 lower_is_none : (lower : Option DecimalValue) (text : DecimalValue) → (range_of lower text).upper_val ≡ None → lower ≡ None
 lower_is_none None text h = refl
 lower_is_none (Some lower) text h = cc
@@ -560,6 +611,7 @@ lower_is_none (Some lower) text h = cc
 at_open : (ss : List Section) (r : SampleRange) (P : SampleRange → Type 0) → open_range ss ≡ Some r → IsSomeAnd (open_range ss) P → P r
 at_open ss r P e k = rw e at k
 
+-- tokens that await a sample lead to such a state
 arrives_sample : (q : List Token) → IsBeforeSample q → (p : Partial) × Arrives q (awaits_sample p)
 arrives_sample q (inl (type, k, (spelled, ss, e, h, u))) =
     let to = all_lead spelled ss h in (
@@ -577,6 +629,7 @@ arrives_sample q (inr (spelled, ss, e, h, k)) =
                 ∙ tilde_run o.partial o.text rest
                     (lower_is_none o.partial.lower o.text (at_open ss _ (λ r. r.upper_val ≡ None) o.open_is k))))
 
+-- a list and a comma lead behind the comma
 arrives_comma : (q : List Token) → IsAfterComma q → (p : Partial) × Arrives q (behind_comma p)
 arrives_comma q (spelled, ss, e, h, k) =
     let to = all_lead spelled ss h in
@@ -585,16 +638,19 @@ arrives_comma q (spelled, ss, e, h, k) =
         then_one spelled q Comma to.state _ e to.run_is
             (λ rest. ap (λ s. run_samples s (Comma ∷ rest)) o.state_is ∙ comma_run o.partial o.text rest))
 
+-- what is said of the open range says what follows from it
 weaker : (o : Option SampleRange) (P Q : SampleRange → Type 0) → ((r : SampleRange) → P r → Q r) → IsSomeAnd o P → IsSomeAnd o Q
 weaker None P Q f h = h
 weaker (Some r) P Q f h = f r h
 
+-- a mark that continues the samples finds a last sample without an exponent
 mark_taken : (ss : List Section) (m : Token) → IsExponentMark m → ContinuesSamples ss m
     → IsSomeAnd (open_range ss) (λ r. has_exponent (last_sample r) ≡ false)
 mark_taken ss E h k = weaker (open_range ss) _ _ (λ r x. x.0) k
 mark_taken ss (Operand C) h k = weaker (open_range ss) _ _ (λ r x. x.0) k
 mark_taken ss _ h k = absurd h
 
+-- tokens that end in a mark lead behind it
 arrives_mark : (q : List Token) → IsAfterMark q → (p : Partial) × (text : DecimalValue) × Arrives q (behind_mark p text)
 arrives_mark q (m, h, inl (before, e, inl w)) =
     let a = arrives_sample before w in
@@ -613,6 +669,7 @@ arrives_mark q (m, h, inr (spelled, ss, e, k, c)) =
         then_one spelled q m to.state _ e to.run_is
             (λ rest. ap (λ s. run_samples s (m ∷ rest)) o.state_is ∙ mark_run o.partial o.text m rest h free))
 
+-- tokens that wait at a place, and what is a fault there, are answered with the fault
 sample_waits_run : (place : places.SamplePlace) (before rest : List Token) (kind : ParseError)
     → places.WaitsInSamples place before → fault_in_samples place (first rest) ≡ Some kind
     → run_samples (after_sections []) (before ++ rest) ≡ Err kind

@@ -1,4 +1,5 @@
--- A cut of a text has the tokens of the scan.
+-- A cut of a text has the tokens of the scan: each piece, scanned from between two pieces, gives its token and leads back
+-- there. From cuts to the scan; ScanSound, CutOnce and the tokens of printed texts cite it.
 use Rattle.std.proofs.Common.{◌≡◌, ◌≢◌, ◌≤◌, ◌+◌, ◌*◌, ℕ, List, [], ◌∷◌, ◌++◌, Option, Some, refl, sym, ap, ◌∙◌,
     append_assoc, true, false, nat_eq, arith, ⊎_elim}
 use Rattle.std.proofs.lemmas.Bool.{eq-eqb, le-leb, lt-leb}
@@ -17,6 +18,7 @@ use Rattle.plural_reference.specs.Lexer.{first, Word, marks, keywords, MayFollow
 use Rattle.plural_reference.specs.Inner.Scan.{Start, between, in_keyword, in_number, starts, look_up, begin,
     number_token, tokens_from, tokens_of}
 
+-- a list of one byte has no other byte behind its first
 pub no_more : (b : ℕ) (bs : List ℕ) (next : ℕ) (more : List ℕ) (k : ℕ) → k ∷ [] ≡ (b ∷ bs) ++ next ∷ more → ⊥
 no_more b [] next more k h = cc
 no_more b (c ∷ cs) next more k h = cc
@@ -25,22 +27,27 @@ no_more b (c ∷ cs) next more k h = cc
 abbrev MarkScans : Word → Type 0
 MarkScans w = (rest : List ℕ) → MayFollow w.0 rest → tokens_of (w.0 ++ rest) ≡ w.1 ∷ tokens_of rest
 
+-- a keyword gives its token, whatever follows
 abbrev KeywordScans : Word → Type 0
 KeywordScans w = (rest : List ℕ) → tokens_of (w.0 ++ rest) ≡ w.1 ∷ tokens_of rest
 
+-- two numbers that differ fail the test of equality
 pub no_eq : (a b : ℕ) → a ≢ b → nat_eq a b ≡ false
 no_eq a b h = ⊎_elim (λ p. absurd (h p.1)) (λ p. p.0) (eqb_tells a b)
 
+-- `i` gives the operand i, where no `n` follows
 i_scans : MarkScans (codes "i", Operand I)
 unfolding tokens_from
 i_scans [] h = refl
 i_scans (b ∷ bs) h = rw (no_eq b 110 (λ e. h.0 refl (ap Some e))) refl
 
+-- `.` gives Dot, where no other `.` follows
 point_scans : MarkScans (codes ".", Dot)
 unfolding tokens_from
 point_scans [] h = refl
 point_scans (b ∷ bs) h = rw (no_eq b 46 (λ e. h.1 refl (ap Some e))) refl
 
+-- each mark gives its token before whatever may follow it
 marks_scan : AllByRecursion MarkScans marks
 unfolding tokens_from
 marks_scan = (
@@ -81,6 +88,7 @@ marks_scan = (
   ),
 )
 
+-- each keyword gives its token
 keywords_scan : AllByRecursion KeywordScans keywords
 unfolding tokens_from
 keywords_scan = (λ rest. refl, (λ rest. refl, (λ rest. refl, (λ rest. refl, (λ rest. refl, (λ rest. refl, tt))))))
@@ -99,11 +107,13 @@ keyword_tail k (l ∷ ls) t (b ∷ bs) next more rest h =
     let tail : l ∷ ls ≡ bs ++ next ∷ more = cc in
     rw (← same_k, eq-eqb k k refl) (keyword_tail l ls t bs next more rest tail)
 
+-- at each byte of a keyword but the last, what is there of it leads the scan to the bytes that are awaited
 abbrev BegunScans : Word → Type 0
 BegunScans w =
     (begun : List ℕ) (next : ℕ) (more rest : List ℕ) → w.0 ≡ begun ++ next ∷ more → begun ≢ [] → begun ≢ codes "i"
         → tokens_of (begun ++ rest) ≡ tokens_from (in_keyword next more w.1) rest
 
+-- a keyword does so whose first byte alone opens it
 begun_from : (first_byte k : ℕ) (ks : List ℕ) (t : Token)
     → ((rest : List ℕ) → tokens_of (first_byte ∷ rest) ≡ tokens_from (in_keyword k ks t) rest)
     → BegunScans (first_byte ∷ k ∷ ks, t)
@@ -113,6 +123,7 @@ begun_from f k ks t h (b ∷ bs) next more rest e ne ni =
     let tail : k ∷ ks ≡ bs ++ next ∷ more = cc in
     rw (← same_f) (h (bs ++ rest) ∙ keyword_tail k ks t bs next more rest tail)
 
+-- `integer` does so from `in` on, since `i` alone is an operand
 integer_begun : BegunScans (codes "integer", Integer)
 unfolding tokens_from
 integer_begun [] next more rest e ne ni = absurd (ne refl)
@@ -123,6 +134,7 @@ integer_begun (b ∷ c ∷ bs) next more rest e ne ni =
     let tail : 116 ∷ 101 ∷ 103 ∷ 101 ∷ 114 ∷ [] ≡ bs ++ next ∷ more = cc in
     rw (same_b, same_c) (keyword_tail 116 (101 ∷ 103 ∷ 101 ∷ 114 ∷ []) Integer bs next more rest tail)
 
+-- every keyword does so
 begun_scan : AllByRecursion BegunScans keywords
 unfolding tokens_from
 begun_scan = (
@@ -142,12 +154,14 @@ begun_scan = (
   ),
 )
 
+-- the bytes of a begun keyword lead the scan to the bytes that are awaited
 begun_leads : (begun : List ℕ) (next : ℕ) (rest : List ℕ) (h : IsBegun begun next)
     → tokens_of (begun ++ rest) ≡ tokens_from (in_keyword next h.more h.word.1) rest
 begun_leads begun next rest h =
     All-contains BegunScans keywords h.word (All-from_recursion BegunScans keywords begun_scan) h.is_keyword begun next
         h.more rest h.spelling h.nonempty h.not_i
 
+-- a keyword that a wrong byte breaks off is one Junk, together with that byte
 broken_scans : (begun : List ℕ) (next b : ℕ) (rest : List ℕ) → IsBegun begun next → b ≢ next
     → tokens_of ((begun ++ b ∷ []) ++ rest) ≡ Junk ∷ tokens_of rest
 unfolding tokens_from
@@ -155,20 +169,24 @@ broken_scans begun next b rest h differs =
     ap tokens_of (append_assoc begun (b ∷ []) rest) ∙ begun_leads begun next (b ∷ rest) h
         ∙ rw (no_eq b next differs) refl
 
+-- a keyword that the end of the text cuts off is one Junk
 cut_off_scans : (begun : List ℕ) (next : ℕ) → IsBegun begun next → tokens_of (begun ++ []) ≡ Junk ∷ []
 unfolding tokens_from
 cut_off_scans begun next h = begun_leads begun next [] h
 
 -- ---- numbers
 
+-- an ASCII digit passes the test of digits
 pub digit_yes : (b : ℕ) → IsAsciiDigit b → is_ascii_digit b ≡ true
 digit_yes b h = grind (arith, nat_tests)
 
+-- any other byte fails it
 pub digit_no : (b : ℕ) → (IsAsciiDigit b → ⊥) → is_ascii_digit b ≡ false
 digit_no b h =
     ⊎_elim (λ low. ⊎_elim (λ high. absurd (h (low.1, high.1))) (λ high. rw (low.0, high.0) refl) (leb_tells b 57))
         (λ low. rw low.0 refl) (leb_tells 48 b)
 
+-- digits that no digit follows end an open number: one token, of the number with these digits behind it
 number_scans : (n : ℕ) (digits rest : List ℕ) → AllByRecursion IsAsciiDigit digits
     → IfSome (first rest) (λ d. ¬ (IsAsciiDigit d))
     → tokens_from (in_number n) (digits ++ rest) ≡ number_token (digits_value_after 10 n digits) ∷ tokens_of rest
@@ -177,9 +195,11 @@ number_scans n [] [] all whole = refl
 number_scans n [] (b ∷ bs) all whole = rw (digit_no b whole) refl
 number_scans n (d ∷ ds) rest all whole = rw (digit_yes d all.0) (number_scans (n * 10 + digit_value d) ds rest all.1 whole)
 
+-- a digit other than `0` opens a number, between two pieces
 pub begin_digit : (d : ℕ) → IsAsciiDigit d → d ≢ 48 → begin d ≡ ([], in_number (0 * 10 + digit_value d))
 begin_digit d h k = let low : 49 ≤ d = omega arith in rw (no_eq d 32 (omega arith), le-leb 49 d low, le-leb d 57 h.1) refl
 
+-- a run of digits is one token, Number or Junk by its value
 pub run_scans : (digits rest : List ℕ) → IsDigitRun digits rest
     → tokens_of (digits ++ rest) ≡ number_token (digits_value 10 digits) ∷ tokens_of rest
 unfolding tokens_from
@@ -190,6 +210,7 @@ run_scans (d ∷ ds) rest h =
 
 -- ---- other bytes
 
+-- a byte that is in no row of the table is Junk
 none_found : (b : ℕ) (ss : List (ℕ × Start)) → AllByRecursion (λ (s : ℕ × Start). b ≢ s.0) ss → look_up b ss ≡ (Junk ∷ [], between)
 none_found b [] h = refl
 none_found b (s ∷ ss) h = rw (no_eq b s.0 h.0) (none_found b ss h.1)
@@ -198,6 +219,7 @@ none_found b (s ∷ ss) h = rw (no_eq b s.0 h.0) (none_found b ss h.1)
 other_byte : {b c : ℕ} → Some c ≢ Some b → b ≢ c
 other_byte h e = h (ap Some (sym e))
 
+-- a byte that begins no mark and no keyword is in no row of the table of first bytes
 no_start : (b : ℕ) → All (λ (word : Word). first word.0 ≢ Some b) (marks ++ keywords) → AllByRecursion (λ (s : ℕ × Start). b ≢ s.0) starts
 no_start b h =
     let r = recursion_from_All (λ (word : Word). first word.0 ≢ Some b) (marks ++ keywords) h in
@@ -210,6 +232,7 @@ no_start b h =
     (other_byte r.1.1.1.1.1.1.1.1.1.1.1.1.1.1.1.1.1.1.0, (other_byte r.1.1.1.1.1.1.1.1.1.1.1.1.1.1.1.1.1.1.1.0,
     (other_byte r.1.1.1.1.1.1.1.1.1.1.1.1.1.1.1.1.1.1.1.1.0, tt))))))))))))))))))))
 
+-- a byte that begins no piece is Junk, between two pieces
 pub begin_unknown : (b : ℕ) → BeginsNone b → begin b ≡ (Junk ∷ [], between)
 begin_unknown b h =
     let none = none_found b starts (no_start b h.2) in
@@ -218,12 +241,14 @@ begin_unknown b h =
             (leb_tells b 57))
         (λ low. rw (no_eq b 32 h.0, low.0) none) (leb_tells 49 b)
 
+-- such a byte in front of a text gives Junk, and then the tokens of the rest
 unknown_scans : (b : ℕ) (rest : List ℕ) → BeginsNone b → tokens_of (b ∷ rest) ≡ Junk ∷ tokens_of rest
 unfolding tokens_from
 unknown_scans b rest h = rw (begin_unknown b h) refl
 
 -- ---- pieces and cuts
 
+-- a piece in front of a rest gives its token, and then the tokens of the rest
 pub piece_scans : (piece rest : List ℕ) (token : Option Token) → IsPiece piece rest token
     → tokens_of (piece ++ rest) ≡ cons_option token (tokens_of rest)
 unfolding tokens_from
@@ -239,6 +264,7 @@ piece_scans piece rest token (too_large r large k) = run_scans piece rest r ∙ 
 piece_scans piece rest token (broken begun next b e g d k) = rw (e, k) (broken_scans begun next b rest g d)
 piece_scans piece rest token (cut_off next g e k) = rw (e, k) (cut_off_scans piece next g)
 
+-- the tokens of a cut are those of the scan, so all cuts of a text have the same tokens
 pub cut_scans : (text : List ℕ) (pieces : List Piece) → IsCut text pieces → tokens_of text ≡ filter_map (λ p. p.1) pieces
 unfolding tokens_from
 cut_scans text [] h = rw h refl

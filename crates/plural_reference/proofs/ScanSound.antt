@@ -1,4 +1,6 @@
--- Every text has a cut, with the tokens of the scan.
+-- Every text has a cut, with the tokens of the scan: the bytes of the open piece are kept beside the state of the scan until
+-- the piece ends. From the scan to cuts; with ScanComplete the tokens of a text are just those of the scan, which the laws of
+-- reading, the lexer and the printed texts cite.
 use Rattle.std.proofs.Common.{◌≡◌, ◌≢◌, ◌<◌, ◌≤◌, ◌+◌, ◌*◌, ℕ, List, [], ◌∷◌, ◌++◌, Option, Some, None, refl, sym, ap,
     ◌∙◌, subst, append_assoc, inl, inr, cond, Bool, true, false, nat_eq, arith, ⊎_elim, lit<}
 use Rattle.std.proofs.lemmas.Bool.{eqb-false, true≢false}
@@ -19,6 +21,7 @@ use Rattle.plural_reference.specs.Inner.Scan.{Start, gives, opens, Scan, between
     after_point, starts, look_up, start_move, begin, number_token, keyword_move, then_begin, step, at_end, Move,
     tokens_from, tokens_of}
 
+-- two lists that are equal have equal first numbers
 heads : (a b : ℕ) (xs ys : List ℕ) → a ∷ xs ≡ b ∷ ys → a ≡ b
 heads a b xs ys e = cc
 
@@ -26,18 +29,23 @@ heads a b xs ys e = cc
 apart : (a b : ℕ) → nat_eq a b ≡ false → a ≢ b
 apart a b h = eqb-false a b h
 
+-- so texts differ whose first bytes a test tells apart
 texts_apart : (a b : ℕ) (xs ys : List ℕ) → nat_eq a b ≡ false → a ∷ xs ≢ b ∷ ys
 texts_apart a b xs ys h e = apart a b h (heads a b xs ys e)
 
+-- a text of two bytes is none of one
 two_not_one : (x y z : ℕ) → x ∷ y ∷ [] ≢ z ∷ []
 two_not_one x y z e = cc
 
+-- nor is any longer text
 many_not_one : (x y : ℕ) (ys : List ℕ) (z : ℕ) → x ∷ y ∷ ys ≢ z ∷ []
 many_not_one x y ys z e = cc
 
+-- a text with a first byte is not empty
 not_empty : (a : ℕ) (xs : List ℕ) → a ∷ xs ≢ []
 not_empty a xs e = cc
 
+-- two values that are there and equal are the same value
 some_inj : {A : Type 0} {x y : A} → Some x ≡ Some y → x ≡ y
 some_inj e = cc
 
@@ -46,6 +54,7 @@ more_tokens : (piece rest : List ℕ) (token : Option Token) (ts : List Token) �
     → AreTokensOf rest ts → AreTokensOf (piece ++ rest) (cons_option token ts)
 more_tokens piece rest token ts h k = ((piece, token) ∷ k.0, (rest, refl, h, k.1), ap (cons_option token) k.2)
 
+-- the empty text is cut into no pieces
 no_tokens : AreTokensOf [] []
 no_tokens = ([], refl, refl)
 
@@ -61,6 +70,7 @@ Opened w after_point = w ≡ codes "."
 abbrev Cuts : List ℕ → Type 0
 Cuts bs = (s : Scan) (w : List ℕ) → Opened w s → AreTokensOf (w ++ bs) (tokens_from s bs)
 
+-- the bytes of an open keyword are a begun keyword
 is_begun : (w : List ℕ) (k : ℕ) (ks : List ℕ) (t : Token) → Opened w (in_keyword k ks t) → IsBegun w k
 is_begun w k ks t h = record { word = (w ++ k ∷ ks, t); more = ks; is_keyword = h.0; spelling = refl; nonempty = h.1; not_i = h.2 }
 
@@ -75,18 +85,22 @@ number_piece w rest n h whole =
     (λ large. too_large run (subst (λ x. max_number < x) h.3 large.1) (rw large.0 refl))
     (leb_tells n max_number)
 
+-- `i` is a piece, where no `n` follows
 i_piece : (rest : List ℕ) → first rest ≢ Some 110 → IsPiece (codes "i") rest (Some (Operand I))
 i_piece rest h = mark (Operand I) (6, lit< tt, refl) ((λ _. h), (λ e. absurd (texts_apart 105 46 [] [] refl e))) refl
 
+-- `.` is a piece, where no other `.` follows
 point_piece : (rest : List ℕ) → first rest ≢ Some 46 → IsPiece (codes ".") rest (Some Dot)
 point_piece rest h = mark Dot (10, lit< tt, refl) ((λ e. absurd (texts_apart 46 105 [] [] refl e)), (λ _. h)) refl
 
 -- ---- the first byte of a piece
 
+-- a row of the table of first bytes is right: its byte is a mark that nothing goes on with, or it opens a longer piece
 abbrev StartOk : ℕ × Start → Type 0
 StartOk (b, gives t) = Contains marks (b ∷ [], t) × (b ≢ 105) × (b ≢ 46)
 StartOk (b, opens s) = Opened (b ∷ []) s
 
+-- every row of the table of first bytes is right
 starts_ok : AllByRecursion StartOk starts
 starts_ok = (
   ((0, lit< tt, refl), apart 110 105 refl, apart 110 46 refl),
@@ -150,14 +164,17 @@ starts_ok = (
   ),
 )
 
+-- a byte is in a right row of the table, which says what it does, or in no row, and then it is Junk
 data LooksUp (b : ℕ) (ss : List (ℕ × Start)) (m : Move) : Type 0 where
   is_there : (s : Start) → StartOk (b, s) → m ≡ start_move s → LooksUp b ss m
   is_absent : AllByRecursion (λ (s : ℕ × Start). b ≢ s.0) ss → m ≡ (Junk ∷ [], between) → LooksUp b ss m
 
+-- a row of another byte changes nothing
 looks_up_more : (b : ℕ) (s : ℕ × Start) (ss : List (ℕ × Start)) (m : Move) → b ≢ s.0 → LooksUp b ss m → LooksUp b (s ∷ ss) m
 looks_up_more b s ss m h (is_there t k e) = is_there t k e
 looks_up_more b s ss m h (is_absent k e) = is_absent (h, k) e
 
+-- what a byte does by a table of right rows is said by a right row, or is Junk
 looks_up : (b : ℕ) (ss : List (ℕ × Start)) → AllByRecursion StartOk ss → LooksUp b ss (look_up b ss)
 looks_up b [] h = is_absent tt refl
 looks_up b ((c, s) ∷ ss) h = ⊎_elim
@@ -169,6 +186,7 @@ looks_up b ((c, s) ∷ ss) h = ⊎_elim
 other_first : {b c : ℕ} → b ≢ c → Some c ≢ Some b
 other_first h e = h (sym (some_inj e))
 
+-- a byte that is no space, no digit and in no row of the table begins no piece
 begins_none : (b : ℕ) → b ≢ 32 → (IsAsciiDigit b → ⊥) → AllByRecursion (λ (s : ℕ × Start). b ≢ s.0) starts → BeginsNone b
 begins_none b no_space no_digit h = (
   no_space,
@@ -187,15 +205,18 @@ begins_none b no_space no_digit h = (
 
 -- ---- one byte more
 
+-- a text with a byte behind it is not empty
 pushed_not_empty : (w : List ℕ) (k : ℕ) → w ++ k ∷ [] ≢ []
 pushed_not_empty [] k e = cc
 pushed_not_empty (x ∷ xs) k e = cc
 
+-- a byte behind some bytes makes another text than `i`
 two_not_i : (w : List ℕ) (k : ℕ) → w ≢ [] → w ++ k ∷ [] ≢ codes "i"
 two_not_i [] k h e = absurd (h refl)
 two_not_i (x ∷ []) k h e = absurd (two_not_one x k 105 e)
 two_not_i (x ∷ y ∷ ys) k h e = absurd (many_not_one x y (ys ++ k ∷ []) 105 e)
 
+-- a byte in a right row is a piece or opens one: with a rest that is cut so, it is cut with the tokens of the scan
 one_piece : (b : ℕ) (bs : List ℕ) (s : Start) → StartOk (b, s) → Cuts bs
     → AreTokensOf (b ∷ bs) ((start_move s).0 ++ tokens_from (start_move s).1 bs)
 one_piece b bs (gives t) h cuts =
@@ -204,6 +225,7 @@ one_piece b bs (gives t) h cuts =
         (cuts between [] refl)
 one_piece b bs (opens s) h cuts = cuts s (b ∷ []) h
 
+-- so is any byte but a space or a digit, with such a rest
 looked_up : (b : ℕ) (bs : List ℕ) (m : Move) → LooksUp b starts m → b ≢ 32 → (IsAsciiDigit b → ⊥) → Cuts bs
     → AreTokensOf (b ∷ bs) (m.0 ++ tokens_from m.1 bs)
 looked_up b bs m (is_there s h e) no_space no_digit cuts = rw e (one_piece b bs s h cuts)
@@ -222,6 +244,7 @@ no_digit_looked_up b bs no_space out cuts =
         (λ d. absurd (⊎_elim (λ low. let e : b ≡ 48 = omega arith in not_zero.1 e) (λ high. omega arith) out)) cuts)
     (eqb_tells b 48)
 
+-- so is any byte at all, with such a rest
 begin_cuts : (b : ℕ) (bs : List ℕ) → Cuts bs → AreTokensOf (b ∷ bs) ((begin b).0 ++ tokens_from (begin b).1 bs)
 begin_cuts b bs cuts =
     ⊎_elim
@@ -243,6 +266,7 @@ ended_cuts : (w : List ℕ) (t : Token) (b : ℕ) (bs : List ℕ) → IsPiece w 
     → AreTokensOf (w ++ b ∷ bs) ((then_begin t (begin b)).0 ++ tokens_from (then_begin t (begin b)).1 bs)
 ended_cuts w t b bs h cuts = more_tokens w (b ∷ bs) (Some t) ((begin b).0 ++ tokens_from (begin b).1 bs) h (begin_cuts b bs cuts)
 
+-- so is an open keyword with the byte that it awaits, and such a rest
 keyword_cuts : (w : List ℕ) (k : ℕ) (ks : List ℕ) (t : Token) (bs : List ℕ) → Opened w (in_keyword k ks t) → Cuts bs
     → AreTokensOf (w ++ k ∷ bs) ((keyword_move ks t).0 ++ tokens_from (keyword_move ks t).1 bs)
 keyword_cuts w k [] t bs h cuts =
@@ -253,6 +277,7 @@ keyword_cuts w k (l ∷ ls) t bs h cuts = subst (λ x. AreTokensOf x (tokens_fro
         (subst (λ x. Contains keywords (x, t)) (sym (append_assoc w (k ∷ []) (l ∷ ls))) h.0, pushed_not_empty w k,
             two_not_i w k h.1))
 
+-- the test of digits tells an ASCII digit from any other byte
 digit_tells : (b : ℕ) → ((is_ascii_digit b ≡ true) × IsAsciiDigit b) ⊎ ((is_ascii_digit b ≡ false) × (IsAsciiDigit b → ⊥))
 digit_tells b =
     ⊎_elim
@@ -261,19 +286,23 @@ digit_tells b =
     (λ low. inr (rw low.0 refl, λ d. let le : 48 ≤ b = d.0 in omega arith))
     (leb_tells 48 b)
 
+-- digits with a digit behind them are digits
 all_pushed : (w : List ℕ) (b : ℕ) → AllByRecursion IsAsciiDigit w → IsAsciiDigit b → AllByRecursion IsAsciiDigit (w ++ b ∷ [])
 all_pushed [] b h k = (k, tt)
 all_pushed (x ∷ xs) b h k = (h.0, all_pushed xs b h.1 k)
 
+-- a digit behind a number leaves its first digit, which isn't `0`
 first_pushed : (w : List ℕ) (b : ℕ) → w ≢ [] → IfSome (first w) (λ d. d ≢ 48) → IfSome (first (w ++ b ∷ [])) (λ d. d ≢ 48)
 first_pushed [] b h k = absurd (h refl)
 first_pushed (x ∷ xs) b h k = k
 
+-- an open number with one more digit is an open number of the value that the scan computes
 number_pushed : (w : List ℕ) (n b : ℕ) → Opened w (in_number n) → IsAsciiDigit b → Opened (w ++ b ∷ []) (in_number (n * 10 + digit_value b))
 number_pushed w n b h d =
     (all_pushed w b h.0 d, first_pushed w b h.2 h.1, pushed_not_empty w b,
         ap (λ x. x * 10 + digit_value b) h.3 ∙ sym (digits_value_push 10 w b))
 
+-- what is absent is not there
 none_is_not_some : {A : Type 0} {x : A} → None ≢ Some x
 none_is_not_some e = cc
 
@@ -284,6 +313,7 @@ by_test : (b : ℕ) (w bs : List ℕ) (test : Bool) (m n : Move) → test ≡ fa
 by_test b w bs true m n e h = absurd (true≢false e)
 by_test b w bs false m n e h = h
 
+-- so is any open piece with any byte behind it, and such a rest
 said_step : (w : List ℕ) (s : Scan) (b : ℕ) (bs : List ℕ) → Opened w s → Cuts bs
     → AreTokensOf (w ++ b ∷ bs) ((step s b).0 ++ tokens_from (step s b).1 bs)
 said_step w between b bs h cuts =
@@ -325,6 +355,7 @@ said_step w after_point b bs h cuts =
         (rw h (ended_cuts (codes ".") Dot b bs (point_piece (b ∷ bs) (λ e. differs.1 (some_inj e))) cuts)))
     (eqb_tells b 46)
 
+-- an open piece at the end of the text is a piece, or is cut off, with the token that the scan gives at its end
 said_end : (w : List ℕ) (s : Scan) → Opened w s → AreTokensOf (w ++ []) (at_end s)
 said_end w between h = rw h no_tokens
 said_end w (in_keyword k ks t) h = more_tokens w [] (Some Junk) [] (cut_off k (is_begun w k ks t h) refl refl) no_tokens
@@ -332,6 +363,7 @@ said_end w (in_number n) h = more_tokens w [] (Some (number_token n)) [] (number
 said_end w after_i h = rw h (more_tokens (codes "i") [] (Some (Operand I)) [] (i_piece [] none_is_not_some) no_tokens)
 said_end w after_point h = rw h (more_tokens (codes ".") [] (Some Dot) [] (point_piece [] none_is_not_some) no_tokens)
 
+-- from every open piece on, the text is cut with the tokens of the scan
 all_cuts : (bs : List ℕ) → Cuts bs
 unfolding tokens_from
 all_cuts [] s w h = said_end w s h
