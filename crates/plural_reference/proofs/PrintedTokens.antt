@@ -86,11 +86,11 @@ EndsRun rest = IfSome (first rest) (λ b. ¬ (IsAsciiDigit b))
 abbrev pub AreDigits : List ℕ → Type 0
 AreDigits ds = AllByRecursion IsAsciiDigit ds
 
--- the lemmas on numerals take such bytes as digits
+-- these are just the texts of decimal digits
 are_tested : IsDigitsTest AreDigits
 are_tested = search rules
 
--- and their value as the number that they write
+-- with their value in base 10 they are what the lemmas on numerals speak of
 pub numerals : IsNumeralModel AreDigits (digits_value 10)
 numerals = numerals_by_value AreDigits are_tested
 
