@@ -47,7 +47,7 @@ bitten stops b more = []
 bitten ends b more = b ∷ []
 bitten (goes s) b more = b ∷ more s
 
--- the bytes of the piece that is open
+-- the bytes that belong to the open piece
 unfoldable piece_from : Scan → List ℕ → List ℕ
 piece_from s [] = []
 piece_from s (b ∷ bs) = bitten (bite s b) b (λ next. piece_from next bs)

@@ -59,7 +59,7 @@ holds_whole_numbers ranges modulus o = (
 pub shifted_places : ShiftedPlaces
 shifted_places x e = (length-whole e x, length-fraction e x)
 
--- a number of 10 ^ n or more has a digit that isn't 0 before the last n
+-- digits that write 10 ^ n or more have one that isn't 0 before the last n
 long_digits : (ds : List ℕ) (n : ℕ) → AreDigits ds → 10 ^ n ≤ value_of ds → (i : ℕ) × (i + n < length ds) × (0 < get_or ds i 0)
 long_digits [] n h v = absurd (let p : 0 < 10 ^ n = power_above n in omega arith)
 long_digits (zero ∷ ds) n h v =
@@ -90,7 +90,7 @@ long_value_of (d ∷ ds) n (suc i) h k =
     let v : 10 ^ n ≤ value_of ds = long_value_of ds n i (omega arith) k in
     omega arith
 
--- the digit at a place that is written, by its index from the front
+-- a place with a digit that isn't 0 is one of the digits, counted from the front
 digit_index : (x : Places) (z : ℤ) → 0 < digit_at x z → (i : ℕ) × (z ≡ (pos (length x.whole) -ℤ pos 1) -ℤ pos i)
 digit_index x (pos k) h =
     elim (cases_lt k (length x.whole)) [
@@ -129,7 +129,7 @@ long_value x e n h =
 
 -- ---- the widest bound
 
--- where a number and its double leave the same, the number leaves nothing
+-- where m leaves the same of a number and of its double, it divides the number
 double_leaves : (n m : ℕ) → n % m ≡ 2 * n % m → m ∣ n
 double_leaves n m e =
     let q : n / m * m + n % m ≡ n = div-add-mod' n m in
@@ -164,11 +164,11 @@ written_twice x h = record {
   fraction = subst AreDigits (sym h.1) tt;
 }
 
--- a range of one number holds it, and no other
+-- a range of one number holds that number
 pub in_it : (a k : ℕ) → k ≡ a → is_in_ranges ((a, a) ∷ []) k ≡ true
 in_it a k e = or_left (range_holds k (a, a)) false (and_from _ _ (le-leb a k (omega arith)) (le-leb k a (omega arith)))
 
--- what a range of one number holds is that number
+-- and no other
 pub only_it : (a k : ℕ) → is_in_ranges ((a, a) ∷ []) k ≡ true → k ≡ a
 only_it a k h =
     elim (or_cases (range_holds k (a, a)) false h) [

@@ -73,7 +73,7 @@ same_six a b i v w f t c = cc
 pub one_record : (a b : Operands) → a.i ≡ b.i → SameFraction a b → a.c ≡ b.c → a ≡ b
 one_record a b i s c = six_parts a ∙ same_six a b i s.v s.w s.f s.t c ∙ sym (six_parts b)
 
--- a count without trailing zeros, and what is left then
+-- so many digits are left of a written fraction without its last zeros, and t is their number
 record IsLeast (shown written w t : ℕ) : Type 0 where
   pub divides : 10 ^ (shown - w) ∣ written
   pub least : (k : ℕ) → 10 ^ (shown - k) ∣ written → w ≤ k
@@ -107,7 +107,7 @@ least_of shown written =
     least_from shown written shown written (omega arith)
         (let z : shown - shown ≡ 0 = omega arith in subst (λ (j : ℕ). written ≡ written * 10 ^ j) (sym z) (omega arith))
 
--- the operands of an integer part, a fraction and an exponent
+-- an integer part, a written fraction and an exponent have operands
 made : (i shown written c : ℕ) → (o : Operands) × (o.i ≡ i) × HasFraction o shown written × (o.c ≡ c)
 made i shown written c =
     let l : (w t : ℕ) × IsLeast shown written w t = least_of shown written in

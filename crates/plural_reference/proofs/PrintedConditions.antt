@@ -175,7 +175,7 @@ condition_spells c some h =
                     c.0 h)) in
     record { tokens = all.tokens; part = all.part; scans = all.scans }
 
--- no condition goes on with At
+-- neither the end nor At continues a condition
 at_ends : (c : Condition) (rest : List Token) → IsUnconditional rest → IfSome (first rest) (λ t. ¬ (Continues c t))
 at_ends c [] h = tt
 at_ends c (At ∷ ts) h = λ k. k

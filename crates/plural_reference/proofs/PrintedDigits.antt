@@ -25,7 +25,7 @@ use Rattle.plural_reference.proofs.PrintedTokens.{below_digits, above_digits, Sc
 use Rattle.plural_reference.proofs.SampleParserSteps.{digit_again}
 use Rattle.plural_reference.proofs.TokensFit.{TokenFits, AllFit}
 
--- what may follow a sample: the end, or neither a digit nor a point
+-- a byte that is neither a digit nor a point
 abbrev pub BreaksSample : ℕ → Type 0
 BreaksSample b = (IsAsciiDigit b → ⊥) × (b ≢ 46)
 
@@ -63,7 +63,7 @@ token_digits Zero f h = ((omega arith, omega arith), tt)
 token_digits (Number n) f h = digits_decimal numerals n (small_fits n f)
 token_digits _ f h = absurd h
 
--- the texts of digits are digits
+-- the text of runs of digits is digits
 pub text_digits : (tokens : List Token) → AllFit tokens → AllByRecursion IsDigits tokens → AreDigits (flat_map token_text tokens)
 text_digits [] f h = tt
 text_digits (t ∷ ts) f h = are_append (token_text t) (flat_map token_text ts) (token_digits t f.0 h.0) (text_digits ts f.1 h.1)
@@ -97,7 +97,7 @@ one_run d ds other h small = record {
       };
 }
 
--- digits are zeros, and then a number
+-- digits give tokens of digits, with the same text: some zeros, and then a number
 pub digits_retold : (ds : List ℕ) → AreDigits ds → digits_value 10 ds ≤ max_number → Spells EndsRun (Retold (AllByRecursion IsDigits)) ds ds
 digits_retold [] h small = record { tokens = []; part = (tt, refl); scans = record { gives = λ rest f. refl } }
 digits_retold (d ∷ ds) h small =

@@ -20,7 +20,7 @@ use Rattle.plural_reference.proofs.TokensFit.{AllFit, fit_left, fit_right}
 
 -- ---- what is read
 
--- one list at least, and each is spelled by tokens that fit
+-- one of two lists is there
 abbrev HasList : Option SampleList → Option SampleList → Type 0
 HasList None None = ⊥
 HasList _ _ = Unit {0}
@@ -36,7 +36,7 @@ has_second : (first : Option SampleList) (l : SampleList) → HasList first (Som
 has_second None l = tt
 has_second (Some k) l = tt
 
--- a list takes its place in what was read before, or in nothing
+-- a list takes its place among samples as they are read, or is the first
 with_list_read : (t : Token) (l : SampleList) (old : samples.Samples) → IsSampleType t → IsSpelled IsSampleList l
     → IfSome old.integer (λ k. IsSpelled IsSampleList k) → IfSome old.decimal (λ k. IsSpelled IsSampleList k)
     → AreReadSamples (with_list t l old)
@@ -68,7 +68,7 @@ are_read : (ss : List Section) → AllByRecursion IsSpelledSection ss → IfSome
 are_read [] h = tt
 are_read (s ∷ ss) h = sections_read ss _ h.1 (with_list_read s.type s.list (record { integer = None; decimal = None }) h.0.0 h.0.1 tt tt)
 
--- the samples that are read of tokens that fit
+-- the samples that are read of tokens that fit are such samples
 pub samples_are_read : (tokens : List Token) (s : Option samples.Samples) → AllFit tokens → ReadsSamples tokens s → IfSome s AreReadSamples
 samples_are_read tokens s f h =
     let spelled = sections_spelled h.1 h.0 (fit_left h.1 h.2 (subst AllFit h.3 f)) h.4 in

@@ -51,7 +51,7 @@ mark_nonempty E h = λ e. cc
 mark_nonempty (Operand C) h = λ e. cc
 mark_nonempty _ h = absurd h
 
--- some token gives some text
+-- a sample that has a token has some text
 sample_nonempty : (i f e : List Token) → AllFit ((i ++ f) ++ e) → AllByRecursion IsDigits i → IsFraction f
     → IsExponent e → (i ++ f) ++ e ≢ [] → flat_map token_text ((i ++ f) ++ e) ≢ []
 sample_nonempty (t ∷ ts) f e a h k l some = append_nonempty (token_text t) _ (digit_nonempty t a.0 h.0)
@@ -135,7 +135,7 @@ module _ (i f e : List Token) (a : AllFit ((i ++ f) ++ e)) (digit : AllByRecursi
             (exponent_follows e exponent);
       }
 
--- a sample is read again from its text
+-- a sample that was read and has small runs is read again from its text
 pub sample_spells : (tokens : List Token) (text : DecimalValue) → AllFit tokens → IsSample tokens text
     → HasSmallRuns text → Spells EndsSample IsSample (sample_text text) text
 sample_spells tokens text a h small =
@@ -183,7 +183,7 @@ IsSpelled Part x = (tokens : List Token) × AllFit tokens × Part tokens x
 abbrev RangeHasSmallRuns : SampleRange → Type 0
 RangeHasSmallRuns r = HasSmallRuns r.lower_val × IfSome r.upper_val HasSmallRuns
 
--- a range is read again from its text
+-- so is a range of such samples
 range_spells : (r : SampleRange) → IsSpelled IsSampleRange r → RangeHasSmallRuns r → Spells EndsSample IsSampleRange (sample_range_text r) r
 range_spells r h small =
     let k = h.2 in
@@ -217,7 +217,7 @@ ellipsis_follows : (more : Bool) (rest : List ℕ) → EndsSample rest → EndsS
 ellipsis_follows false rest h = h
 ellipsis_follows true rest h = comma_breaks
 
--- a list is read again from its text
+-- so is a list of such samples
 pub list_spells : (l : SampleList) → IsSpelled IsSampleList l → ListHasSmallRuns l → Spells EndsSample IsSampleList (sample_list_text l) l
 unfolding tokens_from
 list_spells l h small =

@@ -78,7 +78,7 @@ below_digits b h d = omega (arith, d.0)
 pub above_digits : (b : ℕ) → 57 < b → IsAsciiDigit b → ⊥
 above_digits b h d = omega (arith, d.1)
 
--- what may follow a number: the end, or no digit
+-- what may follow a number: the end, or a byte that is no digit
 abbrev pub EndsRun : List ℕ → Type 0
 EndsRun rest = IfSome (first rest) (λ b. ¬ (IsAsciiDigit b))
 
@@ -119,12 +119,12 @@ run_of_number n rest low high ends =
       whole = ends;
     }
 
--- the tokens of a run that isn't too large
+-- a run of digits that a token holds is one token, of its number
 pub run_gives : (ds rest : List ℕ) → IsDigitRun ds rest → digits_value 10 ds ≤ max_number
     → tokens_of (ds ++ rest) ≡ Number (digits_value 10 ds) ∷ tokens_of rest
 run_gives ds rest run small = run_scans ds rest run ∙ rw (le-leb (digits_value 10 ds) max_number small) refl
 
--- the text of a number is one token
+-- the printed text of a number that a token holds is one token, which spells it
 pub number_spells : (n : ℕ) → n ≤ max_number → Spells EndsRun IsItem (decimal n) (items.Value (record { 0 = n }))
 unfolding tokens_from digits
 number_spells zero h = record { tokens = Zero ∷ []; part = (Zero, refl, refl); scans = record { gives = λ rest f. refl } }

@@ -26,7 +26,7 @@ use Rattle.plural_reference.specs.Inner.Reader.{Before, Opened, State, before_op
     after_modulus, before_item, after_item, before_end, relation_of, with_relation, with_group, condition_of, refuse,
     value_move, proceed, run, begin, Outcome, no_operand}
 
--- one item
+-- the tokens of an item lead behind it, where an item is awaited
 pub run_item : (o : Opened) (xs : List RangeListItem) (tokens : List Token) (x : RangeListItem) (rest : List Token)
     → IsItem tokens x → run (before_item o xs) (tokens ++ rest) ≡ run (after_item o xs x) rest
 unfolding run
@@ -66,7 +66,7 @@ pub record Leads (from : State) (tokens : List Token) (b : Before) : Type 0 wher
   pub run_is : (rest : List Token) → run from (tokens ++ rest) ≡ run (after_item opened front item) rest
   pub complete : with_relation opened.before (relation_of opened (front ++ item ∷ [])) ≡ b
 
--- the left side of a relation, with its operator
+-- an operand, a modulus or none, and an operator lead to where the first item is awaited
 run_left_by : (b : Before) (tokens : List Token) (o : operand.Operand) (m : Option Value) (op : operator.Operator)
         (rest : List Token)
     → IsExpression tokens (record { operand = o; modulus = m })
@@ -101,7 +101,7 @@ run_relation b tokens r h =
       complete = ap (λ xs. with_relation b (relation_of o xs)) more.items_are;
     }
 
--- a complete relation goes on with And, Or or Comma
+-- And behind a complete relation leads to where the operand of the next one is awaited
 pub leads_and : (from : State) (tokens : List Token) (b : Before) (rest : List Token) → Leads from tokens b
     → run from (tokens ++ And ∷ rest) ≡ run (before_operand b) rest
 unfolding run
@@ -113,7 +113,7 @@ pub leads_or : (from : State) (tokens : List Token) (b : Before) (rest : List To
 unfolding run
 leads_or from tokens b rest l = l.run_is (Or ∷ rest) ∙ ap (λ (c : Before). run (before_operand (with_group c)) rest) l.complete
 
--- from one state to another, by more tokens
+-- what leads on from a state leads on from any state that comes to it
 pub leads_from : (from middle : State) (tokens more : List Token) (all : List Token) (b : Before)
     → ((rest : List Token) → run from (all ++ rest) ≡ run middle (more ++ rest)) → Leads middle more b
     → Leads from all b
@@ -188,12 +188,12 @@ last-push [] x = refl
 last-push (y ∷ []) x = refl
 last-push (y ∷ z ∷ zs) x = last-push (z ∷ zs) x
 
--- the last item of the condition that is complete after an item
+-- the last item of a condition that an item completes is that item
 pub last_item-complete : (o : Opened) (front : List RangeListItem) (item : RangeListItem)
     → last_item (condition_of (with_relation o.before (relation_of o (front ++ item ∷ [])))) ≡ Some item
 last_item-complete o front item = rw (last-push, last-push, last-push) refl
 
--- what doesn't go on ends the reading
+-- a token that doesn't continue the condition ends it behind an item, and so does the end
 pub run_ends : (o : Opened) (front : List RangeListItem) (item : RangeListItem) (rest : List Token)
     → IfSome (first rest)
         (λ t. ¬ (Continues (condition_of (with_relation o.before (relation_of o (front ++ item ∷ [])))) t))
@@ -208,14 +208,14 @@ run_ends o front (items.Value v) (DotDot ∷ ts) h = absurd (h (v, last_item-com
 run_ends o front (items.Range a b) (DotDot ∷ ts) h = refl
 run_ends o front item (_ ∷ ts) h = refl
 
--- no condition
+-- the end or At at the beginning is answered with the condition without groups
 unconditional_run : (tokens : List Token) → IsUnconditional tokens → run begin tokens ≡ Ok (record { 0 = [] }, tokens)
 unfolding run
 unconditional_run [] h = refl
 unconditional_run (At ∷ ts) h = refl
 unconditional_run (_ ∷ ts) h = absurd h
 
--- what is read is answered
+-- what the grammar reads is answered
 pub reads_run : (tokens : List Token) (c : Condition) (rest : List Token) → ReadsUpTo tokens c rest → run begin tokens ≡ Ok (c, rest)
 unfolding run
 reads_run tokens c rest (inl h) = unconditional_run tokens h.2 ∙ ap Ok ((λ i. (sym h.0 i, sym h.1 i)))
@@ -372,7 +372,7 @@ no_operand_and [] (x ∷ xs) r = refl
 no_operand_and (g ∷ gs) [] r = refl
 no_operand_and (g ∷ gs) (x ∷ xs) r = refl
 
--- the step that a token makes from an operator's place
+-- an operator behind a modulus leads to the first item
 operator_next_run : (b : Before) (e : Expression) (op : operator.Operator) (rest : List Token)
     → run (after_modulus b e) (Operator op ∷ rest)
         ≡ run (before_item (record { before = b; expression = e; operator = op }) []) rest
@@ -411,7 +411,7 @@ wants_stop : (s : State) → WantsValue s → (rest : List Token) (kind : ParseE
 wants_stop _ (wants_item o xs) rest kind h = before_item_stop o xs rest kind h
 wants_stop _ (wants_end o xs v) rest kind h = before_end_stop o xs v rest kind h
 
--- a last item that is a single value
+-- an item that is known to be a single value is that value
 value_item : (item : RangeListItem) (v : Value) → Some item ≡ Some (items.Value v) → item ≡ items.Value v
 value_item item v h = cc
 
@@ -465,6 +465,6 @@ waits_run places.after_modulo before rest kind w h =
 waits_run places.after_modulus before rest kind w h = let a = arrives_after_modulus before w in a.2 rest ∙ operator_stop a.0 a.1 rest kind h
 waits_run places.before_value before rest kind w h = let a = arrives_before_value before w in a.2 rest ∙ wants_stop a.0 a.1 rest kind h
 
--- a fault is answered
+-- a fault of the tokens is answered
 pub faulty_run : (tokens : List Token) (kind : ParseError) → Faulty tokens kind → run begin tokens ≡ Err kind
 faulty_run tokens kind h = ap (run begin) h.3 ∙ waits_run h.0 h.1 h.2 kind h.4 h.5

@@ -198,7 +198,7 @@ data OperandPlace (p : List Token) : List AndCondition → List Relation → Typ
   behind_or : (g : AndCondition) (gs : List AndCondition) → ConditionThen Or p → OperandPlace p (g ∷ gs) []
   behind_and : (gs : List AndCondition) (r : Relation) (rs : List Relation) → ConditionThen And p → OperandPlace p gs (r ∷ rs)
 
--- whole groups and relations, with their Or and And, are at such a place
+-- where an operand is awaited, what is complete tells which of these places the tokens are at
 operand_place : (p : List Token) (groups : List AndCondition) (relations : List Relation)
     → SpellsBefore p (record { groups = groups; relations = relations }) → OperandPlace p groups relations
 operand_place p [] [] h = at_start (h.whole ∙ (λ i. h.groups i ++ h.relations i))
@@ -218,7 +218,7 @@ and_place p [] c u = (places.after_and, p, [], refl, c, refl)
 and_place p (At ∷ ts) c u = (places.after_and, p, At ∷ ts, refl, c, refl)
 and_place p (_ ∷ ts) c u = absurd u
 
--- no operand, but the end or At
+-- the end or At, where an operand is awaited: no condition at the start, and a fault behind Or and And
 said_no_operand : (p : List Token) (groups : List AndCondition) (relations : List Relation) (rest : List Token)
     → OperandPlace p groups relations → IsUnconditional rest → SaidOf (p ++ rest) rest (no_operand groups relations)
 said_no_operand p [] [] rest (at_start e) u = inl (refl, ap (λ l. l ++ rest) (sym e), subst (λ l. IsUnconditional (l ++ rest)) (sym e) u)
@@ -233,7 +233,7 @@ move_said p t ts (go s) h = absurd h
 move_said p t ts (finish c) h = h
 move_said p t ts (refuse kind) h = h
 
--- another token where an operand is awaited
+-- any other token than an operand or At is the fault ExpectedOperand, where an operand is awaited
 bad_operand : (p : List Token) (groups : List AndCondition) (relations : List Relation) (t : Token) (ts : List Token)
     → OperandPlace p groups relations → ((e : Option ParseError) → operand_fault e (Some t) ≡ Some ExpectedOperand)
     → Faulty (p ++ t ∷ ts) ExpectedOperand
@@ -261,7 +261,7 @@ said_operand p b At ts h =
     move_said p At ts _ (said_no_operand p b.groups b.relations (At ∷ ts) (operand_place p b.groups b.relations h) tt)
 said_operand p b _ ts h = bad_operand p b.groups b.relations _ ts (operand_place p b.groups b.relations h) (λ _. refl)
 
--- an operator, or a fault
+-- behind an operand, the next token is Modulo, an operator, or a fault
 said_operand_next : (p : List Token) (b : Before) (o : operand.Operand) (t : Token) (ts : List Token)
     → Spells p (after_operand b o) → SaidOfMove p t ts (operand_next t b o)
 said_operand_next p b o Modulo ts h = (h.0, h.1, ap (λ l. l ++ Modulo ∷ []) h.2 ∙ append_assoc h.0 (h.1 ∷ []) (Modulo ∷ []), h.3, h.4)
@@ -324,7 +324,7 @@ said_operator p b e (Operator op) ts h = record {
 }
 said_operator p b e _ ts h = (places.after_modulus, p, _ ∷ ts, refl, is_after_modulus p b e h, refl)
 
--- behind an operator
+-- behind an operator a value is awaited, whether there is a modulus before it or not
 operator_place : (p : List Token) (o : Opened) → SpellsOpened p o → (m : Option Value) → o.expression.modulus ≡ m → IsBeforeValue p
 operator_place p o h None e =
     let x = h.expression in
@@ -351,7 +351,7 @@ operator_place p o h (Some v) e =
                   h.before, x.3, modulus.2, e)),
     )
 
--- a comma behind a condition
+-- items with a comma behind the last one end in a condition and Comma
 comma_place : (p : List Token) (o : Opened) (x : RangeListItem) (xs : List RangeListItem) → SpellsItems p o (x ∷ xs) → ConditionThen Comma p
 comma_place p o x xs h =
     let f = Terminated-front Comma IsItem h.item_tokens x xs h.items in
@@ -387,7 +387,7 @@ said_item p o xs (Number n) ts h =
 said_item p o xs Zero ts h = record { items_tokens = p; item_tokens = Zero ∷ []; whole = refl; items = h; item = (Zero, refl, refl) }
 said_item p o xs _ ts h = (places.before_value, p, _ ∷ ts, refl, before_value_is p o xs h, refl)
 
--- the relation is complete behind an item
+-- an item that ends its list completes a condition
 item_done : (p : List Token) (o : Opened) (xs : List RangeListItem) (x : RangeListItem) → SpellsItem p o xs x
     → IsCondition p (condition_of (with_relation o.before (relation_of o (xs ++ x ∷ []))))
 item_done p o xs x h = condition_done p o.before _ (relation_done p o xs x h)
@@ -424,7 +424,7 @@ said_after_item p o xs x Comma ts h = record {
 said_after_item p o xs x DotDot ts h = said_dots p o xs x ts h
 said_after_item p o xs x _ ts h = inr (p, refl, item_done p o xs x h, λ k. k)
 
--- behind the dots
+-- behind a single value and DotDot a value is awaited
 dots_place : (p : List Token) (o : Opened) (xs : List RangeListItem) (v : Value) → Spells p (before_end o xs v) → IsBeforeValue p
 dots_place p o xs v h = inr (inr (
   h.0 ++ h.1 ∷ [],
@@ -490,12 +490,12 @@ said_move p t ts (go s) h k = subst (λ l. Said l (run s ts)) (append_assoc p (t
 said_move p t ts (finish c) h k = h
 said_move p t ts (refuse kind) h k = h
 
--- what the reader answers from a state
+-- from every state on, what the reader answers is what the grammar says
 pub said_run : (p ts : List Token) (s : State) → Spells p s → Said (p ++ ts) (run s ts)
 unfolding run
 said_run p [] s h = said_at_end (p ++ []) (at_end s) (said_end p s h)
 said_run p (t ∷ ts) s h = said_move p t ts (step s t) (said_step p s t ts h) (λ next k. said_run (p ++ t ∷ []) ts next k)
 
--- what the reader answers, and so what is read or which fault there is
+-- what the reader answers is read, or is a fault of the tokens
 pub said : (tokens : List Token) → Said tokens (run begin tokens)
 said tokens = said_run [] tokens begin (record { group_tokens = []; relation_tokens = []; whole = refl; groups = refl; relations = refl })

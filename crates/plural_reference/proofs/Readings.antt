@@ -28,7 +28,7 @@ one_fault tokens e f h k = let a = faulty_run tokens e h in let b = faulty_run t
 pub not_both : (tokens : List Token) (c : Condition) (e : ParseError) → Reads tokens c → Faulty tokens e → ⊥
 not_both tokens c e h k = let a = reads_run tokens c h.0 h.1 in let b = faulty_run tokens e k in cc
 
--- as the reader answers
+-- where a condition or a fault is answered, it is the only one
 one_of : (tokens : List Token) (r : Outcome) → Said tokens r → HasOneReading Reads Faulty tokens
 one_of tokens (Ok (c, rest)) h =
     inl ((c, (rest, h), (λ d k. one_condition tokens d c k (rest, h))), (λ kind k. not_both tokens c kind (rest, h) k))

@@ -208,7 +208,7 @@ flat_map-append (x ∷ a) b =
     ap (λ l. token_text x ++ l) (flat_map-append a b)
         ∙ sym (append_assoc (token_text x) (flat_map token_text a) (flat_map token_text b))
 
--- the beginning of a sample, without its exponent
+-- the integer digits and the fraction of a sample lead into it
 open_run : (s : SampleState) (p : Partial) (i f rest : List Token) → Starts s p → AllByRecursion IsDigits i
     → IsFraction f → (i ++ f ≢ [])
     → run_samples s ((i ++ f) ++ rest) ≡ run_samples (in_sample p (flat_map token_text (i ++ f))) rest
@@ -226,7 +226,7 @@ open_run s p [] (Dot ∷ ts) rest st d k n = first_point_run s p (ts ++ rest) st
 open_run s p [] [] rest st d k n = absurd (n refl)
 open_run s p [] (_ ∷ ts) rest st d k n = absurd k
 
--- and with its exponent
+-- so do these with an exponent, unless they are empty
 with_exponent : (s : SampleState) (p : Partial) (i f e rest : List Token) → Starts s p → AllByRecursion IsDigits i
     → IsFraction f → IsExponent e → (i ++ f ≢ [])
     → run_samples s ((i ++ f ++ e) ++ rest) ≡ run_samples (in_sample p (flat_map token_text (i ++ f ++ e))) rest
@@ -238,7 +238,7 @@ with_exponent s p i f e rest st d k g n =
             ∙ any-append _ (flat_map token_text i) (flat_map token_text f) (all_no_mark i d) (fraction_no_mark f k))
     ∙ ap (λ x. run_samples (in_sample p x) rest) (sym (flat_map-append (i ++ f) e))
 
--- a whole sample
+-- so do they even if they are empty, where the exponent isn't
 parts_run : (s : SampleState) (p : Partial) (i f e rest : List Token) → Starts s p → AllByRecursion IsDigits i
     → IsFraction f → IsExponent e → (i ++ f ++ e ≢ [])
     → run_samples s ((i ++ f ++ e) ++ rest) ≡ run_samples (in_sample p (flat_map token_text (i ++ f ++ e))) rest
@@ -515,7 +515,7 @@ state_ends _ _ rest (in_last p text ss h) n =
     last_ends p text rest (subst (λ x. IfSome (first rest) (λ t. ¬ (ContinuesSamples x t))) (sym h) n)
         ∙ ap (λ x. Ok (x, rest)) h
 
--- what is read is answered
+-- what the grammar of samples reads is answered
 pub reads_samples_run : (tokens : List Token) (ss : List Section) (rest : List Token) → ReadsSections tokens ss rest
     → run_samples (after_sections []) tokens ≡ Ok (ss, rest)
 reads_samples_run tokens ss rest h =
@@ -567,11 +567,11 @@ mark_stop p text (Zero ∷ ts) kind h = cc
 mark_stop p text (Number n ∷ ts) kind h = cc
 mark_stop p text (_ ∷ ts) kind h = cc
 
--- these tokens lead to the state
+-- these tokens lead from the beginning to the state
 abbrev Arrives : List Token → SampleState → Type 0
 Arrives q s = (rest : List Token) → run_samples (after_sections []) (q ++ rest) ≡ run_samples s rest
 
--- sections, and one token more
+-- what leads to a state leads on with one more token
 then_one : (spelled q : List Token) (t : Token) (s next : SampleState) → q ≡ spelled ++ t ∷ [] → Arrives spelled s
     → ((rest : List Token) → run_samples s (t ∷ rest) ≡ run_samples next rest) → Arrives q next
 then_one spelled q t s next e h k rest =
@@ -607,7 +607,7 @@ lower_is_none : (lower : Option DecimalValue) (text : DecimalValue) → (range_o
 lower_is_none None text h = refl
 lower_is_none (Some lower) text h = cc
 
--- what is said of the open range is said of the last sample
+-- what is said of the open range holds of the range that is known to be it
 at_open : (ss : List Section) (r : SampleRange) (P : SampleRange → Type 0) → open_range ss ≡ Some r → IsSomeAnd (open_range ss) P → P r
 at_open ss r P e k = rw e at k
 
@@ -678,7 +678,7 @@ sample_waits_run places.before_sample before rest kind w h = let a = arrives_sam
 sample_waits_run places.after_comma before rest kind w h = let a = arrives_comma before w in a.1 rest ∙ comma_stop a.0 rest kind h
 sample_waits_run places.after_mark before rest kind w h = let a = arrives_mark before w in a.2 rest ∙ mark_stop a.0 a.1 rest kind h
 
--- a fault is answered
+-- a fault of the tokens is answered
 pub faulty_samples_run : (tokens : List Token) (kind : ParseError) → FaultyInSamples tokens kind
     → run_samples (after_sections []) tokens ≡ Err kind
 faulty_samples_run tokens kind h = ap (run_samples (after_sections [])) h.3 ∙ sample_waits_run h.0 h.1 h.2 kind h.4 h.5

@@ -70,7 +70,7 @@ range_is (Some lower) l y text h k = (h.0, Tilde ∷ y, ap (λ x. x ++ y) h.1 �
 regroup : (a : List Token) (t : Token) (b c d : List Token) → (a ++ At ∷ t ∷ (b ++ c)) ++ d ≡ a ++ At ∷ t ∷ (b ++ (c ++ d))
 regroup a t b c d = simp append_assoc
 
--- the sections are complete with a sample
+-- a sample that ends its list completes the sections
 sections_done : (x y : List Token) (p : Partial) (text : DecimalValue) → SpellsPartial x p → IsSample y text
     → AreSections (x ++ y) (with_sections p (ranges_with p text) false)
 sections_done x y p text h k =
@@ -93,7 +93,7 @@ last_sample-range (Some lower) text = refl
 
 -- ---- what the text of a sample shows of its tokens
 
--- what is true on the right is true of either
+-- where the right side holds, either side does
 true_or : (a b : Bool) → b ≡ true → a || b ≡ true
 true_or true b h = refl
 true_or false b h = h
@@ -181,7 +181,7 @@ open_sample y text h k =
 empty_open : Open [] []
 empty_open = record { integer = []; fraction = []; whole = refl; digits = tt; is_fraction = tt; text_is = refl }
 
--- a digit more
+-- digits behind an integer and perhaps a fraction belong to the last of both
 digit_on : (i f y : List Token) (text : DecimalValue) (t : Token) → y ≡ i ++ f → AllByRecursion IsDigits i
     → IsFraction f → IsDigits t → text ≡ flat_map token_text y → IsSample (y ++ t ∷ []) (text ++ token_text t)
 digit_on i [] y text t w d f g k = (
@@ -332,11 +332,11 @@ said_behind_at q ss Integer ts h = (begun q ss Integer tt h, begun_waits q ss In
 said_behind_at q ss Decimal ts h = (begun q ss Decimal tt h, begun_waits q ss Decimal tt h)
 said_behind_at q ss _ ts h = (places.after_at, q, _ ∷ ts, refl, (h.0, ss, h.1, h.2, tt), refl)
 
--- the first token of a sample
+-- digits begin a sample, where one is awaited
 first_digit : (q : List Token) (p : Partial) (t : Token) → IsDigits t → SpellsPartial q p → InSample (q ++ t ∷ []) p (token_text t)
 first_digit q p t d h = record { before = q; sample_tokens = t ∷ []; whole = refl; partial = h; sample = digit_joins [] [] t empty_open d }
 
--- the mark of an exponent in an empty sample
+-- a mark begins a sample, where one is awaited, and waits for digits
 first_mark : (q : List Token) (p : Partial) (t : Token) → IsExponentMark t → SpellsPartial q p → Awaits q
     → BehindMark (q ++ t ∷ []) p (token_text t)
 unfolding Awaits
@@ -378,7 +378,7 @@ said_awaits : (q : List Token) (p : Partial) (t : Token) (ts : List Token) → S
 unfolding Awaits
 said_awaits q p t ts h = said_start q p t ts h.0 (inl h.1) (λ e. (places.before_sample, q, t ∷ ts, refl, h.1, e))
 
--- an ellipsis in place of a sample
+-- an ellipsis behind ranges, each with its comma, completes the sections
 ellipsis_done : (q : List Token) (p : Partial) (x : SampleRange) (xs : List SampleRange) → p.ranges ≡ x ∷ xs
     → SpellsPartial q p → p.lower ≡ None → AreSections (q ++ Ellipsis ∷ []) (with_sections p p.ranges true)
 unfolding LowerIs
@@ -411,17 +411,17 @@ unfolding Awaits
 said_behind_comma q p Ellipsis ts h = said_ellipsis q p p.ranges refl h.3 h.0 h.2
 said_behind_comma q p t ts h = said_start q p t ts h.0 (inr h.1) (λ e. (places.after_comma, q, t ∷ ts, refl, h.1, e))
 
--- where neither holds, either is false
+-- where both sides are false, no side holds
 pub both_false : (a b : Bool) → a ≡ false → b ≡ false → a || b ≡ false
 both_false true b h k = absurd (true≢false h)
 both_false false b h k = k
 
--- where either is false, the left is
+-- where no side holds, the left one is false
 pub left_false : (a b : Bool) → a || b ≡ false → a ≡ false
 left_false true b h = absurd (true≢false h)
 left_false false b h = refl
 
--- where either is false, the right is
+-- where no side holds, the right one is false
 pub right_false : (a b : Bool) → a || b ≡ false → b ≡ false
 right_false true b h = absurd (true≢false h)
 right_false false b h = h
@@ -467,12 +467,12 @@ module _ (q : List Token) (p : Partial) (text : DecimalValue) (h : InSample q p 
       subst (λ l. AreSections l (with_sections p (ranges_with p text) false)) (sym h.whole)
           (sections_done h.before h.sample_tokens p text h.partial h.sample)
 
-  -- the token ends the reading
+  -- a token that doesn't continue the samples ends them
   ended : (t : Token) (ts : List Token) → (ContinuesSamples (with_sections p (ranges_with p text) false) t → ⊥)
       → ReadsSections (q ++ t ∷ ts) (with_sections p (ranges_with p text) false) (t ∷ ts)
   ended t ts n = (q, refl, done, n)
 
-  -- what the sample takes, where the range is open
+  -- what is said of the open range is said of the one that the sample ends
   open_here : (P : SampleRange → Type 0) → IsSomeAnd (open_range (with_sections p (ranges_with p text) false)) P → P (range_of p.lower text)
   open_here P k = rw open-done at k
 
@@ -497,7 +497,7 @@ module _ (q : List Token) (p : Partial) (text : DecimalValue) (h : InSample q p 
   said_joins true next t ts a b = ended t ts (a refl)
   said_joins false next t ts a b = b refl
 
-  -- the sample goes on with more tokens
+  -- a token that makes the sample a longer one joins it
   grown : (t : Token) (longer : DecimalValue) → IsSample (h.sample_tokens ++ t ∷ []) longer → InSample (q ++ t ∷ []) p longer
   grown t longer k =
       record {
@@ -668,6 +668,6 @@ said_run_samples q (t ∷ ts) s h =
     move_said q t ts (sample_step s t) (said_sample_step q s t ts h)
         (λ next k. said_run_samples (q ++ t ∷ []) ts next k)
 
--- what the reader of samples answers is read, or the fault is there
+-- what the reader of samples answers is read, or is a fault of the tokens
 pub said_samples : (tokens : List Token) → SaidSamples tokens (run_samples (after_sections []) tokens)
 said_samples tokens = said_run_samples [] tokens (after_sections []) (refl, refl)

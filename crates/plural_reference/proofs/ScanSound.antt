@@ -25,7 +25,7 @@ use Rattle.plural_reference.specs.Inner.Scan.{Start, gives, opens, Scan, between
 heads : (a b : ℕ) (xs ys : List ℕ) → a ∷ xs ≡ b ∷ ys → a ≡ b
 heads a b xs ys e = cc
 
--- two numerals that a test tells apart, alone and as texts
+-- two numbers that a test tells apart differ
 apart : (a b : ℕ) → nat_eq a b ≡ false → a ≢ b
 apart a b h = eqb-false a b h
 
@@ -49,7 +49,7 @@ not_empty a xs e = cc
 some_inj : {A : Type 0} {x y : A} → Some x ≡ Some y → x ≡ y
 some_inj e = cc
 
--- one more piece
+-- a piece in front of a text with tokens: a text whose tokens begin with the one of the piece, if it gives one
 more_tokens : (piece rest : List ℕ) (token : Option Token) (ts : List Token) → IsPiece piece rest token
     → AreTokensOf rest ts → AreTokensOf (piece ++ rest) (cons_option token ts)
 more_tokens piece rest token ts h k = ((piece, token) ∷ k.0, (rest, refl, h, k.1), ap (cons_option token) k.2)
@@ -66,7 +66,7 @@ Opened w (in_number n) = AllByRecursion IsAsciiDigit w × IfSome (first w) (λ d
 Opened w after_i = w ≡ codes "i"
 Opened w after_point = w ≡ codes "."
 
--- what is to be shown of the bytes that are left
+-- behind the bytes of any open piece, these bytes are cut with the tokens of the scan
 abbrev Cuts : List ℕ → Type 0
 Cuts bs = (s : Scan) (w : List ℕ) → Opened w s → AreTokensOf (w ++ bs) (tokens_from s bs)
 
@@ -74,7 +74,7 @@ Cuts bs = (s : Scan) (w : List ℕ) → Opened w s → AreTokensOf (w ++ bs) (to
 is_begun : (w : List ℕ) (k : ℕ) (ks : List ℕ) (t : Token) → Opened w (in_keyword k ks t) → IsBegun w k
 is_begun w k ks t h = record { word = (w ++ k ∷ ks, t); more = ks; is_keyword = h.0; spelling = refl; nonempty = h.1; not_i = h.2 }
 
--- a whole number
+-- an open number that no digit follows is a piece, with Number or Junk as its token
 number_piece : (w rest : List ℕ) (n : ℕ) → Opened w (in_number n) → IfSome (first rest) (λ d. ¬ (IsAsciiDigit d))
     → IsPiece w rest (Some (number_token n))
 number_piece w rest n h whole =
@@ -182,7 +182,7 @@ looks_up b ((c, s) ∷ ss) h = ⊎_elim
     (λ differs. rw differs.0 (looks_up_more b (c, s) ss (look_up b ss) differs.1 (looks_up b ss h.1)))
     (eqb_tells b c)
 
--- texts that begin with two bytes that differ begin differently
+-- texts whose first bytes differ begin with different bytes
 other_first : {b c : ℕ} → b ≢ c → Some c ≢ Some b
 other_first h e = h (sym (some_inj e))
 
@@ -234,7 +234,7 @@ looked_up b bs m (is_absent h e) no_space no_digit cuts =
         (more_tokens (b ∷ []) bs (Some Junk) (tokens_of bs) (unknown b refl (begins_none b no_space no_digit h) refl)
             (cuts between [] refl))
 
--- `0` is in the table, so no digit that isn't a number's first is left
+-- so is any byte but a space or the first digit of a number, since `0` is in the table
 no_digit_looked_up : (b : ℕ) (bs : List ℕ) → b ≢ 32 → (b < 49) ⊎ (57 < b) → Cuts bs
     → AreTokensOf (b ∷ bs) ((look_up b starts).0 ++ tokens_from (look_up b starts).1 bs)
 no_digit_looked_up b bs no_space out cuts =
@@ -261,7 +261,7 @@ begin_cuts b bs cuts =
     (leb_tells 49 b))
     (eqb_tells b 32)
 
--- a piece that the next byte ends, and what that byte begins
+-- so is a piece that the next byte ends, with that byte and such a rest
 ended_cuts : (w : List ℕ) (t : Token) (b : ℕ) (bs : List ℕ) → IsPiece w (b ∷ bs) (Some t) → Cuts bs
     → AreTokensOf (w ++ b ∷ bs) ((then_begin t (begin b)).0 ++ tokens_from (then_begin t (begin b)).1 bs)
 ended_cuts w t b bs h cuts = more_tokens w (b ∷ bs) (Some t) ((begin b).0 ++ tokens_from (begin b).1 bs) h (begin_cuts b bs cuts)
@@ -306,7 +306,7 @@ number_pushed w n b h d =
 none_is_not_some : {A : Type 0} {x : A} → None ≢ Some x
 none_is_not_some e = cc
 
--- the second of two moves, by a test that fails
+-- what a failed test leaves is its second move
 by_test : (b : ℕ) (w bs : List ℕ) (test : Bool) (m n : Move) → test ≡ false
     → AreTokensOf (w ++ b ∷ bs) (n.0 ++ tokens_from n.1 bs)
     → AreTokensOf (w ++ b ∷ bs) ((cond test m n).0 ++ tokens_from (cond test m n).1 bs)
@@ -373,6 +373,6 @@ all_cuts (b ∷ bs) s w h = said_step w s b bs h (all_cuts bs)
 pub has_tokens : (text : List ℕ) → AreTokensOf text (tokens_of text)
 has_tokens text = all_cuts text between [] refl
 
--- and no others
+-- a text has no other tokens than those of the scan
 pub tokens_are : (text : List ℕ) (tokens : List Token) → AreTokensOf text tokens → tokens ≡ tokens_of text
 tokens_are text tokens h = h.2 ∙ sym (cut_scans text h.0 h.1)

@@ -23,7 +23,7 @@ value_fits (Number n) v h e = let same : record { 0 = n } ≡ v = cc in subst (�
 value_fits Zero v h e = let same : record { 0 = 0 } ≡ v = cc in subst (λ (x : Value). FitsToken x) same (omega arith)
 value_fits _ v h e = cc
 
--- what holds of each part holds of all parts between separators
+-- what holds of each part of tokens that fit holds of all parts between separators, and there is one
 pub separated_parts : {A : Type 0} (separator : Token) (Part : List Token → A → Type 0) (P : A → Type 0)
     → ((tokens : List Token) (x : A) → AllFit tokens → Part tokens x → P x) → (tokens : List Token) (xs : List A)
     → AllFit tokens → Separated separator Part tokens xs → (xs ≢ []) × AllByRecursion P xs
@@ -69,7 +69,7 @@ condition_spellable tokens c f h =
     All-from_recursion IsSpellableGroup c.0
         (separated_parts Or IsAndCondition IsSpellableGroup group_spellable tokens c.0 f h).1
 
--- what is read from tokens that fit
+-- what is read of tokens that fit is a spellable condition
 pub read_spellable : (tokens : List Token) (c : Condition) (rest : List Token) → AllFit tokens → ReadsUpTo tokens c rest → IsSpellable c
 read_spellable tokens c rest f (inl h) = subst (λ (x : Condition). IsSpellable x) (sym h.0) (All-nil IsSpellableGroup)
 read_spellable tokens c rest f (inr h) = condition_spellable h.0 c (fit_left h.0 rest (subst AllFit h.1 f)) h.2
