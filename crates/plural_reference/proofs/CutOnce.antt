@@ -1,7 +1,7 @@
 -- A text is cut in one way only: the scan, asked for the bytes of the first piece in place of its token, finds the first piece
 -- of any cut. From ScanSound and ScanComplete to the law that every text has exactly one cut.
-use Rattle.std.proofs.Common.{◌≡◌, ◌≢◌, ◌*◌, ◌+◌, ℕ, List, [], ◌∷◌, ◌++◌, Option, Some, None, refl, sym, ap, ◌∙◌,
-    append_assoc, cond, nat_eq, length, subst, arith}
+use Rattle.std.proofs.Common.{◌≡◌, ◌≢◌, ◌*◌, ◌+◌, ℕ, List, [], ◌∷◌, ◌++◌, Option, Some, None, refl}
+use Rattle.std.proofs.Common.{sym, ap, ◌∙◌, append_assoc, cond, nat_eq, length, subst, arith}
 use Rattle.std.proofs.lemmas.Bool.{eq-eqb}
 use Rattle.std.proofs.lemmas.List.{append-nil, append_cancel_left}
 use Rattle.std.proofs.lemmas.List.Elements.{All-contains, All-from_recursion, recursion_from_All}
@@ -12,8 +12,8 @@ use Rattle.plural_reference.specs.declared.ast.Operand.TheVariants.{I}
 use Rattle.plural_reference.specs.declared.ast.Operator.TheVariants.{NotEq}
 use Rattle.plural_reference.specs.declared.token.Token.{Token}
 use Rattle.plural_reference.specs.declared.token.Token.TheVariants.{Operand, Operator, Dot, Or, And, Decimal, Integer, Ellipsis}
-use Rattle.plural_reference.specs.Lexer.{first, Word, marks, keywords, MayFollow, IsDigitRun, IsBegun, BeginsNone,
-    IsPiece, space, mark, keyword, number, unknown, too_large, broken, cut_off, Piece, IsCut}
+use Rattle.plural_reference.specs.Lexer.{first, Word, marks, keywords, MayFollow, IsDigitRun, IsBegun, BeginsNone, IsPiece}
+use Rattle.plural_reference.specs.Lexer.{space, mark, keyword, number, unknown, too_large, broken, cut_off, Piece, IsCut}
 use Rattle.plural_reference.specs.ReadingLaws.{HaveOneCut}
 use Rattle.plural_reference.specs.Inner.Scan.{Scan, between, in_keyword, in_number, after_i, after_point, begin, keyword_move, tokens_of}
 use Rattle.plural_reference.proofs.ScanComplete.{no_more, no_eq, digit_yes, digit_no, begin_digit, begin_unknown, piece_scans}
@@ -81,10 +81,55 @@ point_bitten (b ∷ bs) h = rw (no_eq b 46 (λ e. h.1 refl (ap Some e))) refl
 -- each mark is the first piece
 marks_bitten : AllByRecursion MarkBitten marks
 unfolding piece_from
-marks_bitten =
-    (λ _ _. refl, (λ _ _. refl, (λ _ _. refl, (λ _ _. refl, (λ _ _. refl, (λ _ _. refl, (i_bitten, (λ _ _. refl,
-        (λ _ _. refl, (λ _ _. refl, (point_bitten, (λ _ _. refl, (λ _ _. refl, (λ _ _. refl, (λ _ _. refl, (λ _ _. refl,
-        tt))))))))))))))))
+marks_bitten = (
+  λ _ _. refl,
+  (
+    λ _ _. refl,
+    (
+      λ _ _. refl,
+      (
+        λ _ _. refl,
+        (
+          λ _ _. refl,
+          (
+            λ _ _. refl,
+            (
+              i_bitten,
+              (
+                λ _ _. refl,
+                (
+                  λ _ _. refl,
+                  (
+                    λ _ _. refl,
+                    (
+                      point_bitten,
+                      (
+                        λ _ _. refl,
+                        (
+                          λ _ _. refl,
+                          (
+                            λ _ _. refl,
+                            (
+                              λ _ _. refl,
+                              (
+                                λ _ _. refl,
+                                tt,
+                              ),
+                            ),
+                          ),
+                        ),
+                      ),
+                    ),
+                  ),
+                ),
+              ),
+            ),
+          ),
+        ),
+      ),
+    ),
+  ),
+)
 
 -- each keyword is the first piece
 keywords_bitten : AllByRecursion KeywordBitten keywords
@@ -109,7 +154,7 @@ tail_bitten k (l ∷ ls) t (b ∷ bs) next more rest h =
 abbrev BegunBitten : Word → Type 0
 BegunBitten w =
     (begun : List ℕ) (next : ℕ) (more rest : List ℕ) → w.0 ≡ begun ++ next ∷ more → begun ≢ [] → begun ≢ codes "i"
-        → first_piece (begun ++ rest) ≡ begun ++ piece_from (in_keyword next more w.1) rest
+    → first_piece (begun ++ rest) ≡ begun ++ piece_from (in_keyword next more w.1) rest
 
 -- it does so of a keyword whose first byte alone opens it
 begun_from : (first_byte k : ℕ) (ks : List ℕ) (t : Token)
@@ -154,7 +199,7 @@ begun_leads : (begun : List ℕ) (next : ℕ) (rest : List ℕ) (h : IsBegun beg
     → first_piece (begun ++ rest) ≡ begun ++ piece_from (in_keyword next h.more h.word.1) rest
 begun_leads begun next rest h =
     All-contains BegunBitten keywords h.word (All-from_recursion BegunBitten keywords begun_bitten) h.is_keyword begun
-        next h.more rest h.spelling h.nonempty h.not_i
+    next h.more rest h.spelling h.nonempty h.not_i
 
 -- a keyword that a wrong byte breaks off is the first piece, together with that byte
 broken_bitten : (begun : List ℕ) (next b : ℕ) (rest : List ℕ) → IsBegun begun next → b ≢ next
@@ -162,7 +207,7 @@ broken_bitten : (begun : List ℕ) (next b : ℕ) (rest : List ℕ) → IsBegun 
 unfolding piece_from
 broken_bitten begun next b rest h differs =
     ap first_piece (append_assoc begun (b ∷ []) rest) ∙ begun_leads begun next (b ∷ rest) h
-        ∙ rw (no_eq b next differs) refl
+    ∙ rw (no_eq b next differs) refl
 
 -- a keyword that the end of the text cuts off is the first piece
 cut_off_bitten : (begun : List ℕ) (next : ℕ) → IsBegun begun next → first_piece (begun ++ []) ≡ begun
@@ -220,10 +265,49 @@ pushed_not_empty (x ∷ xs) b e = cc
 
 -- no mark is empty
 marks_not_empty : AllByRecursion (λ (w : Word). w.0 ≢ []) marks
-marks_not_empty =
-    (not_empty _ _, (not_empty _ _, (not_empty _ _, (not_empty _ _, (not_empty _ _, (not_empty _ _, (not_empty _ _,
-        (not_empty _ _, (not_empty _ _, (not_empty _ _, (not_empty _ _, (not_empty _ _, (not_empty _ _, (not_empty _ _,
-        (not_empty _ _, (not_empty _ _, tt))))))))))))))))
+marks_not_empty = (
+  not_empty _ _,
+  (
+    not_empty _ _,
+    (
+      not_empty _ _,
+      (
+        not_empty _ _,
+        (
+          not_empty _ _,
+          (
+            not_empty _ _,
+            (
+              not_empty _ _,
+              (
+                not_empty _ _,
+                (
+                  not_empty _ _,
+                  (
+                    not_empty _ _,
+                    (
+                      not_empty _ _,
+                      (
+                        not_empty _ _,
+                        (
+                          not_empty _ _,
+                          (
+                            not_empty _ _,
+                            (not_empty _ _, (not_empty _ _, tt)),
+                          ),
+                        ),
+                      ),
+                    ),
+                  ),
+                ),
+              ),
+            ),
+          ),
+        ),
+      ),
+    ),
+  ),
+)
 
 -- no keyword is empty
 keywords_not_empty : AllByRecursion (λ (w : Word). w.0 ≢ []) keywords
@@ -234,10 +318,10 @@ piece_not_empty : (piece rest : List ℕ) (token : Option Token) → IsPiece pie
 piece_not_empty piece rest token (space e t) = rw e (not_empty 32 [])
 piece_not_empty piece rest token (mark t c f k) =
     All-contains (λ (w : Word). w.0 ≢ []) marks (piece, t)
-        (All-from_recursion (λ (w : Word). w.0 ≢ []) marks marks_not_empty) c
+    (All-from_recursion (λ (w : Word). w.0 ≢ []) marks marks_not_empty) c
 piece_not_empty piece rest token (keyword t c k) =
     All-contains (λ (w : Word). w.0 ≢ []) keywords (piece, t)
-        (All-from_recursion (λ (w : Word). w.0 ≢ []) keywords keywords_not_empty) c
+    (All-from_recursion (λ (w : Word). w.0 ≢ []) keywords keywords_not_empty) c
 piece_not_empty piece rest token (number r small k) = r.nonempty
 piece_not_empty piece rest token (unknown b e n k) = rw e (not_empty b [])
 piece_not_empty piece rest token (too_large r large k) = r.nonempty
@@ -272,9 +356,9 @@ same_piece text a b p q e h f k =
     let bytes : p.0 ≡ q.0 = sym (piece_bitten p.0 a p.1 h) ∙ ap first_piece (sym e ∙ f) ∙ piece_bitten q.0 b q.1 k in
     let rest : a ≡ b = append_cancel_left p.0 a b (sym e ∙ f ∙ ap (λ x. x ++ b) (sym bytes)) in
     let token : p.1 ≡ q.1 =
-        same_token p.1 q.1 (tokens_of a)
-            (sym (piece_scans p.0 a p.1 h) ∙ ap tokens_of (sym e ∙ f) ∙ piece_scans q.0 b q.1 k
-                ∙ ap (λ x. cons_option q.1 (tokens_of x)) (sym rest)) in
+    same_token p.1 q.1 (tokens_of a)
+    (sym (piece_scans p.0 a p.1 h) ∙ ap tokens_of (sym e ∙ f) ∙ piece_scans q.0 b q.1 k
+    ∙ ap (λ x. cons_option q.1 (tokens_of x)) (sym rest)) in
     record { piece_is = λ i. (bytes i, token i); rest_is = rest }
 
 -- two cuts of a text are one

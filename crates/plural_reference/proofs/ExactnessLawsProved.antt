@@ -1,11 +1,11 @@
 -- Laws on the bound, and on relations of exact numbers: which ranges hold an exact value, the bound told before the shift,
 -- and that no modulus more can be admitted. The laws of exactness cite it.
-use Rattle.std.proofs.Common.{◌≡◌, ℕ, zero, suc, ◌+◌, ◌-◌, ◌*◌, ◌/◌, ◌%◌, ◌^◌, ◌<◌, ◌≤◌, ◌≤ℤ◌, inl, inr, List, [], ◌∷◌,
-    refl, sym, ◌∙◌, ap, subst, length, arith, lit<, ℤ, pos, negsuc, ◌-ℤ◌, get_or, reverse, Bool, true, false, eqb, cond,
-    Some, None}
+use Rattle.std.proofs.Common.{◌≡◌, ℕ, zero, suc, ◌+◌, ◌-◌, ◌*◌, ◌/◌, ◌%◌, ◌^◌, ◌<◌, ◌≤◌, ◌≤ℤ◌, inl, inr}
+use Rattle.std.proofs.Common.{List, [], ◌∷◌, refl, sym, ◌∙◌, ap, subst, length, arith, lit<, ℤ, pos}
+use Rattle.std.proofs.Common.{negsuc, ◌-ℤ◌, get_or, reverse, Bool, true, false, eqb, cond, Some, None}
 use Rattle.std.specs.Prelude.{IsTrue}
-use Rattle.std.proofs.lemmas.Bool.{cases_lt, le-leb, leb-true, eqb-true, eq-eqb, and_parts, and_from, or_left, or_cases,
-    cond-true, false_from_ne_true, false≢true}
+use Rattle.std.proofs.lemmas.Bool.{cases_lt, le-leb, leb-true, eqb-true, eq-eqb, and_parts, and_from}
+use Rattle.std.proofs.lemmas.Bool.{or_left, or_cases, cond-true, false_from_ne_true, false≢true}
 use Rattle.std.proofs.lemmas.Int.{ints}
 use Rattle.std.proofs.lemmas.List.{length-reverse}
 use Rattle.std.proofs.lemmas.Nat.{div-add-mod', div-mul-add, mod-mul-add}
@@ -43,7 +43,7 @@ whole_from ranges unit count k some h e =
     let none : count % unit ≡ 0 = ap (λ n. n % unit) padded ∙ mod-mul-add k unit 0 some in
     let quotient : count / unit ≡ k = ap (λ n. n / unit) padded ∙ div-mul-add k unit 0 some in
     let w : whole_of unit count ≡ Some k =
-        cond-true (eqb (count % unit) 0) (Some (count / unit)) None (eq-eqb (count % unit) 0 none) ∙ ap Some quotient in
+    cond-true (eqb (count % unit) 0) (Some (count / unit)) None (eq-eqb (count % unit) 0 none) ∙ ap Some quotient in
     ap (holds_value ranges) w ∙ h
 
 -- the exact value of n is in ranges exactly if a whole number of them is what the modulus leaves of the number
@@ -113,8 +113,8 @@ long_value x e n h =
           let few : i.0 + n < length y.whole = i.1 in
           let z : ℤ = (pos (length x.whole) -ℤ pos 1) -ℤ pos i.0 in
           let d : digit_at x z ≡ get_or y.whole i.0 0 =
-              digit_at_index x i.0 z refl ∙ sym (same_digits e x i.0)
-                  ∙ get_or-append y.whole y.fraction 0 i.0 (omega arith) in
+          digit_at_index x i.0 z refl ∙ sym (same_digits e x i.0)
+          ∙ get_or-append y.whole y.fraction 0 i.0 (omega arith) in
           (z, omega (arith, ints), subst (λ (m : ℕ). 0 < m) (sym d) i.2),
       λ p.
           let i : (i : ℕ) × (p.0 ≡ (pos (length x.whole) -ℤ pos 1) -ℤ pos i) = digit_index x p.0 p.2 in
@@ -122,8 +122,8 @@ long_value x e n h =
           let same : p.0 ≡ (pos (length x.whole) -ℤ pos 1) -ℤ pos i.0 = i.1 in
           let few : i.0 + n < length y.whole = omega (arith, ints) in
           let d : digit_at x p.0 ≡ get_or y.whole i.0 0 =
-              digit_at_index x i.0 p.0 same ∙ sym (same_digits e x i.0)
-                  ∙ get_or-append y.whole y.fraction 0 i.0 (omega arith) in
+          digit_at_index x i.0 p.0 same ∙ sym (same_digits e x i.0)
+          ∙ get_or-append y.whole y.fraction 0 i.0 (omega arith) in
           long_value_of y.whole n i.0 few (subst (λ (m : ℕ). 0 < m) d p.2),
     )
 
@@ -185,8 +185,8 @@ pub bound_is_widest : BoundIsWidest
 bound_is_widest m x cut exact some other twice c y =
     let r : ℕ = 2 * 10 ^ 18 % m in
     let e : remainder m exact.i ≡ r =
-        ap (remainder m) (exact_whole x 0 exact (written_twice x twice) y ∙ twice.0.value)
-            ∙ remainder-some m (2 * 10 ^ 18) some in
+    ap (remainder m) (exact_whole x 0 exact (written_twice x twice) y ∙ twice.0.value)
+    ∙ remainder-some m (2 * 10 ^ 18) some in
     let k : remainder m cut.i ≡ 10 ^ 18 % m = ap (remainder m) (c.i ∙ cut_twice x twice) ∙ remainder-some m (10 ^ 18) some in (
       in_it r (remainder m exact.i) e,
       false_from_ne_true (is_in_ranges ((r, r) ∷ []) (remainder m cut.i))

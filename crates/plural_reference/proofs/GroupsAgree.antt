@@ -42,11 +42,11 @@ relations_agree x e moduli cut exact relation h k =
 pub groups_agree : GroupsAgree
 groups_agree x e moduli cut exact groups h k =
     groups_agree_by (relation_truth cut) (exact_relation_truth exact) (IsAdmitted moduli) groups
-        (λ relation a. relations_agree x e moduli cut exact relation h a) k
+    (λ relation a. relations_agree x e moduli cut exact relation h a) k
 
 -- so is a condition
 pub conditions_agree : ConditionsAgree
 conditions_agree x e moduli cut exact condition h k =
     groups_agree_by (λ r. relation_truth cut (meaning_of r)) (λ r. exact_relation_truth exact (meaning_of r))
-        (λ r. IsAdmitted moduli (meaning_of r)) (groups_of condition)
-        (λ r a. relations_agree x e moduli cut exact (meaning_of r) h a) k
+    (λ r. IsAdmitted moduli (meaning_of r)) (groups_of condition)
+    (λ r a. relations_agree x e moduli cut exact (meaning_of r) h a) k

@@ -1,8 +1,8 @@
 -- Laws on the operands of every number: integers of 64 and 128 bits, numbers of which nothing is cut, that a number has one
 -- list of kept and one of exact operands, and what the exact ones tell. The laws of operands cite it, and NamedOnce that
 -- operands are known by their parts.
-use Rattle.std.proofs.Common.{◌≡◌, ℕ, zero, suc, ◌+◌, ◌-◌, ◌*◌, ◌/◌, ◌%◌, ◌^◌, ◌≤◌, ◌↔◌, inl, inr, List, refl, sym, ◌∙◌,
-    ap, subst, length, take, arith, ltb}
+use Rattle.std.proofs.Common.{◌≡◌, ℕ, zero, suc, ◌+◌, ◌-◌, ◌*◌, ◌/◌, ◌%◌, ◌^◌, ◌≤◌, ◌↔◌, inl}
+use Rattle.std.proofs.Common.{inr, List, refl, sym, ◌∙◌, ap, subst, length, take, arith, ltb}
 use Rattle.std.proofs.lemmas.Bool.{lt-ltb, le-ltb, cond-true, cond-false, cases_eq}
 use Rattle.std.proofs.lemmas.List.{take_all}
 use Rattle.std.proofs.lemmas.Nat.{div-add-mod'}
@@ -39,7 +39,7 @@ short_at y e o h i f =
         i = k.i ∙ c ∙ sym (value_of-append-div y.whole y.fraction h.fraction);
         fraction =
             subst (λ (n : ℕ). HasFraction o (length y.fraction) n)
-                (sym (value_of-append-mod y.whole y.fraction h.fraction)) (cut_fraction y e o f k);
+            (sym (value_of-append-mod y.whole y.fraction h.fraction)) (cut_fraction y e o f k);
         c = k.c;
       },
       λ k. record {
@@ -95,7 +95,7 @@ least_from (suc left) number shown written h e =
     elim (cases_eq (number % 10) 0) [
       | inl none ↦
           let less : written ≡ number / 10 * 10 ^ (shown - (suc left - 1)) =
-              one_zero_less number shown (suc left) written (omega arith) h e none in
+          one_zero_less number shown (suc left) written (omega arith) h e none in
           let same : suc left - 1 ≡ left = omega arith in
           least_from left (number / 10) shown written (omega arith) (subst (λ (j : ℕ). written ≡ number / 10 * 10 ^ (shown - j)) same less)
       | inr some ↦ (suc left, number, found (suc left) number shown written e (no_fewer number shown (suc left) written h e some))
@@ -105,21 +105,24 @@ least_from (suc left) number shown written h e =
 least_of : (shown written : ℕ) → (w t : ℕ) × IsLeast shown written w t
 least_of shown written =
     least_from shown written shown written (omega arith)
-        (let z : shown - shown ≡ 0 = omega arith in subst (λ (j : ℕ). written ≡ written * 10 ^ j) (sym z) (omega arith))
+    (let z : shown - shown ≡ 0 = omega arith in subst (λ (j : ℕ). written ≡ written * 10 ^ j) (sym z) (omega arith))
 
 -- an integer part, a written fraction and an exponent have operands
 made : (i shown written c : ℕ) → (o : Operands) × (o.i ≡ i) × HasFraction o shown written × (o.c ≡ c)
 made i shown written c =
-    let l : (w t : ℕ) × IsLeast shown written w t = least_of shown written in
-    (record { i = i; v = shown; w = l.0; f = written; t = l.1; c = c }, refl,
-        record { v = refl; f = refl; w_divides = l.2.divides; w_least = l.2.least; t = l.2.quotient }, refl)
+    let l : (w t : ℕ) × IsLeast shown written w t = least_of shown written in (
+      record { i = i; v = shown; w = l.0; f = written; t = l.1; c = c },
+      refl,
+      record { v = refl; f = refl; w_divides = l.2.divides; w_least = l.2.least; t = l.2.quotient },
+      refl,
+    )
 
 -- a number has kept operands, and no others
 pub one_cut : OneCut
 one_cut x e =
     let y : Places = shift_right e x in
     let m : (o : Operands) × (o.i ≡ cut_whole y.whole)
-            × HasFraction o (length (take 18 y.fraction)) (value_of (take 18 y.fraction)) × (o.c ≡ e)
+    × HasFraction o (length (take 18 y.fraction)) (value_of (take 18 y.fraction)) × (o.c ≡ e)
     = made (cut_whole y.whole) (length (take 18 y.fraction)) (value_of (take 18 y.fraction)) e in
     let k : IsCutAt y e m.0 = record { i = m.1; fraction = m.2; c = m.3 } in
     (m.0, k, λ b h. one_record b m.0 (h.i ∙ sym k.i) (one_fraction b m.0 _ _ h.fraction k.fraction) (h.c ∙ sym k.c))
@@ -129,7 +132,7 @@ pub one_exact : OneExact
 one_exact x e =
     let y : Places = shift_right e x in
     let m : (o : Operands) × (o.i ≡ all_digits_value y / 10 ^ length y.fraction)
-            × HasFraction o (length y.fraction) (all_digits_value y % 10 ^ length y.fraction) × (o.c ≡ e)
+    × HasFraction o (length y.fraction) (all_digits_value y % 10 ^ length y.fraction) × (o.c ≡ e)
     = made (all_digits_value y / 10 ^ length y.fraction) (length y.fraction) (all_digits_value y % 10 ^ length y.fraction) e in
     let k : IsExactAt y e m.0 = record { i = m.1; fraction = m.2; c = m.3 } in
     (m.0, k, λ b h. one_record b m.0 (h.i ∙ sym k.i) (one_fraction b m.0 _ _ h.fraction k.fraction) (h.c ∙ sym k.c))

@@ -8,8 +8,8 @@ use Rattle.plural_reference.specs.declared.ast.Samples as samples
 use Rattle.plural_reference.specs.declared.token.Token.{Token}
 use Rattle.plural_reference.specs.Lexer.{AreTokensOf}
 use Rattle.plural_reference.specs.Parser.{ReadsUpTo}
-use Rattle.plural_reference.specs.PrintingLaws.{IsSpellable, SpellableConditionsPrintBack, ConditionsPrintBack,
-    RuleHasSmallRuns, RulesPrintBack}
+use Rattle.plural_reference.specs.PrintingLaws.{IsSpellable, SpellableConditionsPrintBack}
+use Rattle.plural_reference.specs.PrintingLaws.{ConditionsPrintBack, RuleHasSmallRuns, RulesPrintBack}
 use Rattle.plural_reference.specs.Reading.{TextReads}
 use Rattle.plural_reference.specs.Samples.{ReadsRule}
 use Rattle.plural_reference.specs.Inner.Scan.{tokens_of, tokens_from}
@@ -45,16 +45,17 @@ rule_prints_back : (c : Condition) (s : Option samples.Samples) → IsSpellable 
     → TextReads ReadsRule (rule_text (record { condition = c; samples = s })) (record { condition = c; samples = s })
 rule_prints_back c None h k small =
     subst (λ text. TextReads ReadsRule text (record { condition = c; samples = None }))
-        (sym (append-nil (condition_text c))) (spellable_conditions_print_back c h).1
+    (sym (append-nil (condition_text c))) (spellable_conditions_print_back c h).1
 rule_prints_back c (Some s) h k small =
     let back = condition_reads_back c h in
     let behind : SamplesReadBack s = samples_read_back s k small.0 small.1 in
     let scans : Scans EndsSample (condition_text c ++ samples_text s) (back.tokens ++ behind.tokens) =
-        scans_then EndsRun EndsSample (condition_text c) (samples_text s) back.tokens behind.tokens back.scans
-            behind.scans (λ rest f. sample_ends_run (samples_text s ++ rest) (behind.follows rest f)) in
-    (back.tokens ++ behind.tokens,
-        whole_text (condition_text c ++ samples_text s) (back.tokens ++ behind.tokens) (scans.gives [] tt),
-        (behind.tokens, back.reads behind.tokens behind.unconditional, behind.reads))
+    scans_then EndsRun EndsSample (condition_text c) (samples_text s) back.tokens behind.tokens back.scans
+    behind.scans (λ rest f. sample_ends_run (samples_text s ++ rest) (behind.follows rest f)) in (
+      back.tokens ++ behind.tokens,
+      whole_text (condition_text c ++ samples_text s) (back.tokens ++ behind.tokens) (scans.gives [] tt),
+      (behind.tokens, back.reads behind.tokens behind.unconditional, behind.reads),
+    )
 
 -- where the tokens fit, those that a condition leaves do too
 rest_fits : (tokens : List Token) (c : Condition) (rest : List Token) → AllFit tokens → ReadsUpTo tokens c rest → AllFit rest
@@ -66,4 +67,4 @@ pub rules_print_back : RulesPrintBack
 rules_print_back text r h small =
     let fits = tokens_fit text h.0 h.1 in
     rule_prints_back r.condition r.samples (read_spellable h.0 r.condition h.2.0 fits h.2.1)
-        (samples_are_read h.2.0 r.samples (rest_fits h.0 r.condition h.2.0 fits h.2.1) h.2.2) small
+    (samples_are_read h.2.0 r.samples (rest_fits h.0 r.condition h.2.0 fits h.2.1) h.2.2) small

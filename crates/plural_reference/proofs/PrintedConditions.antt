@@ -18,12 +18,12 @@ use Rattle.plural_reference.specs.declared.ast.Value.{Value}
 use Rattle.plural_reference.specs.declared.token.Token.{Token}
 use Rattle.plural_reference.specs.declared.token.Token.TheVariants.{Operand, Operator, DotDot, Comma, Or, And, Modulo, At, E}
 use Rattle.plural_reference.specs.Lexer.{first}
-use Rattle.plural_reference.specs.Parser.{operand_of, IsItem, IsModulus, IsExpression, IsRelation, IsAndCondition,
-    IsCondition, Continues, IsUnconditional, ReadsUpTo}
+use Rattle.plural_reference.specs.Parser.{operand_of, IsItem, IsModulus, IsExpression, IsRelation}
+use Rattle.plural_reference.specs.Parser.{IsAndCondition, IsCondition, Continues, IsUnconditional, ReadsUpTo}
 use Rattle.plural_reference.specs.PrintingLaws.{FitsToken, IsSpellableItem, IsSpellableRelation, IsSpellableGroup, IsSpellable}
 use Rattle.plural_reference.specs.Inner.Scan.{tokens_of, tokens_from}
-use Rattle.plural_reference.specs.Serializer.{joined, prefixed, value_text, operand_text, operator_text,
-    expression_text, item_text, relation_text, and_condition_text, condition_text}
+use Rattle.plural_reference.specs.Serializer.{joined, prefixed, value_text, operand_text, operator_text, expression_text}
+use Rattle.plural_reference.specs.Serializer.{item_text, relation_text, and_condition_text, condition_text}
 use Rattle.plural_reference.proofs.Alone.{i_alone}
 use Rattle.plural_reference.proofs.PrintedTokens.{below_digits, Scans, scans_then, Spells, joined_spells, EndsRun, number_spells}
 
@@ -47,13 +47,13 @@ item_spells (items.Range a b) h =
       scans = record {
         gives = λ rest f.
             ap tokens_of
-                (append_assoc (value_text a ++ codes "..") (value_text b) rest
-                    ∙ append_assoc (value_text a) (codes "..") (value_text b ++ rest))
+            (append_assoc (value_text a ++ codes "..") (value_text b) rest
+            ∙ append_assoc (value_text a) (codes "..") (value_text b ++ rest))
             ∙ low.scans.gives _ (below_digits 46 (omega arith))
             ∙ ap (λ ts. low.tokens ++ DotDot ∷ ts) (high.scans.gives rest f)
             ∙ sym
-                (append_assoc (low.tokens ++ DotDot ∷ []) high.tokens (tokens_of rest)
-                    ∙ append_assoc low.tokens (DotDot ∷ []) (high.tokens ++ tokens_of rest));
+            (append_assoc (low.tokens ++ DotDot ∷ []) high.tokens (tokens_of rest)
+            ∙ append_assoc low.tokens (DotDot ∷ []) (high.tokens ++ tokens_of rest));
       };
     }
 
@@ -71,9 +71,11 @@ space_ends rest h = rw h (below_digits 32 (omega arith))
 operand_spells : (o : operand.Operand) → (t : Token) × (operand_of t ≡ Some o) × Scans BeginsWithSpace (operand_text o) (t ∷ [])
 unfolding tokens_from
 operand_spells operands.N = (Operand operands.N, refl, record { gives = λ rest f. refl })
-operand_spells operands.I =
-    (Operand operands.I, refl,
-        record { gives = λ rest f. i_alone 105 rest refl (some_apart 32 110 (first rest) (eqb-false 32 110 refl) f) })
+operand_spells operands.I = (
+  Operand operands.I,
+  refl,
+  record { gives = λ rest f. i_alone 105 rest refl (some_apart 32 110 (first rest) (eqb-false 32 110 refl) f) },
+)
 operand_spells operands.V = (Operand operands.V, refl, record { gives = λ rest f. refl })
 operand_spells operands.W = (Operand operands.W, refl, record { gives = λ rest f. refl })
 operand_spells operands.F = (Operand operands.F, refl, record { gives = λ rest f. refl })
@@ -108,8 +110,8 @@ expression_spells e h =
       part = (left.0, right.tokens, refl, left.1, right.part);
       scans =
           scans_then BeginsWithSpace BeginsWithSpace (operand_text e.operand)
-              (prefixed (codes " % ") value_text e.modulus) (left.0 ∷ []) right.tokens left.2 right.scans
-              (modulus_follows e.modulus);
+          (prefixed (codes " % ") value_text e.modulus) (left.0 ∷ []) right.tokens left.2 right.scans
+          (modulus_follows e.modulus);
     }
 
 -- ---- relations
@@ -130,19 +132,19 @@ unfolding tokens_from
 relation_spells r h =
     let left : Spells BeginsWithSpace IsExpression (expression_text r.expression) r.expression = expression_spells r.expression h.0 in
     let right =
-        joined_spells EndsRun IsItem item_text (codes ", ") Comma (λ rest. refl) (λ rest. below_digits 44 (omega arith))
-            r.range_list.0 h.1
-            (recursion_from_All (λ x. Spells EndsRun IsItem (item_text x) x) r.range_list.0
-                (All-weaker IsSpellableItem (λ x. Spells EndsRun IsItem (item_text x) x) item_spells r.range_list.0
-                    h.2)) in
+    joined_spells EndsRun IsItem item_text (codes ", ") Comma (λ rest. refl) (λ rest. below_digits 44 (omega arith))
+    r.range_list.0 h.1
+    (recursion_from_All (λ x. Spells EndsRun IsItem (item_text x) x) r.range_list.0
+    (All-weaker IsSpellableItem (λ x. Spells EndsRun IsItem (item_text x) x) item_spells r.range_list.0
+    h.2)) in
     record {
       tokens = left.tokens ++ Operator r.operator ∷ right.tokens;
       part = (left.tokens, right.tokens, refl, left.part, right.part);
       scans = record {
         gives = λ rest f.
             ap tokens_of
-                (regrouped (expression_text r.expression) (codes " ") (operator_text r.operator) (codes " ")
-                    (joined (codes ", ") item_text r.range_list.0) rest)
+            (regrouped (expression_text r.expression) (codes " ") (operator_text r.operator) (codes " ")
+            (joined (codes ", ") item_text r.range_list.0) rest)
             ∙ left.scans.gives _ refl
             ∙ ap (λ ts. left.tokens ++ ts) (operator_gives r.operator _ ∙ ap (λ ts. Operator r.operator ∷ ts) (right.scans.gives rest f))
             ∙ sym (append_assoc left.tokens (Operator r.operator ∷ right.tokens) (tokens_of rest));
@@ -156,11 +158,11 @@ group_spells : (g : AndCondition) → IsSpellableGroup g → Spells EndsRun IsAn
 unfolding tokens_from
 group_spells g h =
     let all =
-        joined_spells EndsRun IsRelation relation_text (codes " and ") And (λ rest. refl)
-            (λ rest. below_digits 32 (omega arith)) g.0 h.0
-            (recursion_from_All (λ r. Spells EndsRun IsRelation (relation_text r) r) g.0
-                (All-weaker IsSpellableRelation (λ r. Spells EndsRun IsRelation (relation_text r) r) relation_spells g.0
-                    h.1)) in
+    joined_spells EndsRun IsRelation relation_text (codes " and ") And (λ rest. refl)
+    (λ rest. below_digits 32 (omega arith)) g.0 h.0
+    (recursion_from_All (λ r. Spells EndsRun IsRelation (relation_text r) r) g.0
+    (All-weaker IsSpellableRelation (λ r. Spells EndsRun IsRelation (relation_text r) r) relation_spells g.0
+    h.1)) in
     record { tokens = all.tokens; part = all.part; scans = all.scans }
 
 -- the printed text of a condition with some group spells it
@@ -168,11 +170,11 @@ condition_spells : (c : Condition) → c.0 ≢ [] → IsSpellable c → Spells E
 unfolding tokens_from
 condition_spells c some h =
     let all =
-        joined_spells EndsRun IsAndCondition and_condition_text (codes " or ") Or (λ rest. refl)
-            (λ rest. below_digits 32 (omega arith)) c.0 some
-            (recursion_from_All (λ g. Spells EndsRun IsAndCondition (and_condition_text g) g) c.0
-                (All-weaker IsSpellableGroup (λ g. Spells EndsRun IsAndCondition (and_condition_text g) g) group_spells
-                    c.0 h)) in
+    joined_spells EndsRun IsAndCondition and_condition_text (codes " or ") Or (λ rest. refl)
+    (λ rest. below_digits 32 (omega arith)) c.0 some
+    (recursion_from_All (λ g. Spells EndsRun IsAndCondition (and_condition_text g) g) c.0
+    (All-weaker IsSpellableGroup (λ g. Spells EndsRun IsAndCondition (and_condition_text g) g) group_spells
+    c.0 h)) in
     record { tokens = all.tokens; part = all.part; scans = all.scans }
 
 -- neither the end nor At continues a condition
@@ -192,7 +194,7 @@ reads_groups_back : (groups : List AndCondition) → IsSpellable (record { 0 = g
 reads_groups_back [] h = record { tokens = []; scans = record { gives = λ rest f. refl }; reads = λ rest u. inl (refl, refl, u) }
 reads_groups_back (g ∷ gs) h =
     let spelled : Spells EndsRun IsCondition (condition_text (record { 0 = g ∷ gs })) (record { 0 = g ∷ gs }) =
-        condition_spells (record { 0 = g ∷ gs }) (λ e. cc) h in
+    condition_spells (record { 0 = g ∷ gs }) (λ e. cc) h in
     record {
       tokens = spelled.tokens;
       scans = spelled.scans;

@@ -20,8 +20,8 @@ use Rattle.plural_reference.specs.Parser.{IsItem}
 use Rattle.plural_reference.specs.Samples.{IsDigits, IsExponentMark, IsFraction, IsExponent, token_text}
 use Rattle.plural_reference.specs.Inner.Scan.{tokens_of, tokens_from}
 use Rattle.plural_reference.proofs.Alone.{point_alone}
-use Rattle.plural_reference.proofs.PrintedTokens.{below_digits, above_digits, Scans, Spells, EndsRun, AreDigits,
-    numerals, small_fits, run_gives, number_spells}
+use Rattle.plural_reference.proofs.PrintedTokens.{below_digits, above_digits, Scans, Spells, EndsRun}
+use Rattle.plural_reference.proofs.PrintedTokens.{AreDigits, numerals, small_fits, run_gives, number_spells}
 use Rattle.plural_reference.proofs.SampleParserSteps.{digit_again}
 use Rattle.plural_reference.proofs.TokensFit.{TokenFits, AllFit}
 

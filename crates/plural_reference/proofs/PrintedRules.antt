@@ -61,7 +61,7 @@ sections_read : (ss : List Section) (old : samples.Samples) → AllByRecursion I
 sections_read [] old h k = k
 sections_read (s ∷ ss) old h k =
     sections_read ss (with_list s.type s.list old) h.1
-        (with_list_read s.type s.list old h.0.0 h.0.1 k.integer k.decimal)
+    (with_list_read s.type s.list old h.0.0 h.0.1 k.integer k.decimal)
 
 -- the samples of such sections are samples as they are read
 are_read : (ss : List Section) → AllByRecursion IsSpelledSection ss → IfSome (samples_of ss) AreReadSamples
@@ -110,14 +110,19 @@ module _ (type : Token) (prefix : List ℕ) (is_type : IsSampleType type)
 -- sections and more sections are sections
 sections_append : (a b : List Token) (ss ts : List Section) → AreSections a ss → AreSections b ts → AreSections (a ++ b) (ss ++ ts)
 sections_append a b [] ts h k = subst (λ l. AreSections (l ++ b) ts) (sym h) k
-sections_append a b (s ∷ ss) ts h k =
-    (h.0, h.1 ++ b, ap (λ l. l ++ b) h.2 ∙ ap (λ l. At ∷ s.type ∷ l) (append_assoc h.0 h.1 b), h.3, h.4,
-        sections_append h.1 b ss ts h.5 k)
+sections_append a b (s ∷ ss) ts h k = (
+  h.0,
+  h.1 ++ b,
+  ap (λ l. l ++ b) h.2 ∙ ap (λ l. At ∷ s.type ∷ l) (append_assoc h.0 h.1 b),
+  h.3,
+  h.4,
+  sections_append h.1 b ss ts h.5 k,
+)
 
 -- the sections of two lists, one of them there, are those of the samples with both
 samples_of-sections : (integer decimal : Option SampleList) → HasList integer decimal
     → samples_of (section_of Integer integer ++ section_of Decimal decimal)
-        ≡ Some (record { integer = integer; decimal = decimal })
+    ≡ Some (record { integer = integer; decimal = decimal })
 samples_of-sections None None h = absurd h
 samples_of-sections None (Some d) h = refl
 samples_of-sections (Some i) None h = refl
@@ -142,29 +147,35 @@ pub samples_read_back : (s : samples.Samples) → AreReadSamples s → IfSome s.
 unfolding tokens_from
 samples_read_back s h small_integer small_decimal =
     let a : Spells EndsSample AreSections (prefixed (codes " @integer ") sample_list_text s.integer)
-            (section_of Integer s.integer) =
-        section_spells Integer (codes " @integer ") tt (λ rest. refl) (λ rest. space_breaks) s.integer h.integer
-            small_integer in
+    (section_of Integer s.integer) =
+    section_spells Integer (codes " @integer ") tt (λ rest. refl) (λ rest. space_breaks) s.integer h.integer
+    small_integer in
     let b : Spells EndsSample AreSections (prefixed (codes " @decimal ") sample_list_text s.decimal)
-            (section_of Decimal s.decimal) =
-        section_spells Decimal (codes " @decimal ") tt (λ rest. refl) (λ rest. space_breaks) s.decimal h.decimal
-            small_decimal in
+    (section_of Decimal s.decimal) =
+    section_spells Decimal (codes " @decimal ") tt (λ rest. refl) (λ rest. space_breaks) s.decimal h.decimal
+    small_decimal in
     let are = sections_append a.tokens b.tokens (section_of Integer s.integer) (section_of Decimal s.decimal) a.part b.part in
     let behind = section_follows Decimal (codes " @decimal ") tt (λ rest. refl) (λ rest. space_breaks) s.decimal in
     record {
       tokens = a.tokens ++ b.tokens;
       scans =
           scans_then EndsSample EndsSample (prefixed (codes " @integer ") sample_list_text s.integer)
-              (prefixed (codes " @decimal ") sample_list_text s.decimal) a.tokens b.tokens a.scans b.scans behind;
+          (prefixed (codes " @decimal ") sample_list_text s.decimal) a.tokens b.tokens a.scans b.scans behind;
       follows =
           λ rest f. subst EndsSample
-              (sym
-                  (append_assoc (prefixed (codes " @integer ") sample_list_text s.integer)
-                      (prefixed (codes " @decimal ") sample_list_text s.decimal) rest))
-              (section_follows Integer (codes " @integer ") tt (λ r. refl) (λ r. space_breaks) s.integer _
-                  (behind rest f));
+          (sym
+          (append_assoc (prefixed (codes " @integer ") sample_list_text s.integer)
+          (prefixed (codes " @decimal ") sample_list_text s.decimal) rest))
+          (section_follows Integer (codes " @integer ") tt (λ r. refl) (λ r. space_breaks) s.integer _
+          (behind rest f));
       unconditional = sections_unconditional (a.tokens ++ b.tokens) (section_of Integer s.integer ++ section_of Decimal s.decimal) are;
-      reads =
-          (section_of Integer s.integer ++ section_of Decimal s.decimal, a.tokens ++ b.tokens, [],
-              sym (append-nil (a.tokens ++ b.tokens)), are, tt, sym (samples_of-sections s.integer s.decimal h.some));
+      reads = (
+        section_of Integer s.integer ++ section_of Decimal s.decimal,
+        a.tokens ++ b.tokens,
+        [],
+        sym (append-nil (a.tokens ++ b.tokens)),
+        are,
+        tt,
+        sym (samples_of-sections s.integer s.decimal h.some),
+      );
     }

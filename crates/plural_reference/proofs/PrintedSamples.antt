@@ -1,7 +1,7 @@
 -- The tokens of a printed list of samples spell it, though they need not be those that it was read from, if a token holds the
 -- number of each run of its digits. From samples that were read to their printed texts; PrintedRules cites it.
-use Rattle.std.proofs.Common.{◌≡◌, ◌≢◌, ◌≤◌, ℕ, Bool, true, false, List, [], ◌∷◌, ◌++◌, Option, Some, None, refl, sym,
-    ap, ◌∙◌, subst, append_assoc, arith}
+use Rattle.std.proofs.Common.{◌≡◌, ◌≢◌, ◌≤◌, ℕ, Bool, true, false, List, [], ◌∷◌, ◌++◌, Option}
+use Rattle.std.proofs.Common.{Some, None, refl, sym, ap, ◌∙◌, subst, append_assoc, arith}
 use Rattle.std.proofs.lemmas.Bool.{eqb-false}
 use Rattle.std.proofs.lemmas.Fmt.{decimal_is_IsNumeral}
 use Rattle.std.proofs.lemmas.List.{append-nil}
@@ -19,14 +19,14 @@ use Rattle.plural_reference.specs.declared.token.Token.{Token}
 use Rattle.plural_reference.specs.declared.token.Token.TheVariants.{Operand, Number, Zero, Dot, Comma, Ellipsis, Tilde, E}
 use Rattle.plural_reference.specs.Lexer.{max_number}
 use Rattle.plural_reference.specs.PrintingLaws.{HasSmallRuns, ListHasSmallRuns}
-use Rattle.plural_reference.specs.Samples.{IsDigits, IsExponentMark, IsFraction, IsExponent, SampleParts, IsSampleOf,
-    token_text, IsSample, IsUpper, IsSampleRange, IsEllipsis, IsSampleList}
+use Rattle.plural_reference.specs.Samples.{IsDigits, IsExponentMark, IsFraction, IsExponent, SampleParts, IsSampleOf}
+use Rattle.plural_reference.specs.Samples.{token_text, IsSample, IsUpper, IsSampleRange, IsEllipsis, IsSampleList}
 use Rattle.plural_reference.specs.Inner.Scan.{tokens_from}
 use Rattle.plural_reference.specs.Serializer.{joined, prefixed, sample_text, sample_range_text, ellipsis_text, sample_list_text}
-use Rattle.plural_reference.proofs.PrintedDigits.{EndsSample, comma_breaks, sample_ends_run, Retold, text_digits,
-    digits_retold, fraction_retold, fraction_follows, exponent_retold, exponent_follows}
-use Rattle.plural_reference.proofs.PrintedTokens.{below_digits, above_digits, Scans, scans_then, Spells, joined_spells,
-    EndsRun, AreDigits, small_fits, nonempty_of}
+use Rattle.plural_reference.proofs.PrintedDigits.{EndsSample, comma_breaks, sample_ends_run, Retold, text_digits, digits_retold}
+use Rattle.plural_reference.proofs.PrintedDigits.{fraction_retold, fraction_follows, exponent_retold, exponent_follows}
+use Rattle.plural_reference.proofs.PrintedTokens.{below_digits, above_digits, Scans, scans_then, Spells}
+use Rattle.plural_reference.proofs.PrintedTokens.{joined_spells, EndsRun, AreDigits, small_fits, nonempty_of}
 use Rattle.plural_reference.proofs.ReaderComplete.{last-push}
 use Rattle.plural_reference.proofs.SampleComplete.{flat_map-append}
 use Rattle.plural_reference.proofs.SpellableConditions.{separated_parts}
@@ -94,7 +94,7 @@ module _ (i f e : List Token) (a : AllFit ((i ++ f) ++ e)) (digit : AllByRecursi
     after = flat_map token_text e;
     place =
         ap (λ l. (flat_map token_text i ++ l) ++ flat_map token_text e) e'
-            ∙ ap (λ l. l ++ flat_map token_text e) (sym (append_assoc (flat_map token_text i) (46 ∷ []) ds));
+        ∙ ap (λ l. l ++ flat_map token_text e) (sym (append_assoc (flat_map token_text i) (46 ∷ []) ds));
     all_digits = All-from_recursion IsAsciiDigit ds are;
     begins = rw (last-push (flat_map token_text i) 46) (below_digits 46 (omega arith));
     ends = sample_ends_run (flat_map token_text e) exponent_ends;
@@ -105,32 +105,37 @@ module _ (i f e : List Token) (a : AllFit ((i ++ f) ++ e)) (digit : AllByRecursi
   whole_retold small =
       let fits = fit_left (i ++ f) e a in
       let left : Spells EndsRun (Retold (AllByRecursion IsDigits)) (flat_map token_text i) (flat_map token_text i) =
-          digits_retold (flat_map token_text i) (text_digits i (fit_left i f fits) digit) (integer_small small) in
+      digits_retold (flat_map token_text i) (text_digits i (fit_left i f fits) digit) (integer_small small) in
       let middle : Spells EndsSample (Retold IsFraction) (flat_map token_text f) (flat_map token_text f) =
-          fraction_retold f (fit_right i f fits) fraction (fraction_small small) in
+      fraction_retold f (fit_right i f fits) fraction (fraction_small small) in
       let right : Spells EndsSample (Retold IsExponent) (flat_map token_text e) (flat_map token_text e) =
-          exponent_retold e (fit_right (i ++ f) e a) exponent in
+      exponent_retold e (fit_right (i ++ f) e a) exponent in
       let tokens : List Token = (left.tokens ++ middle.tokens) ++ right.tokens in
       let text_is : flat_map token_text tokens ≡ whole =
-          flat_map-append (left.tokens ++ middle.tokens) right.tokens
-              ∙ ap (λ l. l ++ flat_map token_text right.tokens) (flat_map-append left.tokens middle.tokens)
-              ∙ (λ j. (left.part.1 j ++ middle.part.1 j) ++ right.part.1 j) in
+      flat_map-append (left.tokens ++ middle.tokens) right.tokens
+      ∙ ap (λ l. l ++ flat_map token_text right.tokens) (flat_map-append left.tokens middle.tokens)
+      ∙ (λ j. (left.part.1 j ++ middle.part.1 j) ++ right.part.1 j) in
       record {
         tokens = tokens;
         part = (
           (
             record { integer = left.tokens; fraction = middle.tokens; exponent = right.tokens },
-            (refl, left.part.0, middle.part.0, right.part.0,
-                λ none. sample_nonempty i f e a digit fraction exponent some
-                    (text-parts ∙ sym text_is ∙ ap (flat_map token_text) none)),
+            (
+              refl,
+              left.part.0,
+              middle.part.0,
+              right.part.0,
+              λ none. sample_nonempty i f e a digit fraction exponent some
+                  (text-parts ∙ sym text_is ∙ ap (flat_map token_text) none),
+            ),
           ),
           text_is,
         );
         scans =
             scans_then EndsSample EndsSample (flat_map token_text i ++ flat_map token_text f) (flat_map token_text e)
-                (left.tokens ++ middle.tokens) right.tokens
+            (left.tokens ++ middle.tokens) right.tokens
             (scans_then EndsRun EndsSample (flat_map token_text i) (flat_map token_text f) left.tokens middle.tokens
-                left.scans middle.scans (fraction_follows f fraction))
+            left.scans middle.scans (fraction_follows f fraction))
             right.scans
             (exponent_follows e exponent);
       }
@@ -143,11 +148,11 @@ sample_spells tokens text a h small =
     let fits : AllFit ((s.integer ++ s.fraction) ++ s.exponent) = subst AllFit h.1.0 a in
     let some : (s.integer ++ s.fraction) ++ s.exponent ≢ [] = λ none. h.1.4 (h.1.0 ∙ none) in
     let text_is : text ≡ whole s.integer s.fraction s.exponent fits h.1.1 h.1.2 h.1.3 some =
-        h.2 ∙ ap (flat_map token_text) h.1.0 ∙ text-parts s.integer s.fraction s.exponent fits h.1.1 h.1.2 h.1.3 some in
+    h.2 ∙ ap (flat_map token_text) h.1.0 ∙ text-parts s.integer s.fraction s.exponent fits h.1.1 h.1.2 h.1.3 some in
     let again : Spells EndsSample (Retold (λ ts. (p : SampleParts) × IsSampleOf ts p))
-            (whole s.integer s.fraction s.exponent fits h.1.1 h.1.2 h.1.3 some)
-            (whole s.integer s.fraction s.exponent fits h.1.1 h.1.2 h.1.3 some) =
-        whole_retold s.integer s.fraction s.exponent fits h.1.1 h.1.2 h.1.3 some (subst HasSmallRuns text_is small) in
+    (whole s.integer s.fraction s.exponent fits h.1.1 h.1.2 h.1.3 some)
+    (whole s.integer s.fraction s.exponent fits h.1.1 h.1.2 h.1.3 some) =
+    whole_retold s.integer s.fraction s.exponent fits h.1.1 h.1.2 h.1.3 some (subst HasSmallRuns text_is small) in
     record {
       tokens = again.tokens;
       part = (again.part.0.0, again.part.0.1, text_is ∙ sym again.part.1);
@@ -189,15 +194,15 @@ range_spells r h small =
     let k = h.2 in
     let fits : AllFit (k.0 ++ k.1) = subst AllFit k.2 h.1 in
     let lower : Spells EndsSample IsSample (sample_text r.lower_val) r.lower_val =
-        sample_spells k.0 r.lower_val (fit_left k.0 k.1 fits) k.3 small.0 in
+    sample_spells k.0 r.lower_val (fit_left k.0 k.1 fits) k.3 small.0 in
     let upper : Spells EndsSample IsUpper (prefixed (codes "~") sample_text r.upper_val) r.upper_val =
-        upper_spells k.1 r.upper_val (fit_right k.0 k.1 fits) k.4 small.1 in
+    upper_spells k.1 r.upper_val (fit_right k.0 k.1 fits) k.4 small.1 in
     record {
       tokens = lower.tokens ++ upper.tokens;
       part = (lower.tokens, upper.tokens, refl, lower.part, upper.part);
       scans =
           scans_then EndsSample EndsSample (sample_text r.lower_val) (prefixed (codes "~") sample_text r.upper_val)
-              lower.tokens upper.tokens lower.scans upper.scans (upper_follows r.upper_val);
+          lower.tokens upper.tokens lower.scans upper.scans (upper_follows r.upper_val);
     }
 
 -- what two facts say of each member together, they say of all
@@ -223,20 +228,20 @@ unfolding tokens_from
 list_spells l h small =
     let k = h.2 in
     let ranges =
-        separated_parts Comma IsSampleRange (IsSpelled IsSampleRange) (λ tokens r f p. (tokens, f, p)) k.0
-            l.sample_ranges (fit_left k.0 k.1 (subst AllFit k.2 h.1)) k.3 in
+    separated_parts Comma IsSampleRange (IsSpelled IsSampleRange) (λ tokens r f p. (tokens, f, p)) k.0
+    l.sample_ranges (fit_left k.0 k.1 (subst AllFit k.2 h.1)) k.3 in
     let each =
-        both_give (IsSpelled IsSampleRange) RangeHasSmallRuns
-            (λ r. Spells EndsSample IsSampleRange (sample_range_text r) r) range_spells l.sample_ranges ranges.1
-            (recursion_from_All RangeHasSmallRuns l.sample_ranges small) in
+    both_give (IsSpelled IsSampleRange) RangeHasSmallRuns
+    (λ r. Spells EndsSample IsSampleRange (sample_range_text r) r) range_spells l.sample_ranges ranges.1
+    (recursion_from_All RangeHasSmallRuns l.sample_ranges small) in
     let left =
-        joined_spells EndsSample IsSampleRange sample_range_text (codes ", ") Comma (λ rest. refl)
-            (λ rest. comma_breaks) l.sample_ranges ranges.0 each in
+    joined_spells EndsSample IsSampleRange sample_range_text (codes ", ") Comma (λ rest. refl)
+    (λ rest. comma_breaks) l.sample_ranges ranges.0 each in
     let right : Spells EndsSample IsEllipsis (ellipsis_text l.ellipsis) l.ellipsis = ellipsis_spells l.ellipsis in
     record {
       tokens = left.tokens ++ right.tokens;
       part = (left.tokens, right.tokens, refl, left.part, right.part);
       scans =
           scans_then EndsSample EndsSample (joined (codes ", ") sample_range_text l.sample_ranges)
-              (ellipsis_text l.ellipsis) left.tokens right.tokens left.scans right.scans (ellipsis_follows l.ellipsis);
+          (ellipsis_text l.ellipsis) left.tokens right.tokens left.scans right.scans (ellipsis_follows l.ellipsis);
     }

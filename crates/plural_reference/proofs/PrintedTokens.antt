@@ -1,8 +1,8 @@
 -- The tokens of printed texts, one text after another: a text gives its tokens before each rest that may follow it, so that
 -- printed parts can be joined and still be scanned part by part; and a printed number is one token. The other proofs on what
 -- is printed rest on it.
-use Rattle.std.proofs.Common.{◌≡◌, ◌≢◌, ◌≤◌, ◌<◌, ◌^◌, ℕ, zero, suc, List, [], ◌∷◌, ◌++◌, length, get_or, refl, sym, ap,
-    ◌∙◌, append_assoc, arith, rules}
+use Rattle.std.proofs.Common.{◌≡◌, ◌≢◌, ◌≤◌, ◌<◌, ◌^◌, ℕ, zero, suc, List, [], ◌∷◌, ◌++◌}
+use Rattle.std.proofs.Common.{length, get_or, refl, sym, ap, ◌∙◌, append_assoc, arith, rules}
 use Rattle.std.proofs.lemmas.Bool.{le-leb}
 use Rattle.std.proofs.lemmas.Fmt.{decimal_is_IsNumeral, first_decimal, digits_decimal}
 use Rattle.std.proofs.lemmas.List.Elements.{All-from_recursion}
@@ -60,8 +60,8 @@ module _ {A : Type 0} (Follows : List ℕ → Type 0) (Part : List Token → A �
         scans = record {
           gives = λ rest f.
               ap tokens_of
-                  (append_assoc (text x ++ separator) (joined separator text (y ∷ ys)) rest
-                      ∙ append_assoc (text x) separator (joined separator text (y ∷ ys) ++ rest))
+              (append_assoc (text x ++ separator) (joined separator text (y ∷ ys)) rest
+              ∙ append_assoc (text x) separator (joined separator text (y ∷ ys) ++ rest))
               ∙ h.0.scans.gives _ (may_follow _)
               ∙ ap (λ ts. h.0.tokens ++ ts) (gives_mark _ ∙ ap (λ ts. mark ∷ ts) (more.scans.gives rest f))
               ∙ sym (append_assoc h.0.tokens (mark ∷ more.tokens) (tokens_of rest));
@@ -86,11 +86,11 @@ EndsRun rest = IfSome (first rest) (λ b. ¬ (IsAsciiDigit b))
 abbrev pub AreDigits : List ℕ → Type 0
 AreDigits ds = AllByRecursion IsAsciiDigit ds
 
--- these are just the texts of decimal digits
+-- the lemmas on numerals take such bytes as digits
 are_tested : IsDigitsTest AreDigits
 are_tested = search rules
 
--- with their value in base 10 they are what the lemmas on numerals speak of
+-- and their value as the number that they write
 pub numerals : IsNumeralModel AreDigits (digits_value 10)
 numerals = numerals_by_value AreDigits are_tested
 
@@ -136,7 +136,7 @@ number_spells (suc k) h =
       scans =
           record {
             gives = λ rest f. run_gives (decimal (suc k)) rest (run_of_number (suc k) rest (omega arith) h f)
-                    (rw value_is h)
+                (rw value_is h)
                 ∙ ap (λ n. Number n ∷ tokens_of rest) value_is;
           };
     }

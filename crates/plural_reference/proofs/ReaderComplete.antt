@@ -18,13 +18,13 @@ use Rattle.plural_reference.specs.declared.error.ParseError.{ParseError}
 use Rattle.plural_reference.specs.declared.error.ParseError.TheVariants.{ExpectedValue, ExpectedAndCondition, ExpectedRelation}
 use Rattle.plural_reference.specs.Parser as places
 use Rattle.plural_reference.specs.Lexer.{first, last}
-use Rattle.plural_reference.specs.Parser.{value_of, operand_of, IsItem, IsExpression, IsModulus, IsRelation,
-    IsAndCondition, IsCondition, Separated, Continues, EndsInValue, IsUnconditional, ReadsUpTo, Faulty, last_item,
-    ConditionThen, IsBeforeOperand, IsAfterOperand, IsAfterModulo, IsAfterModulus, IsBeforeValue, Waits, fault,
-    operand_fault, operator_fault, value_fault}
-use Rattle.plural_reference.specs.Inner.Reader.{Before, Opened, State, before_operand, after_operand, after_modulo,
-    after_modulus, before_item, after_item, before_end, relation_of, with_relation, with_group, condition_of, refuse,
-    value_move, proceed, run, begin, Outcome, no_operand}
+use Rattle.plural_reference.specs.Parser.{value_of, operand_of, IsItem, IsExpression, IsModulus, IsRelation, IsAndCondition}
+use Rattle.plural_reference.specs.Parser.{IsCondition, Separated, Continues, EndsInValue, IsUnconditional, ReadsUpTo, Faulty}
+use Rattle.plural_reference.specs.Parser.{last_item, ConditionThen, IsBeforeOperand, IsAfterOperand, IsAfterModulo, IsAfterModulus}
+use Rattle.plural_reference.specs.Parser.{IsBeforeValue, Waits, fault, operand_fault, operator_fault, value_fault}
+use Rattle.plural_reference.specs.Inner.Reader.{Before, Opened, State, before_operand, after_operand, after_modulo, after_modulus}
+use Rattle.plural_reference.specs.Inner.Reader.{before_item, after_item, before_end, relation_of, with_relation, with_group}
+use Rattle.plural_reference.specs.Inner.Reader.{condition_of, refuse, value_move, proceed, run, begin, Outcome, no_operand}
 
 -- the tokens of an item lead behind it, where an item is awaited
 pub run_item : (o : Opened) (xs : List RangeListItem) (tokens : List Token) (x : RangeListItem) (rest : List Token)
@@ -68,11 +68,11 @@ pub record Leads (from : State) (tokens : List Token) (b : Before) : Type 0 wher
 
 -- an operand, a modulus or none, and an operator lead to where the first item is awaited
 run_left_by : (b : Before) (tokens : List Token) (o : operand.Operand) (m : Option Value) (op : operator.Operator)
-        (rest : List Token)
+    (rest : List Token)
     → IsExpression tokens (record { operand = o; modulus = m })
     → run (before_operand b) (tokens ++ Operator op ∷ rest)
-        ≡ run (before_item (record { before = b; expression = record { operand = o; modulus = m }; operator = op }) [])
-            rest
+    ≡ run (before_item (record { before = b; expression = record { operand = o; modulus = m }; operator = op }) [])
+    rest
 unfolding run
 run_left_by b tokens o None op rest h = rw (h.2, h.3, h.4) refl
 run_left_by b tokens o (Some v) op rest h = rw (h.2, h.3, h.4.1, h.4.2) refl
@@ -81,7 +81,7 @@ run_left_by b tokens o (Some v) op rest h = rw (h.2, h.3, h.4.1, h.4.2) refl
 pub run_left : (b : Before) (tokens : List Token) (e : Expression) (op : operator.Operator) (rest : List Token)
     → IsExpression tokens e
     → run (before_operand b) (tokens ++ Operator op ∷ rest)
-        ≡ run (before_item (record { before = b; expression = e; operator = op }) []) rest
+    ≡ run (before_item (record { before = b; expression = e; operator = op }) []) rest
 run_left b tokens e op rest h = run_left_by b tokens e.operand e.modulus op rest h
 
 -- the tokens of a relation lead to its last item, and complete it
@@ -133,13 +133,13 @@ run_relations b tokens (r ∷ []) h = run_relation b tokens r h
 run_relations b tokens (r ∷ s ∷ rs) h =
     let one : Leads (before_operand b) h.0 (with_relation b r) = run_relation b h.0 r h.3 in
     let more : Leads (before_operand (with_relation b r)) h.1
-            (record { groups = b.groups; relations = (b.relations ++ r ∷ []) ++ s ∷ rs }) =
-        run_relations (with_relation b r) h.1 (s ∷ rs) h.4 in
+    (record { groups = b.groups; relations = (b.relations ++ r ∷ []) ++ s ∷ rs }) =
+    run_relations (with_relation b r) h.1 (s ∷ rs) h.4 in
     subst (λ (xs : List Relation). Leads (before_operand b) tokens (record { groups = b.groups; relations = xs }))
-        (append_assoc b.relations (r ∷ []) (s ∷ rs))
+    (append_assoc b.relations (r ∷ []) (s ∷ rs))
     (leads_from (before_operand b) (before_operand (with_relation b r)) h.0 h.1 tokens _
     (λ rest. ap (run (before_operand b)) (ap (λ l. l ++ rest) h.2 ∙ append_assoc h.0 (And ∷ h.1) rest)
-        ∙ leads_and _ h.0 (with_relation b r) (h.1 ++ rest) one)
+    ∙ leads_and _ h.0 (with_relation b r) (h.1 ++ rest) one)
     more)
 
 -- tokens lead to the end of a condition
@@ -152,7 +152,7 @@ pub record LeadsToCondition (from : State) (tokens : List Token) (c : Condition)
 pub run_groups : (groups : List AndCondition) (tokens : List Token) (gs : List AndCondition)
     → Separated Or IsAndCondition tokens gs
     → LeadsToCondition (before_operand (record { groups = groups; relations = [] })) tokens
-        (record { 0 = groups ++ gs })
+    (record { 0 = groups ++ gs })
 run_groups groups tokens [] h = absurd h
 run_groups groups tokens (g ∷ []) h =
     record {
@@ -163,15 +163,15 @@ run_groups groups tokens (g ∷ []) h =
 run_groups groups tokens (g ∷ k ∷ ks) h =
     let done : Before = record { groups = groups; relations = g.0 } in
     let one : Leads (before_operand (record { groups = groups; relations = [] })) h.0 done =
-        run_relations (record { groups = groups; relations = [] }) h.0 g.0 h.3 in
+    run_relations (record { groups = groups; relations = [] }) h.0 g.0 h.3 in
     let more : LeadsToCondition (before_operand (with_group done)) h.1 (record { 0 = (groups ++ g ∷ []) ++ k ∷ ks }) =
-        run_groups (groups ++ g ∷ []) h.1 (k ∷ ks) h.4 in
+    run_groups (groups ++ g ∷ []) h.1 (k ∷ ks) h.4 in
     record {
       before = more.before;
       leads = leads_from _ (before_operand (with_group done)) h.0 h.1 tokens _
           (λ rest. ap (run (before_operand (record { groups = groups; relations = [] })))
-                  (ap (λ l. l ++ rest) h.2 ∙ append_assoc h.0 (Or ∷ h.1) rest)
-              ∙ leads_or _ h.0 done (h.1 ++ rest) one)
+          (ap (λ l. l ++ rest) h.2 ∙ append_assoc h.0 (Or ∷ h.1) rest)
+          ∙ leads_or _ h.0 done (h.1 ++ rest) one)
           more.leads;
       condition_is = more.condition_is ∙ ap (λ (l : List AndCondition). record { 0 = l }) (append_assoc groups (g ∷ []) (k ∷ ks));
     }
@@ -196,9 +196,9 @@ last_item-complete o front item = rw (last-push, last-push, last-push) refl
 -- a token that doesn't continue the condition ends it behind an item, and so does the end
 pub run_ends : (o : Opened) (front : List RangeListItem) (item : RangeListItem) (rest : List Token)
     → IfSome (first rest)
-        (λ t. ¬ (Continues (condition_of (with_relation o.before (relation_of o (front ++ item ∷ [])))) t))
+    (λ t. ¬ (Continues (condition_of (with_relation o.before (relation_of o (front ++ item ∷ [])))) t))
     → run (after_item o front item) rest
-        ≡ Ok (condition_of (with_relation o.before (relation_of o (front ++ item ∷ []))), rest)
+    ≡ Ok (condition_of (with_relation o.before (relation_of o (front ++ item ∷ []))), rest)
 unfolding run
 run_ends o front item [] h = refl
 run_ends o front item (And ∷ ts) h = absurd (h tt)
@@ -222,10 +222,10 @@ reads_run tokens c rest (inl h) = unconditional_run tokens h.2 ∙ ap Ok ((λ i.
 reads_run tokens c rest (inr h) =
     let to : LeadsToCondition begin h.0 c = run_condition h.0 c h.2 in
     let is_c : condition_of
-                (with_relation to.leads.opened.before
-                    (relation_of to.leads.opened (to.leads.front ++ to.leads.item ∷ [])))
-            ≡ c =
-        ap condition_of to.leads.complete ∙ to.condition_is in
+    (with_relation to.leads.opened.before
+    (relation_of to.leads.opened (to.leads.front ++ to.leads.item ∷ [])))
+    ≡ c =
+    ap condition_of to.leads.complete ∙ to.condition_is in
     ap (run begin) h.1 ∙ to.leads.run_is rest
     ∙ run_ends _ _ _ rest (subst (λ (d : Condition). IfSome (first rest) (λ t. ¬ (Continues d t))) (sym is_c) h.3)
     ∙ ap (λ (d : Condition). Ok (d, rest)) is_c
@@ -245,10 +245,11 @@ arrives_more p before t s next e h k rest =
 -- a condition and Or lead to where the operand of a new group is awaited
 arrives_or : (p : List Token) → ConditionThen Or p → (b : Before) × Arrives p (before_operand (with_group b))
 arrives_or p h =
-    let to : LeadsToCondition begin h.0 h.1 = run_condition h.0 h.1 h.3 in
-    (to.before,
-        λ rest. ap (run begin) (ap (λ l. l ++ rest) h.2 ∙ append_assoc h.0 (Or ∷ []) rest)
-            ∙ leads_or begin h.0 to.before rest to.leads)
+    let to : LeadsToCondition begin h.0 h.1 = run_condition h.0 h.1 h.3 in (
+      to.before,
+      λ rest. ap (run begin) (ap (λ l. l ++ rest) h.2 ∙ append_assoc h.0 (Or ∷ []) rest)
+          ∙ leads_or begin h.0 to.before rest to.leads,
+    )
 
 -- a condition and And lead to where the operand of a further relation is awaited
 arrives_and : (p : List Token) → ConditionThen And p → (b : Before) × (r : Relation) × Arrives p (before_operand (with_relation b r))
@@ -300,9 +301,11 @@ modulus_next_run b o t v rest h = rw h refl
 -- tokens that end in a whole modulus lead there
 arrives_after_modulus : (p : List Token) → IsAfterModulus p → (b : Before) × (e : Expression) × Arrives p (after_modulus b e)
 arrives_after_modulus p h =
-    let a = arrives_after_modulo h.0 h.4 in
-    (a.0, record { operand = a.1; modulus = Some h.2 },
-        arrives_more p h.0 h.1 _ _ h.3 a.2 (λ rest. modulus_next_run a.0 a.1 h.1 h.2 rest h.5))
+    let a = arrives_after_modulo h.0 h.4 in (
+      a.0,
+      record { operand = a.1; modulus = Some h.2 },
+      arrives_more p h.0 h.1 _ _ h.3 a.2 (λ rest. modulus_next_run a.0 a.1 h.1 h.2 rest h.5),
+    )
 
 -- ---- the fault at each state
 
@@ -375,16 +378,16 @@ no_operand_and (g ∷ gs) (x ∷ xs) r = refl
 -- an operator behind a modulus leads to the first item
 operator_next_run : (b : Before) (e : Expression) (op : operator.Operator) (rest : List Token)
     → run (after_modulus b e) (Operator op ∷ rest)
-        ≡ run (before_item (record { before = b; expression = e; operator = op }) []) rest
+    ≡ run (before_item (record { before = b; expression = e; operator = op }) []) rest
 unfolding run
 operator_next_run b e op rest = refl
 
 -- an operator right behind an operand leads to the first item
 operand_operator_run : (b : Before) (o : operand.Operand) (op : operator.Operator) (rest : List Token)
     → run (after_operand b o) (Operator op ∷ rest)
-        ≡ run
-            (before_item (record { before = b; expression = record { operand = o; modulus = None }; operator = op }) [])
-            rest
+    ≡ run
+    (before_item (record { before = b; expression = record { operand = o; modulus = None }; operator = op }) [])
+    rest
 unfolding run
 operand_operator_run b o op rest = refl
 
@@ -430,34 +433,36 @@ arrives_before_value p (inr (inr (spelled, c, e, h, (v, is_value)))) =
     let to : LeadsToCondition begin spelled c = run_condition spelled c h in
     let is_c = ap condition_of to.leads.complete ∙ to.condition_is in
     let item_is : to.leads.item ≡ items.Value v =
-        value_item to.leads.item v
-            (sym (last_item-complete to.leads.opened to.leads.front to.leads.item) ∙ ap last_item is_c ∙ is_value) in
-    (_, wants_end _ _ _,
-        arrives_more p spelled DotDot _ _ e to.leads.run_is
-            (λ rest. ap (λ (x : RangeListItem). run (after_item to.leads.opened to.leads.front x) (DotDot ∷ rest))
-                    item_is
-                ∙ dots_next_run to.leads.opened to.leads.front v rest))
+    value_item to.leads.item v
+    (sym (last_item-complete to.leads.opened to.leads.front to.leads.item) ∙ ap last_item is_c ∙ is_value) in (
+      _,
+      wants_end _ _ _,
+      arrives_more p spelled DotDot _ _ e to.leads.run_is
+          (λ rest. ap (λ (x : RangeListItem). run (after_item to.leads.opened to.leads.front x) (DotDot ∷ rest))
+          item_is
+          ∙ dots_next_run to.leads.opened to.leads.front v rest),
+    )
 
 -- tokens that wait at a place, and what is a fault there, are answered with the fault
 waits_run : (place : places.Place) (before rest : List Token) (kind : ParseError) → Waits place before
     → fault place (first rest) ≡ Some kind → run begin (before ++ rest) ≡ Err kind
 waits_run places.start before rest kind w h =
     ap (λ l. run begin (l ++ rest)) w
-        ∙ operand_stop (record { groups = []; relations = [] }) None rest kind (λ e k. cc) h
+    ∙ operand_stop (record { groups = []; relations = [] }) None rest kind (λ e k. cc) h
 waits_run places.after_or before rest kind w h =
     let a = arrives_or before w in
     a.1 rest
-        ∙ operand_stop (with_group a.0) (Some ExpectedAndCondition) rest kind
-            (λ e k. no_operand_or a.0.groups _
-                ∙ ap (λ o. elim o [ None ↦ refuse ExpectedAndCondition | Some x ↦ refuse x ]) k)
-            h
+    ∙ operand_stop (with_group a.0) (Some ExpectedAndCondition) rest kind
+    (λ e k. no_operand_or a.0.groups _
+    ∙ ap (λ o. elim o [ None ↦ refuse ExpectedAndCondition | Some x ↦ refuse x ]) k)
+    h
 waits_run places.after_and before rest kind w h =
     let a = arrives_and before w in
     a.2 rest
-        ∙ operand_stop (with_relation a.0 a.1) (Some ExpectedRelation) rest kind
-            (λ e k. no_operand_and a.0.groups a.0.relations a.1
-                ∙ ap (λ o. elim o [ None ↦ refuse ExpectedRelation | Some x ↦ refuse x ]) k)
-            h
+    ∙ operand_stop (with_relation a.0 a.1) (Some ExpectedRelation) rest kind
+    (λ e k. no_operand_and a.0.groups a.0.relations a.1
+    ∙ ap (λ o. elim o [ None ↦ refuse ExpectedRelation | Some x ↦ refuse x ]) k)
+    h
 waits_run places.after_operand before rest kind w h =
     let a = arrives_after_operand before w in a.2 rest ∙ after_operand_stop a.0 a.1 rest kind h
 waits_run places.after_modulo before rest kind w h =

@@ -13,17 +13,17 @@ use Rattle.plural_reference.specs.declared.ast.Expression.{Expression}
 use Rattle.plural_reference.specs.declared.token.Token.{Token}
 use Rattle.plural_reference.specs.declared.token.Token.TheVariants.{Operand, Operator, Number, Zero, DotDot, Comma, Or, And, Modulo, At, E}
 use Rattle.plural_reference.specs.declared.error.ParseError.{ParseError}
-use Rattle.plural_reference.specs.declared.error.ParseError.TheVariants.{ExpectedValue, ExpectedAndCondition,
-    ExpectedRelation, ExpectedOperand}
+use Rattle.plural_reference.specs.declared.error.ParseError.TheVariants.{ExpectedValue, ExpectedAndCondition}
+use Rattle.plural_reference.specs.declared.error.ParseError.TheVariants.{ExpectedRelation, ExpectedOperand}
 use Rattle.plural_reference.specs.Parser as places
-use Rattle.plural_reference.specs.Parser.{value_of, operand_of, IsItem, IsExpression, IsModulus, IsRelation,
-    IsAndCondition, IsCondition, Separated, Continues, EndsInValue, IsUnconditional, ReadsUpTo, Faulty, last_item,
-    ConditionThen, IsBeforeOperand, IsAfterOperand, IsAfterModulo, IsAfterModulus, IsBeforeValue, Waits, fault,
-    operand_fault, operator_fault, value_fault}
-use Rattle.plural_reference.specs.Inner.Reader.{Before, Opened, State, before_operand, after_operand, after_modulo,
-    after_modulus, before_item, after_item, before_end, relation_of, with_relation, with_group, condition_of, Move, go,
-    finish, refuse, operand_move, item_move, dots_move, operator_move, operand_next, step, at_end, proceed, run, begin,
-    Outcome, no_operand}
+use Rattle.plural_reference.specs.Parser.{value_of, operand_of, IsItem, IsExpression, IsModulus, IsRelation, IsAndCondition}
+use Rattle.plural_reference.specs.Parser.{IsCondition, Separated, Continues, EndsInValue, IsUnconditional, ReadsUpTo, Faulty}
+use Rattle.plural_reference.specs.Parser.{last_item, ConditionThen, IsBeforeOperand, IsAfterOperand, IsAfterModulo, IsAfterModulus}
+use Rattle.plural_reference.specs.Parser.{IsBeforeValue, Waits, fault, operand_fault, operator_fault, value_fault}
+use Rattle.plural_reference.specs.Inner.Reader.{Before, Opened, State, before_operand, after_operand, after_modulo, after_modulus}
+use Rattle.plural_reference.specs.Inner.Reader.{before_item, after_item, before_end, relation_of, with_relation, with_group}
+use Rattle.plural_reference.specs.Inner.Reader.{condition_of, Move, go, finish, refuse, operand_move, item_move, dots_move}
+use Rattle.plural_reference.specs.Inner.Reader.{operator_move, operand_next, step, at_end, proceed, run, begin, Outcome, no_operand}
 use Rattle.plural_reference.proofs.ReaderComplete.{last_item-complete}
 
 -- parts, each with the separator behind it
@@ -31,29 +31,40 @@ abbrev pub Terminated : {A : Type 0} → Token → (List Token → A → Type 0)
 Terminated separator Part tokens [] = tokens ≡ []
 Terminated separator Part tokens (x ∷ xs) =
     (part : List Token) × (rest : List Token) × (tokens ≡ part ++ separator ∷ rest) × Part part x
-        × Terminated separator Part rest xs
+    × Terminated separator Part rest xs
 
 -- parts with separators behind them, and a last part, are parts with separators between them
 pub Separated-last : {A : Type 0} (separator : Token) (Part : List Token → A → Type 0) (a b : List Token) (xs : List A)
-        (x : A)
+    (x : A)
     → Terminated separator Part a xs → Part b x → Separated separator Part (a ++ b) (xs ++ x ∷ [])
 Separated-last separator Part a b [] x h k = subst (λ l. Part (l ++ b) x) (sym h) k
-Separated-last separator Part a b (y ∷ []) x h k =
-    (h.0, h.1 ++ b, ap (λ l. l ++ b) h.2 ∙ append_assoc h.0 (separator ∷ h.1) b, h.3,
-        Separated-last separator Part h.1 b [] x h.4 k)
-Separated-last separator Part a b (y ∷ z ∷ zs) x h k =
-    (h.0, h.1 ++ b, ap (λ l. l ++ b) h.2 ∙ append_assoc h.0 (separator ∷ h.1) b, h.3,
-        Separated-last separator Part h.1 b (z ∷ zs) x h.4 k)
+Separated-last separator Part a b (y ∷ []) x h k = (
+  h.0,
+  h.1 ++ b,
+  ap (λ l. l ++ b) h.2 ∙ append_assoc h.0 (separator ∷ h.1) b,
+  h.3,
+  Separated-last separator Part h.1 b [] x h.4 k,
+)
+Separated-last separator Part a b (y ∷ z ∷ zs) x h k = (
+  h.0,
+  h.1 ++ b,
+  ap (λ l. l ++ b) h.2 ∙ append_assoc h.0 (separator ∷ h.1) b,
+  h.3,
+  Separated-last separator Part h.1 b (z ∷ zs) x h.4 k,
+)
 
 -- parts with separators behind them, and one more of these
 pub Terminated-push : {A : Type 0} (separator : Token) (Part : List Token → A → Type 0) (a b : List Token) (xs : List A)
-        (x : A)
+    (x : A)
     → Terminated separator Part a xs → Part b x → Terminated separator Part (a ++ (b ++ separator ∷ [])) (xs ++ x ∷ [])
 Terminated-push separator Part a b [] x h k = (b, [], ap (λ l. l ++ (b ++ separator ∷ [])) h, k, refl)
-Terminated-push separator Part a b (y ∷ ys) x h k =
-    (h.0, h.1 ++ (b ++ separator ∷ []),
-        ap (λ l. l ++ (b ++ separator ∷ [])) h.2 ∙ append_assoc h.0 (separator ∷ h.1) (b ++ separator ∷ []), h.3,
-        Terminated-push separator Part h.1 b ys x h.4 k)
+Terminated-push separator Part a b (y ∷ ys) x h k = (
+  h.0,
+  h.1 ++ (b ++ separator ∷ []),
+  ap (λ l. l ++ (b ++ separator ∷ [])) h.2 ∙ append_assoc h.0 (separator ∷ h.1) (b ++ separator ∷ []),
+  h.3,
+  Terminated-push separator Part h.1 b ys x h.4 k,
+)
 
 -- ---- what the tokens so far spell, by the state that they lead to
 
@@ -116,11 +127,11 @@ relation_done p o xs x h =
 pub condition_done : (p : List Token) (b : Before) (r : Relation) → SpellsRelation p b r → IsCondition p (condition_of (with_relation b r))
 condition_done p b r h =
     subst (λ l. IsCondition l (condition_of (with_relation b r)))
-        (sym
-            (h.whole ∙ ap (λ l. l ++ h.relation_tokens) h.before.whole
-                ∙ append_assoc h.before.group_tokens h.before.relation_tokens h.relation_tokens))
+    (sym
+    (h.whole ∙ ap (λ l. l ++ h.relation_tokens) h.before.whole
+    ∙ append_assoc h.before.group_tokens h.before.relation_tokens h.relation_tokens))
     (Separated-last Or IsAndCondition h.before.group_tokens (h.before.relation_tokens ++ h.relation_tokens) b.groups
-        (record { 0 = b.relations ++ r ∷ [] }) h.before.groups
+    (record { 0 = b.relations ++ r ∷ [] }) h.before.groups
     (Separated-last And IsRelation h.before.relation_tokens h.relation_tokens b.relations r h.before.relations h.relation))
 
 -- a complete relation and And: the relation joins those of the open group
@@ -142,7 +153,7 @@ or_done p b r h = record {
   whole = ap (λ l. l ++ Or ∷ []) (h.whole ∙ ap (λ l. l ++ h.relation_tokens) h.before.whole) ∙ (simp append_assoc) ∙ sym (append-nil _);
   groups =
       Terminated-push Or IsAndCondition h.before.group_tokens (h.before.relation_tokens ++ h.relation_tokens) b.groups
-          (record { 0 = b.relations ++ r ∷ [] }) h.before.groups
+      (record { 0 = b.relations ++ r ∷ [] }) h.before.groups
       (Separated-last And IsRelation h.before.relation_tokens h.relation_tokens b.relations r h.before.relations h.relation);
   relations = refl;
 }
@@ -156,7 +167,7 @@ Spells p (after_operand b o) = (q : List Token) × (t : Token) × (p ≡ q ++ t 
 Spells p (after_modulo b o) = (q : List Token) × (t : Token) × (p ≡ q ++ t ∷ Modulo ∷ []) × SpellsBefore q b × (operand_of t ≡ Some o)
 Spells p (after_modulus b e) =
     (q : List Token) × (t : Token) × (u : Token) × (v : Value) × (p ≡ q ++ t ∷ Modulo ∷ u ∷ []) × SpellsBefore q b
-        × (operand_of t ≡ Some e.operand) × (value_of u ≡ Some v) × (e.modulus ≡ Some v)
+    × (operand_of t ≡ Some e.operand) × (value_of u ≡ Some v) × (e.modulus ≡ Some v)
 Spells p (before_item o xs) = SpellsItems p o xs
 Spells p (after_item o xs x) = SpellsItem p o xs x
 Spells p (before_end o xs v) = (q : List Token) × (t : Token) × (p ≡ q ++ t ∷ DotDot ∷ []) × SpellsItems q o xs × (value_of t ≡ Some v)
@@ -180,15 +191,16 @@ SaidOf tokens rest (refuse kind) = Faulty tokens kind
 
 -- parts with separators behind them are separated parts and one more separator
 pub Terminated-front : {A : Type 0} (separator : Token) (Part : List Token → A → Type 0) (tokens : List Token) (x : A)
-        (xs : List A)
+    (xs : List A)
     → Terminated separator Part tokens (x ∷ xs)
     → (q : List Token) × (tokens ≡ q ++ separator ∷ []) × Separated separator Part q (x ∷ xs)
 Terminated-front separator Part tokens x [] h = (h.0, h.2 ∙ ap (λ l. h.0 ++ separator ∷ l) h.4, h.3)
 Terminated-front separator Part tokens x (y ∷ ys) h =
-    let more = Terminated-front separator Part h.1 y ys h.4 in
-    (h.0 ++ separator ∷ more.0,
-        h.2 ∙ ap (λ l. h.0 ++ separator ∷ l) more.1 ∙ sym (append_assoc h.0 (separator ∷ more.0) (separator ∷ [])),
-        (h.0, more.0, refl, h.3, more.2))
+    let more = Terminated-front separator Part h.1 y ys h.4 in (
+      h.0 ++ separator ∷ more.0,
+      h.2 ∙ ap (λ l. h.0 ++ separator ∷ l) more.1 ∙ sym (append_assoc h.0 (separator ∷ more.0) (separator ∷ [])),
+      (h.0, more.0, refl, h.3, more.2),
+    )
 
 -- ---- waiting places
 
@@ -207,10 +219,12 @@ operand_place p (g ∷ gs) [] h =
     behind_or g gs (f.0, record { 0 = g ∷ gs }, h.whole ∙ (λ i. f.1 i ++ h.relations i) ∙ append-nil (f.0 ++ Or ∷ []), f.2)
 operand_place p groups (r ∷ rs) h =
     let f = Terminated-front And IsRelation h.relation_tokens r rs h.relations in
-    behind_and groups r rs
-        (h.group_tokens ++ f.0, record { 0 = groups ++ (record { 0 = r ∷ rs }) ∷ [] },
-            h.whole ∙ ap (λ l. h.group_tokens ++ l) f.1 ∙ sym (append_assoc h.group_tokens f.0 (And ∷ [])),
-            Separated-last Or IsAndCondition h.group_tokens f.0 groups (record { 0 = r ∷ rs }) h.groups f.2)
+    behind_and groups r rs (
+      h.group_tokens ++ f.0,
+      record { 0 = groups ++ (record { 0 = r ∷ rs }) ∷ [] },
+      h.whole ∙ ap (λ l. h.group_tokens ++ l) f.1 ∙ sym (append_assoc h.group_tokens f.0 (And ∷ [])),
+      Separated-last Or IsAndCondition h.group_tokens f.0 groups (record { 0 = r ∷ rs }) h.groups f.2,
+    )
 
 -- the end or At behind And is the fault ExpectedRelation
 and_place : (p : List Token) (rest : List Token) → ConditionThen And p → IsUnconditional rest → Faulty (p ++ rest) ExpectedRelation
@@ -290,19 +304,40 @@ is_after_modulo p q t o b e h k =
 -- where a modulus is awaited, the next token is one, or a fault
 said_modulus : (p : List Token) (b : Before) (o : operand.Operand) (t : Token) (ts : List Token)
     → Spells p (after_modulo b o) → SaidOfMove p t ts (step (after_modulo b o) t)
-said_modulus p b o (Number n) ts h =
-    (h.0, h.1, Number n, record { 0 = n },
-        ap (λ l. l ++ Number n ∷ []) h.2 ∙ append_assoc h.0 (h.1 ∷ Modulo ∷ []) (Number n ∷ []), h.3, h.4, refl, refl)
-said_modulus p b o Zero ts h =
-    (h.0, h.1, Zero, record { 0 = 0 }, ap (λ l. l ++ Zero ∷ []) h.2 ∙ append_assoc h.0 (h.1 ∷ Modulo ∷ []) (Zero ∷ []),
-        h.3, h.4, refl, refl)
+said_modulus p b o (Number n) ts h = (
+  h.0,
+  h.1,
+  Number n,
+  record { 0 = n },
+  ap (λ l. l ++ Number n ∷ []) h.2 ∙ append_assoc h.0 (h.1 ∷ Modulo ∷ []) (Number n ∷ []),
+  h.3,
+  h.4,
+  refl,
+  refl,
+)
+said_modulus p b o Zero ts h = (
+  h.0,
+  h.1,
+  Zero,
+  record { 0 = 0 },
+  ap (λ l. l ++ Zero ∷ []) h.2 ∙ append_assoc h.0 (h.1 ∷ Modulo ∷ []) (Zero ∷ []),
+  h.3,
+  h.4,
+  refl,
+  refl,
+)
 said_modulus p b o _ ts h = (places.after_modulo, p, _ ∷ ts, refl, is_after_modulo p h.0 h.1 o b h.2 h.3 h.4, refl)
 
 -- an operand, Modulo and a modulus wait for an operator
 is_after_modulus : (p : List Token) (b : Before) (e : Expression) → Spells p (after_modulus b e) → IsAfterModulus p
-is_after_modulus p b e h =
-    (h.0 ++ h.1 ∷ Modulo ∷ [], h.2, h.3, h.4 ∙ sym (append_assoc h.0 (h.1 ∷ Modulo ∷ []) (h.2 ∷ [])),
-        is_after_modulo _ h.0 h.1 e.operand b refl h.5 h.6, h.7)
+is_after_modulus p b e h = (
+  h.0 ++ h.1 ∷ Modulo ∷ [],
+  h.2,
+  h.3,
+  h.4 ∙ sym (append_assoc h.0 (h.1 ∷ Modulo ∷ []) (h.2 ∷ [])),
+  is_after_modulo _ h.0 h.1 e.operand b refl h.5 h.6,
+  h.7,
+)
 
 -- where an operator is awaited, the next token is one, or a fault
 said_operator : (p : List Token) (b : Before) (e : Expression) (t : Token) (ts : List Token)
@@ -317,8 +352,13 @@ said_operator p b e (Operator op) ts h = record {
         expression_tokens = h.1 ∷ Modulo ∷ h.2 ∷ [];
         whole = ap (λ l. l ++ Operator op ∷ []) h.4 ∙ append_assoc h.0 (h.1 ∷ Modulo ∷ h.2 ∷ []) (Operator op ∷ []);
         before = h.5;
-        expression = (h.1, Modulo ∷ h.2 ∷ [], refl, h.6,
-            subst (IsModulus (Modulo ∷ h.2 ∷ [])) (sym h.8) (h.2, refl, h.7));
+        expression = (
+          h.1,
+          Modulo ∷ h.2 ∷ [],
+          refl,
+          h.6,
+          subst (IsModulus (Modulo ∷ h.2 ∷ [])) (sym h.8) (h.2, refl, h.7),
+        );
       };
   items = refl;
 }
@@ -333,10 +373,14 @@ operator_place p o h None e =
       h.before_tokens ++ h.expression_tokens,
       o.operator,
       h.whole ∙ sym (append_assoc h.before_tokens h.expression_tokens _),
-      inl
-          (h.before_tokens, x.0, o.expression.operand,
-              ap (λ l. h.before_tokens ++ l) (x.2 ∙ ap (λ l. x.0 ∷ l) no_modulus),
-              spells_operand_is h.before_tokens o.before h.before, x.3),
+      inl (
+        h.before_tokens,
+        x.0,
+        o.expression.operand,
+        ap (λ l. h.before_tokens ++ l) (x.2 ∙ ap (λ l. x.0 ∷ l) no_modulus),
+        spells_operand_is h.before_tokens o.before h.before,
+        x.3,
+      ),
     )
 operator_place p o h (Some v) e =
     let x = h.expression in
@@ -346,9 +390,17 @@ operator_place p o h (Some v) e =
       o.operator,
       h.whole ∙ sym (append_assoc h.before_tokens h.expression_tokens _),
       inr
-          (is_after_modulus _ o.before o.expression
-              (h.before_tokens, x.0, modulus.0, v, ap (λ l. h.before_tokens ++ l) (x.2 ∙ ap (λ l. x.0 ∷ l) modulus.1),
-                  h.before, x.3, modulus.2, e)),
+          (is_after_modulus _ o.before o.expression (
+            h.before_tokens,
+            x.0,
+            modulus.0,
+            v,
+            ap (λ l. h.before_tokens ++ l) (x.2 ∙ ap (λ l. x.0 ∷ l) modulus.1),
+            h.before,
+            x.3,
+            modulus.2,
+            e,
+          )),
     )
 
 -- items with a comma behind the last one end in a condition and Comma
@@ -376,7 +428,7 @@ comma_place p o x xs h =
 before_value_is : (p : List Token) (o : Opened) (xs : List RangeListItem) → SpellsItems p o xs → IsBeforeValue p
 before_value_is p o [] h =
     subst IsBeforeValue (sym (h.whole ∙ ap (λ l. h.opened_tokens ++ l) h.items ∙ append-nil h.opened_tokens))
-        (operator_place h.opened_tokens o h.opened o.expression.modulus refl)
+    (operator_place h.opened_tokens o h.opened o.expression.modulus refl)
 before_value_is p o (x ∷ xs) h = inr (inl (comma_place p o x xs h))
 
 -- where an item is awaited, the next token is its first value, or a fault
@@ -399,18 +451,25 @@ range_is_no_value a b v h = cc
 -- behind an item, DotDot makes a range of a single value, and ends the condition behind a range
 said_dots : (p : List Token) (o : Opened) (xs : List RangeListItem) (x : RangeListItem) (ts : List Token)
     → SpellsItem p o xs x → SaidOfMove p DotDot ts (dots_move o xs x)
-said_dots p o xs (items.Value v) ts h =
-    (h.items_tokens, h.item.0,
-        ap (λ l. l ++ DotDot ∷ []) (h.whole ∙ ap (λ l. h.items_tokens ++ l) h.item.1)
-            ∙ append_assoc h.items_tokens (h.item.0 ∷ []) (DotDot ∷ []), h.items, h.item.2)
+said_dots p o xs (items.Value v) ts h = (
+  h.items_tokens,
+  h.item.0,
+  ap (λ l. l ++ DotDot ∷ []) (h.whole ∙ ap (λ l. h.items_tokens ++ l) h.item.1)
+      ∙ append_assoc h.items_tokens (h.item.0 ∷ []) (DotDot ∷ []),
+  h.items,
+  h.item.2,
+)
 said_dots p o xs (items.Range a b) ts h =
-    inr
-        (p, refl, item_done p o xs (items.Range a b) h,
-            λ k. range_is_no_value a b k.0 (sym (last_item-complete o xs (items.Range a b)) ∙ k.1))
+    inr (
+      p,
+      refl,
+      item_done p o xs (items.Range a b) h,
+      λ k. range_is_no_value a b k.0 (sym (last_item-complete o xs (items.Range a b)) ∙ k.1),
+    )
 
 -- behind an item, And, Or, Comma and perhaps DotDot go on, and any other token ends the condition
 said_after_item : (p : List Token) (o : Opened) (xs : List RangeListItem) (x : RangeListItem) (t : Token)
-        (ts : List Token)
+    (ts : List Token)
     → SpellsItem p o xs x → SaidOfMove p t ts (item_move o xs x t)
 said_after_item p o xs x And ts h = and_done p o.before _ (relation_done p o xs x h)
 said_after_item p o xs x Or ts h = or_done p o.before _ (relation_done p o xs x h)

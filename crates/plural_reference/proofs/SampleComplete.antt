@@ -1,8 +1,8 @@
 -- What the grammar of samples spells is read, and a fault is answered: the tokens of sections lead the reader of samples behind
 -- them, and those of a waiting place lead it to a state that refuses what follows. From the grammar to the reader;
 -- RuleReadings cites the two last facts, the steps of the parser in samples the step that each kind of token makes.
-use Rattle.std.proofs.Common.{◌≡◌, ◌≢◌, ◌<◌, ◌+◌, ◌/◌, ◌%◌, ℕ, zero, suc, Bool, true, false, List, [], ◌∷◌, ◌++◌,
-    Option, Some, None, Ok, Err, refl, sym, ap, ◌∙◌, subst, append_assoc, inl, inr, cond, nat_eq, arith}
+use Rattle.std.proofs.Common.{◌≡◌, ◌≢◌, ◌<◌, ◌+◌, ◌/◌, ◌%◌, ℕ, zero, suc, Bool, true, false, List, [], ◌∷◌, ◌++◌, Option}
+use Rattle.std.proofs.Common.{Some, None, Ok, Err, refl, sym, ap, ◌∙◌, subst, append_assoc, inl, inr, cond, nat_eq, arith}
 use Rattle.std.proofs.lemmas.Bool.{true≢false}
 use Rattle.std.proofs.lemmas.List.{append-nil}
 use Rattle.std.proofs.lemmas.Bool.Decides.{nat_tests}
@@ -14,17 +14,18 @@ use Rattle.plural_reference.specs.declared.ast.DecimalValue.{DecimalValue}
 use Rattle.plural_reference.specs.declared.ast.SampleRange.{SampleRange}
 use Rattle.plural_reference.specs.declared.error.ParseError.{ParseError}
 use Rattle.plural_reference.specs.declared.token.Token.{Token}
-use Rattle.plural_reference.specs.declared.token.Token.TheVariants.{Operand, Number, Zero, Dot, Comma, At, Decimal,
-    Integer, Ellipsis, Tilde, E}
+use Rattle.plural_reference.specs.declared.token.Token.TheVariants.{Operand, Number, Zero, Dot, Comma, At}
+use Rattle.plural_reference.specs.declared.token.Token.TheVariants.{Decimal, Integer, Ellipsis, Tilde, E}
 use Rattle.plural_reference.specs.Lexer.{first}
 use Rattle.plural_reference.specs.Parser.{Separated, value_fault}
-use Rattle.plural_reference.specs.Samples.{IsDigits, IsExponentMark, IsSampleType, IsFraction, IsExponent, SampleParts,
-    IsSampleOf, token_text, IsSample, IsUpper, IsSampleRange, IsEllipsis, IsSampleList, Section, AreSections,
-    open_range, last_sample, has_exponent, has_point, Takes, ContinuesSamples, SectionsThen, IsAfterAt, IsBeforeSample,
-    IsAfterComma, IsAfterMark, FaultyInSamples, sample_fault, type_fault, fault_in_samples}
-use Rattle.plural_reference.specs.Inner.SampleReader.{Partial, SampleState, after_sections, behind_at, awaits_sample,
-    behind_comma, in_sample, behind_mark, range_of, with_sections, ranges_with, begin_list, SampleOutcome,
-    sample_proceed, run_samples, joins, tilde_move}
+use Rattle.plural_reference.specs.Samples.{IsDigits, IsExponentMark, IsSampleType, IsFraction, IsExponent, SampleParts}
+use Rattle.plural_reference.specs.Samples.{IsSampleOf, token_text, IsSample, IsUpper, IsSampleRange, IsEllipsis, IsSampleList}
+use Rattle.plural_reference.specs.Samples.{Section, AreSections, open_range, last_sample, has_exponent, has_point, Takes}
+use Rattle.plural_reference.specs.Samples.{ContinuesSamples, SectionsThen, IsAfterAt, IsBeforeSample, IsAfterComma}
+use Rattle.plural_reference.specs.Samples.{IsAfterMark, FaultyInSamples, sample_fault, type_fault, fault_in_samples}
+use Rattle.plural_reference.specs.Inner.SampleReader.{Partial, SampleState, after_sections, behind_at, awaits_sample, behind_comma}
+use Rattle.plural_reference.specs.Inner.SampleReader.{in_sample, behind_mark, range_of, with_sections, ranges_with, begin_list}
+use Rattle.plural_reference.specs.Inner.SampleReader.{SampleOutcome, sample_proceed, run_samples, joins, tilde_move}
 use Rattle.plural_reference.specs.Samples as places
 use Rattle.plural_reference.proofs.ReaderComplete.{last-push}
 use Rattle.plural_reference.proofs.SampleSound.{ReadsSections, open-done, last_sample-range, both_false, left_false, right_false}
@@ -37,7 +38,7 @@ pub any-append : (p : ℕ → Bool) (u v : List ℕ) → list_any p u ≡ false 
 any-append p [] v h k = k
 any-append p (x ∷ u) v h k =
     both_false (p x) (list_any p (u ++ v)) (left_false (p x) (list_any p u) h)
-        (any-append p u v (right_false (p x) (list_any p u) h) k)
+    (any-append p u v (right_false (p x) (list_any p u) h) k)
 
 -- what is found in neither choice of a test is not found in what it chooses
 by_cond : (b : Bool) (x y : List ℕ) (p : ℕ → Bool) → list_any p x ≡ false → list_any p y ≡ false → list_any p (cond b x y) ≡ false
@@ -161,8 +162,8 @@ exponent_run p text (m ∷ []) rest e h = absurd e
 exponent_run p text (m ∷ d ∷ []) rest e h =
     mark_run p text m (d ∷ rest) e.0 h ∙ after_mark_run p (text ++ token_text m) d rest e.1
     ∙ ap (λ x. run_samples (in_sample p x) rest)
-        (append_assoc text (token_text m) (token_text d)
-            ∙ ap (λ x. text ++ (token_text m ++ x)) (sym (append-nil (token_text d))))
+    (append_assoc text (token_text m) (token_text d)
+    ∙ ap (λ x. text ++ (token_text m ++ x)) (sym (append-nil (token_text d))))
 exponent_run p text (m ∷ d ∷ g ∷ gs) rest e h = absurd e
 
 -- ---- samples
@@ -206,7 +207,7 @@ pub flat_map-append : (a b : List Token) → flat_map token_text (a ++ b) ≡ fl
 flat_map-append [] b = refl
 flat_map-append (x ∷ a) b =
     ap (λ l. token_text x ++ l) (flat_map-append a b)
-        ∙ sym (append_assoc (token_text x) (flat_map token_text a) (flat_map token_text b))
+    ∙ sym (append_assoc (token_text x) (flat_map token_text a) (flat_map token_text b))
 
 -- the integer digits and the fraction of a sample lead into it
 open_run : (s : SampleState) (p : Partial) (i f rest : List Token) → Starts s p → AllByRecursion IsDigits i
@@ -217,11 +218,11 @@ open_run s p (t ∷ i) f rest st d k n =
     ∙ ap (run_samples (in_sample p (token_text t))) (append_assoc i f rest)
     ∙ digits_run p (token_text t) i (f ++ rest) d.1 (digits_no_mark t d.0)
     ∙ fraction_run p (token_text t ++ flat_map token_text i) f rest k
-        (any-append _ (token_text t) (flat_map token_text i) (digits_no_mark t d.0) (all_no_mark i d.1))
-        (any-append _ (token_text t) (flat_map token_text i) (digits_no_point t d.0) (all_no_point i d.1))
+    (any-append _ (token_text t) (flat_map token_text i) (digits_no_mark t d.0) (all_no_mark i d.1))
+    (any-append _ (token_text t) (flat_map token_text i) (digits_no_point t d.0) (all_no_point i d.1))
     ∙ ap (λ x. run_samples (in_sample p x) rest)
-        (append_assoc (token_text t) (flat_map token_text i) (flat_map token_text f)
-            ∙ ap (λ l. token_text t ++ l) (sym (flat_map-append i f)))
+    (append_assoc (token_text t) (flat_map token_text i) (flat_map token_text f)
+    ∙ ap (λ l. token_text t ++ l) (sym (flat_map-append i f)))
 open_run s p [] (Dot ∷ ts) rest st d k n = first_point_run s p (ts ++ rest) st ∙ digits_run p (token_text Dot) ts rest k refl
 open_run s p [] [] rest st d k n = absurd (n refl)
 open_run s p [] (_ ∷ ts) rest st d k n = absurd k
@@ -234,8 +235,8 @@ with_exponent s p i f e rest st d k g n =
     ap (run_samples s) (append_assoc (i ++ f) e rest)
     ∙ open_run s p i f (e ++ rest) st d k n
     ∙ exponent_run p (flat_map token_text (i ++ f)) e rest g
-        (ap has_exponent (flat_map-append i f)
-            ∙ any-append _ (flat_map token_text i) (flat_map token_text f) (all_no_mark i d) (fraction_no_mark f k))
+    (ap has_exponent (flat_map-append i f)
+    ∙ any-append _ (flat_map token_text i) (flat_map token_text f) (all_no_mark i d) (fraction_no_mark f k))
     ∙ ap (λ x. run_samples (in_sample p x) rest) (sym (flat_map-append (i ++ f) e))
 
 -- so do they even if they are empty, where the exponent isn't
@@ -271,7 +272,7 @@ tilde_run p text rest h = rw h refl
 -- a comma completes the range, and leads behind itself
 pub comma_run : (p : Partial) (text : DecimalValue) (rest : List Token)
     → run_samples (in_sample p text) (Comma ∷ rest)
-        ≡ run_samples (behind_comma (record p { ranges = ranges_with p text; lower = None })) rest
+    ≡ run_samples (behind_comma (record p { ranges = ranges_with p text; lower = None })) rest
 unfolding run_samples
 comma_run p text rest = refl
 
@@ -294,7 +295,7 @@ range_leads s p tokens lower None st n h = record {
   text = lower;
   run_is =
       λ rest. ap (λ l. run_samples s (l ++ rest)) (h.2 ∙ ap (λ l. h.0 ++ l) h.4 ∙ append-nil h.0)
-          ∙ sample_run s p h.0 lower rest st h.3;
+      ∙ sample_run s p h.0 lower rest st h.3;
   sections_are = refl;
   type_is = refl;
   ranges_are = ap (λ o. p.ranges ++ (range_of o lower) ∷ []) n;
@@ -307,7 +308,7 @@ range_leads s p tokens lower (Some upper) st n h = record {
       ∙ sample_run s p h.0 lower (Tilde ∷ (h.4.0 ++ rest)) st h.3
       ∙ tilde_run p lower (h.4.0 ++ rest) n
       ∙ sample_run (awaits_sample (record p { lower = Some lower })) (record p { lower = Some lower }) h.4.0 upper rest
-          (at_start (record p { lower = Some lower })) h.4.2;
+      (at_start (record p { lower = Some lower })) h.4.2;
   sections_are = refl;
   type_is = refl;
   ranges_are = refl;
@@ -331,12 +332,12 @@ ranges_lead s p tokens (r ∷ x ∷ xs) st n h =
           ∙ one.run_is (Comma ∷ (h.1 ++ rest))
           ∙ comma_run one.partial one.text (h.1 ++ rest)
           ∙ ap (λ (q : Partial). run_samples (behind_comma q) (h.1 ++ rest))
-              (λ i. record {
-                sections = one.sections_are i;
-                type = one.type_is i;
-                ranges = one.ranges_are i;
-                lower = None;
-              })
+          (λ i. record {
+            sections = one.sections_are i;
+            type = one.type_is i;
+            ranges = one.ranges_are i;
+            lower = None;
+          })
           ∙ more.run_is rest;
       sections_are = more.sections_are;
       type_is = more.type_is;
@@ -372,39 +373,39 @@ open-ellipsis ss t rs = rw last-push refl
 list_leads : (sections : List Section) (type : Token) (tokens : List Token) (ranges : List SampleRange) (more : Bool)
     → IsSampleList tokens (record { sample_ranges = ranges; ellipsis = more })
     → LeadsToEnd (awaits_sample (begin_list sections type)) tokens
-        (sections ++ (record { type = type; list = record { sample_ranges = ranges; ellipsis = more } }) ∷ [])
+    (sections ++ (record { type = type; list = record { sample_ranges = ranges; ellipsis = more } }) ∷ [])
 list_leads sections type tokens ranges false h =
     let l =
-        ranges_lead (awaits_sample (begin_list sections type)) (begin_list sections type) h.0 ranges
-            (at_start (begin_list sections type)) refl h.3 in
+    ranges_lead (awaits_sample (begin_list sections type)) (begin_list sections type) h.0 ranges
+    (at_start (begin_list sections type)) refl h.3 in
     record {
       state = in_sample l.partial l.text;
       run_is =
           λ rest. ap (λ x. run_samples (awaits_sample (begin_list sections type)) (x ++ rest))
-                  (h.2 ∙ ap (λ x. h.0 ++ x) h.4 ∙ append-nil h.0)
-              ∙ l.run_is rest;
+          (h.2 ∙ ap (λ x. h.0 ++ x) h.4 ∙ append-nil h.0)
+          ∙ l.run_is rest;
       closes =
           in_last l.partial l.text _
-              (λ i. l.sections_are i
-                  ++ (record { type = l.type_is i; list = record { sample_ranges = l.ranges_are i; ellipsis = false } })
-                      ∷ []);
+          (λ i. l.sections_are i
+          ++ (record { type = l.type_is i; list = record { sample_ranges = l.ranges_are i; ellipsis = false } })
+          ∷ []);
     }
 list_leads sections type tokens ranges true h =
     let l =
-        ranges_lead (awaits_sample (begin_list sections type)) (begin_list sections type) h.0 ranges
-            (at_start (begin_list sections type)) refl h.3 in
+    ranges_lead (awaits_sample (begin_list sections type)) (begin_list sections type) h.0 ranges
+    (at_start (begin_list sections type)) refl h.3 in
     record {
       state = after_sections (sections ++ (record { type = type; list = record { sample_ranges = ranges; ellipsis = true } }) ∷ []);
       run_is = λ rest.
           ap (run_samples (awaits_sample (begin_list sections type)))
-              (ap (λ x. x ++ rest) (h.2 ∙ ap (λ x. h.0 ++ x) h.4) ∙ append_assoc h.0 (Comma ∷ Ellipsis ∷ []) rest)
+          (ap (λ x. x ++ rest) (h.2 ∙ ap (λ x. h.0 ++ x) h.4) ∙ append_assoc h.0 (Comma ∷ Ellipsis ∷ []) rest)
           ∙ l.run_is (Comma ∷ Ellipsis ∷ rest)
           ∙ comma_run l.partial l.text (Ellipsis ∷ rest)
           ∙ ellipsis_run (record l.partial { ranges = ranges_with l.partial l.text; lower = None }) rest
           ∙ ap (λ (x : List Section). run_samples (after_sections x) rest)
-              (λ i. l.sections_are i
-                  ++ (record { type = l.type_is i; list = record { sample_ranges = l.ranges_are i; ellipsis = true } })
-                      ∷ []);
+          (λ i. l.sections_are i
+          ++ (record { type = l.type_is i; list = record { sample_ranges = l.ranges_are i; ellipsis = true } })
+          ∷ []);
       closes = closed _ (open-ellipsis sections type ranges);
     }
 
@@ -460,7 +461,7 @@ takes_on p text P k = rw open-done (subst P (sym (last_sample-range p.lower text
 
 -- a token that would join a full sample ends the samples
 pub joins_ends : (full : Bool) (next : SampleState) (p : Partial) (text : DecimalValue) (ts : List Token)
-        (k : SampleState → SampleOutcome)
+    (k : SampleState → SampleOutcome)
     → (full ≡ false → ⊥)
     → sample_proceed (joins full next p text) ts k ≡ Ok (with_sections p (ranges_with p text) false, ts)
 joins_ends true next p text ts k h = refl
@@ -468,7 +469,7 @@ joins_ends false next p text ts k h = absurd (h refl)
 
 -- Tilde behind an upper sample ends the samples
 pub tilde_ends : (lower : Option DecimalValue) (p : Partial) (text : DecimalValue) (ts : List Token)
-        (k : SampleState → SampleOutcome)
+    (k : SampleState → SampleOutcome)
     → (lower ≡ None → ⊥)
     → sample_proceed (tilde_move lower p text) ts k ≡ Ok (with_sections p (ranges_with p text) false, ts)
 tilde_ends None p text ts k h = absurd (h refl)
@@ -484,19 +485,19 @@ last_ends p text (At ∷ ts) h = absurd (h tt)
 last_ends p text (Comma ∷ ts) h = absurd (h (ap is_some (open-done p text)))
 last_ends p text (Tilde ∷ ts) h =
     tilde_ends p.lower p text (Tilde ∷ ts) _
-        (λ e. h (rw open-done (subst (λ o. (range_of o text).upper_val ≡ None) (sym e) refl)))
+    (λ e. h (rw open-done (subst (λ o. (range_of o text).upper_val ≡ None) (sym e) refl)))
 last_ends p text (Zero ∷ ts) h =
     joins_ends (has_exponent text) _ p text (Zero ∷ ts) _ (λ e. h (takes_on p text (λ x. Takes x Zero) (e, inl tt)))
 last_ends p text (Number n ∷ ts) h =
     joins_ends (has_exponent text) _ p text (Number n ∷ ts) _
-        (λ e. h (takes_on p text (λ x. Takes x (Number n)) (e, inl tt)))
+    (λ e. h (takes_on p text (λ x. Takes x (Number n)) (e, inl tt)))
 last_ends p text (Dot ∷ ts) h =
     joins_ends (has_exponent text || has_point text) _ p text (Dot ∷ ts) _
-        (λ e. h (takes_on p text (λ x. Takes x Dot) (left_false _ _ e, right_false _ _ e)))
+    (λ e. h (takes_on p text (λ x. Takes x Dot) (left_false _ _ e, right_false _ _ e)))
 last_ends p text (E ∷ ts) h = joins_ends (has_exponent text) _ p text (E ∷ ts) _ (λ e. h (takes_on p text (λ x. Takes x E) (e, inr tt)))
 last_ends p text (Operand C ∷ ts) h =
     joins_ends (has_exponent text) _ p text (Operand C ∷ ts) _
-        (λ e. h (takes_on p text (λ x. Takes x (Operand C)) (e, inr tt)))
+    (λ e. h (takes_on p text (λ x. Takes x (Operand C)) (e, inr tt)))
 last_ends p text (_ ∷ ts) h = refl
 
 -- what doesn't continue the samples ends them behind an ellipsis, or behind no section
@@ -513,7 +514,7 @@ state_ends : (s : SampleState) (ss : List Section) (rest : List Token) → Close
 state_ends _ _ rest (closed ss h) n = closed_ends ss rest n
 state_ends _ _ rest (in_last p text ss h) n =
     last_ends p text rest (subst (λ x. IfSome (first rest) (λ t. ¬ (ContinuesSamples x t))) (sym h) n)
-        ∙ ap (λ x. Ok (x, rest)) h
+    ∙ ap (λ x. Ok (x, rest)) h
 
 -- what the grammar of samples reads is answered
 pub reads_samples_run : (tokens : List Token) (ss : List Section) (rest : List Token) → ReadsSections tokens ss rest
@@ -576,7 +577,7 @@ then_one : (spelled q : List Token) (t : Token) (s next : SampleState) → q ≡
     → ((rest : List Token) → run_samples s (t ∷ rest) ≡ run_samples next rest) → Arrives q next
 then_one spelled q t s next e h k rest =
     ap (run_samples (after_sections [])) (ap (λ l. l ++ rest) e ∙ append_assoc spelled (t ∷ []) rest) ∙ h (t ∷ rest)
-        ∙ k rest
+    ∙ k rest
 
 -- sections and At lead to where a type is awaited
 arrives_at : (q : List Token) → IsAfterAt q → (ss : List Section) × Arrives q (behind_at ss)
@@ -622,21 +623,23 @@ arrives_sample q (inl (type, k, (spelled, ss, e, h, u))) =
     )
 arrives_sample q (inr (spelled, ss, e, h, k)) =
     let to = all_lead spelled ss h in
-    let o = open_end to.state ss to.closes (some_open (open_range ss) (λ r. r.upper_val ≡ None) k) in
-    (record o.partial { lower = Some o.text },
-        then_one spelled q Tilde to.state _ e to.run_is
-            (λ rest. ap (λ s. run_samples s (Tilde ∷ rest)) o.state_is
-                ∙ tilde_run o.partial o.text rest
-                    (lower_is_none o.partial.lower o.text (at_open ss _ (λ r. r.upper_val ≡ None) o.open_is k))))
+    let o = open_end to.state ss to.closes (some_open (open_range ss) (λ r. r.upper_val ≡ None) k) in (
+      record o.partial { lower = Some o.text },
+      then_one spelled q Tilde to.state _ e to.run_is
+          (λ rest. ap (λ s. run_samples s (Tilde ∷ rest)) o.state_is
+          ∙ tilde_run o.partial o.text rest
+          (lower_is_none o.partial.lower o.text (at_open ss _ (λ r. r.upper_val ≡ None) o.open_is k))),
+    )
 
 -- a list and a comma lead behind the comma
 arrives_comma : (q : List Token) → IsAfterComma q → (p : Partial) × Arrives q (behind_comma p)
 arrives_comma q (spelled, ss, e, h, k) =
     let to = all_lead spelled ss h in
-    let o = open_end to.state ss to.closes k in
-    (record o.partial { ranges = ranges_with o.partial o.text; lower = None },
-        then_one spelled q Comma to.state _ e to.run_is
-            (λ rest. ap (λ s. run_samples s (Comma ∷ rest)) o.state_is ∙ comma_run o.partial o.text rest))
+    let o = open_end to.state ss to.closes k in (
+      record o.partial { ranges = ranges_with o.partial o.text; lower = None },
+      then_one spelled q Comma to.state _ e to.run_is
+          (λ rest. ap (λ s. run_samples s (Comma ∷ rest)) o.state_is ∙ comma_run o.partial o.text rest),
+    )
 
 -- what is said of the open range says what follows from it
 weaker : (o : Option SampleRange) (P Q : SampleRange → Type 0) → ((r : SampleRange) → P r → Q r) → IsSomeAnd o P → IsSomeAnd o Q
@@ -663,11 +666,13 @@ arrives_mark q (m, h, inr (spelled, ss, e, k, c)) =
     let taken = mark_taken ss m h c in
     let o = open_end to.state ss to.closes (some_open (open_range ss) _ taken) in
     let free : has_exponent o.text ≡ false =
-        subst (λ x. has_exponent x ≡ false) (last_sample-range o.partial.lower o.text)
-            (at_open ss _ (λ r. has_exponent (last_sample r) ≡ false) o.open_is taken) in
-    (o.partial, o.text ++ token_text m,
-        then_one spelled q m to.state _ e to.run_is
-            (λ rest. ap (λ s. run_samples s (m ∷ rest)) o.state_is ∙ mark_run o.partial o.text m rest h free))
+    subst (λ x. has_exponent x ≡ false) (last_sample-range o.partial.lower o.text)
+    (at_open ss _ (λ r. has_exponent (last_sample r) ≡ false) o.open_is taken) in (
+      o.partial,
+      o.text ++ token_text m,
+      then_one spelled q m to.state _ e to.run_is
+          (λ rest. ap (λ s. run_samples s (m ∷ rest)) o.state_is ∙ mark_run o.partial o.text m rest h free),
+    )
 
 -- tokens that wait at a place, and what is a fault there, are answered with the fault
 sample_waits_run : (place : places.SamplePlace) (before rest : List Token) (kind : ParseError)

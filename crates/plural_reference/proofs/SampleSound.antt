@@ -1,8 +1,8 @@
 -- What the reader of samples answers is what the grammar says: the tokens so far spell the sections, the ranges and the part of
 -- a sample that its state holds, so the sections that it ends with are read, and a fault that it stops with is theirs.
 -- RuleReadings cites the last lemma, SampleComplete and the steps of the parser in samples some of the others.
-use Rattle.std.proofs.Common.{◌≡◌, ◌≢◌, ℕ, Bool, true, false, List, [], ◌∷◌, ◌++◌, Option, Some, None, Ok, Err, refl,
-    sym, ap, ◌∙◌, subst, append_assoc, inl, inr, ⊎_elim}
+use Rattle.std.proofs.Common.{◌≡◌, ◌≢◌, ℕ, Bool, true, false, List, [], ◌∷◌, ◌++◌, Option, Some, None}
+use Rattle.std.proofs.Common.{Ok, Err, refl, sym, ap, ◌∙◌, subst, append_assoc, inl, inr, ⊎_elim}
 use Rattle.std.proofs.lemmas.Bool.{true≢false}
 use Rattle.std.proofs.lemmas.List.{append-nil}
 use Rattle.std.specs.Prelude.{IfSome, IsSomeAnd, is_some, ◌⊎◌, ◌||◌}
@@ -13,18 +13,20 @@ use Rattle.plural_reference.specs.declared.ast.SampleList.{SampleList}
 use Rattle.plural_reference.specs.declared.ast.SampleRange.{SampleRange}
 use Rattle.plural_reference.specs.declared.error.ParseError.TheVariants.{ExpectedValue}
 use Rattle.plural_reference.specs.declared.token.Token.{Token}
-use Rattle.plural_reference.specs.declared.token.Token.TheVariants.{Operand, Number, Zero, Dot, Comma, At, Decimal,
-    Integer, Ellipsis, Tilde, E}
+use Rattle.plural_reference.specs.declared.token.Token.TheVariants.{Operand, Number, Zero, Dot, Comma, At}
+use Rattle.plural_reference.specs.declared.token.Token.TheVariants.{Decimal, Integer, Ellipsis, Tilde, E}
 use Rattle.plural_reference.specs.Lexer.{first}
 use Rattle.plural_reference.specs.Parser.{Separated}
-use Rattle.plural_reference.specs.Samples.{IsDigits, IsExponentMark, IsSampleType, IsFraction, IsExponent, SampleParts,
-    IsSampleOf, token_text, IsSample, IsUpper, IsSampleRange, IsEllipsis, IsSampleList, Section, AreSections,
-    open_range, last_sample, has_exponent, has_point, Takes, ContinuesSamples, SectionsThen, IsAfterAt, IsBeforeSample,
-    IsAfterComma, IsAfterMark, FaultyInSamples, sample_fault}
-use Rattle.plural_reference.specs.Inner.SampleReader.{Partial, SampleState, after_sections, behind_at, awaits_sample,
-    behind_comma, in_sample, behind_mark, range_of, with_sections, ranges_with, begin_list, SampleMove, goes, ends,
-    refuses, sample_step, samples_at_end, SampleOutcome, sample_proceed, run_samples, joins, tilde_move, in_move,
-    mark_move, at_move, section_move, comma_move, sample_move}
+use Rattle.plural_reference.specs.Samples.{IsDigits, IsExponentMark, IsSampleType, IsFraction, IsExponent, SampleParts}
+use Rattle.plural_reference.specs.Samples.{IsSampleOf, token_text, IsSample, IsUpper, IsSampleRange, IsEllipsis}
+use Rattle.plural_reference.specs.Samples.{IsSampleList, Section, AreSections, open_range, last_sample, has_exponent}
+use Rattle.plural_reference.specs.Samples.{has_point, Takes, ContinuesSamples, SectionsThen, IsAfterAt, IsBeforeSample}
+use Rattle.plural_reference.specs.Samples.{IsAfterComma, IsAfterMark, FaultyInSamples, sample_fault}
+use Rattle.plural_reference.specs.Inner.SampleReader.{Partial, SampleState, after_sections, behind_at, awaits_sample}
+use Rattle.plural_reference.specs.Inner.SampleReader.{behind_comma, in_sample, behind_mark, range_of, with_sections, ranges_with}
+use Rattle.plural_reference.specs.Inner.SampleReader.{begin_list, SampleMove, goes, ends, refuses, sample_step, samples_at_end}
+use Rattle.plural_reference.specs.Inner.SampleReader.{SampleOutcome, sample_proceed, run_samples, joins, tilde_move, in_move}
+use Rattle.plural_reference.specs.Inner.SampleReader.{mark_move, at_move, section_move, comma_move, sample_move}
 use Rattle.plural_reference.specs.Samples as places
 use Rattle.plural_reference.proofs.ReaderSound.{Terminated, Separated-last, Terminated-push, Terminated-front}
 use Rattle.plural_reference.proofs.ReaderComplete.{last-push}
@@ -36,10 +38,14 @@ AreSections-push : (a : List Token) (ss : List Section) (t : Token) (l : List To
     → AreSections a ss → IsSampleType t → IsSampleList l list
     → AreSections (a ++ At ∷ t ∷ l) (ss ++ (record { type = t; list = list }) ∷ [])
 AreSections-push a [] t l list h k m = (l, [], ap (λ x. x ++ At ∷ t ∷ l) h ∙ ap (λ x. At ∷ t ∷ x) (sym (append-nil l)), k, m, refl)
-AreSections-push a (s ∷ ss) t l list h k m =
-    (h.0, h.1 ++ At ∷ t ∷ l,
-        ap (λ x. x ++ At ∷ t ∷ l) h.2 ∙ ap (λ x. At ∷ s.type ∷ x) (append_assoc h.0 h.1 (At ∷ t ∷ l)), h.3, h.4,
-        AreSections-push h.1 ss t l list h.5 k m)
+AreSections-push a (s ∷ ss) t l list h k m = (
+  h.0,
+  h.1 ++ At ∷ t ∷ l,
+  ap (λ x. x ++ At ∷ t ∷ l) h.2 ∙ ap (λ x. At ∷ s.type ∷ x) (append_assoc h.0 h.1 (At ∷ t ∷ l)),
+  h.3,
+  h.4,
+  AreSections-push h.1 ss t l list h.5 k m,
+)
 
 -- ---- what the tokens so far spell
 
@@ -75,12 +81,16 @@ sections_done : (x y : List Token) (p : Partial) (text : DecimalValue) → Spell
     → AreSections (x ++ y) (with_sections p (ranges_with p text) false)
 sections_done x y p text h k =
     subst (λ l. AreSections l (with_sections p (ranges_with p text) false))
-        (sym (ap (λ l. l ++ y) h.whole ∙ regroup h.section_tokens p.type h.range_tokens h.lower_tokens y))
+    (sym (ap (λ l. l ++ y) h.whole ∙ regroup h.section_tokens p.type h.range_tokens h.lower_tokens y))
     (AreSections-push h.section_tokens p.sections p.type (h.range_tokens ++ (h.lower_tokens ++ y))
-        (record { sample_ranges = ranges_with p text; ellipsis = false }) h.sections h.type
-    (h.range_tokens ++ (h.lower_tokens ++ y), [], sym (append-nil _),
-        Separated-last Comma IsSampleRange h.range_tokens (h.lower_tokens ++ y) p.ranges (range_of p.lower text)
-            h.ranges (range_is p.lower h.lower_tokens y text h.lower k), refl))
+    (record { sample_ranges = ranges_with p text; ellipsis = false }) h.sections h.type (
+      h.range_tokens ++ (h.lower_tokens ++ y),
+      [],
+      sym (append-nil _),
+      Separated-last Comma IsSampleRange h.range_tokens (h.lower_tokens ++ y) p.ranges (range_of p.lower text)
+          h.ranges (range_is p.lower h.lower_tokens y text h.lower k),
+      refl,
+    ))
 
 -- the range that a sample ends is the last one, and open
 pub open-done : (p : Partial) (text : DecimalValue) → open_range (with_sections p (ranges_with p text) false) ≡ Some (range_of p.lower text)
@@ -130,11 +140,11 @@ no_fraction : (i f e : List Token) (text : DecimalValue) → IsFraction f → te
 no_fraction i [] e text h t k = refl
 no_fraction i (Dot ∷ ds) e text h t k =
     absurd
-        (true≢false
-            (sym
-                    (ap (λ l. has_point (flat_map token_text l)) (append_assoc i (Dot ∷ ds) e)
-                        ∙ shows _ i Dot (ds ++ e) (λ rest. refl))
-                ∙ ap has_point (sym t) ∙ k))
+    (true≢false
+    (sym
+    (ap (λ l. has_point (flat_map token_text l)) (append_assoc i (Dot ∷ ds) e)
+    ∙ shows _ i Dot (ds ++ e) (λ rest. refl))
+    ∙ ap has_point (sym t) ∙ k))
 no_fraction i (_ ∷ ds) e text h t k = absurd h
 
 -- the text of tokens with one more is their text and its text
@@ -142,7 +152,7 @@ pub flat_map-push : (a : List Token) (t : Token) → flat_map token_text (a ++ t
 flat_map-push [] t = append-nil (token_text t)
 flat_map-push (x ∷ a) t =
     ap (λ l. token_text x ++ l) (flat_map-push a t)
-        ∙ sym (append_assoc (token_text x) (flat_map token_text a) (token_text t))
+    ∙ sym (append_assoc (token_text x) (flat_map token_text a) (token_text t))
 
 -- runs of digits with one more are runs of digits
 all_pushed : (a : List Token) (t : Token) → AllByRecursion IsDigits a → IsDigits t → AllByRecursion IsDigits (a ++ t ∷ [])
@@ -186,14 +196,24 @@ digit_on : (i f y : List Token) (text : DecimalValue) (t : Token) → y ≡ i ++
     → IsFraction f → IsDigits t → text ≡ flat_map token_text y → IsSample (y ++ t ∷ []) (text ++ token_text t)
 digit_on i [] y text t w d f g k = (
   record { integer = i ++ t ∷ []; fraction = []; exponent = [] },
-  (ap (λ l. l ++ t ∷ []) (w ∙ append-nil i) ∙ sym (append-nil (i ++ t ∷ [])) ∙ sym (append-nil (i ++ t ∷ [] ++ [])),
-      all_pushed i t d g, tt, tt, push_not_empty y t),
+  (
+    ap (λ l. l ++ t ∷ []) (w ∙ append-nil i) ∙ sym (append-nil (i ++ t ∷ [])) ∙ sym (append-nil (i ++ t ∷ [] ++ [])),
+    all_pushed i t d g,
+    tt,
+    tt,
+    push_not_empty y t,
+  ),
   ap (λ l. l ++ token_text t) k ∙ sym (flat_map-push y t),
 )
 digit_on i (Dot ∷ ds) y text t w d f g k = (
   record { integer = i; fraction = Dot ∷ (ds ++ t ∷ []); exponent = [] },
-  (ap (λ l. l ++ t ∷ []) w ∙ append_assoc i (Dot ∷ ds) (t ∷ []) ∙ sym (append-nil (i ++ Dot ∷ (ds ++ t ∷ []))), d,
-      all_pushed ds t f g, tt, push_not_empty y t),
+  (
+    ap (λ l. l ++ t ∷ []) w ∙ append_assoc i (Dot ∷ ds) (t ∷ []) ∙ sym (append-nil (i ++ Dot ∷ (ds ++ t ∷ []))),
+    d,
+    all_pushed ds t f g,
+    tt,
+    push_not_empty y t,
+  ),
   ap (λ l. l ++ token_text t) k ∙ sym (flat_map-push y t),
 )
 digit_on i (_ ∷ ds) y text t w d f g k = absurd f
@@ -207,12 +227,17 @@ point_joins : (y : List Token) (text : DecimalValue) → Open y text → has_poi
     → IsSample (y ++ Dot ∷ []) (text ++ token_text Dot)
 point_joins y text o h =
     let none =
-        no_fraction o.integer o.fraction [] text o.is_fraction
-            (o.text_is ∙ ap (flat_map token_text) (o.whole ∙ sym (append-nil (o.integer ++ o.fraction)))) h in
-    (
+    no_fraction o.integer o.fraction [] text o.is_fraction
+    (o.text_is ∙ ap (flat_map token_text) (o.whole ∙ sym (append-nil (o.integer ++ o.fraction)))) h in (
       record { integer = o.integer; fraction = Dot ∷ []; exponent = [] },
-      (ap (λ l. l ++ Dot ∷ []) (o.whole ∙ ap (λ l. o.integer ++ l) none ∙ append-nil o.integer)
-              ∙ sym (append-nil (o.integer ++ Dot ∷ [])), o.digits, tt, tt, push_not_empty y Dot),
+      (
+        ap (λ l. l ++ Dot ∷ []) (o.whole ∙ ap (λ l. o.integer ++ l) none ∙ append-nil o.integer)
+            ∙ sym (append-nil (o.integer ++ Dot ∷ [])),
+        o.digits,
+        tt,
+        tt,
+        push_not_empty y Dot,
+      ),
       ap (λ l. l ++ token_text Dot) o.text_is ∙ sym (flat_map-push y Dot),
     )
 
@@ -266,7 +291,7 @@ SpellsState q (behind_mark p text) = BehindMark q p text
 abbrev pub ReadsSections : List Token → List Section → List Token → Type 0
 ReadsSections tokens ss rest =
     (spelled : List Token) × (tokens ≡ spelled ++ rest) × AreSections spelled ss
-        × IfSome (first rest) (λ t. ¬ (ContinuesSamples ss t))
+    × IfSome (first rest) (λ t. ¬ (ContinuesSamples ss t))
 
 -- what is said of tokens by an answer
 abbrev pub SaidSamples : List Token → SampleOutcome → Type 0
@@ -386,13 +411,17 @@ ellipsis_done q p x xs e h n =
     let f = Terminated-front Comma IsSampleRange h.range_tokens x xs (subst (Terminated Comma IsSampleRange h.range_tokens) e h.ranges) in
     let lower : h.lower_tokens ≡ [] = subst (LowerIs h.lower_tokens) n h.lower in
     subst (λ l. AreSections l (with_sections p p.ranges true))
-        (sym
-            (ap (λ l. l ++ Ellipsis ∷ []) (h.whole ∙ (λ i. h.section_tokens ++ At ∷ p.type ∷ (f.1 i ++ lower i)))
-                ∙ regroup h.section_tokens p.type (f.0 ++ Comma ∷ []) [] (Ellipsis ∷ [])))
+    (sym
+    (ap (λ l. l ++ Ellipsis ∷ []) (h.whole ∙ (λ i. h.section_tokens ++ At ∷ p.type ∷ (f.1 i ++ lower i)))
+    ∙ regroup h.section_tokens p.type (f.0 ++ Comma ∷ []) [] (Ellipsis ∷ [])))
     (AreSections-push h.section_tokens p.sections p.type ((f.0 ++ Comma ∷ []) ++ Ellipsis ∷ [])
-        (record { sample_ranges = p.ranges; ellipsis = true }) h.sections h.type
-    (f.0, Comma ∷ Ellipsis ∷ [], append_assoc f.0 (Comma ∷ []) (Ellipsis ∷ []),
-        subst (Separated Comma IsSampleRange f.0) (sym e) f.2, refl))
+    (record { sample_ranges = p.ranges; ellipsis = true }) h.sections h.type (
+      f.0,
+      Comma ∷ Ellipsis ∷ [],
+      append_assoc f.0 (Comma ∷ []) (Ellipsis ∷ []),
+      subst (Separated Comma IsSampleRange f.0) (sym e) f.2,
+      refl,
+    ))
 
 -- behind an ellipsis no range is open
 open-ellipsis : (p : Partial) → open_range (with_sections p p.ranges true) ≡ None
@@ -455,7 +484,7 @@ exponent_grown q p text t d h = record {
   partial = h.partial;
   sample =
       subst (λ x. IsSample ((h.sample_tokens ++ h.mark ∷ []) ++ t ∷ []) (x ++ token_text t)) (sym h.text_is)
-          (exponent_joins h.sample_tokens h.sample_text h.mark t h.open_sample h.is_mark d);
+      (exponent_joins h.sample_tokens h.sample_text h.mark t h.open_sample h.is_mark d);
 }
 
 -- ---- in a sample
@@ -465,7 +494,7 @@ module _ (q : List Token) (p : Partial) (text : DecimalValue) (h : InSample q p 
   done : AreSections q (with_sections p (ranges_with p text) false)
   done =
       subst (λ l. AreSections l (with_sections p (ranges_with p text) false)) (sym h.whole)
-          (sections_done h.before h.sample_tokens p text h.partial h.sample)
+      (sections_done h.before h.sample_tokens p text h.partial h.sample)
 
   -- a token that doesn't continue the samples ends them
   ended : (t : Token) (ts : List Token) → (ContinuesSamples (with_sections p (ranges_with p text) false) t → ⊥)
@@ -542,14 +571,14 @@ module _ (q : List Token) (p : Partial) (text : DecimalValue) (h : InSample q p 
     lower_tokens = [];
     whole =
         ap (λ l. l ++ Comma ∷ []) (h.whole ∙ ap (λ l. l ++ h.sample_tokens) h.partial.whole)
-            ∙ comma_regroup h.partial.section_tokens p.type h.partial.range_tokens h.partial.lower_tokens
-                h.sample_tokens;
+        ∙ comma_regroup h.partial.section_tokens p.type h.partial.range_tokens h.partial.lower_tokens
+        h.sample_tokens;
     sections = h.partial.sections;
     type = h.partial.type;
     ranges =
         Terminated-push Comma IsSampleRange h.partial.range_tokens (h.partial.lower_tokens ++ h.sample_tokens) p.ranges
-            (range_of p.lower text) h.partial.ranges
-            (range_is p.lower h.partial.lower_tokens h.sample_tokens text h.partial.lower h.sample);
+        (range_of p.lower text) h.partial.ranges
+        (range_is p.lower h.partial.lower_tokens h.sample_tokens text h.partial.lower h.sample);
     lower = refl;
   }
 
@@ -564,12 +593,12 @@ module _ (q : List Token) (p : Partial) (text : DecimalValue) (h : InSample q p 
         lower_tokens = h.sample_tokens ++ Tilde ∷ [];
         whole =
             ap (λ l. l ++ Tilde ∷ [])
-                    (h.whole
-                        ∙ ap (λ l. l ++ h.sample_tokens)
-                            (h.partial.whole
-                                ∙ ap (λ c. h.partial.section_tokens ++ At ∷ p.type ∷ (h.partial.range_tokens ++ c))
-                                    none))
-                ∙ tilde_regroup h.partial.section_tokens p.type h.partial.range_tokens h.sample_tokens;
+            (h.whole
+            ∙ ap (λ l. l ++ h.sample_tokens)
+            (h.partial.whole
+            ∙ ap (λ c. h.partial.section_tokens ++ At ∷ p.type ∷ (h.partial.range_tokens ++ c))
+            none))
+            ∙ tilde_regroup h.partial.section_tokens p.type h.partial.range_tokens h.sample_tokens;
         sections = h.partial.sections;
         type = h.partial.type;
         ranges = h.partial.ranges;
@@ -578,15 +607,20 @@ module _ (q : List Token) (p : Partial) (text : DecimalValue) (h : InSample q p 
 
   -- Tilde leads to the upper sample, or ends the samples where the range has one
   said_tilde : (lower : Option DecimalValue) → p.lower ≡ lower → (ts : List Token) → SaidMove q Tilde ts (tilde_move lower p text)
-  said_tilde None e ts =
-      (tilde_partial e,
-          inr
-              (q, with_sections p (ranges_with p text) false, refl, done,
-                  from_here (λ r. r.upper_val ≡ None) (subst (λ o. (range_of o text).upper_val ≡ None) (sym e) refl)))
+  said_tilde None e ts = (
+    tilde_partial e,
+    inr (
+      q,
+      with_sections p (ranges_with p text) false,
+      refl,
+      done,
+      from_here (λ r. r.upper_val ≡ None) (subst (λ o. (range_of o text).upper_val ≡ None) (sym e) refl),
+    ),
+  )
   said_tilde (Some lower) e ts =
       ended Tilde ts
-          (λ k. some_is_not_none
-              (subst (λ o. (range_of o text).upper_val ≡ None) e (open_here (λ r. r.upper_val ≡ None) k)))
+      (λ k. some_is_not_none
+      (subst (λ o. (range_of o text).upper_val ≡ None) e (open_here (λ r. r.upper_val ≡ None) k)))
 
   -- a full sample takes no token that wants it without an exponent
   full_stops : (t : Token) → (Takes text t → has_exponent text ≡ false)
@@ -599,21 +633,24 @@ module _ (q : List Token) (p : Partial) (text : DecimalValue) (h : InSample q p 
   said_in_sample Zero ts = said_joins (has_exponent text) _ Zero ts (λ e k. full_stops Zero (λ x. x.0) k e) (λ e. grown_by_digit Zero tt e)
   said_in_sample (Number n) ts =
       said_joins (has_exponent text) _ (Number n) ts (λ e k. full_stops (Number n) (λ x. x.0) k e)
-          (λ e. grown_by_digit (Number n) tt e)
+      (λ e. grown_by_digit (Number n) tt e)
   said_in_sample Dot ts =
       said_joins (has_exponent text || has_point text) _ Dot ts
-          (λ e k. let x = takes_here (λ x. Takes x Dot) k in true≢false (sym e ∙ both_false _ _ x.0 x.1))
-          (λ e. grown_by_point (left_false _ _ e) (right_false _ _ e))
+      (λ e k. let x = takes_here (λ x. Takes x Dot) k in true≢false (sym e ∙ both_false _ _ x.0 x.1))
+      (λ e. grown_by_point (left_false _ _ e) (right_false _ _ e))
   said_in_sample E ts =
       said_joins (has_exponent text) _ E ts (λ e k. full_stops E (λ x. x.0) k e)
-          (λ e. marked E tt e (taken_here (λ x. Takes x E) (e, inr tt)))
+      (λ e. marked E tt e (taken_here (λ x. Takes x E) (e, inr tt)))
   said_in_sample (Operand C) ts =
       said_joins (has_exponent text) _ (Operand C) ts (λ e k. full_stops (Operand C) (λ x. x.0) k e)
-          (λ e. marked (Operand C) tt e (taken_here (λ x. Takes x (Operand C)) (e, inr tt)))
+      (λ e. marked (Operand C) tt e (taken_here (λ x. Takes x (Operand C)) (e, inr tt)))
   said_in_sample Tilde ts = said_tilde p.lower refl ts
-  said_in_sample Comma ts =
-      (comma_partial, (q, with_sections p (ranges_with p text) false, refl, done, ap is_some (open-done p text)), refl,
-          some_ranges p.ranges (range_of p.lower text))
+  said_in_sample Comma ts = (
+    comma_partial,
+    (q, with_sections p (ranges_with p text) false, refl, done, ap is_some (open-done p text)),
+    refl,
+    some_ranges p.ranges (range_of p.lower text),
+  )
   said_in_sample At ts = (q, refl, done)
   said_in_sample t ts = ended t ts (λ k. let x = takes_here (λ x. Takes x t) k in ⊎_elim (λ a. a) (λ a. a) x.1)
 
@@ -666,7 +703,7 @@ unfolding run_samples
 said_run_samples q [] s h = end_said q (samples_at_end s) (said_sample_end q s h)
 said_run_samples q (t ∷ ts) s h =
     move_said q t ts (sample_step s t) (said_sample_step q s t ts h)
-        (λ next k. said_run_samples (q ++ t ∷ []) ts next k)
+    (λ next k. said_run_samples (q ++ t ∷ []) ts next k)
 
 -- what the reader of samples answers is read, or is a fault of the tokens
 pub said_samples : (tokens : List Token) → SaidSamples tokens (run_samples (after_sections []) tokens)

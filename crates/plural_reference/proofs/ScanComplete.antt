@@ -1,7 +1,7 @@
 -- A cut of a text has the tokens of the scan: each piece, scanned from between two pieces, gives its token and leads back
 -- there. From cuts to the scan; ScanSound, CutOnce and the tokens of printed texts cite it.
-use Rattle.std.proofs.Common.{◌≡◌, ◌≢◌, ◌≤◌, ◌+◌, ◌*◌, ℕ, List, [], ◌∷◌, ◌++◌, Option, Some, refl, sym, ap, ◌∙◌,
-    append_assoc, true, false, nat_eq, arith, ⊎_elim}
+use Rattle.std.proofs.Common.{◌≡◌, ◌≢◌, ◌≤◌, ◌+◌, ◌*◌, ℕ, List, [], ◌∷◌, ◌++◌, Option, Some, refl}
+use Rattle.std.proofs.Common.{sym, ap, ◌∙◌, append_assoc, true, false, nat_eq, arith, ⊎_elim}
 use Rattle.std.proofs.lemmas.Bool.{eq-eqb, le-leb, lt-leb}
 use Rattle.std.proofs.lemmas.Bool.Decides.{eqb_tells, leb_tells, nat_tests}
 use Rattle.std.proofs.lemmas.List.Elements.{All-contains, All-from_recursion, recursion_from_All}
@@ -13,10 +13,10 @@ use Rattle.plural_reference.specs.declared.ast.Operand.TheVariants.{I}
 use Rattle.plural_reference.specs.declared.ast.Operator.TheVariants.{NotEq}
 use Rattle.plural_reference.specs.declared.token.Token.{Token}
 use Rattle.plural_reference.specs.declared.token.Token.TheVariants.{Operand, Operator, Dot, Or, And, Junk, Decimal, Integer, Ellipsis}
-use Rattle.plural_reference.specs.Lexer.{first, Word, marks, keywords, MayFollow, IsDigitRun, IsBegun, BeginsNone,
-    IsPiece, space, mark, keyword, number, unknown, too_large, broken, cut_off, Piece, IsCut}
-use Rattle.plural_reference.specs.Inner.Scan.{Start, between, in_keyword, in_number, starts, look_up, begin,
-    number_token, tokens_from, tokens_of}
+use Rattle.plural_reference.specs.Lexer.{first, Word, marks, keywords, MayFollow, IsDigitRun, IsBegun, BeginsNone, IsPiece}
+use Rattle.plural_reference.specs.Lexer.{space, mark, keyword, number, unknown, too_large, broken, cut_off, Piece, IsCut}
+use Rattle.plural_reference.specs.Inner.Scan.{Start, between, in_keyword, in_number, starts, look_up}
+use Rattle.plural_reference.specs.Inner.Scan.{begin, number_token, tokens_from, tokens_of}
 
 -- a list of one byte has no other byte behind its first
 pub no_more : (b : ℕ) (bs : List ℕ) (next : ℕ) (more : List ℕ) (k : ℕ) → k ∷ [] ≡ (b ∷ bs) ++ next ∷ more → ⊥
@@ -111,7 +111,7 @@ keyword_tail k (l ∷ ls) t (b ∷ bs) next more rest h =
 abbrev BegunScans : Word → Type 0
 BegunScans w =
     (begun : List ℕ) (next : ℕ) (more rest : List ℕ) → w.0 ≡ begun ++ next ∷ more → begun ≢ [] → begun ≢ codes "i"
-        → tokens_of (begun ++ rest) ≡ tokens_from (in_keyword next more w.1) rest
+    → tokens_of (begun ++ rest) ≡ tokens_from (in_keyword next more w.1) rest
 
 -- a keyword does so whose first byte alone opens it
 begun_from : (first_byte k : ℕ) (ks : List ℕ) (t : Token)
@@ -159,7 +159,7 @@ begun_leads : (begun : List ℕ) (next : ℕ) (rest : List ℕ) (h : IsBegun beg
     → tokens_of (begun ++ rest) ≡ tokens_from (in_keyword next h.more h.word.1) rest
 begun_leads begun next rest h =
     All-contains BegunScans keywords h.word (All-from_recursion BegunScans keywords begun_scan) h.is_keyword begun next
-        h.more rest h.spelling h.nonempty h.not_i
+    h.more rest h.spelling h.nonempty h.not_i
 
 -- a keyword that a wrong byte breaks off is one Junk, together with that byte
 broken_scans : (begun : List ℕ) (next b : ℕ) (rest : List ℕ) → IsBegun begun next → b ≢ next
@@ -167,7 +167,7 @@ broken_scans : (begun : List ℕ) (next b : ℕ) (rest : List ℕ) → IsBegun b
 unfolding tokens_from
 broken_scans begun next b rest h differs =
     ap tokens_of (append_assoc begun (b ∷ []) rest) ∙ begun_leads begun next (b ∷ rest) h
-        ∙ rw (no_eq b next differs) refl
+    ∙ rw (no_eq b next differs) refl
 
 -- a keyword that the end of the text cuts off is one Junk
 cut_off_scans : (begun : List ℕ) (next : ℕ) → IsBegun begun next → tokens_of (begun ++ []) ≡ Junk ∷ []
@@ -184,7 +184,7 @@ digit_yes b h = grind (arith, nat_tests)
 pub digit_no : (b : ℕ) → (IsAsciiDigit b → ⊥) → is_ascii_digit b ≡ false
 digit_no b h =
     ⊎_elim (λ low. ⊎_elim (λ high. absurd (h (low.1, high.1))) (λ high. rw (low.0, high.0) refl) (leb_tells b 57))
-        (λ low. rw low.0 refl) (leb_tells 48 b)
+    (λ low. rw low.0 refl) (leb_tells 48 b)
 
 -- digits that no digit follows end an open number: one token, of the number with these digits behind it
 number_scans : (n : ℕ) (digits rest : List ℕ) → AllByRecursion IsAsciiDigit digits
@@ -222,24 +222,73 @@ other_byte h e = h (ap Some (sym e))
 -- a byte that begins no mark and no keyword is in no row of the table of first bytes
 no_start : (b : ℕ) → All (λ (word : Word). first word.0 ≢ Some b) (marks ++ keywords) → AllByRecursion (λ (s : ℕ × Start). b ≢ s.0) starts
 no_start b h =
-    let r = recursion_from_All (λ (word : Word). first word.0 ≢ Some b) (marks ++ keywords) h in
-    (other_byte r.0, (other_byte r.1.0, (other_byte r.1.1.0, (other_byte r.1.1.1.0, (other_byte r.1.1.1.1.0,
-    (other_byte r.1.1.1.1.1.0, (other_byte r.1.1.1.1.1.1.0, (other_byte r.1.1.1.1.1.1.1.0,
-    (other_byte r.1.1.1.1.1.1.1.1.0, (other_byte r.1.1.1.1.1.1.1.1.1.0, (other_byte r.1.1.1.1.1.1.1.1.1.1.0,
-    (other_byte r.1.1.1.1.1.1.1.1.1.1.1.1.0, (other_byte r.1.1.1.1.1.1.1.1.1.1.1.1.1.0,
-    (other_byte r.1.1.1.1.1.1.1.1.1.1.1.1.1.1.0, (other_byte r.1.1.1.1.1.1.1.1.1.1.1.1.1.1.1.0,
-    (other_byte r.1.1.1.1.1.1.1.1.1.1.1.1.1.1.1.1.0, (other_byte r.1.1.1.1.1.1.1.1.1.1.1.1.1.1.1.1.1.0,
-    (other_byte r.1.1.1.1.1.1.1.1.1.1.1.1.1.1.1.1.1.1.0, (other_byte r.1.1.1.1.1.1.1.1.1.1.1.1.1.1.1.1.1.1.1.0,
-    (other_byte r.1.1.1.1.1.1.1.1.1.1.1.1.1.1.1.1.1.1.1.1.0, tt))))))))))))))))))))
+    let r = recursion_from_All (λ (word : Word). first word.0 ≢ Some b) (marks ++ keywords) h in (
+      other_byte r.0,
+      (
+        other_byte r.1.0,
+        (
+          other_byte r.1.1.0,
+          (
+            other_byte r.1.1.1.0,
+            (
+              other_byte r.1.1.1.1.0,
+              (
+                other_byte r.1.1.1.1.1.0,
+                (
+                  other_byte r.1.1.1.1.1.1.0,
+                  (
+                    other_byte r.1.1.1.1.1.1.1.0,
+                    (
+                      other_byte r.1.1.1.1.1.1.1.1.0,
+                      (
+                        other_byte r.1.1.1.1.1.1.1.1.1.0,
+                        (
+                          other_byte r.1.1.1.1.1.1.1.1.1.1.0,
+                          (
+                            other_byte r.1.1.1.1.1.1.1.1.1.1.1.1.0,
+                            (
+                              other_byte r.1.1.1.1.1.1.1.1.1.1.1.1.1.0,
+                              (
+                                other_byte r.1.1.1.1.1.1.1.1.1.1.1.1.1.1.0,
+                                (
+                                  other_byte r.1.1.1.1.1.1.1.1.1.1.1.1.1.1.1.0,
+                                  (
+                                    other_byte r.1.1.1.1.1.1.1.1.1.1.1.1.1.1.1.1.0,
+                                    (
+                                      other_byte r.1.1.1.1.1.1.1.1.1.1.1.1.1.1.1.1.1.0,
+                                      (
+                                        other_byte r.1.1.1.1.1.1.1.1.1.1.1.1.1.1.1.1.1.1.0,
+                                        (
+                                          other_byte r.1.1.1.1.1.1.1.1.1.1.1.1.1.1.1.1.1.1.1.0,
+                                          (other_byte r.1.1.1.1.1.1.1.1.1.1.1.1.1.1.1.1.1.1.1.1.0, tt),
+                                        ),
+                                      ),
+                                    ),
+                                  ),
+                                ),
+                              ),
+                            ),
+                          ),
+                        ),
+                      ),
+                    ),
+                  ),
+                ),
+              ),
+            ),
+          ),
+        ),
+      ),
+    )
 
 -- a byte that begins no piece is Junk, between two pieces
 pub begin_unknown : (b : ℕ) → BeginsNone b → begin b ≡ (Junk ∷ [], between)
 begin_unknown b h =
     let none = none_found b starts (no_start b h.2) in
     ⊎_elim
-        (λ low. ⊎_elim (λ high. absurd (h.1 (omega arith, high.1))) (λ high. rw (no_eq b 32 h.0, low.0, high.0) none)
-            (leb_tells b 57))
-        (λ low. rw (no_eq b 32 h.0, low.0) none) (leb_tells 49 b)
+    (λ low. ⊎_elim (λ high. absurd (h.1 (omega arith, high.1))) (λ high. rw (no_eq b 32 h.0, low.0, high.0) none)
+    (leb_tells b 57))
+    (λ low. rw (no_eq b 32 h.0, low.0) none) (leb_tells 49 b)
 
 -- such a byte in front of a text gives Junk, and then the tokens of the rest
 unknown_scans : (b : ℕ) (rest : List ℕ) → BeginsNone b → tokens_of (b ∷ rest) ≡ Junk ∷ tokens_of rest
@@ -257,7 +306,7 @@ piece_scans piece rest token (mark t c f k) =
     All-contains MarkScans marks (piece, t) (All-from_recursion MarkScans marks marks_scan) c rest f ∙ rw k refl
 piece_scans piece rest token (keyword t c k) =
     All-contains KeywordScans keywords (piece, t) (All-from_recursion KeywordScans keywords keywords_scan) c rest
-        ∙ rw k refl
+    ∙ rw k refl
 piece_scans piece rest token (number r small k) = run_scans piece rest r ∙ rw (k, le-leb _ _ small) refl
 piece_scans piece rest token (unknown b e n k) = rw (e, k) (unknown_scans b rest n)
 piece_scans piece rest token (too_large r large k) = run_scans piece rest r ∙ rw (k, lt-leb _ _ large) refl

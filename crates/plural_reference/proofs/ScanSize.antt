@@ -6,9 +6,9 @@ use Rattle.std.specs.Char.{is_ascii_digit, digit_value}
 use Rattle.plural_reference.specs.declared.ast.Operand.TheVariants.{I}
 use Rattle.plural_reference.specs.declared.token.Token.{Token}
 use Rattle.plural_reference.specs.declared.token.Token.TheVariants.{Operand, Dot, DotDot, Junk}
-use Rattle.plural_reference.specs.Inner.Scan.{Start, gives, opens, Scan, between, in_keyword, in_number, after_i,
-    after_point, starts, look_up, start_move, begin, number_token, keyword_move, then_begin, step, Move, tokens_from,
-    tokens_of}
+use Rattle.plural_reference.specs.Inner.Scan.{Start, gives, opens, Scan, between, in_keyword, in_number, after_i}
+use Rattle.plural_reference.specs.Inner.Scan.{after_point, starts, look_up, start_move, begin, number_token}
+use Rattle.plural_reference.specs.Inner.Scan.{keyword_move, then_begin, step, Move, tokens_from, tokens_of}
 
 -- an open piece gives at most one token
 abbrev pending : Scan → ℕ
@@ -66,7 +66,7 @@ size_step (in_keyword k ks t) b =
     size-cond (nat_eq b k) (keyword_move ks t) (Junk ∷ [], between) 2 (omega (arith, size_keyword ks t)) (omega arith)
 size_step (in_number n) b =
     size-cond (is_ascii_digit b) ([], in_number (n * 10 + digit_value b)) (then_begin (number_token n) (begin b)) 2
-        (omega arith) (size_then (number_token n) b)
+    (omega arith) (size_then (number_token n) b)
 size_step after_i b = size-cond (nat_eq b 110) _ (then_begin (Operand I) (begin b)) 2 (omega arith) (size_then (Operand I) b)
 size_step after_point b = size-cond (nat_eq b 46) (DotDot ∷ [], between) (then_begin Dot (begin b)) 2 (omega arith) (size_then Dot b)
 
@@ -79,9 +79,12 @@ length-tokens_from (in_number n) [] = omega arith
 length-tokens_from after_i [] = omega arith
 length-tokens_from after_point [] = omega arith
 length-tokens_from s (b ∷ bs) =
-    omega
-        (arith, length-append (step s b).0 (tokens_from (step s b).1 bs), size_step s b,
-            length-tokens_from (step s b).1 bs)
+    omega (
+      arith,
+      length-append (step s b).0 (tokens_from (step s b).1 bs),
+      size_step s b,
+      length-tokens_from (step s b).1 bs,
+    )
 
 -- a text has at most as many tokens as bytes
 pub length-tokens_of : (text : List ℕ) → length (tokens_of text) ≤ length text

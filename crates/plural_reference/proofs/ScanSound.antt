@@ -1,8 +1,8 @@
 -- Every text has a cut, with the tokens of the scan: the bytes of the open piece are kept beside the state of the scan until
 -- the piece ends. From the scan to cuts; with ScanComplete the tokens of a text are just those of the scan, which the laws of
 -- reading, the lexer and the printed texts cite.
-use Rattle.std.proofs.Common.{◌≡◌, ◌≢◌, ◌<◌, ◌≤◌, ◌+◌, ◌*◌, ℕ, List, [], ◌∷◌, ◌++◌, Option, Some, None, refl, sym, ap,
-    ◌∙◌, subst, append_assoc, inl, inr, cond, Bool, true, false, nat_eq, arith, ⊎_elim, lit<}
+use Rattle.std.proofs.Common.{◌≡◌, ◌≢◌, ◌<◌, ◌≤◌, ◌+◌, ◌*◌, ℕ, List, [], ◌∷◌, ◌++◌, Option, Some, None, refl, sym, ap}
+use Rattle.std.proofs.Common.{◌∙◌, subst, append_assoc, inl, inr, cond, Bool, true, false, nat_eq, arith, ⊎_elim, lit<}
 use Rattle.std.proofs.lemmas.Bool.{eqb-false, true≢false}
 use Rattle.std.proofs.lemmas.Bool.Decides.{eqb_tells, leb_tells}
 use Rattle.std.proofs.lemmas.List.Elements.{All-from_recursion}
@@ -14,12 +14,12 @@ use Rattle.std.specs.Str.Parse.{digits_value}
 use Rattle.plural_reference.specs.declared.ast.Operand.TheVariants.{I}
 use Rattle.plural_reference.specs.declared.token.Token.{Token}
 use Rattle.plural_reference.specs.declared.token.Token.TheVariants.{Operand, Zero, Dot, DotDot, Junk, Integer}
-use Rattle.plural_reference.specs.Lexer.{first, Word, marks, keywords, IsDigitRun, max_number, IsBegun, BeginsNone,
-    IsPiece, space, mark, keyword, number, unknown, too_large, broken, cut_off, AreTokensOf}
+use Rattle.plural_reference.specs.Lexer.{first, Word, marks, keywords, IsDigitRun, max_number, IsBegun, BeginsNone, IsPiece}
+use Rattle.plural_reference.specs.Lexer.{space, mark, keyword, number, unknown, too_large, broken, cut_off, AreTokensOf}
 use Rattle.plural_reference.proofs.ScanComplete.{cut_scans}
-use Rattle.plural_reference.specs.Inner.Scan.{Start, gives, opens, Scan, between, in_keyword, in_number, after_i,
-    after_point, starts, look_up, start_move, begin, number_token, keyword_move, then_begin, step, at_end, Move,
-    tokens_from, tokens_of}
+use Rattle.plural_reference.specs.Inner.Scan.{Start, gives, opens, Scan, between, in_keyword, in_number, after_i}
+use Rattle.plural_reference.specs.Inner.Scan.{after_point, starts, look_up, start_move, begin, number_token}
+use Rattle.plural_reference.specs.Inner.Scan.{keyword_move, then_begin, step, at_end, Move, tokens_from, tokens_of}
 
 -- two lists that are equal have equal first numbers
 heads : (a b : ℕ) (xs ys : List ℕ) → a ∷ xs ≡ b ∷ ys → a ≡ b
@@ -79,7 +79,7 @@ number_piece : (w rest : List ℕ) (n : ℕ) → Opened w (in_number n) → IfSo
     → IsPiece w rest (Some (number_token n))
 number_piece w rest n h whole =
     let run : IsDigitRun w rest =
-        record { begins = h.1; nonempty = h.2; all_digits = All-from_recursion IsAsciiDigit w h.0; whole = whole } in
+    record { begins = h.1; nonempty = h.2; all_digits = All-from_recursion IsAsciiDigit w h.0; whole = whole } in
     ⊎_elim
     (λ small. number run (subst (λ x. x ≤ max_number) h.3 small.1) (rw (small.0, h.3) refl))
     (λ large. too_large run (subst (λ x. max_number < x) h.3 large.1) (rw large.0 refl))
@@ -191,16 +191,70 @@ begins_none : (b : ℕ) → b ≢ 32 → (IsAsciiDigit b → ⊥) → AllByRecur
 begins_none b no_space no_digit h = (
   no_space,
   no_digit,
-  All-from_recursion (λ (word : Word). first word.0 ≢ Some b) (marks ++ keywords)
-      (other_first h.0, (other_first h.1.0, (other_first h.1.1.0, (other_first h.1.1.1.0, (other_first h.1.1.1.1.0,
-      (other_first h.1.1.1.1.1.0, (other_first h.1.1.1.1.1.1.0, (other_first h.1.1.1.1.1.1.1.0,
-      (other_first h.1.1.1.1.1.1.1.1.0, (other_first h.1.1.1.1.1.1.1.1.1.0, (other_first h.1.1.1.1.1.1.1.1.1.1.0,
-      (other_first h.1.1.1.1.1.1.1.1.1.1.0, (other_first h.1.1.1.1.1.1.1.1.1.1.1.0,
-      (other_first h.1.1.1.1.1.1.1.1.1.1.1.1.0, (other_first h.1.1.1.1.1.1.1.1.1.1.1.1.1.0,
-      (other_first h.1.1.1.1.1.1.1.1.1.1.1.1.1.1.0, (other_first h.1.1.1.1.1.1.1.1.1.1.1.1.1.1.1.0,
-      (other_first h.1.1.1.1.1.1.1.1.1.1.1.1.1.1.1.1.0, (other_first h.1.1.1.1.1.1.1.1.1.1.1.1.1.1.1.1.1.0,
-      (other_first h.1.1.1.1.1.1.1.1.1.1.1.1.1.1.1.1.1.1.0, (other_first h.1.1.1.1.1.1.1.1.1.1.1.1.1.1.1.1.1.1.1.0,
-      (other_first h.1.1.1.1.1.1.0, tt)))))))))))))))))))))),
+  All-from_recursion (λ (word : Word). first word.0 ≢ Some b) (marks ++ keywords) (
+    other_first h.0,
+    (
+      other_first h.1.0,
+      (
+        other_first h.1.1.0,
+        (
+          other_first h.1.1.1.0,
+          (
+            other_first h.1.1.1.1.0,
+            (
+              other_first h.1.1.1.1.1.0,
+              (
+                other_first h.1.1.1.1.1.1.0,
+                (
+                  other_first h.1.1.1.1.1.1.1.0,
+                  (
+                    other_first h.1.1.1.1.1.1.1.1.0,
+                    (
+                      other_first h.1.1.1.1.1.1.1.1.1.0,
+                      (
+                        other_first h.1.1.1.1.1.1.1.1.1.1.0,
+                        (
+                          other_first h.1.1.1.1.1.1.1.1.1.1.0,
+                          (
+                            other_first h.1.1.1.1.1.1.1.1.1.1.1.0,
+                            (
+                              other_first h.1.1.1.1.1.1.1.1.1.1.1.1.0,
+                              (
+                                other_first h.1.1.1.1.1.1.1.1.1.1.1.1.1.0,
+                                (
+                                  other_first h.1.1.1.1.1.1.1.1.1.1.1.1.1.1.0,
+                                  (
+                                    other_first h.1.1.1.1.1.1.1.1.1.1.1.1.1.1.1.0,
+                                    (
+                                      other_first h.1.1.1.1.1.1.1.1.1.1.1.1.1.1.1.1.0,
+                                      (
+                                        other_first h.1.1.1.1.1.1.1.1.1.1.1.1.1.1.1.1.1.0,
+                                        (
+                                          other_first h.1.1.1.1.1.1.1.1.1.1.1.1.1.1.1.1.1.1.0,
+                                          (
+                                            other_first h.1.1.1.1.1.1.1.1.1.1.1.1.1.1.1.1.1.1.1.0,
+                                            (other_first h.1.1.1.1.1.1.0, tt),
+                                          ),
+                                        ),
+                                      ),
+                                    ),
+                                  ),
+                                ),
+                              ),
+                            ),
+                          ),
+                        ),
+                      ),
+                    ),
+                  ),
+                ),
+              ),
+            ),
+          ),
+        ),
+      ),
+    ),
+  ),
 )
 
 -- ---- one byte more
@@ -221,8 +275,8 @@ one_piece : (b : ℕ) (bs : List ℕ) (s : Start) → StartOk (b, s) → Cuts bs
     → AreTokensOf (b ∷ bs) ((start_move s).0 ++ tokens_from (start_move s).1 bs)
 one_piece b bs (gives t) h cuts =
     more_tokens (b ∷ []) bs (Some t) (tokens_of bs)
-        (mark t h.0 ((λ e. absurd (h.1 (heads b 105 [] [] e))), (λ e. absurd (h.2 (heads b 46 [] [] e)))) refl)
-        (cuts between [] refl)
+    (mark t h.0 ((λ e. absurd (h.1 (heads b 105 [] [] e))), (λ e. absurd (h.2 (heads b 46 [] [] e)))) refl)
+    (cuts between [] refl)
 one_piece b bs (opens s) h cuts = cuts s (b ∷ []) h
 
 -- so is any byte but a space or a digit, with such a rest
@@ -231,8 +285,8 @@ looked_up : (b : ℕ) (bs : List ℕ) (m : Move) → LooksUp b starts m → b �
 looked_up b bs m (is_there s h e) no_space no_digit cuts = rw e (one_piece b bs s h cuts)
 looked_up b bs m (is_absent h e) no_space no_digit cuts =
     rw e
-        (more_tokens (b ∷ []) bs (Some Junk) (tokens_of bs) (unknown b refl (begins_none b no_space no_digit h) refl)
-            (cuts between [] refl))
+    (more_tokens (b ∷ []) bs (Some Junk) (tokens_of bs) (unknown b refl (begins_none b no_space no_digit h) refl)
+    (cuts between [] refl))
 
 -- so is any byte but a space or the first digit of a number, since `0` is in the table
 no_digit_looked_up : (b : ℕ) (bs : List ℕ) → b ≢ 32 → (b < 49) ⊎ (57 < b) → Cuts bs
@@ -241,7 +295,7 @@ no_digit_looked_up b bs no_space out cuts =
     ⊎_elim
     (λ zero_is. rw zero_is.1 (one_piece 48 bs (gives Zero) ((9, lit< tt, refl), apart 48 105 refl, apart 48 46 refl) cuts))
     (λ not_zero. looked_up b bs (look_up b starts) (looks_up b starts starts_ok) no_space
-        (λ d. absurd (⊎_elim (λ low. let e : b ≡ 48 = omega arith in not_zero.1 e) (λ high. omega arith) out)) cuts)
+    (λ d. absurd (⊎_elim (λ low. let e : b ≡ 48 = omega arith in not_zero.1 e) (λ high. omega arith) out)) cuts)
     (eqb_tells b 48)
 
 -- so is any byte at all, with such a rest
@@ -253,8 +307,8 @@ begin_cuts b bs cuts =
     ⊎_elim
     (λ low. ⊎_elim
     (λ high. rw (no_space.0, low.0, high.0)
-        (cuts (in_number (0 * 10 + digit_value b)) (b ∷ [])
-            (((omega arith, high.1), tt), (λ e. omega arith), not_empty b [], refl)))
+    (cuts (in_number (0 * 10 + digit_value b)) (b ∷ [])
+    (((omega arith, high.1), tt), (λ e. omega arith), not_empty b [], refl)))
     (λ high. rw (no_space.0, low.0, high.0) (no_digit_looked_up b bs no_space.1 (inr high.1) cuts))
     (leb_tells b 57))
     (λ low. rw (no_space.0, low.0) (no_digit_looked_up b bs no_space.1 (inl low.1) cuts))
@@ -271,18 +325,20 @@ keyword_cuts : (w : List ℕ) (k : ℕ) (ks : List ℕ) (t : Token) (bs : List �
     → AreTokensOf (w ++ k ∷ bs) ((keyword_move ks t).0 ++ tokens_from (keyword_move ks t).1 bs)
 keyword_cuts w k [] t bs h cuts =
     subst (λ l. AreTokensOf l (t ∷ tokens_of bs)) (append_assoc w (k ∷ []) bs)
-        (more_tokens (w ++ k ∷ []) bs (Some t) (tokens_of bs) (keyword t h.0 refl) (cuts between [] refl))
+    (more_tokens (w ++ k ∷ []) bs (Some t) (tokens_of bs) (keyword t h.0 refl) (cuts between [] refl))
 keyword_cuts w k (l ∷ ls) t bs h cuts = subst (λ x. AreTokensOf x (tokens_from (in_keyword l ls t) bs)) (append_assoc w (k ∷ []) bs)
-    (cuts (in_keyword l ls t) (w ++ k ∷ [])
-        (subst (λ x. Contains keywords (x, t)) (sym (append_assoc w (k ∷ []) (l ∷ ls))) h.0, pushed_not_empty w k,
-            two_not_i w k h.1))
+    (cuts (in_keyword l ls t) (w ++ k ∷ []) (
+      subst (λ x. Contains keywords (x, t)) (sym (append_assoc w (k ∷ []) (l ∷ ls))) h.0,
+      pushed_not_empty w k,
+      two_not_i w k h.1,
+    ))
 
 -- the test of digits tells an ASCII digit from any other byte
 digit_tells : (b : ℕ) → ((is_ascii_digit b ≡ true) × IsAsciiDigit b) ⊎ ((is_ascii_digit b ≡ false) × (IsAsciiDigit b → ⊥))
 digit_tells b =
     ⊎_elim
     (λ low. ⊎_elim (λ high. inl (rw (low.0, high.0) refl, (low.1, high.1)))
-        (λ high. inr (rw (low.0, high.0) refl, λ d. let le : b ≤ 57 = d.1 in omega arith)) (leb_tells b 57))
+    (λ high. inr (rw (low.0, high.0) refl, λ d. let le : b ≤ 57 = d.1 in omega arith)) (leb_tells b 57))
     (λ low. inr (rw low.0 refl, λ d. let le : 48 ≤ b = d.0 in omega arith))
     (leb_tells 48 b)
 
@@ -298,9 +354,12 @@ first_pushed (x ∷ xs) b h k = k
 
 -- an open number with one more digit is an open number of the value that the scan computes
 number_pushed : (w : List ℕ) (n b : ℕ) → Opened w (in_number n) → IsAsciiDigit b → Opened (w ++ b ∷ []) (in_number (n * 10 + digit_value b))
-number_pushed w n b h d =
-    (all_pushed w b h.0 d, first_pushed w b h.2 h.1, pushed_not_empty w b,
-        ap (λ x. x * 10 + digit_value b) h.3 ∙ sym (digits_value_push 10 w b))
+number_pushed w n b h d = (
+  all_pushed w b h.0 d,
+  first_pushed w b h.2 h.1,
+  pushed_not_empty w b,
+  ap (λ x. x * 10 + digit_value b) h.3 ∙ sym (digits_value_push 10 w b),
+)
 
 -- what is absent is not there
 none_is_not_some : {A : Type 0} {x : A} → None ≢ Some x
@@ -321,38 +380,38 @@ said_step w between b bs h cuts =
 said_step w (in_keyword k ks t) b bs h cuts =
     ⊎_elim
     (λ same. rw (same.0)
-        (subst (λ x. AreTokensOf (w ++ x ∷ bs) ((keyword_move ks t).0 ++ tokens_from (keyword_move ks t).1 bs))
-            (sym same.1) (keyword_cuts w k ks t bs h cuts)))
+    (subst (λ x. AreTokensOf (w ++ x ∷ bs) ((keyword_move ks t).0 ++ tokens_from (keyword_move ks t).1 bs))
+    (sym same.1) (keyword_cuts w k ks t bs h cuts)))
     (λ differs. rw differs.0
-        (subst (λ l. AreTokensOf l (Junk ∷ tokens_of bs)) (append_assoc w (b ∷ []) bs)
-            (more_tokens (w ++ b ∷ []) bs (Some Junk) (tokens_of bs)
-                (broken w k b refl (is_begun w k ks t h) differs.1 refl) (cuts between [] refl))))
+    (subst (λ l. AreTokensOf l (Junk ∷ tokens_of bs)) (append_assoc w (b ∷ []) bs)
+    (more_tokens (w ++ b ∷ []) bs (Some Junk) (tokens_of bs)
+    (broken w k b refl (is_begun w k ks t h) differs.1 refl) (cuts between [] refl))))
     (eqb_tells b k)
 said_step w (in_number n) b bs h cuts =
     ⊎_elim
     (λ yes. rw yes.0
-        (subst (λ l. AreTokensOf l (tokens_from (in_number (n * 10 + digit_value b)) bs)) (append_assoc w (b ∷ []) bs)
-            (cuts (in_number (n * 10 + digit_value b)) (w ++ b ∷ []) (number_pushed w n b h yes.1))))
+    (subst (λ l. AreTokensOf l (tokens_from (in_number (n * 10 + digit_value b)) bs)) (append_assoc w (b ∷ []) bs)
+    (cuts (in_number (n * 10 + digit_value b)) (w ++ b ∷ []) (number_pushed w n b h yes.1))))
     (λ no. rw no.0 (ended_cuts w (number_token n) b bs (number_piece w (b ∷ bs) n h no.1) cuts))
     (digit_tells b)
 said_step w after_i b bs h cuts =
     ⊎_elim
     (λ same. rw (same.1, h)
-        (cuts (in_keyword 116 (101 ∷ 103 ∷ 101 ∷ 114 ∷ []) Integer) (105 ∷ 110 ∷ [])
-            ((5, lit< tt, refl), not_empty 105 (110 ∷ []), two_not_one 105 110 105)))
+    (cuts (in_keyword 116 (101 ∷ 103 ∷ 101 ∷ 114 ∷ []) Integer) (105 ∷ 110 ∷ [])
+    ((5, lit< tt, refl), not_empty 105 (110 ∷ []), two_not_one 105 110 105)))
     (λ differs. by_test b w bs (nat_eq b 110) ([], in_keyword 116 (101 ∷ 103 ∷ 101 ∷ 114 ∷ []) Integer)
-        (then_begin (Operand I) (begin b)) differs.0
-        (rw h (ended_cuts (codes "i") (Operand I) b bs (i_piece (b ∷ bs) (λ e. differs.1 (some_inj e))) cuts)))
+    (then_begin (Operand I) (begin b)) differs.0
+    (rw h (ended_cuts (codes "i") (Operand I) b bs (i_piece (b ∷ bs) (λ e. differs.1 (some_inj e))) cuts)))
     (eqb_tells b 110)
 said_step w after_point b bs h cuts =
     ⊎_elim
     (λ same. rw (same.1, h)
-        (more_tokens (codes "..") bs (Some DotDot) (tokens_of bs)
-            (mark DotDot (11, lit< tt, refl)
-                ((λ e. absurd (texts_apart 46 105 (46 ∷ []) [] refl e)), (λ e. absurd (two_not_one 46 46 46 e))) refl)
-            (cuts between [] refl)))
+    (more_tokens (codes "..") bs (Some DotDot) (tokens_of bs)
+    (mark DotDot (11, lit< tt, refl)
+    ((λ e. absurd (texts_apart 46 105 (46 ∷ []) [] refl e)), (λ e. absurd (two_not_one 46 46 46 e))) refl)
+    (cuts between [] refl)))
     (λ differs. by_test b w bs (nat_eq b 46) (DotDot ∷ [], between) (then_begin Dot (begin b)) differs.0
-        (rw h (ended_cuts (codes ".") Dot b bs (point_piece (b ∷ bs) (λ e. differs.1 (some_inj e))) cuts)))
+    (rw h (ended_cuts (codes ".") Dot b bs (point_piece (b ∷ bs) (λ e. differs.1 (some_inj e))) cuts)))
     (eqb_tells b 46)
 
 -- an open piece at the end of the text is a piece, or is cut off, with the token that the scan gives at its end

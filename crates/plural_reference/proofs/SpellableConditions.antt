@@ -13,8 +13,8 @@ use Rattle.plural_reference.specs.declared.ast.Value.{Value}
 use Rattle.plural_reference.specs.declared.token.Token.{Token}
 use Rattle.plural_reference.specs.declared.token.Token.TheVariants.{Operator, Number, Zero, Comma, Or, And}
 use Rattle.plural_reference.specs.Parser.{Separated, value_of, IsItem, IsModulus, IsRelation, IsAndCondition, IsCondition, ReadsUpTo}
-use Rattle.plural_reference.specs.PrintingLaws.{FitsToken, IsSpellableItem, IsSpellableRelation, IsSpellableGroup,
-    IsSpellable, ConditionsOfTextsAreSpellable}
+use Rattle.plural_reference.specs.PrintingLaws.{FitsToken, IsSpellableItem, IsSpellableRelation}
+use Rattle.plural_reference.specs.PrintingLaws.{IsSpellableGroup, IsSpellable, ConditionsOfTextsAreSpellable}
 use Rattle.plural_reference.proofs.TokensFit.{TokenFits, AllFit, fit_left, fit_right, tokens_fit}
 
 -- the value of a token that fits is one that a token holds
@@ -32,8 +32,10 @@ separated_parts separator Part P each tokens (x ∷ []) f h = (λ e. cc, (each t
 separated_parts separator Part P each tokens (x ∷ y ∷ ys) f h =
     let fits = subst AllFit h.2 f in (
       λ e. cc,
-      (each h.0 x (fit_left h.0 (separator ∷ h.1) fits) h.3,
-          (separated_parts separator Part P each h.1 (y ∷ ys) (fit_right h.0 (separator ∷ h.1) fits).1 h.4).1),
+      (
+        each h.0 x (fit_left h.0 (separator ∷ h.1) fits) h.3,
+        (separated_parts separator Part P each h.1 (y ∷ ys) (fit_right h.0 (separator ∷ h.1) fits).1 h.4).1,
+      ),
     )
 
 -- the ends of an item of tokens that fit are held by tokens
@@ -53,8 +55,8 @@ relation_spellable tokens r f h =
     let fits = subst AllFit h.2 f in
     let left = subst AllFit h.3.2 (fit_left h.0 (Operator r.operator ∷ h.1) fits) in
     let list =
-        separated_parts Comma IsItem IsSpellableItem item_spellable h.1 r.range_list.0
-            (fit_right h.0 (Operator r.operator ∷ h.1) fits).1 h.4 in
+    separated_parts Comma IsItem IsSpellableItem item_spellable h.1 r.range_list.0
+    (fit_right h.0 (Operator r.operator ∷ h.1) fits).1 h.4 in
     (modulus_spellable h.3.1 r.expression.modulus left.1 h.3.4, list.0, All-from_recursion IsSpellableItem r.range_list.0 list.1)
 
 -- an and-condition of such tokens has a relation, and tokens hold its numbers
@@ -67,7 +69,7 @@ group_spellable tokens g f h =
 condition_spellable : (tokens : List Token) (c : Condition) → AllFit tokens → IsCondition tokens c → IsSpellable c
 condition_spellable tokens c f h =
     All-from_recursion IsSpellableGroup c.0
-        (separated_parts Or IsAndCondition IsSpellableGroup group_spellable tokens c.0 f h).1
+    (separated_parts Or IsAndCondition IsSpellableGroup group_spellable tokens c.0 f h).1
 
 -- what is read of tokens that fit is a spellable condition
 pub read_spellable : (tokens : List Token) (c : Condition) (rest : List Token) → AllFit tokens → ReadsUpTo tokens c rest → IsSpellable c

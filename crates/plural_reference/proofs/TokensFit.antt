@@ -6,8 +6,8 @@ use Rattle.std.specs.Prelude.{IfSome}
 use Rattle.std.specs.List.{AllByRecursion, filter_map, cons_option}
 use Rattle.plural_reference.specs.declared.token.Token.{Token}
 use Rattle.plural_reference.specs.declared.token.Token.TheVariants.{Number}
-use Rattle.plural_reference.specs.Lexer.{Word, marks, keywords, max_number, IsPiece, space, mark, keyword, number,
-    unknown, too_large, broken, cut_off, Piece, IsCut, AreTokensOf}
+use Rattle.plural_reference.specs.Lexer.{Word, marks, keywords, max_number, IsPiece, space, mark, keyword, number}
+use Rattle.plural_reference.specs.Lexer.{unknown, too_large, broken, cut_off, Piece, IsCut, AreTokensOf}
 
 -- the number of a token, where it has one, is at most the largest
 abbrev pub TokenFits : Token → Type 0
@@ -41,12 +41,12 @@ piece_fits : (piece rest : List ℕ) (token : Option Token) → IsPiece piece re
 piece_fits piece rest token (space e k) = rw k tt
 piece_fits piece rest token (mark t c f k) =
     rw k
-        (All-contains (λ (w : Word). TokenFits w.1) marks (piece, t)
-            (All-from_recursion (λ (w : Word). TokenFits w.1) marks marks_fit) c)
+    (All-contains (λ (w : Word). TokenFits w.1) marks (piece, t)
+    (All-from_recursion (λ (w : Word). TokenFits w.1) marks marks_fit) c)
 piece_fits piece rest token (keyword t c k) =
     rw k
-        (All-contains (λ (w : Word). TokenFits w.1) keywords (piece, t)
-            (All-from_recursion (λ (w : Word). TokenFits w.1) keywords keywords_fit) c)
+    (All-contains (λ (w : Word). TokenFits w.1) keywords (piece, t)
+    (All-from_recursion (λ (w : Word). TokenFits w.1) keywords keywords_fit) c)
 piece_fits piece rest token (number r small k) = rw k small
 piece_fits piece rest token (unknown b e n k) = rw k tt
 piece_fits piece rest token (too_large r large k) = rw k tt
