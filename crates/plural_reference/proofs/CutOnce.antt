@@ -1,12 +1,12 @@
 -- A text is cut in one way only: the scan, asked for the bytes of the first piece in place of its token, finds the first piece
 -- of any cut. From ScanSound and ScanComplete to the law that every text has exactly one cut.
 use Rattle.std.proofs.Common.{◌≡◌, ◌≢◌, ◌*◌, ◌+◌, ℕ, List, [], ◌∷◌, ◌++◌, Option, Some, None, refl}
-use Rattle.std.proofs.Common.{sym, ap, ◌∙◌, append_assoc, cond, nat_eq, length, subst, arith}
-use Rattle.std.proofs.lemmas.Bool.{eq-eqb}
+use Rattle.std.proofs.Common.{sym, ap, ◌∙◌, append_assoc, cond, drop, is_some, nat_eq, length, subst, true, arith}
+use Rattle.std.proofs.lemmas.Bool.{eq-eqb, false≢true}
 use Rattle.std.proofs.lemmas.List.{append-nil, append_cancel_left}
 use Rattle.std.proofs.lemmas.List.Elements.{All-contains, All-from_recursion, recursion_from_All}
 use Rattle.std.specs.Prelude.{IfSome, codes}
-use Rattle.std.specs.List.{AllByRecursion, cons_option}
+use Rattle.std.specs.List.{AllByRecursion, list_all, cons_option}
 use Rattle.std.specs.Char.{is_ascii_digit, digit_value, IsAsciiDigit}
 use Rattle.plural_reference.specs.declared.ast.Operand.TheVariants.{I}
 use Rattle.plural_reference.specs.declared.ast.Operator.TheVariants.{NotEq}
@@ -81,55 +81,10 @@ point_bitten (b ∷ bs) h = rw (no_eq b 46 (λ e. h.1 refl (ap Some e))) refl
 -- each mark is the first piece
 marks_bitten : AllByRecursion MarkBitten marks
 unfolding piece_from
-marks_bitten = (
-  λ _ _. refl,
-  (
-    λ _ _. refl,
-    (
-      λ _ _. refl,
-      (
-        λ _ _. refl,
-        (
-          λ _ _. refl,
-          (
-            λ _ _. refl,
-            (
-              i_bitten,
-              (
-                λ _ _. refl,
-                (
-                  λ _ _. refl,
-                  (
-                    λ _ _. refl,
-                    (
-                      point_bitten,
-                      (
-                        λ _ _. refl,
-                        (
-                          λ _ _. refl,
-                          (
-                            λ _ _. refl,
-                            (
-                              λ _ _. refl,
-                              (
-                                λ _ _. refl,
-                                tt,
-                              ),
-                            ),
-                          ),
-                        ),
-                      ),
-                    ),
-                  ),
-                ),
-              ),
-            ),
-          ),
-        ),
-      ),
-    ),
-  ),
-)
+marks_bitten =
+    let from_equals : AllByRecursion MarkBitten (drop 8 marks) =
+    (λ _ _. refl, (λ _ _. refl, (point_bitten, (λ _ _. refl, (λ _ _. refl, (λ _ _. refl, (λ _ _. refl, (λ _ _. refl, tt)))))))) in
+    (λ _ _. refl, (λ _ _. refl, (λ _ _. refl, (λ _ _. refl, (λ _ _. refl, (λ _ _. refl, (i_bitten, (λ _ _. refl, from_equals))))))))
 
 -- each keyword is the first piece
 keywords_bitten : AllByRecursion KeywordBitten keywords
@@ -263,65 +218,21 @@ pushed_not_empty : (bs : List ℕ) (b : ℕ) → bs ++ b ∷ [] ≢ []
 pushed_not_empty [] b e = cc
 pushed_not_empty (x ∷ xs) b e = cc
 
--- no mark is empty
-marks_not_empty : AllByRecursion (λ (w : Word). w.0 ≢ []) marks
-marks_not_empty = (
-  not_empty _ _,
-  (
-    not_empty _ _,
-    (
-      not_empty _ _,
-      (
-        not_empty _ _,
-        (
-          not_empty _ _,
-          (
-            not_empty _ _,
-            (
-              not_empty _ _,
-              (
-                not_empty _ _,
-                (
-                  not_empty _ _,
-                  (
-                    not_empty _ _,
-                    (
-                      not_empty _ _,
-                      (
-                        not_empty _ _,
-                        (
-                          not_empty _ _,
-                          (
-                            not_empty _ _,
-                            (not_empty _ _, (not_empty _ _, tt)),
-                          ),
-                        ),
-                      ),
-                    ),
-                  ),
-                ),
-              ),
-            ),
-          ),
-        ),
-      ),
-    ),
-  ),
-)
-
--- no keyword is empty
-keywords_not_empty : AllByRecursion (λ (w : Word). w.0 ≢ []) keywords
-keywords_not_empty = (not_empty _ _, (not_empty _ _, (not_empty _ _, (not_empty _ _, (not_empty _ _, (not_empty _ _, tt))))))
+-- a word with a first byte is not empty
+words_not_empty : (ws : List Word) → list_all (λ (w : Word). is_some (first w.0)) ws ≡ true → AllByRecursion (λ (w : Word). w.0 ≢ []) ws
+words_not_empty [] e = tt
+words_not_empty (([], t) ∷ ws) e = absurd (false≢true e)
+words_not_empty ((b ∷ bs, t) ∷ ws) e = (not_empty b bs, words_not_empty ws e)
 
 -- no piece is empty
 piece_not_empty : (piece rest : List ℕ) (token : Option Token) → IsPiece piece rest token → piece ≢ []
 piece_not_empty piece rest token (space e t) = rw e (not_empty 32 [])
 piece_not_empty piece rest token (mark t c f k) =
     All-contains (λ (w : Word). w.0 ≢ []) marks (piece, t)
-    (All-from_recursion (λ (w : Word). w.0 ≢ []) marks marks_not_empty) c
+    (All-from_recursion (λ (w : Word). w.0 ≢ []) marks (words_not_empty marks refl)) c
 piece_not_empty piece rest token (keyword t c k) =
     All-contains (λ (w : Word). w.0 ≢ []) keywords (piece, t)
-    (All-from_recursion (λ (w : Word). w.0 ≢ []) keywords keywords_not_empty) c
+    (All-from_recursion (λ (w : Word). w.0 ≢ []) keywords (words_not_empty keywords refl)) c
 piece_not_empty piece rest token (number r small k) = r.nonempty
 piece_not_empty piece rest token (unknown b e n k) = rw e (not_empty b [])
 piece_not_empty piece rest token (too_large r large k) = r.nonempty

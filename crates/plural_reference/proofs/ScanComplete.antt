@@ -1,12 +1,12 @@
 -- A cut of a text has the tokens of the scan: each piece, scanned from between two pieces, gives its token and leads back
 -- there. From cuts to the scan; ScanSound, CutOnce and the tokens of printed texts cite it.
-use Rattle.std.proofs.Common.{◌≡◌, ◌≢◌, ◌≤◌, ◌+◌, ◌*◌, ℕ, List, [], ◌∷◌, ◌++◌, Option, Some, refl}
-use Rattle.std.proofs.Common.{sym, ap, ◌∙◌, append_assoc, true, false, nat_eq, arith, ⊎_elim}
-use Rattle.std.proofs.lemmas.Bool.{eq-eqb, le-leb, lt-leb}
+use Rattle.std.proofs.Common.{◌≡◌, ◌≢◌, ◌≤◌, ◌+◌, ◌*◌, ℕ, List, [], ◌∷◌, ◌++◌, Bool, Option, Some, refl}
+use Rattle.std.proofs.Common.{sym, ap, ◌∙◌, append_assoc, drop, inl, inr, true, false, nat_eq, arith, ⊎_elim}
+use Rattle.std.proofs.lemmas.Bool.{and_parts, eq-eqb, eqb-true, false≢true, le-leb, lt-leb, or_cases}
 use Rattle.std.proofs.lemmas.Bool.Decides.{eqb_tells, leb_tells, nat_tests}
 use Rattle.std.proofs.lemmas.List.Elements.{All-contains, All-from_recursion, recursion_from_All}
 use Rattle.std.specs.Prelude.{All, IfSome, codes}
-use Rattle.std.specs.List.{AllByRecursion, filter_map, cons_option}
+use Rattle.std.specs.List.{AllByRecursion, list_any, list_all, filter_map, cons_option}
 use Rattle.std.specs.Char.{is_ascii_digit, digit_value, IsAsciiDigit}
 use Rattle.std.specs.Str.Parse.{digits_value, digits_value_after}
 use Rattle.plural_reference.specs.declared.ast.Operand.TheVariants.{I}
@@ -50,43 +50,10 @@ point_scans (b ∷ bs) h = rw (no_eq b 46 (λ e. h.1 refl (ap Some e))) refl
 -- each mark gives its token before whatever may follow it
 marks_scan : AllByRecursion MarkScans marks
 unfolding tokens_from
-marks_scan = (
-  λ rest h. refl,
-  (
-    λ rest h. refl,
-    (
-      λ rest h. refl,
-      (
-        λ rest h. refl,
-        (
-          λ rest h. refl,
-          (
-            λ rest h. refl,
-            (
-              i_scans,
-              (
-                λ rest h. refl,
-                (
-                  λ rest h. refl,
-                  (
-                    λ rest h. refl,
-                    (
-                      point_scans,
-                      (
-                        λ rest h. refl,
-                        (λ rest h. refl, (λ rest h. refl, (λ rest h. refl, (λ rest h. refl, tt)))),
-                      ),
-                    ),
-                  ),
-                ),
-              ),
-            ),
-          ),
-        ),
-      ),
-    ),
-  ),
-)
+marks_scan =
+    let from_equals : AllByRecursion MarkScans (drop 8 marks) =
+    (λ _ _. refl, (λ _ _. refl, (point_scans, (λ _ _. refl, (λ _ _. refl, (λ _ _. refl, (λ _ _. refl, (λ _ _. refl, tt)))))))) in
+    (λ _ _. refl, (λ _ _. refl, (λ _ _. refl, (λ _ _. refl, (λ _ _. refl, (λ _ _. refl, (i_scans, (λ _ _. refl, from_equals))))))))
 
 -- each keyword gives its token
 keywords_scan : AllByRecursion KeywordScans keywords
@@ -215,71 +182,43 @@ none_found : (b : ℕ) (ss : List (ℕ × Start)) → AllByRecursion (λ (s : �
 none_found b [] h = refl
 none_found b (s ∷ ss) h = rw (no_eq b s.0 h.0) (none_found b ss h.1)
 
--- a text that begins with another byte than b: the two bytes differ
-other_byte : {b c : ℕ} → Some c ≢ Some b → b ≢ c
-other_byte h e = h (ap Some (sym e))
+-- the word begins with the byte
+abbrev pub begins : ℕ → Word → Bool
+begins b ([], t) = false
+begins b (c ∷ cs, t) = nat_eq c b
 
--- a byte that begins no mark and no keyword is in no row of the table of first bytes
-no_start : (b : ℕ) → All (λ (word : Word). first word.0 ≢ Some b) (marks ++ keywords) → AllByRecursion (λ (s : ℕ × Start). b ≢ s.0) starts
+-- what the test says of a word's first byte
+pub begins_first : (b : ℕ) (word : Word) → begins b word ≡ true → first word.0 ≡ Some b
+begins_first b ([], t) e = absurd (false≢true e)
+begins_first b (c ∷ cs, t) e = ap Some (eqb-true c b e)
+
+-- what is carried from each x to what it is like holds of a y that some x is like
+carried_to : {A B : Type 0} (P : A → Type 0) (Q : B → Type 0) (like : A → B → Bool)
+    → ((x : A) (y : B) → like x y ≡ true → P x → Q y) → (xs : List A) (y : B) → AllByRecursion P xs
+    → list_any (λ x. like x y) xs ≡ true → Q y
+carried_to P Q like carry [] y h e = absurd (false≢true e)
+carried_to P Q like carry (x ∷ xs) y h e =
+    elim (or_cases (like x y) (list_any (λ z. like z y) xs) e) [
+      | inl here ↦ carry x y here h.0
+      | inr later ↦ carried_to P Q like carry xs y h.1 later
+    ]
+
+-- and so of all y, where each has such an x
+pub carried : {A B : Type 0} (P : A → Type 0) (Q : B → Type 0) (like : A → B → Bool)
+    → ((x : A) (y : B) → like x y ≡ true → P x → Q y) → (xs : List A) (ys : List B) → AllByRecursion P xs
+    → list_all (λ y. list_any (λ x. like x y) xs) ys ≡ true → AllByRecursion Q ys
+carried P Q like carry xs [] h e = tt
+carried P Q like carry xs (y ∷ ys) h e =
+    let both = and_parts (list_any (λ x. like x y) xs) (list_all (λ z. list_any (λ x. like x z) xs) ys) e in
+    (carried_to P Q like carry xs y h both.0, carried P Q like carry xs ys h both.1)
+
+-- a byte that begins no mark and no keyword is in no row of the table of first bytes, since each row begins one
+no_start : (b : ℕ) → All (λ (word : Word). first word.0 ≢ Some b) (marks ++ keywords)
+    → AllByRecursion (λ (s : ℕ × Start). b ≢ s.0) starts
 no_start b h =
-    let r = recursion_from_All (λ (word : Word). first word.0 ≢ Some b) (marks ++ keywords) h in (
-      other_byte r.0,
-      (
-        other_byte r.1.0,
-        (
-          other_byte r.1.1.0,
-          (
-            other_byte r.1.1.1.0,
-            (
-              other_byte r.1.1.1.1.0,
-              (
-                other_byte r.1.1.1.1.1.0,
-                (
-                  other_byte r.1.1.1.1.1.1.0,
-                  (
-                    other_byte r.1.1.1.1.1.1.1.0,
-                    (
-                      other_byte r.1.1.1.1.1.1.1.1.0,
-                      (
-                        other_byte r.1.1.1.1.1.1.1.1.1.0,
-                        (
-                          other_byte r.1.1.1.1.1.1.1.1.1.1.0,
-                          (
-                            other_byte r.1.1.1.1.1.1.1.1.1.1.1.1.0,
-                            (
-                              other_byte r.1.1.1.1.1.1.1.1.1.1.1.1.1.0,
-                              (
-                                other_byte r.1.1.1.1.1.1.1.1.1.1.1.1.1.1.0,
-                                (
-                                  other_byte r.1.1.1.1.1.1.1.1.1.1.1.1.1.1.1.0,
-                                  (
-                                    other_byte r.1.1.1.1.1.1.1.1.1.1.1.1.1.1.1.1.0,
-                                    (
-                                      other_byte r.1.1.1.1.1.1.1.1.1.1.1.1.1.1.1.1.1.0,
-                                      (
-                                        other_byte r.1.1.1.1.1.1.1.1.1.1.1.1.1.1.1.1.1.1.0,
-                                        (
-                                          other_byte r.1.1.1.1.1.1.1.1.1.1.1.1.1.1.1.1.1.1.1.0,
-                                          (other_byte r.1.1.1.1.1.1.1.1.1.1.1.1.1.1.1.1.1.1.1.1.0, tt),
-                                        ),
-                                      ),
-                                    ),
-                                  ),
-                                ),
-                              ),
-                            ),
-                          ),
-                        ),
-                      ),
-                    ),
-                  ),
-                ),
-              ),
-            ),
-          ),
-        ),
-      ),
-    )
+    carried (λ (word : Word). first word.0 ≢ Some b) (λ (s : ℕ × Start). b ≢ s.0) (λ word s. begins s.0 word)
+    (λ word s e other same. other (begins_first s.0 word e ∙ ap Some (sym same)))
+    (marks ++ keywords) starts (recursion_from_All (λ (word : Word). first word.0 ≢ Some b) (marks ++ keywords) h) refl
 
 -- a byte that begins no piece is Junk, between two pieces
 pub begin_unknown : (b : ℕ) → BeginsNone b → begin b ≡ (Junk ∷ [], between)

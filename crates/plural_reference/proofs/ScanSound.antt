@@ -16,7 +16,7 @@ use Rattle.plural_reference.specs.declared.token.Token.{Token}
 use Rattle.plural_reference.specs.declared.token.Token.TheVariants.{Operand, Zero, Dot, DotDot, Junk, Integer}
 use Rattle.plural_reference.specs.Lexer.{first, Word, marks, keywords, IsDigitRun, max_number, IsBegun, BeginsNone, IsPiece}
 use Rattle.plural_reference.specs.Lexer.{space, mark, keyword, number, unknown, too_large, broken, cut_off, AreTokensOf}
-use Rattle.plural_reference.proofs.ScanComplete.{cut_scans}
+use Rattle.plural_reference.proofs.ScanComplete.{begins, begins_first, carried, cut_scans}
 use Rattle.plural_reference.specs.Inner.Scan.{Start, gives, opens, Scan, between, in_keyword, in_number, after_i}
 use Rattle.plural_reference.specs.Inner.Scan.{after_point, starts, look_up, start_move, begin, number_token}
 use Rattle.plural_reference.specs.Inner.Scan.{keyword_move, then_begin, step, at_end, Move, tokens_from, tokens_of}
@@ -182,80 +182,13 @@ looks_up b ((c, s) ∷ ss) h = ⊎_elim
     (λ differs. rw differs.0 (looks_up_more b (c, s) ss (look_up b ss) differs.1 (looks_up b ss h.1)))
     (eqb_tells b c)
 
--- texts whose first bytes differ begin with different bytes
-other_first : {b c : ℕ} → b ≢ c → Some c ≢ Some b
-other_first h e = h (sym (some_inj e))
-
--- a byte that is no space, no digit and in no row of the table begins no piece
+-- a byte that is no space, no digit and in no row of the table begins no piece: each word begins with the byte of a row
 begins_none : (b : ℕ) → b ≢ 32 → (IsAsciiDigit b → ⊥) → AllByRecursion (λ (s : ℕ × Start). b ≢ s.0) starts → BeginsNone b
-begins_none b no_space no_digit h = (
-  no_space,
-  no_digit,
-  All-from_recursion (λ (word : Word). first word.0 ≢ Some b) (marks ++ keywords) (
-    other_first h.0,
-    (
-      other_first h.1.0,
-      (
-        other_first h.1.1.0,
-        (
-          other_first h.1.1.1.0,
-          (
-            other_first h.1.1.1.1.0,
-            (
-              other_first h.1.1.1.1.1.0,
-              (
-                other_first h.1.1.1.1.1.1.0,
-                (
-                  other_first h.1.1.1.1.1.1.1.0,
-                  (
-                    other_first h.1.1.1.1.1.1.1.1.0,
-                    (
-                      other_first h.1.1.1.1.1.1.1.1.1.0,
-                      (
-                        other_first h.1.1.1.1.1.1.1.1.1.1.0,
-                        (
-                          other_first h.1.1.1.1.1.1.1.1.1.1.0,
-                          (
-                            other_first h.1.1.1.1.1.1.1.1.1.1.1.0,
-                            (
-                              other_first h.1.1.1.1.1.1.1.1.1.1.1.1.0,
-                              (
-                                other_first h.1.1.1.1.1.1.1.1.1.1.1.1.1.0,
-                                (
-                                  other_first h.1.1.1.1.1.1.1.1.1.1.1.1.1.1.0,
-                                  (
-                                    other_first h.1.1.1.1.1.1.1.1.1.1.1.1.1.1.1.0,
-                                    (
-                                      other_first h.1.1.1.1.1.1.1.1.1.1.1.1.1.1.1.1.0,
-                                      (
-                                        other_first h.1.1.1.1.1.1.1.1.1.1.1.1.1.1.1.1.1.0,
-                                        (
-                                          other_first h.1.1.1.1.1.1.1.1.1.1.1.1.1.1.1.1.1.1.0,
-                                          (
-                                            other_first h.1.1.1.1.1.1.1.1.1.1.1.1.1.1.1.1.1.1.1.0,
-                                            (other_first h.1.1.1.1.1.1.0, tt),
-                                          ),
-                                        ),
-                                      ),
-                                    ),
-                                  ),
-                                ),
-                              ),
-                            ),
-                          ),
-                        ),
-                      ),
-                    ),
-                  ),
-                ),
-              ),
-            ),
-          ),
-        ),
-      ),
-    ),
-  ),
-)
+begins_none b no_space no_digit h =
+    let words =
+    carried (λ (s : ℕ × Start). b ≢ s.0) (λ (word : Word). first word.0 ≢ Some b) (λ s word. begins s.0 word)
+    (λ s word e other same. other (some_inj (sym same ∙ begins_first s.0 word e))) starts (marks ++ keywords) h refl in
+    (no_space, no_digit, All-from_recursion (λ (word : Word). first word.0 ≢ Some b) (marks ++ keywords) words)
 
 -- ---- one byte more
 
