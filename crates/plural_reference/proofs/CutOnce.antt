@@ -161,7 +161,8 @@ broken_bitten : (begun : List ℕ) (next b : ℕ) (rest : List ℕ) → IsBegun 
     → first_piece ((begun ++ b ∷ []) ++ rest) ≡ begun ++ b ∷ []
 unfolding piece_from
 broken_bitten begun next b rest h differs =
-    ap first_piece (append_assoc begun (b ∷ []) rest) ∙ begun_leads begun next (b ∷ rest) h
+    ap first_piece (append_assoc begun (b ∷ []) rest)
+    ∙ begun_leads begun next (b ∷ rest) h
     ∙ rw (no_eq b next differs) refl
 
 -- a keyword that the end of the text cuts off is the first piece
@@ -266,9 +267,10 @@ same_piece : (text a b : List ℕ) (p q : Piece) → text ≡ p.0 ++ a → IsPie
 same_piece text a b p q e h f k =
     let bytes : p.0 ≡ q.0 = sym (piece_bitten p.0 a p.1 h) ∙ ap first_piece (sym e ∙ f) ∙ piece_bitten q.0 b q.1 k in
     let rest : a ≡ b = append_cancel_left p.0 a b (sym e ∙ f ∙ ap (λ x. x ++ b) (sym bytes)) in
-    let token : p.1 ≡ q.1 =
-    same_token p.1 q.1 (tokens_of a)
-    (sym (piece_scans p.0 a p.1 h) ∙ ap tokens_of (sym e ∙ f) ∙ piece_scans q.0 b q.1 k
+    let token : p.1 ≡ q.1 = same_token p.1 q.1 (tokens_of a)
+    (sym (piece_scans p.0 a p.1 h)
+    ∙ ap tokens_of (sym e ∙ f)
+    ∙ piece_scans q.0 b q.1 k
     ∙ ap (λ x. cons_option q.1 (tokens_of x)) (sym rest)) in
     record { piece_is = λ i. (bytes i, token i); rest_is = rest }
 

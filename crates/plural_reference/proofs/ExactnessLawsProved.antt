@@ -113,7 +113,8 @@ long_value x e n h =
           let few : i.0 + n < length y.whole = i.1 in
           let z : ℤ = (pos (length x.whole) -ℤ pos 1) -ℤ pos i.0 in
           let d : digit_at x z ≡ get_or y.whole i.0 0 =
-          digit_at_index x i.0 z refl ∙ sym (same_digits e x i.0)
+          digit_at_index x i.0 z refl
+          ∙ sym (same_digits e x i.0)
           ∙ get_or-append y.whole y.fraction 0 i.0 (omega arith) in
           (z, omega (arith, ints), subst (λ (m : ℕ). 0 < m) (sym d) i.2),
       λ p.
@@ -122,7 +123,8 @@ long_value x e n h =
           let same : p.0 ≡ (pos (length x.whole) -ℤ pos 1) -ℤ pos i.0 = i.1 in
           let few : i.0 + n < length y.whole = omega (arith, ints) in
           let d : digit_at x p.0 ≡ get_or y.whole i.0 0 =
-          digit_at_index x i.0 p.0 same ∙ sym (same_digits e x i.0)
+          digit_at_index x i.0 p.0 same
+          ∙ sym (same_digits e x i.0)
           ∙ get_or-append y.whole y.fraction 0 i.0 (omega arith) in
           long_value_of y.whole n i.0 few (subst (λ (m : ℕ). 0 < m) d p.2),
     )

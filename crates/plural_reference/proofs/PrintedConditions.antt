@@ -131,12 +131,10 @@ relation_spells : (r : Relation) → IsSpellableRelation r → Spells EndsRun Is
 unfolding tokens_from
 relation_spells r h =
     let left : Spells BeginsWithSpace IsExpression (expression_text r.expression) r.expression = expression_spells r.expression h.0 in
-    let right =
-    joined_spells EndsRun IsItem item_text (codes ", ") Comma (λ rest. refl) (λ rest. below_digits 44 (omega arith))
-    r.range_list.0 h.1
+    let right = joined_spells EndsRun IsItem item_text (codes ", ") Comma (λ rest. refl)
+    (λ rest. below_digits 44 (omega arith)) r.range_list.0 h.1
     (recursion_from_All (λ x. Spells EndsRun IsItem (item_text x) x) r.range_list.0
-    (All-weaker IsSpellableItem (λ x. Spells EndsRun IsItem (item_text x) x) item_spells r.range_list.0
-    h.2)) in
+    (All-weaker IsSpellableItem (λ x. Spells EndsRun IsItem (item_text x) x) item_spells r.range_list.0 h.2)) in
     record {
       tokens = left.tokens ++ Operator r.operator ∷ right.tokens;
       part = (left.tokens, right.tokens, refl, left.part, right.part);
@@ -157,8 +155,7 @@ relation_spells r h =
 group_spells : (g : AndCondition) → IsSpellableGroup g → Spells EndsRun IsAndCondition (and_condition_text g) g
 unfolding tokens_from
 group_spells g h =
-    let all =
-    joined_spells EndsRun IsRelation relation_text (codes " and ") And (λ rest. refl)
+    let all = joined_spells EndsRun IsRelation relation_text (codes " and ") And (λ rest. refl)
     (λ rest. below_digits 32 (omega arith)) g.0 h.0
     (recursion_from_All (λ r. Spells EndsRun IsRelation (relation_text r) r) g.0
     (All-weaker IsSpellableRelation (λ r. Spells EndsRun IsRelation (relation_text r) r) relation_spells g.0
@@ -169,12 +166,11 @@ group_spells g h =
 condition_spells : (c : Condition) → c.0 ≢ [] → IsSpellable c → Spells EndsRun IsCondition (condition_text c) c
 unfolding tokens_from
 condition_spells c some h =
-    let all =
-    joined_spells EndsRun IsAndCondition and_condition_text (codes " or ") Or (λ rest. refl)
+    let all = joined_spells EndsRun IsAndCondition and_condition_text (codes " or ") Or (λ rest. refl)
     (λ rest. below_digits 32 (omega arith)) c.0 some
     (recursion_from_All (λ g. Spells EndsRun IsAndCondition (and_condition_text g) g) c.0
-    (All-weaker IsSpellableGroup (λ g. Spells EndsRun IsAndCondition (and_condition_text g) g) group_spells
-    c.0 h)) in
+    (All-weaker IsSpellableGroup (λ g. Spells EndsRun IsAndCondition (and_condition_text g) g) group_spells c.0
+    h)) in
     record { tokens = all.tokens; part = all.part; scans = all.scans }
 
 -- neither the end nor At continues a condition

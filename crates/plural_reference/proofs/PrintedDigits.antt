@@ -86,7 +86,8 @@ one_run d ds other h small = record {
   part = ((tt, tt), append-nil _ ∙ decimal-digits_value numerals (d ∷ ds) h (omega arith) (λ e. absurd (other e)) (small_fits _ small));
   scans =
       record {
-        gives = λ rest f. run_gives (d ∷ ds) rest
+        gives = λ rest f.
+            run_gives (d ∷ ds) rest
             (record {
               begins = other;
               nonempty = λ e. cc;
@@ -129,7 +130,8 @@ fraction_retold (Dot ∷ ts) a h small =
       part = (s.part.0, ap (λ l. 46 ∷ l) s.part.1);
       scans =
           record {
-            gives = λ rest f. point_alone 46 (ds ++ rest) refl (no_point_first ds rest are f)
+            gives = λ rest f.
+                point_alone 46 (ds ++ rest) refl (no_point_first ds rest are f)
                 ∙ ap (λ l. Dot ∷ l) (s.scans.gives rest (sample_ends_run rest f));
           };
     }
@@ -165,8 +167,10 @@ mark_retold E t f h k =
       part = ((tt, u.1), ap (λ l. 101 ∷ (l ++ [])) u.2);
       scans =
           record {
-            gives = λ rest s. ap (λ ts. E ∷ ts)
-                (ap (λ l. tokens_of (l ++ rest)) (append-nil (token_text t)) ∙ u.3.gives rest (sample_ends_run rest s));
+            gives = λ rest s.
+                ap (λ ts. E ∷ ts)
+                (ap (λ l. tokens_of (l ++ rest)) (append-nil (token_text t))
+                ∙ u.3.gives rest (sample_ends_run rest s));
           };
     }
 mark_retold (Operand C) t f h k =
@@ -176,8 +180,10 @@ mark_retold (Operand C) t f h k =
       part = ((tt, u.1), ap (λ l. 99 ∷ (l ++ [])) u.2);
       scans =
           record {
-            gives = λ rest s. ap (λ ts. Operand C ∷ ts)
-                (ap (λ l. tokens_of (l ++ rest)) (append-nil (token_text t)) ∙ u.3.gives rest (sample_ends_run rest s));
+            gives = λ rest s.
+                ap (λ ts. Operand C ∷ ts)
+                (ap (λ l. tokens_of (l ++ rest)) (append-nil (token_text t))
+                ∙ u.3.gives rest (sample_ends_run rest s));
           };
     }
 mark_retold _ t f h k = absurd h

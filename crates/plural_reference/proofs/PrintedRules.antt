@@ -96,7 +96,9 @@ module _ (type : Token) (prefix : List ℕ) (is_type : IsSampleType type)
         part = (list.tokens, [], ap (λ ts. At ∷ type ∷ ts) (sym (append-nil list.tokens)), is_type, list.part, refl);
         scans =
             record {
-              gives = λ rest f. ap tokens_of (append_assoc prefix (sample_list_text l) rest) ∙ gives _
+              gives = λ rest f.
+                  ap tokens_of (append_assoc prefix (sample_list_text l) rest)
+                  ∙ gives _
                   ∙ ap (λ ts. At ∷ type ∷ ts) (list.scans.gives rest f);
             };
       }
@@ -161,8 +163,8 @@ samples_read_back s h small_integer small_decimal =
       scans =
           scans_then EndsSample EndsSample (prefixed (codes " @integer ") sample_list_text s.integer)
           (prefixed (codes " @decimal ") sample_list_text s.decimal) a.tokens b.tokens a.scans b.scans behind;
-      follows =
-          λ rest f. subst EndsSample
+      follows = λ rest f.
+          subst EndsSample
           (sym
           (append_assoc (prefixed (codes " @integer ") sample_list_text s.integer)
           (prefixed (codes " @decimal ") sample_list_text s.decimal) rest))

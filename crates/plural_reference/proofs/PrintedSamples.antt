@@ -227,15 +227,12 @@ pub list_spells : (l : SampleList) → IsSpelled IsSampleList l → ListHasSmall
 unfolding tokens_from
 list_spells l h small =
     let k = h.2 in
-    let ranges =
-    separated_parts Comma IsSampleRange (IsSpelled IsSampleRange) (λ tokens r f p. (tokens, f, p)) k.0
+    let ranges = separated_parts Comma IsSampleRange (IsSpelled IsSampleRange) (λ tokens r f p. (tokens, f, p)) k.0
     l.sample_ranges (fit_left k.0 k.1 (subst AllFit k.2 h.1)) k.3 in
-    let each =
-    both_give (IsSpelled IsSampleRange) RangeHasSmallRuns
+    let each = both_give (IsSpelled IsSampleRange) RangeHasSmallRuns
     (λ r. Spells EndsSample IsSampleRange (sample_range_text r) r) range_spells l.sample_ranges ranges.1
     (recursion_from_All RangeHasSmallRuns l.sample_ranges small) in
-    let left =
-    joined_spells EndsSample IsSampleRange sample_range_text (codes ", ") Comma (λ rest. refl)
+    let left = joined_spells EndsSample IsSampleRange sample_range_text (codes ", ") Comma (λ rest. refl)
     (λ rest. comma_breaks) l.sample_ranges ranges.0 each in
     let right : Spells EndsSample IsEllipsis (ellipsis_text l.ellipsis) l.ellipsis = ellipsis_spells l.ellipsis in
     record {

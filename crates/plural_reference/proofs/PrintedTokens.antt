@@ -135,8 +135,8 @@ number_spells (suc k) h =
       part = (Number (suc k), refl, refl);
       scans =
           record {
-            gives = λ rest f. run_gives (decimal (suc k)) rest (run_of_number (suc k) rest (omega arith) h f)
-                (rw value_is h)
+            gives = λ rest f.
+                run_gives (decimal (suc k)) rest (run_of_number (suc k) rest (omega arith) h f) (rw value_is h)
                 ∙ ap (λ n. Number n ∷ tokens_of rest) value_is;
           };
     }

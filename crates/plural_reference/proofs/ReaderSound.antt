@@ -128,7 +128,8 @@ pub condition_done : (p : List Token) (b : Before) (r : Relation) → SpellsRela
 condition_done p b r h =
     subst (λ l. IsCondition l (condition_of (with_relation b r)))
     (sym
-    (h.whole ∙ ap (λ l. l ++ h.relation_tokens) h.before.whole
+    (h.whole
+    ∙ ap (λ l. l ++ h.relation_tokens) h.before.whole
     ∙ append_assoc h.before.group_tokens h.before.relation_tokens h.relation_tokens))
     (Separated-last Or IsAndCondition h.before.group_tokens (h.before.relation_tokens ++ h.relation_tokens) b.groups
     (record { 0 = b.relations ++ r ∷ [] }) h.before.groups
@@ -412,7 +413,9 @@ comma_place p o x xs h =
     let r : Relation = relation_of o (x ∷ xs) in (
       b ++ (e ++ Operator o.operator ∷ f.0),
       condition_of (with_relation o.before r),
-      h.whole ∙ ap (λ l. l ++ h.item_tokens) h.opened.whole ∙ ap (λ l. (b ++ (e ++ Operator o.operator ∷ [])) ++ l) f.1
+      h.whole
+          ∙ ap (λ l. l ++ h.item_tokens) h.opened.whole
+          ∙ ap (λ l. (b ++ (e ++ Operator o.operator ∷ [])) ++ l) f.1
           ∙ (simp append_assoc),
       condition_done _ o.before r
           (record {

@@ -293,8 +293,8 @@ range_leads : (s : SampleState) (p : Partial) (tokens : List Token) (lower : Dec
 range_leads s p tokens lower None st n h = record {
   partial = p;
   text = lower;
-  run_is =
-      λ rest. ap (λ l. run_samples s (l ++ rest)) (h.2 ∙ ap (λ l. h.0 ++ l) h.4 ∙ append-nil h.0)
+  run_is = λ rest.
+      ap (λ l. run_samples s (l ++ rest)) (h.2 ∙ ap (λ l. h.0 ++ l) h.4 ∙ append-nil h.0)
       ∙ sample_run s p h.0 lower rest st h.3;
   sections_are = refl;
   type_is = refl;
@@ -375,13 +375,12 @@ list_leads : (sections : List Section) (type : Token) (tokens : List Token) (ran
     → LeadsToEnd (awaits_sample (begin_list sections type)) tokens
     (sections ++ (record { type = type; list = record { sample_ranges = ranges; ellipsis = more } }) ∷ [])
 list_leads sections type tokens ranges false h =
-    let l =
-    ranges_lead (awaits_sample (begin_list sections type)) (begin_list sections type) h.0 ranges
+    let l = ranges_lead (awaits_sample (begin_list sections type)) (begin_list sections type) h.0 ranges
     (at_start (begin_list sections type)) refl h.3 in
     record {
       state = in_sample l.partial l.text;
-      run_is =
-          λ rest. ap (λ x. run_samples (awaits_sample (begin_list sections type)) (x ++ rest))
+      run_is = λ rest.
+          ap (λ x. run_samples (awaits_sample (begin_list sections type)) (x ++ rest))
           (h.2 ∙ ap (λ x. h.0 ++ x) h.4 ∙ append-nil h.0)
           ∙ l.run_is rest;
       closes =
@@ -391,8 +390,7 @@ list_leads sections type tokens ranges false h =
           ∷ []);
     }
 list_leads sections type tokens ranges true h =
-    let l =
-    ranges_lead (awaits_sample (begin_list sections type)) (begin_list sections type) h.0 ranges
+    let l = ranges_lead (awaits_sample (begin_list sections type)) (begin_list sections type) h.0 ranges
     (at_start (begin_list sections type)) refl h.3 in
     record {
       state = after_sections (sections ++ (record { type = type; list = record { sample_ranges = ranges; ellipsis = true } }) ∷ []);
@@ -576,7 +574,8 @@ Arrives q s = (rest : List Token) → run_samples (after_sections []) (q ++ rest
 then_one : (spelled q : List Token) (t : Token) (s next : SampleState) → q ≡ spelled ++ t ∷ [] → Arrives spelled s
     → ((rest : List Token) → run_samples s (t ∷ rest) ≡ run_samples next rest) → Arrives q next
 then_one spelled q t s next e h k rest =
-    ap (run_samples (after_sections [])) (ap (λ l. l ++ rest) e ∙ append_assoc spelled (t ∷ []) rest) ∙ h (t ∷ rest)
+    ap (run_samples (after_sections [])) (ap (λ l. l ++ rest) e ∙ append_assoc spelled (t ∷ []) rest)
+    ∙ h (t ∷ rest)
     ∙ k rest
 
 -- sections and At lead to where a type is awaited

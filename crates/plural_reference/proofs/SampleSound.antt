@@ -144,7 +144,8 @@ no_fraction i (Dot ∷ ds) e text h t k =
     (sym
     (ap (λ l. has_point (flat_map token_text l)) (append_assoc i (Dot ∷ ds) e)
     ∙ shows _ i Dot (ds ++ e) (λ rest. refl))
-    ∙ ap has_point (sym t) ∙ k))
+    ∙ ap has_point (sym t)
+    ∙ k))
 no_fraction i (_ ∷ ds) e text h t k = absurd h
 
 -- the text of tokens with one more is their text and its text
@@ -226,8 +227,7 @@ digit_joins y text t o d = digit_on o.integer o.fraction y text t o.whole o.digi
 point_joins : (y : List Token) (text : DecimalValue) → Open y text → has_point text ≡ false
     → IsSample (y ++ Dot ∷ []) (text ++ token_text Dot)
 point_joins y text o h =
-    let none =
-    no_fraction o.integer o.fraction [] text o.is_fraction
+    let none = no_fraction o.integer o.fraction [] text o.is_fraction
     (o.text_is ∙ ap (flat_map token_text) (o.whole ∙ sym (append-nil (o.integer ++ o.fraction)))) h in (
       record { integer = o.integer; fraction = Dot ∷ []; exponent = [] },
       (
@@ -247,7 +247,8 @@ exponent_joins : (y : List Token) (text : DecimalValue) (m d : Token) → Open y
 exponent_joins y text m d o g h = (
   record { integer = o.integer; fraction = o.fraction; exponent = m ∷ d ∷ [] },
   (append_assoc y (m ∷ []) (d ∷ []) ∙ ap (λ l. l ++ m ∷ d ∷ []) o.whole, o.digits, o.is_fraction, (g, h), push_not_empty (y ++ m ∷ []) d),
-  ap (λ l. (l ++ token_text m) ++ token_text d) o.text_is ∙ ap (λ l. l ++ token_text d) (sym (flat_map-push y m))
+  ap (λ l. (l ++ token_text m) ++ token_text d) o.text_is
+      ∙ ap (λ l. l ++ token_text d) (sym (flat_map-push y m))
       ∙ sym (flat_map-push (y ++ m ∷ []) d),
 )
 

@@ -133,7 +133,8 @@ broken_scans : (begun : List ℕ) (next b : ℕ) (rest : List ℕ) → IsBegun b
     → tokens_of ((begun ++ b ∷ []) ++ rest) ≡ Junk ∷ tokens_of rest
 unfolding tokens_from
 broken_scans begun next b rest h differs =
-    ap tokens_of (append_assoc begun (b ∷ []) rest) ∙ begun_leads begun next (b ∷ rest) h
+    ap tokens_of (append_assoc begun (b ∷ []) rest)
+    ∙ begun_leads begun next (b ∷ rest) h
     ∙ rw (no_eq b next differs) refl
 
 -- a keyword that the end of the text cuts off is one Junk

@@ -54,8 +54,7 @@ relation_spellable : (tokens : List Token) (r : Relation) → AllFit tokens → 
 relation_spellable tokens r f h =
     let fits = subst AllFit h.2 f in
     let left = subst AllFit h.3.2 (fit_left h.0 (Operator r.operator ∷ h.1) fits) in
-    let list =
-    separated_parts Comma IsItem IsSpellableItem item_spellable h.1 r.range_list.0
+    let list = separated_parts Comma IsItem IsSpellableItem item_spellable h.1 r.range_list.0
     (fit_right h.0 (Operator r.operator ∷ h.1) fits).1 h.4 in
     (modulus_spellable h.3.1 r.expression.modulus left.1 h.3.4, list.0, All-from_recursion IsSpellableItem r.range_list.0 list.1)
 
