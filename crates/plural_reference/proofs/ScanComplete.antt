@@ -151,8 +151,10 @@ digit_yes b h = grind (arith, nat_tests)
 -- any other byte fails it
 pub digit_no : (b : ℕ) → (IsAsciiDigit b → ⊥) → is_ascii_digit b ≡ false
 digit_no b h =
-    ⊎_elim (λ low. ⊎_elim (λ high. absurd (h (low.1, high.1))) (λ high. rw (low.0, high.0) refl) (leb_tells b 57))
-    (λ low. rw low.0 refl) (leb_tells 48 b)
+    ⊎_elim
+    (λ low. ⊎_elim (λ high. absurd (h (low.1, high.1))) (λ high. rw (low.0, high.0) refl) (leb_tells b 57))
+    (λ low. rw low.0 refl)
+    (leb_tells 48 b)
 
 -- digits that no digit follows end an open number: one token, of the number with these digits behind it
 number_scans : (n : ℕ) (digits rest : List ℕ) → AllByRecursion IsAsciiDigit digits
@@ -188,12 +190,12 @@ abbrev pub begins : ℕ → Word → Bool
 begins b ([], t) = false
 begins b (c ∷ cs, t) = nat_eq c b
 
--- what the test says of a word's first byte
+-- a word that begins with the byte, by that test, has it as its first
 pub begins_first : (b : ℕ) (word : Word) → begins b word ≡ true → first word.0 ≡ Some b
 begins_first b ([], t) e = absurd (false≢true e)
 begins_first b (c ∷ cs, t) e = ap Some (eqb-true c b e)
 
--- what is carried from each x to what it is like holds of a y that some x is like
+-- a fact of every x passes on to a y that some x is like
 carried_to : {A B : Type 0} (P : A → Type 0) (Q : B → Type 0) (like : A → B → Bool)
     → ((x : A) (y : B) → like x y ≡ true → P x → Q y) → (xs : List A) (y : B) → AllByRecursion P xs
     → list_any (λ x. like x y) xs ≡ true → Q y
@@ -204,7 +206,7 @@ carried_to P Q like carry (x ∷ xs) y h e =
       | inr later ↦ carried_to P Q like carry xs y h.1 later
     ]
 
--- and so of all y, where each has such an x
+-- and so to all y, where some x is like each of them
 pub carried : {A B : Type 0} (P : A → Type 0) (Q : B → Type 0) (like : A → B → Bool)
     → ((x : A) (y : B) → like x y ≡ true → P x → Q y) → (xs : List A) (ys : List B) → AllByRecursion P xs
     → list_all (λ y. list_any (λ x. like x y) xs) ys ≡ true → AllByRecursion Q ys
@@ -226,9 +228,12 @@ pub begin_unknown : (b : ℕ) → BeginsNone b → begin b ≡ (Junk ∷ [], bet
 begin_unknown b h =
     let none = none_found b starts (no_start b h.2) in
     ⊎_elim
-    (λ low. ⊎_elim (λ high. absurd (h.1 (omega arith, high.1))) (λ high. rw (no_eq b 32 h.0, low.0, high.0) none)
+    (λ low. ⊎_elim
+    (λ high. absurd (h.1 (omega arith, high.1)))
+    (λ high. rw (no_eq b 32 h.0, low.0, high.0) none)
     (leb_tells b 57))
-    (λ low. rw (no_eq b 32 h.0, low.0) none) (leb_tells 49 b)
+    (λ low. rw (no_eq b 32 h.0, low.0) none)
+    (leb_tells 49 b)
 
 -- such a byte in front of a text gives Junk, and then the tokens of the rest
 unknown_scans : (b : ℕ) (rest : List ℕ) → BeginsNone b → tokens_of (b ∷ rest) ≡ Junk ∷ tokens_of rest

@@ -270,8 +270,10 @@ keyword_cuts w k (l ∷ ls) t bs h cuts = subst (λ x. AreTokensOf x (tokens_fro
 digit_tells : (b : ℕ) → ((is_ascii_digit b ≡ true) × IsAsciiDigit b) ⊎ ((is_ascii_digit b ≡ false) × (IsAsciiDigit b → ⊥))
 digit_tells b =
     ⊎_elim
-    (λ low. ⊎_elim (λ high. inl (rw (low.0, high.0) refl, (low.1, high.1)))
-    (λ high. inr (rw (low.0, high.0) refl, λ d. let le : b ≤ 57 = d.1 in omega arith)) (leb_tells b 57))
+    (λ low. ⊎_elim
+    (λ high. inl (rw (low.0, high.0) refl, (low.1, high.1)))
+    (λ high. inr (rw (low.0, high.0) refl, λ d. let le : b ≤ 57 = d.1 in omega arith))
+    (leb_tells b 57))
     (λ low. inr (rw low.0 refl, λ d. let le : 48 ≤ b = d.0 in omega arith))
     (leb_tells 48 b)
 
