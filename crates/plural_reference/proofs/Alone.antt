@@ -5,7 +5,7 @@ use Rattle.std.proofs.lemmas.Bool.Decides.{leb_tells}
 use Rattle.plural_reference.specs.Lexer.{first}
 use Rattle.plural_reference.specs.declared.ast.Operand.TheVariants.{I}
 use Rattle.plural_reference.specs.declared.token.Token.TheVariants.{Operand, Dot, Junk}
-use Rattle.plural_reference.specs.Inner.Scan.{Start, starts, between, look_up, begin, tokens_of, tokens_from}
+use Rattle.plural_reference.specs.Inner.Scan.{Start, piece_starts, between, look_up, begin_piece, tokens_of, tokens_from}
 use Rattle.plural_reference.proofs.ScanComplete.{no_eq}
 
 -- `i` that `n` doesn't follow is an operand
@@ -35,10 +35,10 @@ not_in_table b (s ∷ ss) low h =
     (leb_tells 32 s.0)
 
 -- a byte below a space begins no piece
-begin_low : (b : ℕ) → b < 32 → begin b ≡ (Junk ∷ [], between)
+begin_low : (b : ℕ) → b < 32 → begin_piece b ≡ (Junk ∷ [], between)
 unfolding no_lower
 begin_low b low =
-    let none = not_in_table b starts low refl in
+    let none = not_in_table b piece_starts low refl in
     ⊎_elim (λ high. absurd (omega (arith, high.1))) (λ not_high. rw (no_eq b 32 (omega arith), not_high.0) none) (leb_tells 49 b)
 
 -- a byte below a space is Junk

@@ -15,7 +15,8 @@ use Rattle.plural_reference.specs.declared.token.Token.TheVariants.{Operand, Ope
 use Rattle.plural_reference.specs.Lexer.{first, Word, marks, keywords, MayFollow, IsDigitRun, IsBegun, BeginsNone, IsPiece}
 use Rattle.plural_reference.specs.Lexer.{space, mark, keyword, number, unknown, too_large, broken, cut_off, Piece, IsCut}
 use Rattle.plural_reference.specs.ReadingLaws.{HaveOneCut}
-use Rattle.plural_reference.specs.Inner.Scan.{Scan, between, in_keyword, in_number, after_i, after_point, begin, keyword_move, tokens_of}
+use Rattle.plural_reference.specs.Inner.Scan.{Scan, between, in_keyword, in_number, after_i, after_point, begin_piece, keyword_move}
+use Rattle.plural_reference.specs.Inner.Scan.{tokens_of}
 use Rattle.plural_reference.proofs.ScanComplete.{no_more, no_eq, digit_yes, digit_no, begin_digit, begin_unknown, piece_scans}
 use Rattle.plural_reference.proofs.ScanSound.{has_tokens}
 
@@ -35,7 +36,7 @@ taken after_point = goes after_point
 
 -- what a byte is to the piece that is open in this state
 abbrev bite : Scan → ℕ → Bite
-bite between b = taken (begin b).1
+bite between b = taken (begin_piece b).1
 bite (in_keyword k ks t) b = cond (nat_eq b k) (taken (keyword_move ks t).1) ends
 bite (in_number n) b = cond (is_ascii_digit b) (goes (in_number (n * 10 + digit_value b))) stops
 bite after_i b = cond (nat_eq b 110) (goes (in_keyword 116 (101 ∷ 103 ∷ 101 ∷ 114 ∷ []) Integer)) stops

@@ -19,7 +19,7 @@ use Rattle.plural_reference.specs.declared.token.Token.TheVariants.{Operator, Do
 use Rattle.plural_reference.specs.Lexer.{first}
 use Rattle.plural_reference.specs.Parser.{value_of, operand_of, value_fault, operator_fault, IsUnconditional}
 use Rattle.plural_reference.specs.Inner.Reader.{Before, Opened, State, before_operand, after_operand, before_item, after_item}
-use Rattle.plural_reference.specs.Inner.Reader.{relation_of, with_relation, with_group, condition_of, no_operand, refuse, run, begin}
+use Rattle.plural_reference.specs.Inner.Reader.{relation_of, with_relation, with_group, ended_condition, no_operand, refuse, run, begin}
 use Rattle.plural_reference.specs.Inner.Reader.{ReadsItem, ReadsItems, ReadsExpression, NoDots, NoOperand, Completes, ReadsGroups}
 use Rattle.plural_reference.proofs.ReaderComplete.{before_item_stop, before_end_stop, after_modulo_stop, operator_stop}
 use Rattle.plural_reference.proofs.ReaderComplete.{after_operand_stop, operand_stop}
@@ -258,7 +258,7 @@ no_group old middle after gs h e u =
 -- nothing goes on
 ends : (o : Opened) (front : List RangeListItem) (item : RangeListItem) (rest : List Token)
     → NoDots item rest → first rest ≢ Some Comma → first rest ≢ Some And → first rest ≢ Some Or
-    → run (after_item o front item) rest ≡ Ok (condition_of (with_relation o.before (relation_of o (front ++ item ∷ []))), rest)
+    → run (after_item o front item) rest ≡ Ok (ended_condition (with_relation o.before (relation_of o (front ++ item ∷ []))), rest)
 unfolding run
 ends o front item [] d c a r = refl
 ends o front item (And ∷ ts) d c a r = absurd (a refl)
@@ -274,7 +274,7 @@ pub condition_is : (old new : List Token) (gs : List AndCondition)
 condition_is old new gs h a r =
     h.completes.run_is
     ∙ ends h.completes.opened h.completes.front h.completes.item new h.completes.no_dots h.completes.no_comma a r
-    ∙ ap (λ (c : Before). Ok (condition_of c, new)) h.completes.complete
+    ∙ ap (λ (c : Before). Ok (ended_condition c, new)) h.completes.complete
     ∙ ap (λ (xs : List AndCondition). Ok (record { 0 = xs }, new)) (sym h.groups_are)
 
 -- no token, or At as the first, is the empty condition

@@ -24,7 +24,7 @@ use Rattle.plural_reference.specs.Parser.{last_item, ConditionThen, IsBeforeOper
 use Rattle.plural_reference.specs.Parser.{IsBeforeValue, Waits, fault, operand_fault, operator_fault, value_fault}
 use Rattle.plural_reference.specs.Inner.Reader.{Before, Opened, State, before_operand, after_operand, after_modulo, after_modulus}
 use Rattle.plural_reference.specs.Inner.Reader.{before_item, after_item, before_end, relation_of, with_relation, with_group}
-use Rattle.plural_reference.specs.Inner.Reader.{condition_of, refuse, value_move, proceed, run, begin, Outcome, no_operand}
+use Rattle.plural_reference.specs.Inner.Reader.{ended_condition, refuse, value_move, proceed, run, begin, Outcome, no_operand}
 
 -- the tokens of an item lead behind it, where an item is awaited
 pub run_item : (o : Opened) (xs : List RangeListItem) (tokens : List Token) (x : RangeListItem) (rest : List Token)
@@ -146,7 +146,7 @@ run_relations b tokens (r ∷ s ∷ rs) h =
 pub record LeadsToCondition (from : State) (tokens : List Token) (c : Condition) : Type 0 where
   pub before : Before
   pub leads : Leads from tokens before
-  pub condition_is : condition_of before ≡ c
+  pub condition_is : ended_condition before ≡ c
 
 -- groups with Or between them lead to the end of the condition that they complete
 pub run_groups : (groups : List AndCondition) (tokens : List Token) (gs : List AndCondition)
@@ -190,15 +190,15 @@ last-push (y ∷ z ∷ zs) x = last-push (z ∷ zs) x
 
 -- the last item of a condition that an item completes is that item
 pub last_item-complete : (o : Opened) (front : List RangeListItem) (item : RangeListItem)
-    → last_item (condition_of (with_relation o.before (relation_of o (front ++ item ∷ [])))) ≡ Some item
+    → last_item (ended_condition (with_relation o.before (relation_of o (front ++ item ∷ [])))) ≡ Some item
 last_item-complete o front item = rw (last-push, last-push, last-push) refl
 
 -- a token that doesn't continue the condition ends it behind an item, and so does the end
 pub run_ends : (o : Opened) (front : List RangeListItem) (item : RangeListItem) (rest : List Token)
     → IfSome (first rest)
-    (λ t. ¬ (Continues (condition_of (with_relation o.before (relation_of o (front ++ item ∷ [])))) t))
+    (λ t. ¬ (Continues (ended_condition (with_relation o.before (relation_of o (front ++ item ∷ [])))) t))
     → run (after_item o front item) rest
-    ≡ Ok (condition_of (with_relation o.before (relation_of o (front ++ item ∷ []))), rest)
+    ≡ Ok (ended_condition (with_relation o.before (relation_of o (front ++ item ∷ []))), rest)
 unfolding run
 run_ends o front item [] h = refl
 run_ends o front item (And ∷ ts) h = absurd (h tt)
@@ -221,11 +221,11 @@ unfolding run
 reads_run tokens c rest (inl h) = unconditional_run tokens h.2 ∙ ap Ok ((λ i. (sym h.0 i, sym h.1 i)))
 reads_run tokens c rest (inr h) =
     let to : LeadsToCondition begin h.0 c = run_condition h.0 c h.2 in
-    let is_c : condition_of
+    let is_c : ended_condition
     (with_relation to.leads.opened.before
     (relation_of to.leads.opened (to.leads.front ++ to.leads.item ∷ [])))
     ≡ c =
-    ap condition_of to.leads.complete ∙ to.condition_is in
+    ap ended_condition to.leads.complete ∙ to.condition_is in
     ap (run begin) h.1 ∙ to.leads.run_is rest
     ∙ run_ends _ _ _ rest (subst (λ (d : Condition). IfSome (first rest) (λ t. ¬ (Continues d t))) (sym is_c) h.3)
     ∙ ap (λ (d : Condition). Ok (d, rest)) is_c
@@ -431,7 +431,7 @@ arrives_before_value p (inr (inl (spelled, c, e, h))) =
     (_, wants_item _ _, arrives_more p spelled Comma _ _ e to.leads.run_is (comma_next_run to.leads.opened to.leads.front to.leads.item))
 arrives_before_value p (inr (inr (spelled, c, e, h, (v, is_value)))) =
     let to : LeadsToCondition begin spelled c = run_condition spelled c h in
-    let is_c = ap condition_of to.leads.complete ∙ to.condition_is in
+    let is_c = ap ended_condition to.leads.complete ∙ to.condition_is in
     let item_is : to.leads.item ≡ items.Value v =
     value_item to.leads.item v
     (sym (last_item-complete to.leads.opened to.leads.front to.leads.item) ∙ ap last_item is_c ∙ is_value) in (

@@ -22,7 +22,7 @@ use Rattle.plural_reference.specs.Parser.{last_item, ConditionThen, IsBeforeOper
 use Rattle.plural_reference.specs.Parser.{IsBeforeValue, Waits, fault, operand_fault, operator_fault, value_fault}
 use Rattle.plural_reference.specs.Inner.Reader.{Before, Opened, State, before_operand, after_operand, after_modulo, after_modulus}
 use Rattle.plural_reference.specs.Inner.Reader.{before_item, after_item, before_end, relation_of, with_relation, with_group}
-use Rattle.plural_reference.specs.Inner.Reader.{condition_of, Move, go, finish, refuse, operand_move, item_move, dots_move}
+use Rattle.plural_reference.specs.Inner.Reader.{ended_condition, Move, go, finish, refuse, operand_move, item_move, dots_move}
 use Rattle.plural_reference.specs.Inner.Reader.{operator_move, operand_next, step, at_end, proceed, run, begin, Outcome, no_operand}
 use Rattle.plural_reference.proofs.ReaderComplete.{last_item-complete}
 
@@ -124,9 +124,10 @@ relation_done p o xs x h =
     }
 
 -- a complete relation completes a condition, with the relations and groups before it
-pub condition_done : (p : List Token) (b : Before) (r : Relation) → SpellsRelation p b r → IsCondition p (condition_of (with_relation b r))
+pub condition_done : (p : List Token) (b : Before) (r : Relation)
+    → SpellsRelation p b r → IsCondition p (ended_condition (with_relation b r))
 condition_done p b r h =
-    subst (λ l. IsCondition l (condition_of (with_relation b r)))
+    subst (λ l. IsCondition l (ended_condition (with_relation b r)))
     (sym
     (h.whole
     ∙ ap (λ l. l ++ h.relation_tokens) h.before.whole
@@ -412,7 +413,7 @@ comma_place p o x xs h =
     let e = h.opened.expression_tokens in
     let r : Relation = relation_of o (x ∷ xs) in (
       b ++ (e ++ Operator o.operator ∷ f.0),
-      condition_of (with_relation o.before r),
+      ended_condition (with_relation o.before r),
       h.whole
           ∙ ap (λ l. l ++ h.item_tokens) h.opened.whole
           ∙ ap (λ l. (b ++ (e ++ Operator o.operator ∷ [])) ++ l) f.1
@@ -444,7 +445,7 @@ said_item p o xs _ ts h = (places.before_value, p, _ ∷ ts, refl, before_value_
 
 -- an item that ends its list completes a condition
 item_done : (p : List Token) (o : Opened) (xs : List RangeListItem) (x : RangeListItem) → SpellsItem p o xs x
-    → IsCondition p (condition_of (with_relation o.before (relation_of o (xs ++ x ∷ []))))
+    → IsCondition p (ended_condition (with_relation o.before (relation_of o (xs ++ x ∷ []))))
 item_done p o xs x h = condition_done p o.before _ (relation_done p o xs x h)
 
 -- a range is no single value
@@ -490,7 +491,7 @@ said_after_item p o xs x _ ts h = inr (p, refl, item_done p o xs x h, λ k. k)
 dots_place : (p : List Token) (o : Opened) (xs : List RangeListItem) (v : Value) → Spells p (before_end o xs v) → IsBeforeValue p
 dots_place p o xs v h = inr (inr (
   h.0 ++ h.1 ∷ [],
-  condition_of (with_relation o.before (relation_of o (xs ++ (items.Value v) ∷ []))),
+  ended_condition (with_relation o.before (relation_of o (xs ++ (items.Value v) ∷ []))),
   h.2 ∙ sym (append_assoc h.0 (h.1 ∷ []) (DotDot ∷ [])),
   item_done _ o xs (items.Value v)
       (record { items_tokens = h.0; item_tokens = h.1 ∷ []; whole = refl; items = h.3; item = (h.1, refl, h.4) }),

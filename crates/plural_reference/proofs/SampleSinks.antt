@@ -185,7 +185,8 @@ keeps_one_range keeps stored front list old new e (read, k, h) j = (
 -- one range more behind a comma
 pub keeps_more_ranges : (keeps : Bool) (old middle after behind new : List Token) (front list : List SampleRange) (stored : SampleRange)
     → ReadsStored keeps ReadsRanges old front middle → middle ≡ Comma ∷ after → first after ≢ Some Ellipsis → behind ≡ after
-    → ReadsStored keeps ReadsRange behind stored new → IsStored keeps list (front ++ stored ∷ []) → ReadsStored keeps ReadsRanges old list new
+    → ReadsStored keeps ReadsRange behind stored new → IsStored keeps list (front ++ stored ∷ [])
+    → ReadsStored keeps ReadsRanges old list new
 keeps_more_ranges keeps old middle after behind new front list stored (rs, k, h) e n f (r, j, g) l = (
   rs ++ r ∷ [],
   kept_through keeps list (front ++ stored ∷ []) (rs ++ r ∷ []) l
@@ -257,5 +258,6 @@ lists_fault keeps old middle after behind given kind e (ss, k, h) f g q = list_f
 
 -- no list follows
 pub keeps_all_lists : (keeps : Bool) (old middle new : List Token) (given : Option samples.Samples)
-    → ReadsStored keeps ReadsLists old given middle → first middle ≢ Some At → new ≡ middle → ReadsStored keeps ReadsAllSamples old given new
+    → ReadsStored keeps ReadsLists old given middle → first middle ≢ Some At → new ≡ middle
+    → ReadsStored keeps ReadsAllSamples old given new
 keeps_all_lists keeps old middle new given (ss, k, h) n e = (ss, k, all_lists old middle new ss h n e)

@@ -15,8 +15,8 @@ use Rattle.plural_reference.specs.declared.token.Token.{Token}
 use Rattle.plural_reference.specs.declared.token.Token.TheVariants.{Operand, Operator, Dot, Or, And, Junk, Decimal, Integer, Ellipsis}
 use Rattle.plural_reference.specs.Lexer.{first, Word, marks, keywords, MayFollow, IsDigitRun, IsBegun, BeginsNone, IsPiece}
 use Rattle.plural_reference.specs.Lexer.{space, mark, keyword, number, unknown, too_large, broken, cut_off, Piece, IsCut}
-use Rattle.plural_reference.specs.Inner.Scan.{Start, between, in_keyword, in_number, starts, look_up}
-use Rattle.plural_reference.specs.Inner.Scan.{begin, number_token, tokens_from, tokens_of}
+use Rattle.plural_reference.specs.Inner.Scan.{Start, between, in_keyword, in_number, piece_starts, look_up}
+use Rattle.plural_reference.specs.Inner.Scan.{begin_piece, number_token, tokens_from, tokens_of}
 
 -- a list of one byte has no other byte behind its first
 pub no_more : (b : ℕ) (bs : List ℕ) (next : ℕ) (more : List ℕ) (k : ℕ) → k ∷ [] ≡ (b ∷ bs) ++ next ∷ more → ⊥
@@ -166,7 +166,7 @@ number_scans n [] (b ∷ bs) all whole = rw (digit_no b whole) refl
 number_scans n (d ∷ ds) rest all whole = rw (digit_yes d all.0) (number_scans (n * 10 + digit_value d) ds rest all.1 whole)
 
 -- a digit other than `0` opens a number, between two pieces
-pub begin_digit : (d : ℕ) → IsAsciiDigit d → d ≢ 48 → begin d ≡ ([], in_number (0 * 10 + digit_value d))
+pub begin_digit : (d : ℕ) → IsAsciiDigit d → d ≢ 48 → begin_piece d ≡ ([], in_number (0 * 10 + digit_value d))
 begin_digit d h k = let low : 49 ≤ d = omega arith in rw (no_eq d 32 (omega arith), le-leb 49 d low, le-leb d 57 h.1) refl
 
 -- a run of digits is one token, Number or Junk by its value
@@ -217,16 +217,16 @@ carried P Q like carry xs (y ∷ ys) h e =
 
 -- a byte that begins no mark and no keyword is in no row of the table of first bytes, since each row begins one
 no_start : (b : ℕ) → All (λ (word : Word). first word.0 ≢ Some b) (marks ++ keywords)
-    → AllByRecursion (λ (s : ℕ × Start). b ≢ s.0) starts
+    → AllByRecursion (λ (s : ℕ × Start). b ≢ s.0) piece_starts
 no_start b h =
     carried (λ (word : Word). first word.0 ≢ Some b) (λ (s : ℕ × Start). b ≢ s.0) (λ word s. begins s.0 word)
     (λ word s e other same. other (begins_first s.0 word e ∙ ap Some (sym same)))
-    (marks ++ keywords) starts (recursion_from_All (λ (word : Word). first word.0 ≢ Some b) (marks ++ keywords) h) refl
+    (marks ++ keywords) piece_starts (recursion_from_All (λ (word : Word). first word.0 ≢ Some b) (marks ++ keywords) h) refl
 
 -- a byte that begins no piece is Junk, between two pieces
-pub begin_unknown : (b : ℕ) → BeginsNone b → begin b ≡ (Junk ∷ [], between)
+pub begin_unknown : (b : ℕ) → BeginsNone b → begin_piece b ≡ (Junk ∷ [], between)
 begin_unknown b h =
-    let none = none_found b starts (no_start b h.2) in
+    let none = none_found b piece_starts (no_start b h.2) in
     ⊎_elim
     (λ low. ⊎_elim
     (λ high. absurd (h.1 (omega arith, high.1)))

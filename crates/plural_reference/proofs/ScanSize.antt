@@ -7,8 +7,8 @@ use Rattle.plural_reference.specs.declared.ast.Operand.TheVariants.{I}
 use Rattle.plural_reference.specs.declared.token.Token.{Token}
 use Rattle.plural_reference.specs.declared.token.Token.TheVariants.{Operand, Dot, DotDot, Junk}
 use Rattle.plural_reference.specs.Inner.Scan.{Start, gives, opens, Scan, between, in_keyword, in_number, after_i}
-use Rattle.plural_reference.specs.Inner.Scan.{after_point, starts, look_up, start_move, begin, number_token}
-use Rattle.plural_reference.specs.Inner.Scan.{keyword_move, then_begin, step, Move, tokens_from, tokens_of}
+use Rattle.plural_reference.specs.Inner.Scan.{after_point, piece_starts, look_up, start_move, begin_piece, number_token}
+use Rattle.plural_reference.specs.Inner.Scan.{keyword_move, then_begin, scan_step, ScanMove, tokens_from, tokens_of}
 
 -- an open piece gives at most one token
 abbrev pending : Scan → ℕ
@@ -16,7 +16,7 @@ pending between = 0
 pending _ = 1
 
 -- the tokens that a move gives, and the one that its open piece will give
-abbrev size : Move → ℕ
+abbrev size : ScanMove → ℕ
 size m = length m.0 + pending m.1
 
 -- an open piece gives at most one token
@@ -28,7 +28,7 @@ one_at_most after_i = omega arith
 one_at_most after_point = omega arith
 
 -- what a test chooses is as small as both of its choices
-size-cond : (test : Bool) (m n : Move) (k : ℕ) → size m ≤ k → size n ≤ k → size (cond test m n) ≤ k
+size-cond : (test : Bool) (m n : ScanMove) (k : ℕ) → size m ≤ k → size n ≤ k → size (cond test m n) ≤ k
 size-cond true m n k h i = h
 size-cond false m n k h i = i
 
@@ -43,12 +43,13 @@ size_look_up b [] = omega arith
 size_look_up b (s ∷ ss) = size-cond (nat_eq b s.0) (start_move s.1) (look_up b ss) 1 (size_start s.1) (size_look_up b ss)
 
 -- so does any byte between two pieces
-size_begin : (b : ℕ) → size (begin b) ≤ 1
+size_begin : (b : ℕ) → size (begin_piece b) ≤ 1
 size_begin b =
     size-cond (nat_eq b 32) ([], between) _ 1 (omega arith)
-    (size-cond (nat_le 49 b) _ (look_up b starts) 1
-    (size-cond (nat_le b 57) ([], in_number (0 * 10 + digit_value b)) (look_up b starts) 1 (omega arith) (size_look_up b starts))
-    (size_look_up b starts))
+    (size-cond (nat_le 49 b) _ (look_up b piece_starts) 1
+    (size-cond (nat_le b 57) ([], in_number (0 * 10 + digit_value b)) (look_up b piece_starts) 1 (omega arith)
+    (size_look_up b piece_starts))
+    (size_look_up b piece_starts))
 
 -- so does a byte that fits a keyword
 size_keyword : (ks : List ℕ) (t : Token) → size (keyword_move ks t) ≤ 1
@@ -56,19 +57,19 @@ size_keyword [] t = omega arith
 size_keyword (k ∷ ks) t = omega arith
 
 -- a byte that ends a piece and begins another makes two tokens at most
-size_then : (t : Token) (b : ℕ) → size (then_begin t (begin b)) ≤ 2
+size_then : (t : Token) (b : ℕ) → size (then_begin t (begin_piece b)) ≤ 2
 size_then t b = omega (arith, size_begin b)
 
 -- a byte adds one token at most to that of the open piece
-size_step : (s : Scan) (b : ℕ) → size (step s b) ≤ 1 + pending s
+size_step : (s : Scan) (b : ℕ) → size (scan_step s b) ≤ 1 + pending s
 size_step between b = size_begin b
 size_step (in_keyword k ks t) b =
     size-cond (nat_eq b k) (keyword_move ks t) (Junk ∷ [], between) 2 (omega (arith, size_keyword ks t)) (omega arith)
 size_step (in_number n) b =
-    size-cond (is_ascii_digit b) ([], in_number (n * 10 + digit_value b)) (then_begin (number_token n) (begin b)) 2
+    size-cond (is_ascii_digit b) ([], in_number (n * 10 + digit_value b)) (then_begin (number_token n) (begin_piece b)) 2
     (omega arith) (size_then (number_token n) b)
-size_step after_i b = size-cond (nat_eq b 110) _ (then_begin (Operand I) (begin b)) 2 (omega arith) (size_then (Operand I) b)
-size_step after_point b = size-cond (nat_eq b 46) (DotDot ∷ [], between) (then_begin Dot (begin b)) 2 (omega arith) (size_then Dot b)
+size_step after_i b = size-cond (nat_eq b 110) _ (then_begin (Operand I) (begin_piece b)) 2 (omega arith) (size_then (Operand I) b)
+size_step after_point b = size-cond (nat_eq b 46) (DotDot ∷ [], between) (then_begin Dot (begin_piece b)) 2 (omega arith) (size_then Dot b)
 
 -- from any state on, the bytes that are left and the open piece bound the count of tokens
 length-tokens_from : (s : Scan) (bs : List ℕ) → length (tokens_from s bs) ≤ length bs + pending s
@@ -81,9 +82,9 @@ length-tokens_from after_point [] = omega arith
 length-tokens_from s (b ∷ bs) =
     omega (
       arith,
-      length-append (step s b).0 (tokens_from (step s b).1 bs),
+      length-append (scan_step s b).0 (tokens_from (scan_step s b).1 bs),
       size_step s b,
-      length-tokens_from (step s b).1 bs,
+      length-tokens_from (scan_step s b).1 bs,
     )
 
 -- a text has at most as many tokens as bytes

@@ -18,8 +18,8 @@ use Rattle.plural_reference.specs.Lexer.{first, Word, marks, keywords, IsDigitRu
 use Rattle.plural_reference.specs.Lexer.{space, mark, keyword, number, unknown, too_large, broken, cut_off, AreTokensOf}
 use Rattle.plural_reference.proofs.ScanComplete.{begins, begins_first, carried, cut_scans}
 use Rattle.plural_reference.specs.Inner.Scan.{Start, gives, opens, Scan, between, in_keyword, in_number, after_i}
-use Rattle.plural_reference.specs.Inner.Scan.{after_point, starts, look_up, start_move, begin, number_token}
-use Rattle.plural_reference.specs.Inner.Scan.{keyword_move, then_begin, step, at_end, Move, tokens_from, tokens_of}
+use Rattle.plural_reference.specs.Inner.Scan.{after_point, piece_starts, look_up, start_move, begin_piece, number_token}
+use Rattle.plural_reference.specs.Inner.Scan.{keyword_move, then_begin, scan_step, scan_end, ScanMove, tokens_from, tokens_of}
 
 -- two lists that are equal have equal first numbers
 heads : (a b : ℕ) (xs ys : List ℕ) → a ∷ xs ≡ b ∷ ys → a ≡ b
@@ -101,7 +101,7 @@ StartOk (b, gives t) = Contains marks (b ∷ [], t) × (b ≢ 105) × (b ≢ 46)
 StartOk (b, opens s) = Opened (b ∷ []) s
 
 -- every row of the table of first bytes is right
-starts_ok : AllByRecursion StartOk starts
+starts_ok : AllByRecursion StartOk piece_starts
 starts_ok = (
   ((0, lit< tt, refl), apart 110 105 refl, apart 110 46 refl),
   (
@@ -165,12 +165,12 @@ starts_ok = (
 )
 
 -- a byte is in a right row of the table, which says what it does, or in no row, and then it is Junk
-data LooksUp (b : ℕ) (ss : List (ℕ × Start)) (m : Move) : Type 0 where
+data LooksUp (b : ℕ) (ss : List (ℕ × Start)) (m : ScanMove) : Type 0 where
   is_there : (s : Start) → StartOk (b, s) → m ≡ start_move s → LooksUp b ss m
   is_absent : AllByRecursion (λ (s : ℕ × Start). b ≢ s.0) ss → m ≡ (Junk ∷ [], between) → LooksUp b ss m
 
 -- a row of another byte changes nothing
-looks_up_more : (b : ℕ) (s : ℕ × Start) (ss : List (ℕ × Start)) (m : Move) → b ≢ s.0 → LooksUp b ss m → LooksUp b (s ∷ ss) m
+looks_up_more : (b : ℕ) (s : ℕ × Start) (ss : List (ℕ × Start)) (m : ScanMove) → b ≢ s.0 → LooksUp b ss m → LooksUp b (s ∷ ss) m
 looks_up_more b s ss m h (is_there t k e) = is_there t k e
 looks_up_more b s ss m h (is_absent k e) = is_absent (h, k) e
 
@@ -183,11 +183,11 @@ looks_up b ((c, s) ∷ ss) h = ⊎_elim
     (eqb_tells b c)
 
 -- a byte that is no space, no digit and in no row of the table begins no piece: each word begins with the byte of a row
-begins_none : (b : ℕ) → b ≢ 32 → (IsAsciiDigit b → ⊥) → AllByRecursion (λ (s : ℕ × Start). b ≢ s.0) starts → BeginsNone b
+begins_none : (b : ℕ) → b ≢ 32 → (IsAsciiDigit b → ⊥) → AllByRecursion (λ (s : ℕ × Start). b ≢ s.0) piece_starts → BeginsNone b
 begins_none b no_space no_digit h =
     let words =
     carried (λ (s : ℕ × Start). b ≢ s.0) (λ (word : Word). first word.0 ≢ Some b) (λ s word. begins s.0 word)
-    (λ s word e other same. other (some_inj (sym same ∙ begins_first s.0 word e))) starts (marks ++ keywords) h refl in
+    (λ s word e other same. other (some_inj (sym same ∙ begins_first s.0 word e))) piece_starts (marks ++ keywords) h refl in
     (no_space, no_digit, All-from_recursion (λ (word : Word). first word.0 ≢ Some b) (marks ++ keywords) words)
 
 -- ---- one byte more
@@ -213,7 +213,7 @@ one_piece b bs (gives t) h cuts =
 one_piece b bs (opens s) h cuts = cuts s (b ∷ []) h
 
 -- so is any byte but a space or a digit, with such a rest
-looked_up : (b : ℕ) (bs : List ℕ) (m : Move) → LooksUp b starts m → b ≢ 32 → (IsAsciiDigit b → ⊥) → Cuts bs
+looked_up : (b : ℕ) (bs : List ℕ) (m : ScanMove) → LooksUp b piece_starts m → b ≢ 32 → (IsAsciiDigit b → ⊥) → Cuts bs
     → AreTokensOf (b ∷ bs) (m.0 ++ tokens_from m.1 bs)
 looked_up b bs m (is_there s h e) no_space no_digit cuts = rw e (one_piece b bs s h cuts)
 looked_up b bs m (is_absent h e) no_space no_digit cuts =
@@ -223,16 +223,16 @@ looked_up b bs m (is_absent h e) no_space no_digit cuts =
 
 -- so is any byte but a space or the first digit of a number, since `0` is in the table
 no_digit_looked_up : (b : ℕ) (bs : List ℕ) → b ≢ 32 → (b < 49) ⊎ (57 < b) → Cuts bs
-    → AreTokensOf (b ∷ bs) ((look_up b starts).0 ++ tokens_from (look_up b starts).1 bs)
+    → AreTokensOf (b ∷ bs) ((look_up b piece_starts).0 ++ tokens_from (look_up b piece_starts).1 bs)
 no_digit_looked_up b bs no_space out cuts =
     ⊎_elim
     (λ zero_is. rw zero_is.1 (one_piece 48 bs (gives Zero) ((9, lit< tt, refl), apart 48 105 refl, apart 48 46 refl) cuts))
-    (λ not_zero. looked_up b bs (look_up b starts) (looks_up b starts starts_ok) no_space
+    (λ not_zero. looked_up b bs (look_up b piece_starts) (looks_up b piece_starts starts_ok) no_space
     (λ d. absurd (⊎_elim (λ low. let e : b ≡ 48 = omega arith in not_zero.1 e) (λ high. omega arith) out)) cuts)
     (eqb_tells b 48)
 
 -- so is any byte at all, with such a rest
-begin_cuts : (b : ℕ) (bs : List ℕ) → Cuts bs → AreTokensOf (b ∷ bs) ((begin b).0 ++ tokens_from (begin b).1 bs)
+begin_cuts : (b : ℕ) (bs : List ℕ) → Cuts bs → AreTokensOf (b ∷ bs) ((begin_piece b).0 ++ tokens_from (begin_piece b).1 bs)
 begin_cuts b bs cuts =
     ⊎_elim
     (λ is_space. rw is_space.1 (more_tokens (32 ∷ []) bs None (tokens_of bs) (space refl refl) (cuts between [] refl)))
@@ -250,8 +250,9 @@ begin_cuts b bs cuts =
 
 -- so is a piece that the next byte ends, with that byte and such a rest
 ended_cuts : (w : List ℕ) (t : Token) (b : ℕ) (bs : List ℕ) → IsPiece w (b ∷ bs) (Some t) → Cuts bs
-    → AreTokensOf (w ++ b ∷ bs) ((then_begin t (begin b)).0 ++ tokens_from (then_begin t (begin b)).1 bs)
-ended_cuts w t b bs h cuts = more_tokens w (b ∷ bs) (Some t) ((begin b).0 ++ tokens_from (begin b).1 bs) h (begin_cuts b bs cuts)
+    → AreTokensOf (w ++ b ∷ bs) ((then_begin t (begin_piece b)).0 ++ tokens_from (then_begin t (begin_piece b)).1 bs)
+ended_cuts w t b bs h cuts =
+    more_tokens w (b ∷ bs) (Some t) ((begin_piece b).0 ++ tokens_from (begin_piece b).1 bs) h (begin_cuts b bs cuts)
 
 -- so is an open keyword with the byte that it awaits, and such a rest
 keyword_cuts : (w : List ℕ) (k : ℕ) (ks : List ℕ) (t : Token) (bs : List ℕ) → Opened w (in_keyword k ks t) → Cuts bs
@@ -301,7 +302,7 @@ none_is_not_some : {A : Type 0} {x : A} → None ≢ Some x
 none_is_not_some e = cc
 
 -- what a failed test leaves is its second move
-by_test : (b : ℕ) (w bs : List ℕ) (test : Bool) (m n : Move) → test ≡ false
+by_test : (b : ℕ) (w bs : List ℕ) (test : Bool) (m n : ScanMove) → test ≡ false
     → AreTokensOf (w ++ b ∷ bs) (n.0 ++ tokens_from n.1 bs)
     → AreTokensOf (w ++ b ∷ bs) ((cond test m n).0 ++ tokens_from (cond test m n).1 bs)
 by_test b w bs true m n e h = absurd (true≢false e)
@@ -309,9 +310,9 @@ by_test b w bs false m n e h = h
 
 -- so is any open piece with any byte behind it, and such a rest
 said_step : (w : List ℕ) (s : Scan) (b : ℕ) (bs : List ℕ) → Opened w s → Cuts bs
-    → AreTokensOf (w ++ b ∷ bs) ((step s b).0 ++ tokens_from (step s b).1 bs)
+    → AreTokensOf (w ++ b ∷ bs) ((scan_step s b).0 ++ tokens_from (scan_step s b).1 bs)
 said_step w between b bs h cuts =
-    subst (λ l. AreTokensOf (l ++ b ∷ bs) ((begin b).0 ++ tokens_from (begin b).1 bs)) (sym h) (begin_cuts b bs cuts)
+    subst (λ l. AreTokensOf (l ++ b ∷ bs) ((begin_piece b).0 ++ tokens_from (begin_piece b).1 bs)) (sym h) (begin_cuts b bs cuts)
 said_step w (in_keyword k ks t) b bs h cuts =
     ⊎_elim
     (λ same. rw (same.0)
@@ -335,7 +336,7 @@ said_step w after_i b bs h cuts =
     (cuts (in_keyword 116 (101 ∷ 103 ∷ 101 ∷ 114 ∷ []) Integer) (105 ∷ 110 ∷ [])
     ((5, lit< tt, refl), not_empty 105 (110 ∷ []), two_not_one 105 110 105)))
     (λ differs. by_test b w bs (nat_eq b 110) ([], in_keyword 116 (101 ∷ 103 ∷ 101 ∷ 114 ∷ []) Integer)
-    (then_begin (Operand I) (begin b)) differs.0
+    (then_begin (Operand I) (begin_piece b)) differs.0
     (rw h (ended_cuts (codes "i") (Operand I) b bs (i_piece (b ∷ bs) (λ e. differs.1 (some_inj e))) cuts)))
     (eqb_tells b 110)
 said_step w after_point b bs h cuts =
@@ -345,12 +346,12 @@ said_step w after_point b bs h cuts =
     (mark DotDot (11, lit< tt, refl)
     ((λ e. absurd (texts_apart 46 105 (46 ∷ []) [] refl e)), (λ e. absurd (two_not_one 46 46 46 e))) refl)
     (cuts between [] refl)))
-    (λ differs. by_test b w bs (nat_eq b 46) (DotDot ∷ [], between) (then_begin Dot (begin b)) differs.0
+    (λ differs. by_test b w bs (nat_eq b 46) (DotDot ∷ [], between) (then_begin Dot (begin_piece b)) differs.0
     (rw h (ended_cuts (codes ".") Dot b bs (point_piece (b ∷ bs) (λ e. differs.1 (some_inj e))) cuts)))
     (eqb_tells b 46)
 
 -- an open piece at the end of the text is a piece, or is cut off, with the token that the scan gives at its end
-said_end : (w : List ℕ) (s : Scan) → Opened w s → AreTokensOf (w ++ []) (at_end s)
+said_end : (w : List ℕ) (s : Scan) → Opened w s → AreTokensOf (w ++ []) (scan_end s)
 said_end w between h = rw h no_tokens
 said_end w (in_keyword k ks t) h = more_tokens w [] (Some Junk) [] (cut_off k (is_begun w k ks t h) refl refl) no_tokens
 said_end w (in_number n) h = more_tokens w [] (Some (number_token n)) [] (number_piece w [] n h tt) no_tokens
