@@ -188,7 +188,7 @@ IsSpelled Part x = (tokens : List Token) × AllFit tokens × Part tokens x
 abbrev RangeHasSmallRuns : SampleRange → Type 0
 RangeHasSmallRuns r = HasSmallRuns r.lower_val × IfSome r.upper_val HasSmallRuns
 
--- so is a range of such samples
+-- a range that was read and has small runs is read again from its text
 range_spells : (r : SampleRange) → IsSpelled IsSampleRange r → RangeHasSmallRuns r → Spells EndsSample IsSampleRange (sample_range_text r) r
 range_spells r h small =
     let k = h.2 in
@@ -222,7 +222,7 @@ ellipsis_follows : (more : Bool) (rest : List ℕ) → EndsSample rest → EndsS
 ellipsis_follows false rest h = h
 ellipsis_follows true rest h = comma_breaks
 
--- so is a list of such samples
+-- a list that was read and has small runs is read again from its text
 pub list_spells : (l : SampleList) → IsSpelled IsSampleList l → ListHasSmallRuns l → Spells EndsSample IsSampleList (sample_list_text l) l
 unfolding tokens_from
 list_spells l h small =
