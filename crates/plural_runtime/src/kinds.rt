@@ -1,8 +1,10 @@
 //! The kinds that a packed relation is made of.
 
 ghost use Rattle.std.specs.Prelude.{◌≡◌};
+ghost use Rattle.plural_reference.specs.Serializer.{operand_text};
 ghost use Rattle.plural_runtime.specs.RuleKinds.{operator_of, packed_operand_of, polarity_of, tree_operand_of};
 ghost use Rattle.plural_runtime.specs.PackedTree.{unpacked_modulus};
+ghost use Rattle.plural_runtime.specs.RuleText.{sign_text};
 
 use plural_reference::ast;
 
@@ -70,6 +72,7 @@ impl From<Polarity> for ast::Operator {
 impl From<ast::Operand> for Operand {
     ghost from_gives = { λ operand packed. packed ≡ packed_operand_of operand };
 
+    #[inline]
     fn from(operand: ast::Operand) -> Operand {
         match operand {
             ast::Operand::N => Operand::N,
@@ -87,6 +90,7 @@ impl From<ast::Operand> for Operand {
 impl From<Operand> for ast::Operand {
     ghost from_gives = { λ operand tree. tree ≡ tree_operand_of operand };
 
+    #[inline]
     fn from(operand: Operand) -> ast::Operand {
         match operand {
             Operand::N => ast::Operand::N,
@@ -101,7 +105,35 @@ impl From<Operand> for ast::Operand {
     }
 }
 
+impl Polarity {
+    // The operator that is printed for it, with a space on each side.
+    pub(crate) fn sign(self) -> &'static str
+        ensures { result.now ≡ sign_text (operator_of self) }
+    {
+        match self {
+            Polarity::Positive => " = ",
+            Polarity::Negative => " != ",
+        }
+    }
+}
+
 impl Operand {
+    // The letter that is printed for it.
+    pub(crate) fn letter(self) -> &'static str
+        ensures { result.now ≡ operand_text (tree_operand_of self) }
+    {
+        match self {
+            Operand::N => "n",
+            Operand::I => "i",
+            Operand::V => "v",
+            Operand::W => "w",
+            Operand::F => "f",
+            Operand::T => "t",
+            Operand::C => "c",
+            Operand::E => "e",
+        }
+    }
+
     /// The expression of the operand, with the modulus where it isn't 0.
     pub fn with_modulo(self, modulo: u32) -> ast::Expression
         ensures operand { result.operand ≡ tree_operand_of self }
