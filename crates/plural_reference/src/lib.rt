@@ -17,7 +17,7 @@ mod token;
 pub use error::{LexerError, ParseError, ReadError};
 pub use lexer::Lexer;
 pub use operands::{OperandsError, PluralOperands};
-pub use parser::{parse, parse_condition};
+pub use parser::{parse, parse_condition, parse_without_samples};
 pub use raw_operands::RawPluralOperands;
 pub use resolver::test_condition;
 pub use sequence::Sequence;
