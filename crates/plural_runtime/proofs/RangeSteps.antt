@@ -29,18 +29,6 @@ ranges-long (a ∷ b ∷ c ∷ d ∷ e ∷ f ∷ []) h = absurd (omega arith)
 ranges-long (a ∷ b ∷ c ∷ d ∷ e ∷ f ∷ g ∷ []) h = absurd (omega arith)
 ranges-long (a ∷ b ∷ c ∷ d ∷ e ∷ f ∷ g ∷ i ∷ bytes) h = refl
 
--- the same, where the first range is read of all bytes
-pub ranges-front : (bytes : List ℕ) → 8 ≤ length bytes → ranges_in bytes ≡ range_in bytes ∷ ranges_in (drop 8 bytes)
-ranges-front [] h = absurd (omega arith)
-ranges-front (a ∷ []) h = absurd (omega arith)
-ranges-front (a ∷ b ∷ []) h = absurd (omega arith)
-ranges-front (a ∷ b ∷ c ∷ []) h = absurd (omega arith)
-ranges-front (a ∷ b ∷ c ∷ d ∷ []) h = absurd (omega arith)
-ranges-front (a ∷ b ∷ c ∷ d ∷ e ∷ []) h = absurd (omega arith)
-ranges-front (a ∷ b ∷ c ∷ d ∷ e ∷ f ∷ []) h = absurd (omega arith)
-ranges-front (a ∷ b ∷ c ∷ d ∷ e ∷ f ∷ g ∷ []) h = absurd (omega arith)
-ranges-front (a ∷ b ∷ c ∷ d ∷ e ∷ f ∷ g ∷ i ∷ bytes) h = refl
-
 -- one more range of a list
 pub any_more : (value : ℕ) (bytes : List ℕ) → 8 ≤ length bytes → list_any (range_holds value) (ranges_in bytes) ≡ (range_holds value (range_in (take 8 bytes)) || list_any (range_holds value) (ranges_in (drop 8 bytes)))
 any_more value bytes h = ap (list_any (range_holds value)) (ranges-long bytes h)

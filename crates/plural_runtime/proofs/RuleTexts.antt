@@ -2,8 +2,6 @@
 use Rattle.std.proofs.Common.{◌≡◌, ℕ, List, [], ◌∷◌, ◌++◌, map, refl, sym, ap, ◌∙◌, append_assoc, Bool, true, false}
 use Rattle.std.specs.Prelude.{◌==◌, flat_map, codes, if◌then◌else◌}
 use Rattle.std.specs.Fmt.{decimal}
-use Rattle.plural_reference.specs.declared.ast.Operator.{Operator}
-use Rattle.plural_reference.specs.declared.ast.Operator.TheVariants.{Eq, NotEq}
 use Rattle.plural_reference.specs.declared.ast.Relation.{Relation}
 use Rattle.plural_reference.specs.Serializer.{joined, prefixed, value_text, operand_text, operator_text, expression_text, item_text, relation_text, and_condition_text, condition_text}
 use Rattle.plural_reference.specs.Truth.{RelationMeaning}
@@ -33,10 +31,6 @@ modulus_text-is modulus = by (modulus == 0) refl
     by true h = rw h refl
     by false h = rw h refl
 
-sign_text-is : (operator : Operator) → sign_text operator ≡ (codes " " ++ operator_text operator) ++ codes " "
-sign_text-is Eq = refl
-sign_text-is NotEq = refl
-
 regroup : (a b c d e : List ℕ) → (((a ++ b) ++ c) ++ d) ++ e ≡ a ++ (((b ++ c) ++ d) ++ e)
 regroup a b c d e = simp append_assoc
 
@@ -45,7 +39,6 @@ relation_text-is relation =
     let list = joined-map (codes ", ") item_text (λ range. range_shown (range_or_value range)) unpacked_range range_text relation.ranges in
     ap (λ l. (((expression_text (unpacked_meaning relation).expression ++ codes " ") ++ operator_text relation.operator) ++ codes " ") ++ l) list
     ∙ regroup (expression_text (unpacked_meaning relation).expression) (codes " ") (operator_text relation.operator) (codes " ") (ranges_shown relation.ranges)
-    ∙ ap (λ s. expression_text (unpacked_meaning relation).expression ++ (s ++ ranges_shown relation.ranges)) (sym (sign_text-is relation.operator))
     ∙ ap (λ m. (operand_text relation.operand ++ m) ++ (sign_text relation.operator ++ ranges_shown relation.ranges)) (modulus_text-is relation.modulus)
 
 -- ---- groups

@@ -4,11 +4,11 @@ ghost use Rattle.std.specs.Prelude.{◌≡◌, ◌++◌, [], Some, codes, if◌t
 ghost use Rattle.std.specs.Fmt.{DisplaysOnOk};
 ghost use Rattle.plural_reference.specs.Serializer.{operand_text};
 ghost use Rattle.plural_runtime.specs.PackedRelations.{PackedRelation};
-ghost use Rattle.plural_runtime.specs.RuleKinds.{tree_operand_of};
+ghost use Rattle.plural_runtime.specs.RuleKinds.{operator_of, tree_operand_of};
 ghost use Rattle.plural_runtime.specs.RuleText.{mark_text, modulus_text, range_shown, ranges_shown, relation_shown, relations_shown, sign_text};
 ghost use Rattle.plural_runtime.specs.Inner.RuleViews.{lent_relation};
 
-use crate::kinds::{AndOr, Operand};
+use crate::kinds::{AndOr, Operand, Polarity};
 use crate::range::RangeOrValue;
 use crate::relation::Relation;
 use crate::rule::Rule;
@@ -80,7 +80,7 @@ fn write_expression<W: fmt::Write>(
 ) -> fmt::Result
     ensures { DisplaysOnOk W.write_str_gives f.old result (Some (operand_text (tree_operand_of operand) ++ modulus_text modulo)) f.new }
 {
-    f.write_str(operand.letter())?;
+    f.write_str(operand.as_str())?;
     write_modulus(modulo, f)
 }
 
@@ -100,8 +100,17 @@ fn write_list<W: fmt::Write>(relation: &Relation<'_>, f: &mut fmt::Formatter<W>)
     ensures { let meaning = (lent_relation relation.now).meaning in
         DisplaysOnOk W.write_str_gives f.old result (Some (sign_text meaning.operator ++ ranges_shown meaning.ranges)) f.new }
 {
-    f.write_str(relation.polarity().sign())?;
+    write_sign(relation.polarity(), f)?;
     write_ranges(relation, f)
+}
+
+// Prints the operator of a polarity, with a space on each side.
+fn write_sign<W: fmt::Write>(polarity: Polarity, f: &mut fmt::Formatter<W>) -> fmt::Result
+    ensures { DisplaysOnOk W.write_str_gives f.old result (Some (sign_text (operator_of polarity))) f.new }
+{
+    f.write_str(" ")?;
+    f.write_str(polarity.as_str())?;
+    f.write_str(" ")
 }
 
 // Prints the ranges of a relation with a comma between each two.

@@ -1,10 +1,9 @@
 //! The kinds that a packed relation is made of.
 
 ghost use Rattle.std.specs.Prelude.{◌≡◌};
-ghost use Rattle.plural_reference.specs.Serializer.{operand_text};
+ghost use Rattle.plural_reference.specs.Serializer.{operand_text, operator_text};
 ghost use Rattle.plural_runtime.specs.RuleKinds.{operator_of, packed_operand_of, polarity_of, tree_operand_of};
 ghost use Rattle.plural_runtime.specs.PackedTree.{unpacked_modulus};
-ghost use Rattle.plural_runtime.specs.RuleText.{sign_text};
 
 use plural_reference::ast;
 
@@ -106,32 +105,22 @@ impl From<Operand> for ast::Operand {
 }
 
 impl Polarity {
-    // The operator that is printed for it, with a space on each side.
-    pub(crate) fn sign(self) -> &'static str
-        ensures { result.now ≡ sign_text (operator_of self) }
+    // Its operator as it is written.
+    #[inline]
+    pub(crate) fn as_str(self) -> &'static str
+        ensures { result.now ≡ operator_text (operator_of self) }
     {
-        match self {
-            Polarity::Positive => " = ",
-            Polarity::Negative => " != ",
-        }
+        ast::Operator::from(self).as_str()
     }
 }
 
 impl Operand {
-    // The letter that is printed for it.
-    pub(crate) fn letter(self) -> &'static str
+    // Its letter as it is written.
+    #[inline]
+    pub(crate) fn as_str(self) -> &'static str
         ensures { result.now ≡ operand_text (tree_operand_of self) }
     {
-        match self {
-            Operand::N => "n",
-            Operand::I => "i",
-            Operand::V => "v",
-            Operand::W => "w",
-            Operand::F => "f",
-            Operand::T => "t",
-            Operand::C => "c",
-            Operand::E => "e",
-        }
+        ast::Operand::from(self).as_str()
     }
 
     /// The expression of the operand, with the modulus where it isn't 0.
