@@ -17,7 +17,8 @@ unfolding rule_of_text
 rule_of_text-is text = refl
 
 -- what the grammar gives is what the function gives
-given_is_told : TextsAreRead → (text : List ℕ) (answer : RuleAnswer) → TextGives text answer → answer ≡ packing_of (condition_of_text text)
+given_is_told : TextsAreRead → (text : List ℕ) (answer : RuleAnswer) → TextGives text answer
+    → answer ≡ packing_of (condition_of_text text)
 given_is_told law text answer (inl h) = h.2 ∙ ap packing_of (sym (((law text).0 h.0).0 h.1))
 given_is_told law text answer (inr h) = h.2 ∙ ap packing_of (sym (((law text).1 h.0).0 h.1))
 

@@ -6,5 +6,5 @@ pub mod RuleKinds
 pub mod PluralRuntimeErrors
 pub mod RuleText
 pub mod RuleOfText
-pub mod Inner
 -- not definitions of the subject
+pub mod Inner

@@ -79,8 +79,8 @@ abbrev pub is_relation : List ℕ → Bool
 is_relation item = is_item_length (length item) && nat_le (slice_index item 0 % 64) 7
 
 -- what is wrong with the item at a place: its length before its operand
-abbrev pub item_fault : ℕ → List ℕ → Option RuleBytesError
-item_fault place item =
+abbrev pub relation_fault : ℕ → List ℕ → Option RuleBytesError
+relation_fault place item =
     if not (is_item_length (length item)) then Some (errors.ItemLength place)
     else (if nat_lt 7 (slice_index item 0 % 64) then Some (errors.Operand place) else None)
 
@@ -89,9 +89,9 @@ or_else None other = other
 or_else (Some fault) other = Some fault
 
 -- what is wrong with the first bad item, if there is one; the first item stands at the given place
-abbrev pub first_fault : ℕ → List (List ℕ) → Option RuleBytesError
-first_fault place [] = None
-first_fault place (item ∷ items) = or_else (item_fault place item) (first_fault (place + 1) items)
+abbrev pub first_relation_fault : ℕ → List (List ℕ) → Option RuleBytesError
+first_relation_fault place [] = None
+first_relation_fault place (item ∷ items) = or_else (relation_fault place item) (first_relation_fault (place + 1) items)
 
 -- ---- When two packed relations are the same.
 

@@ -37,7 +37,8 @@ returns-in-Ok-clause-fits c = λ h.
     let law = c.one_list_of_tokens.ensures text in
     let tokens = law.0 in
     let reads : ReadsCondition tokens condition =
-    subst (λ r. IsAnswer (ReadsCondition tokens) (FaultyRule tokens) r) c.in-Ok.is (c.parse_without_samples.ensures.only tokens law.1) in
+    subst (λ r. IsAnswer (ReadsCondition tokens) (FaultyRule tokens) r) c.in-Ok.is
+    (c.parse_without_samples.ensures.only tokens law.1) in
     let rule = reads.0 in
     let spellable = c.conditions_of_texts_are_spellable.ensures text rule.condition (tokens, law.1, (reads.1.0, reads.1.1)) in
     let small = ap has_large_value (sym reads.2) ∙ spellable_is_small rule.condition spellable in

@@ -10,7 +10,8 @@ pub returns-then-has_large_value-clause-packs : goal.returns-then-has_large_valu
 returns-then-has_large_value-clause-packs c = inl (sym (packing-large c.args.condition.now (sym c.if-has_large_value.ensures)))
 
 pub returns-in_default-clause-packs : goal.returns-in_default-clause-packs
-returns-in_default-clause-packs c = inl (sym (packing-high c.args.condition.now (sym c.if-has_large_value.ensures) c.in_default.ensures.high))
+returns-in_default-clause-packs c =
+    inl (sym (packing-high c.args.condition.now (sym c.if-has_large_value.ensures) c.in_default.ensures.high))
 
 pub owned-requires : goal.owned-requires
 owned-requires c =
