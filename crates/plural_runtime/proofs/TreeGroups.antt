@@ -8,7 +8,7 @@ use Rattle.plural_runtime.specs.declared.kinds.AndOr.{AndOr}
 use Rattle.plural_runtime.specs.declared.kinds.AndOr.TheVariants.{And, Or}
 use Rattle.plural_runtime.specs.RuleKinds.{item_of, range_or_value}
 use Rattle.plural_runtime.specs.PackedRelations.{PackedRelation, groups, at_front, cut_before}
-use Rattle.plural_runtime.specs.PackedTree.{packed_relation, packed_and_condition, packed_groups, packed, unpacked_range}
+use Rattle.plural_runtime.specs.PackedTree.{packed_relation, packed_groups, packed, unpacked_range}
 use Rattle.plural_runtime.specs.PackedTree.{unpacked_relation, unpacked_groups, unpacked}
 use Rattle.plural_runtime.specs.Inner.TreeWalk.{done_before, open_before}
 use Rattle.plural_runtime.proofs.Meanings.{meaning_again}

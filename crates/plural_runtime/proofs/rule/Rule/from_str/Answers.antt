@@ -1,4 +1,4 @@
-use Rattle.std.proofs.Common.{◌≡◌, ◌∙◌, ap, refl, subst, sym, inl, inr, Err}
+use Rattle.std.proofs.Common.{◌≡◌, ◌∙◌, ap, subst, sym, inl, inr, Err}
 use Rattle.plural_reference.specs.declared.error.ParseError.TheVariants.{ValueTooLarge}
 use Rattle.plural_reference.specs.Reading.{IsAnswer, TextFaulty, TextReads}
 use Rattle.plural_reference.specs.Samples.{ReadsCondition, FaultyRule}
