@@ -5,6 +5,7 @@ pub mod ast;
 mod error;
 pub mod laws;
 mod lexer;
+mod operand_value;
 mod operands;
 mod parser;
 mod raw_operands;
