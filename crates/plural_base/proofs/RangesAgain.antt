@@ -7,13 +7,13 @@ use Rattle.std.proofs.lemmas.Slice.Eq.{bytes_eq-Decides}
 use Rattle.std.specs.Cmp.Lexicographic.{slice_cmp}
 use Rattle.std.specs.List.Sorted.{IsStrictlySortedBy}
 use Rattle.std.specs.Ordering.{match_ordering}
-use Rattle.plural_base.specs.declared.json_error.JsonError.TheVariants.{Float, RangeKey, RangeValue}
+use Rattle.plural_base.specs.declared.json.error.JsonError.TheVariants.{Float, RangeKey, RangeValue}
 use Rattle.plural_base.specs.declared.ranges.PluralRanges.{PluralRanges}
-use Rattle.plural_base.specs.declared.raw_category.RawPluralCategory.{RawPluralCategory}
+use Rattle.plural_base.specs.declared.category.raw.RawPluralCategory.{RawPluralCategory}
 use Rattle.plural_base.specs.Ranges.{at, each, put_at, Range, range_named, range_text, category_at, no_ranges, with_range}
 use Rattle.plural_base.specs.Categories.{number_of}
-use Rattle.plural_base.specs.RangesJson.{AreMembersOf, IsJsonOfRanges, category_shape, keys_in, members_shape, name_json, object_under, ranges_of_json, ranges_shape, there_or}
-use Rattle.plural_base.specs.RulesJson.{◌>>=◌}
+use Rattle.plural_base.specs.RangesJson.{AreMembersOf, IsJsonOfRanges, category_meant, keys_in, members_meant, name_json, object_under, ranges_of_json, ranges_meant}
+use Rattle.plural_base.specs.Json.{◌>>=◌, there_or}
 use Rattle.serde_json.specs.Data.{Data, object, Members, no_members, member}
 use Rattle.serde_json.specs.Find.{get_member}
 use Rattle.serde_json.specs.Written.{has_float, members_have_float}
@@ -151,12 +151,12 @@ module _ (ranges : PluralRanges) where
 
   -- a member gives its range its category
   one_read : (acc : PluralRanges) (k : List ℕ) (d : Data) (ms : Members) (h : IsEntry ranges k d)
-      → members_shape acc (member k d ms) ≡ members_shape (with_range acc h.start h.end h.category) ms
+      → members_meant acc (member k d ms) ≡ members_meant (with_range acc h.start h.end h.category) ms
   one_read acc k d ms h =
-      ap (λ r. there_or RangeKey r >>= λ range. (category_shape d >>= λ category. members_shape (with_range acc range.0 range.1 category) ms)) (ap range_named h.key_is ∙ range_named_as h.start h.end)
-      ∙ ap (λ c. c >>= λ category. members_shape (with_range acc h.start h.end category) ms) (ap category_shape h.data_is ∙ ap (there_or RangeValue) (category_named_as h.category))
+      ap (λ r. there_or RangeKey r >>= λ range. (category_meant d >>= λ category. members_meant (with_range acc range.0 range.1 category) ms)) (ap range_named h.key_is ∙ range_named_as h.start h.end)
+      ∙ ap (λ c. c >>= λ category. members_meant (with_range acc h.start h.end category) ms) (ap category_meant h.data_is ∙ ap (there_or RangeValue) (category_named_as h.category))
 
-  all_read : (ms : Members) (acc : PluralRanges) → AreEntries ranges ms → ((s e : RawPluralCategory) → Settled acc ms s e) → members_shape acc ms ≡ Ok ranges
+  all_read : (ms : Members) (acc : PluralRanges) → AreEntries ranges ms → ((s e : RawPluralCategory) → Settled acc ms s e) → members_meant acc ms ≡ Ok ranges
   all_read no_members acc h settled =
       ap Ok (same_things acc ranges (λ s. same_things (at acc s) (at ranges s) (λ e. is_read acc s e (settled s e))))
   all_read (member k d ms) acc h settled =
@@ -172,7 +172,7 @@ module _ (ranges : PluralRanges) where
 
     table_read : ranges_of_json (object_under (object ms)) ≡ Ok ranges
     table_read =
-        ap (λ b. if b || false then Err Float else ranges_shape (object_under (object ms))) (no_float ranges ms entries)
+        ap (λ b. if b || false then Err Float else ranges_meant (object_under (object ms))) (no_float ranges ms entries)
         ∙ all_read ms no_ranges entries (λ s e. first s e (category_at ranges s e) refl)
 
 pub written_read : (ranges : PluralRanges) (value : Data) → IsJsonOfRanges value ranges → ranges_of_json value ≡ Ok ranges

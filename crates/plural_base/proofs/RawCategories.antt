@@ -1,9 +1,9 @@
 -- Categories by their numbers, and what stands at each.
 use Rattle.std.proofs.Common.{◌≡◌, ℕ, zero, suc, ◌==◌, ◌≢◌, ◌⊎◌, Bool, true, false, if◌then◌else◌, refl, sym, ap, inl, inr, ◌∙◌, ◌<◌, arith, lit<}
 use Rattle.std.proofs.lemmas.Bool.{eqb-true, ne_eqb}
-use Rattle.plural_base.specs.declared.by_category.ByCategory.{ByCategory}
-use Rattle.plural_base.specs.declared.raw_category.RawPluralCategory.{RawPluralCategory}
-use Rattle.plural_base.specs.declared.raw_category.RawPluralCategory.TheVariants.{Other, Zero, One, Two, Few, Many}
+use Rattle.plural_base.specs.declared.category.by_category.ByCategory.{ByCategory}
+use Rattle.plural_base.specs.declared.category.raw.RawPluralCategory.{RawPluralCategory}
+use Rattle.plural_base.specs.declared.category.raw.RawPluralCategory.TheVariants.{Other, Zero, One, Two, Few, Many}
 use Rattle.plural_base.specs.Ranges.{each, at, put_at, range_byte}
 use Rattle.plural_base.specs.Categories.{number_of}
 

@@ -7,13 +7,14 @@ use Rattle.std.specs.Ordering.{match_ordering}
 use Rattle.plural_runtime.specs.PackedRelations.{PackedRelation}
 use Rattle.plural_base.specs.declared.category.PluralCategory.{PluralCategory}
 use Rattle.plural_base.specs.declared.category.PluralCategory.TheVariants.{Zero, One, Two, Few, Many}
-use Rattle.plural_base.specs.declared.json_error.JsonError.{JsonError}
-use Rattle.plural_base.specs.declared.json_error.JsonError.TheVariants.{Shape}
-use Rattle.plural_base.specs.DocumentJson.{Rows, Document, found, rows_shape, map_shape, all_maps, document_shape, value_at, IsThereAs, IsReadAt, AreRangesAt}
+use Rattle.plural_base.specs.declared.json.error.JsonError.{JsonError}
+use Rattle.plural_base.specs.declared.json.error.JsonError.TheVariants.{Shape}
+use Rattle.plural_base.specs.DocumentJson.{Rows, Document, found, rows_meant, map_meant, all_maps, document_meant, value_at, IsThereAs, IsReadAt, AreRangesAt}
 use Rattle.plural_base.specs.declared.ranges.PluralRanges.{PluralRanges}
 use Rattle.plural_base.specs.FiveRules.{Five, FiveRules}
-use Rattle.plural_base.specs.RangesJson.{ranges_shape}
-use Rattle.plural_base.specs.RulesJson.{Stands, ◌>>=◌, named, optional_shape, member_shape, rules_shape, all_five, texts_in, Answers}
+use Rattle.plural_base.specs.RangesJson.{ranges_meant}
+use Rattle.plural_base.specs.Json.{Stands, ◌>>=◌, all_five, Answers}
+use Rattle.plural_base.specs.RulesJson.{named, optional_meant, member_meant, rules_meant, texts_in}
 use Rattle.plural_base.specs.RuleTexts.{AreRulesOf, IsTakenAs, RuleAnswer, TextGives, TextReader, TellsTexts}
 use Rattle.serde_json.specs.Data.{Data, null, boolean, number, string, array, object, Members, no_members, member}
 use Rattle.serde_json.specs.Find.{get, get_member, as_object, as_str}
@@ -34,7 +35,7 @@ taken_text text (Err e) given category rule h = absurd cc
 
 -- what an optional rule stands for is that of its text
 pub optional_taken : (texts : TextReader) → TellsTexts texts → (category : PluralCategory) (value : Option Data) (rule : Option Rule)
-    → optional_shape texts category value ≡ Ok rule → IsTakenAs (option_and_then as_str value) rule
+    → optional_meant texts category value ≡ Ok rule → IsTakenAs (option_and_then as_str value) rule
 optional_taken texts tells category None rule h = subst (λ x. IsTakenAs None x) (same_ok _ _ h) (None, tt)
 optional_taken texts tells category (Some null) rule h = subst (λ x. IsTakenAs None x) (same_ok _ _ h) (None, tt)
 optional_taken texts tells category (Some (boolean b)) rule h = absurd cc
@@ -62,7 +63,7 @@ are_five (Ok z) (Ok o) (Ok t) (Ok f) (Err e) all h = absurd cc
 are_five (Ok z) (Ok o) (Ok t) (Ok f) (Ok m) all h = subst (AreFive (Ok z) (Ok o) (Ok t) (Ok f) (Ok m)) (same_ok _ _ h) (record { zero_is = refl; one_is = refl; two_is = refl; few_is = refl; many_is = refl })
 
 taken_members : (texts : TextReader) → TellsTexts texts → (value : Data) (rules : FiveRules)
-    → AreFive (member_shape texts Zero value) (member_shape texts One value) (member_shape texts Two value) (member_shape texts Few value) (member_shape texts Many value) rules
+    → AreFive (member_meant texts Zero value) (member_meant texts One value) (member_meant texts Two value) (member_meant texts Few value) (member_meant texts Many value) rules
     → AreRulesOf (texts_in value) rules
 taken_members texts tells value rules all =
     let zero = optional_taken texts tells Zero _ rules.zero all.zero_is in
@@ -80,7 +81,7 @@ if_read true e read x h = h
 if_read false e read x h = absurd cc
 
 -- the rules that a value stands for are those of the texts in it
-pub rules_taken : (texts : TextReader) → TellsTexts texts → (value : Data) (rules : FiveRules) → rules_shape texts value ≡ Ok rules → AreRulesOf (texts_in value) rules
+pub rules_taken : (texts : TextReader) → TellsTexts texts → (value : Data) (rules : FiveRules) → rules_meant texts value ≡ Ok rules → AreRulesOf (texts_in value) rules
 rules_taken texts tells value rules h = taken_members texts tells value rules (are_five _ _ _ _ _ rules (if_read (is_some (as_object value)) Shape _ rules h))
 
 -- ---- A map
@@ -103,11 +104,11 @@ module _ {A : Type 0} (shape : Data → Stands A) (Reads : Data → A → Type 0
       (at_key (slice_cmp nat_cmp locale k) value x _ _ (taken value x read) (others rest refl)))
 
   -- a row is read where its key is there
-  rows_read : (ms : Members) (rows : Rows A) → rows_shape shape ms ≡ Ok rows → IsThereAs Reads (get_member locale ms) (found locale rows)
+  rows_read : (ms : Members) (rows : Rows A) → rows_meant shape ms ≡ Ok rows → IsThereAs Reads (get_member locale ms) (found locale rows)
   rows_read no_members rows h = subst (λ r. IsThereAs Reads None (found locale r)) (same_ok _ _ h) tt
   rows_read (member k value ms) rows h = row_read k value ms _ _ rows refl (λ rest read. rows_read ms rest read) h
 
-  map_read : (value : Option Data) (rows : Rows A) → map_shape shape value ≡ Ok rows → IsThereAs Reads (option_and_then (get locale) value) (found locale rows)
+  map_read : (value : Option Data) (rows : Rows A) → map_meant shape value ≡ Ok rows → IsThereAs Reads (option_and_then (get locale) value) (found locale rows)
   map_read None rows h = subst (λ r. IsThereAs Reads None (found locale r)) (same_ok _ _ h) tt
   map_read (Some null) rows h = subst (λ r. IsThereAs Reads None (found locale r)) (same_ok _ _ h) tt
   map_read (Some (boolean b)) rows h = absurd cc
@@ -133,24 +134,24 @@ are_maps (Ok c) (Ok o) (Ok r) document h = subst (AreMaps (Ok c) (Ok o) (Ok r)) 
 
 -- each map of a document is read from what stands under its key
 module _ (texts : TextReader) (tells : TellsTexts texts) (value : Data) where
-  maps_of : (document : Document) → document_shape texts value ≡ Ok document
-      → AreMaps (map_shape (rules_shape texts) (get (codes "cardinal") value)) (map_shape (rules_shape texts) (get (codes "ordinal") value)) (map_shape ranges_shape (get (codes "ranges") value)) document
+  maps_of : (document : Document) → document_meant texts value ≡ Ok document
+      → AreMaps (map_meant (rules_meant texts) (get (codes "cardinal") value)) (map_meant (rules_meant texts) (get (codes "ordinal") value)) (map_meant ranges_meant (get (codes "ranges") value)) document
   maps_of document h = are_maps _ _ _ document (if_read (is_some (as_object value)) Shape _ document h)
 
-  pub cardinal_read : (read : Result Document JsonError) → Answers (λ d. d) read (document_shape texts value)
+  pub cardinal_read : (read : Result Document JsonError) → Answers (λ d. d) read (document_meant texts value)
       → IfOk read (λ d. (locale : List ℕ) → IsReadAt (value_at (codes "cardinal") locale value) (found locale d.cardinal))
   cardinal_read (Err e) h = tt
   cardinal_read (Ok document) h = λ locale.
-      map_read (rules_shape texts) (λ v rules. AreRulesOf (texts_in v) rules) (rules_taken texts tells) locale _ document.cardinal (maps_of document h).cardinal_is
+      map_read (rules_meant texts) (λ v rules. AreRulesOf (texts_in v) rules) (rules_taken texts tells) locale _ document.cardinal (maps_of document h).cardinal_is
 
-  pub ordinal_read : (read : Result Document JsonError) → Answers (λ d. d) read (document_shape texts value)
+  pub ordinal_read : (read : Result Document JsonError) → Answers (λ d. d) read (document_meant texts value)
       → IfOk read (λ d. (locale : List ℕ) → IsReadAt (value_at (codes "ordinal") locale value) (found locale d.ordinal))
   ordinal_read (Err e) h = tt
   ordinal_read (Ok document) h = λ locale.
-      map_read (rules_shape texts) (λ v rules. AreRulesOf (texts_in v) rules) (rules_taken texts tells) locale _ document.ordinal (maps_of document h).ordinal_is
+      map_read (rules_meant texts) (λ v rules. AreRulesOf (texts_in v) rules) (rules_taken texts tells) locale _ document.ordinal (maps_of document h).ordinal_is
 
-  pub ranges_read : (read : Result Document JsonError) → Answers (λ d. d) read (document_shape texts value)
+  pub ranges_read : (read : Result Document JsonError) → Answers (λ d. d) read (document_meant texts value)
       → IfOk read (λ d. (locale : List ℕ) → AreRangesAt (value_at (codes "ranges") locale value) (found locale d.ranges))
   ranges_read (Err e) h = tt
   ranges_read (Ok document) h = λ locale.
-      map_read ranges_shape (λ v ranges. ranges_shape v ≡ Ok ranges) (λ v ranges read. read) locale _ document.ranges (maps_of document h).ranges_are
+      map_read ranges_meant (λ v ranges. ranges_meant v ≡ Ok ranges) (λ v ranges read. read) locale _ document.ranges (maps_of document h).ranges_are

@@ -2,8 +2,8 @@
 use Rattle.std.specs.Prelude.{ℕ, List, [], ◌∷◌, codes}
 use Rattle.plural_base.specs.declared.category.PluralCategory.{PluralCategory}
 use Rattle.plural_base.specs.declared.category.PluralCategory.TheVariants.{Zero, One, Two, Few, Many, Other}
-use Rattle.plural_base.specs.declared.raw_category.RawPluralCategory.{RawPluralCategory}
-use Rattle.plural_base.specs.declared.raw_category.RawPluralCategory.TheVariants as raw
+use Rattle.plural_base.specs.declared.category.raw.RawPluralCategory.{RawPluralCategory}
+use Rattle.plural_base.specs.declared.category.raw.RawPluralCategory.TheVariants as raw
 
 -- the name in lower case
 abbrev pub name_of : PluralCategory → List ℕ

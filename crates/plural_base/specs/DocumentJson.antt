@@ -6,12 +6,13 @@
 use Rattle.std.specs.Prelude.{◌≡◌, ℕ, List, [], ◌∷◌, codes, ⊤, Option, Some, None, is_some, Ok, Err, bytes_eq, if◌then◌else◌}
 use Rattle.std.specs.Map.{lookup}
 use Rattle.std.specs.Option.{option_and_then}
-use Rattle.plural_base.specs.declared.json_error.JsonError.TheVariants.{Shape}
+use Rattle.plural_base.specs.declared.json.error.JsonError.TheVariants.{Shape}
 use Rattle.plural_base.specs.declared.ranges.PluralRanges.{PluralRanges}
 use Rattle.plural_base.specs.FiveRules.{FiveRules}
-use Rattle.plural_base.specs.RangesJson.{ranges_shape}
+use Rattle.plural_base.specs.RangesJson.{ranges_meant}
 use Rattle.plural_base.specs.RuleTexts.{AreRulesOf, TextReader}
-use Rattle.plural_base.specs.RulesJson.{Stands, ◌>>=◌, rules_shape, texts_in, unless_float}
+use Rattle.plural_base.specs.Json.{Stands, ◌>>=◌, unless_float}
+use Rattle.plural_base.specs.RulesJson.{rules_meant, texts_in}
 use Rattle.serde_json.specs.Data.{Data, Members, no_members, member}
 use Rattle.serde_json.specs.Find.{get, as_null, as_object}
 
@@ -33,21 +34,21 @@ pub record Document : Type 0 where
 -- ---- Reading
 
 -- each member is the row of its key; the members stand in the order of the keys' bytes, and the first refusal is answered
-abbrev pub rows_shape : {A : Type 0} → (Data → Stands A) → Members → Stands (Rows A)
-rows_shape shape no_members = Ok []
-rows_shape shape (member locale value members) = do
-  first ← shape value
-  rows ← rows_shape shape members
+abbrev pub rows_meant : {A : Type 0} → (Data → Stands A) → Members → Stands (Rows A)
+rows_meant meant no_members = Ok []
+rows_meant meant (member locale value members) = do
+  first ← meant value
+  rows ← rows_meant meant members
   Ok ((locale, first) ∷ rows)
 
-abbrev pub object_shape : {A : Type 0} → (Data → Stands A) → Option Members → Stands (Rows A)
-object_shape shape None = Err Shape
-object_shape shape (Some members) = rows_shape shape members
+abbrev pub object_meant : {A : Type 0} → (Data → Stands A) → Option Members → Stands (Rows A)
+object_meant meant None = Err Shape
+object_meant meant (Some members) = rows_meant meant members
 
 -- a map is absent, null or an object
-abbrev pub map_shape : {A : Type 0} → (Data → Stands A) → Option Data → Stands (Rows A)
-map_shape shape None = Ok []
-map_shape shape (Some value) = if is_some (as_null value) then Ok [] else object_shape shape (as_object value)
+abbrev pub map_meant : {A : Type 0} → (Data → Stands A) → Option Data → Stands (Rows A)
+map_meant meant None = Ok []
+map_meant meant (Some value) = if is_some (as_null value) then Ok [] else object_meant meant (as_object value)
 
 -- all three maps, or the first refusal
 abbrev pub all_maps : Stands (Rows FiveRules) → Stands (Rows FiveRules) → Stands (Rows PluralRanges) → Stands Document
@@ -58,15 +59,15 @@ all_maps cardinal ordinal ranges = do
   Ok (record { cardinal = rows; ordinal = others; ranges = tables })
 
 -- a document is an object with three maps; its other keys are not looked at
-abbrev pub document_shape : TextReader → Data → Stands Document
-document_shape texts value =
+abbrev pub document_meant : TextReader → Data → Stands Document
+document_meant texts value =
     if is_some (as_object value)
-    then all_maps (map_shape (rules_shape texts) (get (codes "cardinal") value)) (map_shape (rules_shape texts) (get (codes "ordinal") value))
-    (map_shape ranges_shape (get (codes "ranges") value))
+    then all_maps (map_meant (rules_meant texts) (get (codes "cardinal") value)) (map_meant (rules_meant texts) (get (codes "ordinal") value))
+    (map_meant ranges_meant (get (codes "ranges") value))
     else Err Shape
 
 abbrev pub document_of_json : TextReader → Data → Stands Document
-document_of_json texts = unless_float (document_shape texts)
+document_of_json texts = unless_float (document_meant texts)
 
 -- ---- What a locale has
 
@@ -86,4 +87,4 @@ IsReadAt = IsThereAs (λ value rules. AreRulesOf (texts_in value) rules)
 
 -- the ranges are those that the value stands for
 abbrev pub AreRangesAt : Option Data → Option PluralRanges → Type 0
-AreRangesAt = IsThereAs (λ value ranges. ranges_shape value ≡ Ok ranges)
+AreRangesAt = IsThereAs (λ value ranges. ranges_meant value ≡ Ok ranges)

@@ -20,6 +20,7 @@ pub mod FiveRules
 pub mod Ranges
 pub mod RuleTexts
 pub mod PluralBaseErrors
+pub mod Json
 pub mod RulesJson
 pub mod RangesJson
 pub mod Providers

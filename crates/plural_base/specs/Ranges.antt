@@ -3,11 +3,11 @@
 --     at things category      the thing of a category
 --     put_at things category thing      the same things, but for this one
 use Rattle.std.specs.Prelude.{◌==◌, if◌then◌else◌, ◌≡◌, ℕ, ◌+◌, ◌*◌, List, ◌++◌, codes, map, flat_map, find, Option, bytes_eq, Some, None, is_some, option_map, unwrap_or, count_by, sum_by}
-use Rattle.plural_base.specs.declared.by_category.ByCategory.{ByCategory}
-use Rattle.plural_base.specs.declared.raw_category.RawPluralCategory.{RawPluralCategory}
-use Rattle.plural_base.specs.declared.raw_category.RawPluralCategory.TheVariants.{Other, Zero, One, Two, Few, Many}
+use Rattle.plural_base.specs.declared.category.by_category.ByCategory.{ByCategory}
+use Rattle.plural_base.specs.declared.category.raw.RawPluralCategory.{RawPluralCategory}
+use Rattle.plural_base.specs.declared.category.raw.RawPluralCategory.TheVariants.{Other, Zero, One, Two, Few, Many}
 use Rattle.plural_base.specs.Categories.{number_of, raw_name_of, all_raw_categories, category_of, raw_category_of}
-use Rattle.plural_base.specs.declared.range_key.UnvalidatedPluralRange.{UnvalidatedPluralRange}
+use Rattle.plural_base.specs.declared.ranges.key.UnvalidatedPluralRange.{UnvalidatedPluralRange}
 use Rattle.plural_base.specs.declared.category.PluralCategory.{PluralCategory}
 use Rattle.plural_base.specs.declared.ranges.PluralRanges.{PluralRanges}
 

@@ -5,9 +5,14 @@ ghost use Rattle.plural_runtime.specs.PackedTruth.{packed_truth};
 ghost use Rattle.plural_base.specs.FiveRules.{first_category, passes, categories_of};
 ghost use Rattle.plural_base.specs.declared.category.PluralCategory.TheVariants.{Other};
 
-use crate::categories::Categories;
+pub(crate) mod as_plural_rules;
+pub(crate) mod categories;
+pub(crate) mod data;
+pub(crate) mod text;
+
 use crate::category::PluralCategory;
-use crate::rules_data::PluralRulesData;
+use crate::rules::categories::Categories;
+use crate::rules::data::PluralRulesData;
 use plural_reference::PluralOperands;
 use plural_runtime::{Rule, test_rule};
 use std::marker::Model;

@@ -5,10 +5,10 @@ ghost use Rattle.std.specs.Ordering.{nat_cmp};
 ghost use Rattle.plural_base.specs.Categories.{number_of, place_of};
 
 use crate::category::PluralCategory;
-use crate::options::{PluralRuleType, PluralRulesOptions};
-use crate::range_key::UnvalidatedPluralRange;
-use crate::raw_category::RawPluralCategory;
-use crate::rules_data::PluralRulesData;
+use crate::category::raw::RawPluralCategory;
+use crate::provider::options::{PluralRuleType, PluralRulesOptions};
+use crate::ranges::key::UnvalidatedPluralRange;
+use crate::rules::data::PluralRulesData;
 use std::cmp::Ordering;
 
 /// Categories are in the order zero, one, two, few, many, other.
