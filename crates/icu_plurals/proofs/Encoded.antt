@@ -8,7 +8,8 @@ use Rattle.plural_base.specs.declared.json_error.ElementsPackError.TheVariants.{
 use Rattle.icu_plurals.specs.declared.encode.items.Item.{Item}
 use Rattle.icu_plurals.specs.Elements.{Elements, element_at}
 use Rattle.icu_plurals.specs.PackedElements.{AnswersAs, fault_beside, pack_fault, PackedValue, PackedItem, IsPackedValue, IsPackedItem, CanPackItems, ElementsBytes, bytes_with, elements_of, item_bytes, none_if_empty, packed_items, packed_of}
-use Rattle.icu_plurals.specs.Inner.ElementsReading.{bytes_with_items, lent_bytes}
+use Rattle.icu_plurals.specs.Inner.ElementsReading.{bytes_with_items}
+use Rattle.icu_plurals.specs.Inner.ElementsViews.{lent_bytes}
 use Rattle.icu_plurals.proofs.ElementsAgain.{PackedItems}
 use Rattle.icu_plurals.proofs.CheckedElements.{same_elements}
 use Rattle.icu_plurals.proofs.PackedAgain.{answers_again}

@@ -36,6 +36,7 @@ pub use Rattle.plural_runtime.specs.PackedTree
 pub use Rattle.plural_runtime.specs.PluralRuntimeErrors
 pub use Rattle.plural_runtime.specs.RuleKinds
 pub use Rattle.plural_runtime.specs.Inner.RuleReading
+pub use Rattle.plural_runtime.specs.Inner.RuleViews
 -- categories
 pub use Rattle.plural_base.specs.Categories
 pub use Rattle.plural_base.specs.FiveRules

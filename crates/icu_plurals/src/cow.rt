@@ -4,7 +4,8 @@ ghost use Rattle.std.specs.Prelude.{◌≡◌, ◌↔◌, Err, Ok, Some, IfOk, o
 ghost use Rattle.icu_plurals.specs.Elements.{each_by, element_at};
 ghost use Rattle.icu_plurals.specs.ElementsFaults.{HasElementsFault};
 ghost use Rattle.icu_plurals.specs.PackedElements.{pack_fault, PackedElements, ElementsBytes, elements_of, packed_of, plain_value};
-ghost use Rattle.icu_plurals.specs.Inner.ElementsReading.{AreElements, lent_elements, lent_value};
+ghost use Rattle.icu_plurals.specs.Inner.ElementsReading.{AreElements};
+ghost use Rattle.icu_plurals.specs.Inner.ElementsViews.{lent_elements, lent_value};
 
 use crate::elements::PluralElements;
 use crate::packed::PluralElementsPackedULE;

@@ -7,7 +7,7 @@ ghost use Rattle.serde_json.specs.Find.{as_str};
 ghost use Rattle.serde_json.specs.View.{view, members_view};
 ghost use Rattle.icu_plurals.specs.Elements.{each_by};
 ghost use Rattle.icu_plurals.specs.ElementsJson.{elements_in_json, elements_json, metadata_in, optional_in, packed_of_json, packs, value_in, value_json, with_value};
-ghost use Rattle.icu_plurals.specs.Inner.ElementsReading.{lent_value, number_of};
+ghost use Rattle.icu_plurals.specs.Inner.ElementsViews.{lent_value, number_of};
 ghost use Rattle.icu_plurals.specs.PackedElements.{elements_of};
 
 use crate::cow::PluralElementsPackedCow;

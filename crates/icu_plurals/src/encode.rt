@@ -4,7 +4,8 @@ ghost use Rattle.std.specs.Prelude.{◌≡◌, ◌≢◌, ◌↔◌, ◌^◌, �
 ghost use Rattle.packed_list.specs.ListBytes.{CanPack, has_high_start};
 ghost use Rattle.icu_plurals.specs.Elements.{each_by};
 ghost use Rattle.icu_plurals.specs.PackedElements.{AnswersAs, pack_fault, ElementsBytes, IsPackedValue, packed_of};
-ghost use Rattle.icu_plurals.specs.Inner.ElementsReading.{lent_value, bytes_with_items, lent_bytes};
+ghost use Rattle.icu_plurals.specs.Inner.ElementsReading.{bytes_with_items};
+ghost use Rattle.icu_plurals.specs.Inner.ElementsViews.{lent_value, lent_bytes};
 
 mod items;
 

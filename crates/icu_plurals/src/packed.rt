@@ -33,7 +33,8 @@ impl<'a> PluralElementsPackedULE<'a> {
     ghost use Rattle.icu_plurals.specs.Elements.{each_by, element_at, explicit_at, of_category};
     ghost use Rattle.icu_plurals.specs.PackedElements.{PackedElements, ElementsBytes, elements_of, items_of, value_at};
     ghost use Rattle.icu_plurals.specs.ElementsFaults.{HasElementsFault};
-    ghost use Rattle.icu_plurals.specs.Inner.ElementsReading.{AreElements, AreShown, is_item, item_in, lent_parts, lent_value, lent_elements};
+    ghost use Rattle.icu_plurals.specs.Inner.ElementsReading.{AreElements, AreShown, is_item, item_in};
+    ghost use Rattle.icu_plurals.specs.Inner.ElementsViews.{lent_parts, lent_value, lent_elements};
 
     /// Reads bytes as packed elements. It takes no memory.
     ///
@@ -171,7 +172,7 @@ impl<'a> PartialEq for PluralElementsPackedULE<'a> {
     ghost use Rattle.std.specs.Prelude.{◌≡◌, ◌↔◌, IsTrue, nat_eq};
     ghost use Rattle.std.specs.Cmp.{on_per, partial_equiv_from_equiv};
     ghost use Rattle.std.specs.Cmp.Lexicographic.{pointwise, nat_list_eq_equiv};
-    ghost use Rattle.icu_plurals.specs.Inner.ElementsReading.{lent_elements};
+    ghost use Rattle.icu_plurals.specs.Inner.ElementsViews.{lent_elements};
 
     ghost eq = { λ elements other. pointwise nat_eq elements.bytes.now other.bytes.now };
 

@@ -3,7 +3,7 @@
 ghost use Rattle.std.specs.Prelude.{◌≡◌, ◌↔◌, IfOk, Err, string_bytes};
 ghost use Rattle.fixed_decimal.specs.Written.{CompactNumber, WritesCompact, IsCompactOverLimit};
 ghost use Rattle.icu_plurals.specs.Elements.{IsExactElement, IsKeptElement};
-ghost use Rattle.icu_plurals.specs.Inner.ElementsReading.{lent_elements};
+ghost use Rattle.icu_plurals.specs.Inner.ElementsViews.{lent_elements};
 ghost use Rattle.icu_plurals.specs.PackedElements.{elements_of};
 ghost use Rattle.plural_message.specs.Messages.{IsMessageOf};
 
@@ -24,7 +24,7 @@ pub struct Message<'a> {
 
 impl<'a> Model for Message<'a> {
     ghost use Rattle.icu_plurals.specs.Elements.{Elements};
-    ghost use Rattle.icu_plurals.specs.Inner.ElementsReading.{lent_elements};
+    ghost use Rattle.icu_plurals.specs.Inner.ElementsViews.{lent_elements};
     ghost use Rattle.icu_plurals.specs.PackedElements.{PackedValue, elements_of};
 
     ghost Value = { Elements PackedValue };

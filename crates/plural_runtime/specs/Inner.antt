@@ -1,3 +1,4 @@
 -- No definitions of the subject: readers and steps, of which views and private contracts speak.
 pub mod RuleReading
+pub mod RuleViews
 pub mod TreeWalk

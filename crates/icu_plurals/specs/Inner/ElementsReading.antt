@@ -1,5 +1,5 @@
 -- A reader of the bytes of packed elements, for the view of checked bytes, the laws and private contracts. Not a definition of the subject.
-use Rattle.std.specs.Prelude.{◌≡◌, ℕ, ◌/◌, ◌%◌, List, [], ◌∷◌, map, take, drop, Bool, false, ◌&&◌, nat_le, if◌then◌else◌, nat_lt, IsTrue, Option, Some, None, unwrap_or, ⊤, option_map, ◌+◌, ◌++◌, length}
+use Rattle.std.specs.Prelude.{◌≡◌, ℕ, ◌/◌, ◌%◌, List, [], ◌∷◌, map, take, drop, Bool, false, ◌&&◌, nat_le, if◌then◌else◌, nat_lt, IsTrue, Option, Some, None, unwrap_or, ⊤, ◌+◌, ◌++◌, length}
 use Rattle.std.proofs.Props.{props}
 use Rattle.std.specs.List.{AllByRecursion, AllByRecursion-prop}
 use Rattle.std.specs.Str.{is_utf8}
@@ -11,11 +11,6 @@ use Rattle.icu_plurals.specs.declared.packed.error.ElementsBytesError.{ElementsB
 use Rattle.icu_plurals.specs.declared.packed.error.ElementsBytesError.TheVariants as errors
 use Rattle.icu_plurals.specs.ElementsFaults.{ElementsParts, IsShort, HasPadding, first_fault}
 use Rattle.icu_plurals.specs.PackedElements.{PackedValue, PackedItem, PackedElements, IsPackedItem, CanPackItems, ElementsBytes, items_of, item_bytes, zero_key, one_key, two_key, few_key, many_key}
-use Rattle.icu_plurals.specs.declared.packed.parts.Parts.{Parts}
-use Rattle.std.specs.Borrow.{Bor}
-use Rattle.icu_plurals.specs.declared.packed.PluralElementsPackedULE.{PluralElementsPackedULE}
-use Rattle.icu_plurals.specs.declared.packed.metadata.FourBitMetadata.{FourBitMetadata}
-use Rattle.icu_plurals.specs.declared.encode.items.Item.{Item}
 
 -- the item that bytes hold
 abbrev pub item_in : List ℕ → PackedItem
@@ -92,34 +87,7 @@ category_key Few = Some few_key
 category_key Many = Some many_key
 category_key Other = None
 
--- ---- What private contracts see of the parts of packed elements.
-
-abbrev pub lent_parts : Parts → ElementsParts
-lent_parts parts = record { first = parts.first; text = parts.text.now; rest = option_map (λ rest. rest.now) parts.rest }
-
--- ---- What contracts see of packed elements and of their values that are lent.
-
--- the number that metadata are
-abbrev pub number_of : FourBitMetadata → ℕ
-number_of metadata = metadata.value
-
--- metadata and a text that is lent
-abbrev pub lent_value : FourBitMetadata × Bor (List ℕ) → PackedValue
-lent_value value = record { metadata = number_of value.0; text = value.1.now }
-
--- the packed elements in checked bytes
-abbrev pub lent_elements : PluralElementsPackedULE → PackedElements
-lent_elements packed = elements_in packed.bytes.now
-
--- ---- Not a definition of the subject: the bytes of items that lend their texts.
-
--- the bytes of an item
-abbrev pub bytes_of : Item → List ℕ
-bytes_of item = item.first ∷ item.text.now
-
--- the bytes of each item
-abbrev pub lent_bytes : List Item → List (List ℕ)
-lent_bytes items = map bytes_of items
+-- ---- The bytes of a default and of items.
 
 -- what stands before the default's text: its metadata alone, or bit 7 with the metadata and the length of the text
 abbrev pub head_with : PackedValue → List (List ℕ) → List ℕ

@@ -4,7 +4,7 @@ ghost use Rattle.std.specs.Prelude.{◌≡◌, ◌+◌, ◌++◌, ◌<◌, ◌�
 ghost use Rattle.std.specs.List.{AllByRecursion};
 ghost use Rattle.arrayvec.specs.ArrayVec.{array_vec_len};
 ghost use Rattle.icu_plurals.specs.Elements.{each_by};
-ghost use Rattle.icu_plurals.specs.Inner.ElementsReading.{lent_value, number_of, bytes_of, lent_bytes};
+ghost use Rattle.icu_plurals.specs.Inner.ElementsViews.{lent_value, number_of, bytes_of, lent_bytes};
 ghost use Rattle.icu_plurals.specs.PackedElements.{IsPackedItem, category_item, is_same_value, item_at, item_bytes, packed_items};
 
 use crate::elements::PluralElements;

@@ -11,7 +11,7 @@ pub struct FourBitMetadata {
 
 impl FourBitMetadata {
     ghost use Rattle.std.specs.Prelude.{◌≡◌, ◌≤◌, ◌<◌, ◌%◌, ◌↔◌, IfSome, IsSome};
-    ghost use Rattle.icu_plurals.specs.Inner.ElementsReading.{number_of};
+    ghost use Rattle.icu_plurals.specs.Inner.ElementsViews.{number_of};
 
     /// The number as metadata, where it is at most 15.
     pub fn try_from_byte(byte: u8) -> Option<FourBitMetadata>

@@ -2,7 +2,8 @@
 
 ghost use Rattle.std.specs.Prelude.{◌≡◌, MatchResult, IsOk, Err};
 ghost use Rattle.icu_plurals.specs.ElementsFaults.{ArePartsOf, HasPartsFault};
-ghost use Rattle.icu_plurals.specs.Inner.ElementsReading.{AreGoodParts, HasPlaceFault, lent_parts};
+ghost use Rattle.icu_plurals.specs.Inner.ElementsReading.{AreGoodParts, HasPlaceFault};
+ghost use Rattle.icu_plurals.specs.Inner.ElementsViews.{lent_parts};
 
 use crate::packed::error::ElementsBytesError;
 use crate::packed::items::{check_items, is_text};

@@ -4,7 +4,8 @@ ghost use Rattle.std.specs.Prelude.{◌≡◌, ◌%◌, IsTrue, map, option_map}
 ghost use Rattle.std.specs.List.{list_all};
 ghost use Rattle.std.specs.Str.{is_utf8};
 ghost use Rattle.icu_plurals.specs.PackedElements.{value_at};
-ghost use Rattle.icu_plurals.specs.Inner.ElementsReading.{is_item, item_in, lent_value};
+ghost use Rattle.icu_plurals.specs.Inner.ElementsReading.{is_item, item_in};
+ghost use Rattle.icu_plurals.specs.Inner.ElementsViews.{lent_value};
 
 use crate::packed::metadata::FourBitMetadata;
 use packed_list::PackedList;

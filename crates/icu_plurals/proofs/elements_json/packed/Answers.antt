@@ -2,7 +2,7 @@ use Rattle.std.proofs.Common.{ap, ◌∙◌}
 use Rattle.std.specs.Prelude.{Ok}
 use Rattle.icu_plurals.specs.ElementsJson.{unless_fault}
 use Rattle.icu_plurals.specs.Elements.{each_by}
-use Rattle.icu_plurals.specs.Inner.ElementsReading.{lent_value}
+use Rattle.icu_plurals.specs.Inner.ElementsViews.{lent_value}
 use Rattle.icu_plurals.specs.PackedElements.{packed_of}
 use Rattle.icu_plurals.proofs.CheckedElements.{are_elements, same_elements}
 use Rattle.icu_plurals.proofs.Encoded.{no_fault}

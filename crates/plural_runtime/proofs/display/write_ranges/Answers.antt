@@ -5,7 +5,7 @@ use Rattle.std.proofs.lemmas.Grind.{put_two}
 use Rattle.std.proofs.lemmas.List.{take_all}
 use Rattle.plural_runtime.specs.RuleKinds.{range_or_value}
 use Rattle.plural_runtime.specs.RuleText.{range_shown, ranges_shown}
-use Rattle.plural_runtime.specs.Inner.RuleReading.{lent_relation}
+use Rattle.plural_runtime.specs.Inner.RuleViews.{lent_relation}
 use Rattle.plural_runtime.proofs.JoinedTexts.{joined_more}
 use Rattle.plural_runtime.proofs.RuleTexts.{range_at}
 use Rattle.plural_runtime.proofs.display.write_ranges.Goals as goal

@@ -4,7 +4,7 @@ use Rattle.std.specs.Fmt.{HasWritten}
 use Rattle.std.proofs.lemmas.Grind.{put_two}
 use Rattle.std.proofs.lemmas.List.{take_all}
 use Rattle.plural_runtime.specs.RuleText.{relations_shown}
-use Rattle.plural_runtime.specs.Inner.RuleReading.{lent_relation}
+use Rattle.plural_runtime.specs.Inner.RuleViews.{lent_relation}
 use Rattle.plural_runtime.proofs.RuleTexts.{shown_more}
 use Rattle.plural_runtime.proofs.display.write_relations.Goals as goal
 

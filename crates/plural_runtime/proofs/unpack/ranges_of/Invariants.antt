@@ -1,6 +1,6 @@
 use Rattle.std.proofs.Common.{◌≡◌, take, map}
 use Rattle.plural_runtime.specs.PackedTree.{unpacked_range}
-use Rattle.plural_runtime.specs.Inner.RuleReading.{lent_relation}
+use Rattle.plural_runtime.specs.Inner.RuleViews.{lent_relation}
 use Rattle.plural_runtime.proofs.unpack.ranges_of.Given as goal
 
 -- The ranges so far are made.

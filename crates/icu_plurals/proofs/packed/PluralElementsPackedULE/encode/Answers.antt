@@ -4,7 +4,8 @@ use Rattle.std.proofs.lemmas.Result.{err_from_is_err_and}
 use Rattle.plural_base.specs.declared.json_error.ElementsPackError.TheVariants.{DefaultLimit, StartLimit}
 use Rattle.icu_plurals.specs.Elements.{Elements, each_by}
 use Rattle.icu_plurals.specs.PackedElements.{pack_fault, PackedValue, IsPackedValue, ElementsBytes, item_bytes, packed_items, packed_of}
-use Rattle.icu_plurals.specs.Inner.ElementsReading.{lent_value, bytes_with_items, lent_bytes}
+use Rattle.icu_plurals.specs.Inner.ElementsReading.{bytes_with_items}
+use Rattle.icu_plurals.specs.Inner.ElementsViews.{lent_value, lent_bytes}
 use Rattle.icu_plurals.proofs.Encoded.{answers_as, encoded, default_refused, start_refused}
 use Rattle.icu_plurals.proofs.packed.PluralElementsPackedULE.encode.Goals as goal
 use Rattle.icu_plurals.proofs.packed.PluralElementsPackedULE.encode.Goals.{After-list_beside, In-Ok}

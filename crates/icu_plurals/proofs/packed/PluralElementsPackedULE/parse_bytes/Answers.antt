@@ -1,6 +1,6 @@
 use Rattle.std.proofs.Common.{◌≡◌, ◌∙◌, arith, ap, sym, subst}
 use Rattle.std.specs.Prelude.{Err}
-use Rattle.icu_plurals.specs.Inner.ElementsReading.{lent_parts, lent_elements}
+use Rattle.icu_plurals.specs.Inner.ElementsViews.{lent_parts, lent_elements}
 use Rattle.icu_plurals.specs.ElementsFaults.{HasElementsFault}
 use Rattle.icu_plurals.proofs.ElementsAgain.{elements_are_good, elements_in_one, good_are_elements}
 use Rattle.icu_plurals.proofs.ElementsOneFault.{fault_of_parts, parts_fault_is}

@@ -1,4 +1,5 @@
-use Rattle.icu_plurals.specs.Inner.ElementsReading.{elements_in, lent_parts}
+use Rattle.icu_plurals.specs.Inner.ElementsReading.{elements_in}
+use Rattle.icu_plurals.specs.Inner.ElementsViews.{lent_parts}
 use Rattle.icu_plurals.proofs.ElementsAgain.{parts_shown}
 use Rattle.icu_plurals.proofs.packed.PluralElementsPackedULE.parts.Goals as goal
 

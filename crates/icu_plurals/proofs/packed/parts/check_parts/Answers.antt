@@ -2,7 +2,7 @@ use Rattle.std.proofs.Common.{◌≡◌, ◌∙◌, arith, ap, sym, refl, Bool, 
 use Rattle.std.specs.Prelude.{option_map}
 use Rattle.std.specs.Str.{is_utf8}
 use Rattle.icu_plurals.specs.ElementsFaults.{HasPadding, HasRestFault}
-use Rattle.icu_plurals.specs.Inner.ElementsReading.{lent_parts}
+use Rattle.icu_plurals.specs.Inner.ElementsViews.{lent_parts}
 use Rattle.icu_plurals.proofs.ElementsOneFault.{parts_answer, rest_fault}
 use Rattle.icu_plurals.proofs.packed.parts.check_parts.Goals.{After-check_items}
 use Rattle.icu_plurals.proofs.packed.parts.check_parts.Goals as goal

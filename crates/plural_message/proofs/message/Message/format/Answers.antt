@@ -5,7 +5,7 @@ use Rattle.fixed_decimal.specs.declared.error.DecimalError.{DecimalError}
 use Rattle.fixed_decimal.specs.declared.error.DecimalError.TheVariants.{Syntax, Limit, Memory as no_memory}
 use Rattle.icu_plurals.specs.Operands.{AreCut, Operands}
 use Rattle.icu_plurals.specs.Elements.{IsKeptElement, Elements, element_at}
-use Rattle.icu_plurals.specs.Inner.ElementsReading.{lent_value}
+use Rattle.icu_plurals.specs.Inner.ElementsViews.{lent_value}
 use Rattle.icu_plurals.specs.FiveRules.{FiveRules}
 use Rattle.icu_plurals.specs.PackedElements.{PackedValue}
 use Rattle.plural_message.specs.declared.error.MessageError.{MessageError}
