@@ -11,6 +11,7 @@ pub mod EveryReading
 pub mod RuleRefusals
 pub mod Rows
 pub mod RowsRead
+pub mod DocumentRefusals
 pub mod RulesRead
 pub mod RawCategories
 pub mod RangeNames
