@@ -46,6 +46,7 @@ pub use Rattle.plural_base.specs.DecimalChoice
 pub use Rattle.plural_base.specs.Ranges
 pub use Rattle.plural_base.specs.Providers
 -- JSON and providers
+pub use Rattle.plural_base.specs.Json
 pub use Rattle.plural_base.specs.RulesJson
 pub use Rattle.plural_base.specs.RangesJson
 pub use Rattle.plural_base.specs.PluralBaseErrors
