@@ -6,7 +6,7 @@ use Rattle.plural_base.specs.declared.category.raw.RawPluralCategory.TheVariants
 use Rattle.plural_base.specs.declared.category.PluralCategory.{PluralCategory}
 use Rattle.plural_base.specs.declared.category.PluralCategory.TheVariants as category
 use Rattle.plural_base.specs.Categories.{name_of, raw_category_of, raw_name_of, all_raw_categories}
-use Rattle.plural_base.specs.Ranges.{Range, all_ranges, range_text, range_named, category_named}
+use Rattle.plural_base.specs.Ranges.{Range, all_category_ranges, range_text, range_named, category_named}
 use Rattle.plural_base.proofs.RawCategories.{by_category}
 
 -- what is found passes
@@ -53,7 +53,7 @@ same_name category.Other = refl
 pub range_named_is : (text : List ℕ) (range : Range) → range_named text ≡ Some range → text ≡ range_text range.0 range.1
 unfolding range_named
 range_named_is text range found =
-    (bytes_eq-Decides text (range_text range.0 range.1)).0 (find_passes (λ range. bytes_eq text (range_text range.0 range.1)) all_ranges range found)
+    (bytes_eq-Decides text (range_text range.0 range.1)).0 (find_passes (λ range. bytes_eq text (range_text range.0 range.1)) all_category_ranges range found)
 
 pub range_named_as : (start end : RawPluralCategory) → range_named (range_text start end) ≡ Some (start, end)
 unfolding range_named

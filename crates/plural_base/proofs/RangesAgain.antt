@@ -11,7 +11,7 @@ use Rattle.plural_base.specs.declared.json.error.JsonError.TheVariants.{Float, R
 use Rattle.plural_base.specs.declared.ranges.PluralRanges.{PluralRanges}
 use Rattle.plural_base.specs.declared.category.raw.RawPluralCategory.{RawPluralCategory}
 use Rattle.plural_base.specs.Ranges.{at, each, put_at, Range, range_named, range_text, category_at, no_ranges, with_range}
-use Rattle.plural_base.specs.Categories.{number_of}
+use Rattle.plural_base.specs.Categories.{category_number}
 use Rattle.plural_base.specs.RangesJson.{AreMembersOf, IsJsonOfRanges, category_meant, keys_in, members_meant, name_json, object_under, ranges_of_json, ranges_meant}
 use Rattle.plural_base.specs.Json.{◌>>=◌, there_or}
 use Rattle.serde_json.specs.Data.{Data, object, Members, no_members, member}
@@ -90,8 +90,8 @@ module _ (ranges : PluralRanges) where
 
 -- ---- A table with one pair more
 
-same_test : (c : RawPluralCategory) → (number_of c == number_of c) ≡ true
-same_test = by_category (λ c. (number_of c == number_of c) ≡ true) refl refl refl refl refl refl
+same_test : (c : RawPluralCategory) → (category_number c == category_number c) ≡ true
+same_test = by_category (λ c. (category_number c == category_number c) ≡ true) refl refl refl refl refl refl
 
 module _ (acc : PluralRanges) (start end category : RawPluralCategory) where
   with_here : category_at (with_range acc start end category) start end ≡ Some category
@@ -102,16 +102,16 @@ module _ (acc : PluralRanges) (start end category : RawPluralCategory) where
       ∙ ap (λ b. if b then Some category else at (at acc start) end) (same_test end)
 
   module _ (s e : RawPluralCategory) (P : Option RawPluralCategory → Type 0) (same : s ≡ start → e ≡ end → P (Some category)) (other : P (category_at acc s e)) where
-    in_row : (b : Bool) → (number_of e == number_of end) ≡ b → s ≡ start → P (if b then Some category else at (at acc start) e)
+    in_row : (b : Bool) → (category_number e == category_number end) ≡ b → s ≡ start → P (if b then Some category else at (at acc start) e)
     in_row true is start_is = same start_is (same_number e end (eqb-true _ _ is))
     in_row false is start_is = subst (λ r. P (at (at acc r) e)) start_is other
 
-    at_row : (b : Bool) → (number_of s == number_of start) ≡ b → P (at (if b then put_at (at acc start) end (Some category) else at acc s) e)
-    at_row true is = subst P (sym (at-put_at (at acc start) end (Some category) e)) (in_row (number_of e == number_of end) refl (same_number s start (eqb-true _ _ is)))
+    at_row : (b : Bool) → (category_number s == category_number start) ≡ b → P (at (if b then put_at (at acc start) end (Some category) else at acc s) e)
+    at_row true is = subst P (sym (at-put_at (at acc start) end (Some category) e)) (in_row (category_number e == category_number end) refl (same_number s start (eqb-true _ _ is)))
     at_row false is = other
 
     with_any : P (category_at (with_range acc start end category) s e)
-    with_any = subst (λ row. P (at row e)) (sym (at-put_at acc start (put_at (at acc start) end (Some category)) s)) (at_row (number_of s == number_of start) refl)
+    with_any = subst (λ row. P (at row e)) (sym (at-put_at acc start (put_at (at acc start) end (Some category)) s)) (at_row (category_number s == category_number start) refl)
 
 none_at : (s e : RawPluralCategory) → category_at no_ranges s e ≡ None
 none_at s e = ap (λ row. at row e) (at-each (λ start. each (λ end. None)) s) ∙ at-each (λ end. None) e

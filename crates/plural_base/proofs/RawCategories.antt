@@ -5,7 +5,7 @@ use Rattle.plural_base.specs.declared.category.by_category.ByCategory.{ByCategor
 use Rattle.plural_base.specs.declared.category.raw.RawPluralCategory.{RawPluralCategory}
 use Rattle.plural_base.specs.declared.category.raw.RawPluralCategory.TheVariants.{Other, Zero, One, Two, Few, Many}
 use Rattle.plural_base.specs.Ranges.{each, at, put_at, range_byte}
-use Rattle.plural_base.specs.Categories.{number_of}
+use Rattle.plural_base.specs.Categories.{category_number}
 
 -- what holds of each of the six holds of all
 pub by_category : (P : RawPluralCategory → Type 0) → P Other → P Zero → P One → P Two → P Few → P Many → (c : RawPluralCategory) → P c
@@ -25,15 +25,15 @@ numbered (suc (suc (suc zero))) = Two
 numbered (suc (suc (suc (suc zero)))) = Few
 numbered _ = Many
 
-numbered_back : (c : RawPluralCategory) → numbered (number_of c) ≡ c
-numbered_back = by_category (λ c. numbered (number_of c) ≡ c) refl refl refl refl refl refl
+numbered_back : (c : RawPluralCategory) → numbered (category_number c) ≡ c
+numbered_back = by_category (λ c. numbered (category_number c) ≡ c) refl refl refl refl refl refl
 
 -- no two have one number
-pub same_number : (c d : RawPluralCategory) → number_of c ≡ number_of d → c ≡ d
+pub same_number : (c d : RawPluralCategory) → category_number c ≡ category_number d → c ≡ d
 same_number c d same = sym (numbered_back c) ∙ ap numbered same ∙ numbered_back d
 
-number_below : (c : RawPluralCategory) → number_of c < 6
-number_below = by_category (λ c. number_of c < 6) (lit< tt) (lit< tt) (lit< tt) (lit< tt) (lit< tt) (lit< tt)
+number_below : (c : RawPluralCategory) → category_number c < 6
+number_below = by_category (λ c. category_number c < 6) (lit< tt) (lit< tt) (lit< tt) (lit< tt) (lit< tt) (lit< tt)
 
 -- nor have two ranges one byte
 pub same_byte : (start end start' end' : RawPluralCategory) → range_byte start end ≡ range_byte start' end' → (start ≡ start') × (end ≡ end')
@@ -51,20 +51,20 @@ pub at-each : {A : Type 0} (f : RawPluralCategory → A) (c : RawPluralCategory)
 at-each f = by_category (λ c. at (each f) c ≡ f c) refl refl refl refl refl refl
 
 module _ {A : Type 0} (things : ByCategory A) (c : RawPluralCategory) (thing : A) (d : RawPluralCategory) where
-  pub at-put_at : at (put_at things c thing) d ≡ if number_of d == number_of c then thing else at things d
-  at-put_at = at-each (λ d. if number_of d == number_of c then thing else at things d) d
+  pub at-put_at : at (put_at things c thing) d ≡ if category_number d == category_number c then thing else at things d
+  at-put_at = at-each (λ d. if category_number d == category_number c then thing else at things d) d
 
   -- another category keeps what it has
   pub at-put_at_other : d ≢ c → at (put_at things c thing) d ≡ at things d
-  at-put_at_other other = at-put_at ∙ (rw (ne_eqb (number_of d) (number_of c) (λ same. other (same_number d c same))) refl)
+  at-put_at_other other = at-put_at ∙ (rw (ne_eqb (category_number d) (category_number c) (λ same. other (same_number d c same))) refl)
 
 -- what stands at another pair stays
 module _ {A : Type 0} (rows : ByCategory (ByCategory A)) (start end : RawPluralCategory) (thing : A) (s e : RawPluralCategory) where
-  in_row : e ≢ end → (b : Bool) → (number_of s == number_of start) ≡ b
+  in_row : e ≢ end → (b : Bool) → (category_number s == category_number start) ≡ b
       → at (if b then put_at (at rows start) end thing else at rows s) e ≡ at (at rows s) e
   in_row other true same = at-put_at_other (at rows start) end thing e other ∙ ap (λ r. at (at rows r) e) (sym (same_number s start (eqb-true _ _ same)))
   in_row other false same = refl
 
   pub others_stay : (s ≢ start) ⊎ (e ≢ end) → at (at (put_at rows start (put_at (at rows start) end thing)) s) e ≡ at (at rows s) e
   others_stay (inl other) = ap (λ row. at row e) (at-put_at_other rows start (put_at (at rows start) end thing) s other)
-  others_stay (inr other) = ap (λ row. at row e) (at-put_at rows start (put_at (at rows start) end thing) s) ∙ in_row other (number_of s == number_of start) refl
+  others_stay (inr other) = ap (λ row. at row e) (at-put_at rows start (put_at (at rows start) end thing) s) ∙ in_row other (category_number s == category_number start) refl

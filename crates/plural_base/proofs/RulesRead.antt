@@ -9,7 +9,7 @@ use Rattle.plural_base.specs.declared.category.PluralCategory.{PluralCategory}
 use Rattle.plural_base.specs.declared.category.PluralCategory.TheVariants.{Zero, One, Two, Few, Many}
 use Rattle.plural_base.specs.declared.json.error.JsonError.{JsonError}
 use Rattle.plural_base.specs.declared.json.error.JsonError.TheVariants.{Shape}
-use Rattle.plural_base.specs.DocumentJson.{Rows, Document, found, rows_meant, map_meant, all_maps, document_meant, value_at, IsThereAs, IsReadAt, AreRangesAt}
+use Rattle.plural_base.specs.DocumentJson.{Rows, Document, found, rows_meant, map_meant, all_maps, document_meant, value_of_locale, IsThereAs, IsReadAt, AreRangesAt}
 use Rattle.plural_base.specs.declared.ranges.PluralRanges.{PluralRanges}
 use Rattle.plural_base.specs.FiveRules.{Five, FiveRules}
 use Rattle.plural_base.specs.RangesJson.{ranges_meant}
@@ -139,19 +139,19 @@ module _ (texts : TextReader) (tells : TellsTexts texts) (value : Data) where
   maps_of document h = are_maps _ _ _ document (if_read (is_some (as_object value)) Shape _ document h)
 
   pub cardinal_read : (read : Result Document JsonError) → Answers (λ d. d) read (document_meant texts value)
-      → IfOk read (λ d. (locale : List ℕ) → IsReadAt (value_at (codes "cardinal") locale value) (found locale d.cardinal))
+      → IfOk read (λ d. (locale : List ℕ) → IsReadAt (value_of_locale (codes "cardinal") locale value) (found locale d.cardinal))
   cardinal_read (Err e) h = tt
   cardinal_read (Ok document) h = λ locale.
       map_read (rules_meant texts) (λ v rules. AreRulesOf (texts_in v) rules) (rules_taken texts tells) locale _ document.cardinal (maps_of document h).cardinal_is
 
   pub ordinal_read : (read : Result Document JsonError) → Answers (λ d. d) read (document_meant texts value)
-      → IfOk read (λ d. (locale : List ℕ) → IsReadAt (value_at (codes "ordinal") locale value) (found locale d.ordinal))
+      → IfOk read (λ d. (locale : List ℕ) → IsReadAt (value_of_locale (codes "ordinal") locale value) (found locale d.ordinal))
   ordinal_read (Err e) h = tt
   ordinal_read (Ok document) h = λ locale.
       map_read (rules_meant texts) (λ v rules. AreRulesOf (texts_in v) rules) (rules_taken texts tells) locale _ document.ordinal (maps_of document h).ordinal_is
 
   pub ranges_read : (read : Result Document JsonError) → Answers (λ d. d) read (document_meant texts value)
-      → IfOk read (λ d. (locale : List ℕ) → AreRangesAt (value_at (codes "ranges") locale value) (found locale d.ranges))
+      → IfOk read (λ d. (locale : List ℕ) → AreRangesAt (value_of_locale (codes "ranges") locale value) (found locale d.ranges))
   ranges_read (Err e) h = tt
   ranges_read (Ok document) h = λ locale.
       map_read ranges_meant (λ v ranges. ranges_meant v ≡ Ok ranges) (λ v ranges read. read) locale _ document.ranges (maps_of document h).ranges_are

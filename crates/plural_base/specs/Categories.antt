@@ -50,13 +50,13 @@ abbrev pub raw_name_of : RawPluralCategory → List ℕ
 raw_name_of raw = name_of (category_of raw)
 
 -- its number
-abbrev pub number_of : RawPluralCategory → ℕ
-number_of raw.Other = 0
-number_of raw.Zero = 1
-number_of raw.One = 2
-number_of raw.Two = 3
-number_of raw.Few = 4
-number_of raw.Many = 5
+abbrev pub category_number : RawPluralCategory → ℕ
+category_number raw.Other = 0
+category_number raw.Zero = 1
+category_number raw.One = 2
+category_number raw.Two = 3
+category_number raw.Few = 4
+category_number raw.Many = 5
 
 -- all six, in the order of their numbers
 abbrev pub all_raw_categories : List RawPluralCategory

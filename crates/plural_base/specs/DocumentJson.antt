@@ -72,8 +72,8 @@ document_of_json texts = unless_float (document_meant texts)
 -- ---- What a locale has
 
 -- the value of a locale under a key of the document
-abbrev pub value_at : List ℕ → List ℕ → Data → Option Data
-value_at key locale value = option_and_then (get locale) (get key value)
+abbrev pub value_of_locale : List ℕ → List ℕ → Data → Option Data
+value_of_locale key locale value = option_and_then (get locale) (get key value)
 
 -- neither is there, or what is there is read from the value
 abbrev pub IsThereAs : {A : Type 0} → (Data → A → Type 0) → Option Data → Option A → Type 0

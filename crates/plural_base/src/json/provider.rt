@@ -46,7 +46,7 @@ impl Model for JsonProvider {
 }
 
 impl JsonProvider {
-    ghost use Rattle.plural_base.specs.DocumentJson.{found, document_of_json, value_at, AreRangesAt, IsReadAt};
+    ghost use Rattle.plural_base.specs.DocumentJson.{found, document_of_json, value_of_locale, AreRangesAt, IsReadAt};
 
     /// The provider of a document: an object with an object from locales to rules, as
     /// [`PluralRulesData::from_json`] reads them, under each of `cardinal` and `ordinal`, and one to
@@ -61,10 +61,10 @@ impl JsonProvider {
     pub fn from_value(alloc: Global, value: &Value) -> Result<JsonProvider, JsonError>
         ensures answers { (texts : TextReader) → TellsTexts texts → Answers (λ provider. provider) result (document_of_json texts (view value.now)) }
         // A locale has rules exactly where its key is there, and they are those of the texts under it.
-        ensures cardinal { IfOk result (λ provider. (locale : List ℕ) → IsReadAt (value_at (codes "cardinal") locale (view value.now)) (found locale provider.cardinal)) }
-        ensures ordinal { IfOk result (λ provider. (locale : List ℕ) → IsReadAt (value_at (codes "ordinal") locale (view value.now)) (found locale provider.ordinal)) }
+        ensures cardinal { IfOk result (λ provider. (locale : List ℕ) → IsReadAt (value_of_locale (codes "cardinal") locale (view value.now)) (found locale provider.cardinal)) }
+        ensures ordinal { IfOk result (λ provider. (locale : List ℕ) → IsReadAt (value_of_locale (codes "ordinal") locale (view value.now)) (found locale provider.ordinal)) }
         // A locale has ranges exactly where its key is there, and they are those that the value under it stands for.
-        ensures ranges { IfOk result (λ provider. (locale : List ℕ) → AreRangesAt (value_at (codes "ranges") locale (view value.now)) (found locale provider.ranges)) }
+        ensures ranges { IfOk result (λ provider. (locale : List ℕ) → AreRangesAt (value_of_locale (codes "ranges") locale (view value.now)) (found locale provider.ranges)) }
         // Both are looked for before memory is taken.
         ensures float { (result ≡ Err JsonError.Float) ↔ IsTrue (has_float (view value.now)) }
         ensures shape { IsFalse (has_float (view value.now)) → as_object (view value.now) ≡ None → result ≡ Err JsonError.Shape }

@@ -3,7 +3,7 @@
 ghost use Rattle.std.specs.Prelude.{◌≡◌, ◌↔◌, Some};
 ghost use Rattle.plural_base.specs.declared.category.raw.RawPluralCategory.{RawPluralCategory as Category};
 ghost use Rattle.plural_base.specs.declared.ranges.key.UnvalidatedPluralRange.{UnvalidatedPluralRange as Key};
-ghost use Rattle.plural_base.specs.Categories.{number_of};
+ghost use Rattle.plural_base.specs.Categories.{category_number};
 ghost use Rattle.plural_base.specs.Ranges.{category_named, range_byte, range_key, range_named, IsKeyOfText};
 
 use crate::category::PluralCategory;
@@ -59,7 +59,7 @@ pub(crate) fn category_of_name(name: &str) -> Option<RawPluralCategory>
 
 // The category of a number, if it has one.
 fn numbered(number: u8) -> Option<RawPluralCategory>
-    ensures { (category : Category) → (result ≡ Some category) ↔ (number ≡ number_of category) }
+    ensures { (category : Category) → (result ≡ Some category) ↔ (number ≡ category_number category) }
 {
     match number {
         0 => Some(RawPluralCategory::Other),
