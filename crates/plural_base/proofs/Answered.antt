@@ -15,7 +15,8 @@ use Rattle.plural_base.specs.RuleTexts.{IsTakenAs, HasRuleError, RuleAnswer, Tex
 -- of the one reading or fault of a text, or of want of memory, an answer is told
 pub is_answered : HaveOneListOfTokens → HaveOneRule → (text : List ℕ) (answer : RuleAnswer)
     → ((tokens : List Token) (rule : Rule) → AreTokensOf text tokens → ReadsRule tokens rule → Packs rule.condition answer)
-    → ((tokens : List Token) (kind : ParseError) → AreTokensOf text tokens → FaultyRule tokens kind → (answer ≡ Err (Parse kind)) ⊎ (answer ≡ Err Memory))
+    → ((tokens : List Token) (kind : ParseError) → AreTokensOf text tokens → FaultyRule tokens kind
+    → (answer ≡ Err (Parse kind)) ⊎ (answer ≡ Err Memory))
     → TextGives text answer ⊎ (answer ≡ Err Memory)
 is_answered one_list one_rule text answer read fault =
     let tokens = one_list text in
@@ -30,7 +31,8 @@ is_answered one_list one_rule text answer read fault =
       ]
     ]
 
-pub answered_ok : (text : List ℕ) (answer : RuleAnswer) → TextGives text answer ⊎ (answer ≡ Err Memory) → IfOk answer (λ rule. IsTakenAs (Some text) (Some rule))
+pub answered_ok : (text : List ℕ) (answer : RuleAnswer) → TextGives text answer ⊎ (answer ≡ Err Memory)
+    → IfOk answer (λ rule. IsTakenAs (Some text) (Some rule))
 answered_ok text (Ok rule) (inl (inl read)) = (Some read.0, (read.1, sym read.2))
 answered_ok text (Ok rule) (inl (inr fault)) = absurd (let e = fault.2 in cc)
 answered_ok text (Ok rule) (inr memory) = cc
@@ -39,7 +41,8 @@ answered_ok text (Err e) h = tt
 same_error : (e f : RuleError) → ◌≡◌ {A = RuleAnswer} (Err e) (Err f) → e ≡ f
 same_error e f same = cc
 
-pub answered_err : (text : List ℕ) (answer : RuleAnswer) → TextGives text answer ⊎ (answer ≡ Err Memory) → IfErr answer (λ e. HasRuleError text e ⊎ (e ≡ Memory))
+pub answered_err : (text : List ℕ) (answer : RuleAnswer) → TextGives text answer ⊎ (answer ≡ Err Memory)
+    → IfErr answer (λ e. HasRuleError text e ⊎ (e ≡ Memory))
 answered_err text (Ok rule) h = tt
 answered_err text (Err e) (inl (inl read)) = inl (inr (read.0, read.1, sym read.2))
 answered_err text (Err e) (inl (inr fault)) = inl (inl (fault.0, fault.1, same_error e (Parse fault.0) fault.2))

@@ -27,7 +27,8 @@ condition_of_rule text condition h =
     subst P h.2 (h.1.0, h.1.1, (read.0, read.1))
 
 -- a rule is read from every reading of its text
-rule_again : HaveOneListOfTokens → HaveOneReading → (text : Option (List ℕ)) (known condition : Option Condition) (rule : Option (List PackedRelation))
+rule_again : HaveOneListOfTokens → HaveOneReading
+    → (text : Option (List ℕ)) (known condition : Option Condition) (rule : Option (List PackedRelation))
     → IsReadFrom text known rule → IsReading (TextReads Reads) text condition → IsReadFrom text condition rule
 rule_again one_list one_reading None None None None read reading = read
 rule_again one_list one_reading (Some text) (Some known) (Some condition) (Some rule) read reading =

@@ -21,14 +21,17 @@ use Rattle.plural_base.proofs.PackedConditions.{AreLaterFilled, packed_truth-pac
 
 -- ---- What is packed
 
+-- what is packed without a fault is the relations, and has no large value
 packs : (large high : Bool) (relations rule : List PackedRelation)
-    → (if large then Err (Parse ValueTooLarge) else (if high then Err StartLimit else Ok relations)) ≡ Ok rule → (rule ≡ relations) × (large ≡ false)
+    → (if large then Err (Parse ValueTooLarge) else (if high then Err StartLimit else Ok relations)) ≡ Ok rule
+    → (rule ≡ relations) × (large ≡ false)
 packs true high relations rule h = cc
 packs false true relations rule h = cc
 packs false false relations rule h = (cc, refl)
 
 -- a condition that packs gives its relations, and has no value above 32 bits
-pub packing-ok : (condition : Condition) (rule : List PackedRelation) → packing condition ≡ Ok rule → (rule ≡ packed condition) × (has_large_value condition ≡ false)
+pub packing-ok : (condition : Condition) (rule : List PackedRelation) → packing condition ≡ Ok rule
+    → (rule ≡ packed condition) × (has_large_value condition ≡ false)
 unfolding packing
 packing-ok condition rule h = packs (has_large_value condition) _ (packed condition) rule h
 
@@ -43,12 +46,14 @@ reads_filled text condition reads =
     subst P reads.2 (read_is_filled read.0 rule.condition spelled.0 spelled.1)
 
 rule_alike : ConditionsAgree → (x : Places) (e : ℕ) (moduli : List ℕ) (cut exact : Operands) → IsKept x e moduli cut exact
-    → (text : Option (List ℕ)) (condition : Option Condition) (rule : Option (List PackedRelation)) → IsReadFrom text condition rule → Covers moduli (moduli_of_rule rule)
+    → (text : Option (List ℕ)) (condition : Option Condition) (rule : Option (List PackedRelation)) → IsReadFrom text condition rule
+    → Covers moduli (moduli_of_rule rule)
     → passes (packed_truth cut) rule ≡ passes (exact_truth exact) condition
 rule_alike agree x e moduli cut exact kept None None None read covers = refl
 rule_alike agree x e moduli cut exact kept (Some text) (Some condition) (Some rule) read covers =
     let packs = packing-ok condition rule read.1 in
-    let covered : Covers moduli (flat_map moduli_of_relation (packed condition)) = let P : List PackedRelation → Type 0 = λ r. Covers moduli (flat_map moduli_of_relation r) in subst P packs.0 covers in
+    let covered : Covers moduli (flat_map moduli_of_relation (packed condition)) = let P : List PackedRelation
+    → Type 0 = λ r. Covers moduli (flat_map moduli_of_relation r) in subst P packs.0 covers in
     ap (packed_truth cut) packs.0
     ∙ packed_truth-packed cut condition (reads_filled text condition read.0)
     ∙ agree x e moduli cut exact condition kept (condition_admitted moduli condition packs.1 covered)
@@ -73,9 +78,11 @@ first_category-exact agree x e cut exact texts conditions rules kept read =
     let alike = rule_alike agree x e (moduli_of rules) cut exact kept in
     same_choice
     (alike texts.zero conditions.zero rules.zero read.zero
-    (λ m h. Contains-append_left (a ++ b ++ c ++ d) f m (Contains-append_left (a ++ b ++ c) d m (Contains-append_left (a ++ b) c m (Contains-append_left a b m h)))))
+    (λ m h. Contains-append_left (a ++ b ++ c ++ d) f m
+    (Contains-append_left (a ++ b ++ c) d m (Contains-append_left (a ++ b) c m (Contains-append_left a b m h)))))
     (alike texts.one conditions.one rules.one read.one
-    (λ m h. Contains-append_left (a ++ b ++ c ++ d) f m (Contains-append_left (a ++ b ++ c) d m (Contains-append_left (a ++ b) c m (Contains-append_right a b m h)))))
+    (λ m h. Contains-append_left (a ++ b ++ c ++ d) f m
+    (Contains-append_left (a ++ b ++ c) d m (Contains-append_left (a ++ b) c m (Contains-append_right a b m h)))))
     (alike texts.two conditions.two rules.two read.two
     (λ m h. Contains-append_left (a ++ b ++ c ++ d) f m (Contains-append_left (a ++ b ++ c) d m (Contains-append_right (a ++ b) c m h))))
     (alike texts.few conditions.few rules.few read.few

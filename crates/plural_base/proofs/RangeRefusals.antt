@@ -14,20 +14,25 @@ use Rattle.serde_json.specs.Find.{get, as_object, as_str}
 
 -- a refusal that none of the parts has
 module _ (bad : JsonError) where
-  never_then : {A B : Type 0} (first : Stands A) (next : A → Stands B) → first ≢ Err bad → ((x : A) → next x ≢ Err bad) → (first >>= next) ≢ Err bad
+  -- two steps aren't refused so, if neither is
+  never_then : {A B : Type 0} (first : Stands A) (next : A → Stands B) → first ≢ Err bad → ((x : A) → next x ≢ Err bad)
+      → (first >>= next) ≢ Err bad
   never_then (Ok x) next no_first no_next = no_next x
   never_then (Err e) next no_first no_next = λ h. no_first cc
 
+  -- nor is what may be absent, by another refusal
   never_there : {A : Type 0} (e : JsonError) (o : Option A) → e ≢ bad → there_or e o ≢ Err bad
   never_there e None other = λ h. other cc
   never_there e (Some x) other = λ h. absurd cc
 
   module _ (no_shape : Shape ≢ bad) (no_key : RangeKey ≢ bad) (no_value : RangeValue ≢ bad) where
+    -- nor is a category
     never_category : (value : Data) → category_meant value ≢ Err bad
     never_category value =
         never_then (there_or Shape (as_str value)) _ (never_there Shape (as_str value) no_shape)
         (λ text. never_there RangeValue (category_named text) no_value)
 
+    -- nor are members
     never_members : (ms : Members) (ranges : PluralRanges) → members_meant ranges ms ≢ Err bad
     never_members no_members ranges = λ h. absurd cc
     never_members (member key value ms) ranges =
@@ -35,6 +40,7 @@ module _ (bad : JsonError) where
         (λ range. never_then (category_meant value) _ (never_category value)
         (λ category. never_members ms (with_range ranges range.0 range.1 category)))
 
+    -- nor are the categories of ranges
     pub never_ranges : (value : Data) → ranges_meant value ≢ Err bad
     never_ranges value =
         never_then (there_or Shape (option_and_then as_object (get (codes "ranges") value))) (members_meant no_ranges)

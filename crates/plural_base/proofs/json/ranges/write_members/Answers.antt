@@ -11,6 +11,7 @@ loop-start-init c = rw c.new-members.ensures.empty refl
 
 pub loop-start-preserved : goal.loop-start-preserved
 loop-start-preserved c =
-    next_fold (put_row c.args.ranges.now) all_raw_categories c.loop-start.start-index Other (members_view c.loop-start.members.entries) (members_view c.write_row.new.members.entries)
+    next_fold (put_row c.args.ranges.now) all_raw_categories c.loop-start.start-index Other (members_view c.loop-start.members.entries)
+    (members_view c.write_row.new.members.entries)
     c.loop-start-test.true c.in_ok-write_row.ensures
     ∙ c.loop-start.invariant

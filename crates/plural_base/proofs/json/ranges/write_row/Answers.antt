@@ -12,6 +12,7 @@ loop-end-preserved c =
     let start = c.args.start in
     let end = get_or all_raw_categories c.loop-end.end-index Other in
     let before = members_view c.loop-end.members.entries in
-    next_fold (λ ms e. put_range start e ms (category_at c.args.ranges.now start e)) all_raw_categories c.loop-end.end-index Other before (members_view c.write_range.new.members.entries)
+    next_fold (λ ms e. put_range start e ms (category_at c.args.ranges.now start e)) all_raw_categories c.loop-end.end-index Other before
+    (members_view c.write_range.new.members.entries)
     c.loop-end-test.true (c.in_ok-write_range.ensures ∙ ap (put_range start end before) c.get.ensures)
     ∙ c.loop-end.invariant

@@ -8,5 +8,6 @@ use Rattle.plural_base.proofs.json.ranges.write_row.Given as goal
 -- the ends that are left are put behind those so far
 abbrev pub invariant-loop-end : goal.invariant-loop-end
 invariant-loop-end l =
-    fold (λ ms end. put_range l.start end ms (category_at l.ranges l.start end)) (members_view l.members.entries) (drop l.end-index all_raw_categories)
+    fold (λ ms end. put_range l.start end ms (category_at l.ranges l.start end)) (members_view l.members.entries)
+    (drop l.end-index all_raw_categories)
     ≡ put_row l.ranges (members_view l.fn.members.entries) l.start

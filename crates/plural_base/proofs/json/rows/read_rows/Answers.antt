@@ -24,17 +24,21 @@ loop-locale-init g c =
 
 -- the member's row is put, and its key is behind those before it
 is_put : (g : _) (c : In_ok-put g) → rows_by g.T.FromJson.seen c.put.new.rows.entries
-    ≡ insert_entry (slice_cmp nat_cmp) (rows_by g.T.FromJson.seen c.loop-locale.rows.entries) (string_bytes c.in-Some.locale.now) (g.T.FromJson.seen c.in_ok-row.row)
+    ≡ insert_entry (slice_cmp nat_cmp) (rows_by g.T.FromJson.seen c.loop-locale.rows.entries) (string_bytes c.in-Some.locale.now)
+    (g.T.FromJson.seen c.in_ok-row.row)
 is_put g c =
     let seen = g.T.FromJson.seen in
-    subst (λ k. rows_by seen c.put.new.rows.entries ≡ insert_entry (slice_cmp nat_cmp) (rows_by seen c.loop-locale.rows.entries) k (seen c.in_ok-row.row))
+    subst (λ k. rows_by seen c.put.new.rows.entries ≡ insert_entry (slice_cmp nat_cmp) (rows_by seen c.loop-locale.rows.entries) k
+    (seen c.in_ok-row.row))
     c.in_ok-clone.ensures.cases c.in_ok-put.ensures
 
 -- the keys so far, the member's and those that are left ascend
 in_order : (g : _) (c : In_ok-put g)
-    → Ascend (keys_of (rows_by g.T.FromJson.seen c.loop-locale.rows.entries) ++ string_bytes c.in-Some.locale.now ∷ key_bytes c.next.new.self)
+    → Ascend
+    (keys_of (rows_by g.T.FromJson.seen c.loop-locale.rows.entries) ++ string_bytes c.in-Some.locale.now ∷ key_bytes c.next.new.self)
 in_order g c =
-    subst (λ left. Ascend (keys_of (rows_by g.T.FromJson.seen c.loop-locale.rows.entries) ++ key_bytes left)) c.in-Some.ensures.steps c.loop-locale.invariant.1
+    subst (λ left. Ascend (keys_of (rows_by g.T.FromJson.seen c.loop-locale.rows.entries) ++ key_bytes left)) c.in-Some.ensures.steps
+    c.loop-locale.invariant.1
 
 pub loop-locale-preserved : goal.loop-locale-preserved
 loop-locale-preserved g c =

@@ -14,4 +14,5 @@ returns c =
     let found : c.get_for_cldr_string.result ≡ Some c.in_ok-get_for_cldr_string.field-0 = c.in_ok-get_for_cldr_string.was in
     let is = (c.get_for_cldr_string.ensures c.in_ok-get_for_cldr_string.field-0).0 found in
     ap Some c.from.ensures
-    ∙ named_category c.args.name.now (raw_category_of c.in_ok-get_for_cldr_string.field-0) (is ∙ sym (same_name c.in_ok-get_for_cldr_string.field-0))
+    ∙ named_category c.args.name.now (raw_category_of c.in_ok-get_for_cldr_string.field-0)
+    (is ∙ sym (same_name c.in_ok-get_for_cldr_string.field-0))

@@ -17,5 +17,6 @@ returns-in_err-category_of_name-2 c =
 
 pub returns : goal.returns
 returns c =
-    both_named c.args.text.now (c.in_ok-start.start, c.in_ok-start.end) c.in_ok-start.ensures.cases c.in_ok-category_of_name.field-0 c.in_ok-category_of_name-2.field-0
+    both_named c.args.text.now (c.in_ok-start.start, c.in_ok-start.end) c.in_ok-start.ensures.cases c.in_ok-category_of_name.field-0
+    c.in_ok-category_of_name-2.field-0
     c.in_ok-category_of_name.ensures c.in_ok-category_of_name-2.ensures

@@ -11,4 +11,5 @@ returns-clause-exact c = λ texts conditions exact read within are_exact.
     let kept : IsKept digits c.args.number.now.exponent (moduli_of rules) c.from-operands.result exact =
     record { written = c.from-operands.ensures.1; within = within; are_cut = c.from-operands.ensures.0; are_exact = are_exact } in
     c.category_for.ensures.first
-    ∙ first_category-exact c.kept_operands_agree.ensures.conditions digits c.args.number.now.exponent c.from-operands.result exact texts conditions rules kept read
+    ∙ first_category-exact c.kept_operands_agree.ensures.conditions digits c.args.number.now.exponent c.from-operands.result exact texts
+    conditions rules kept read

@@ -12,4 +12,5 @@ pub returns-clause-float : goal.returns-clause-float
 returns-clause-float c = λ float. ranges_no_float (view c.args.value.now) (sym c.read_ranges.ensures ∙ float)
 
 pub returns-clause-memory : goal.returns-clause-memory
-returns-clause-memory c = λ category memory. ranges_no_rule category fault.Memory (view c.args.value.now) (sym c.read_ranges.ensures ∙ memory)
+returns-clause-memory c =
+    λ category memory. ranges_no_rule category fault.Memory (view c.args.value.now) (sym c.read_ranges.ensures ∙ memory)

@@ -7,7 +7,8 @@ use Rattle.plural_base.specs.Ranges.{range_byte}
 use Rattle.plural_base.proofs.ranges.key.UnvalidatedPluralRange.to_json.Goals as goal
 
 -- a byte that names a range is refused by no key
-named : {A : Type 0} (r : Result A JsonError) (byte : ℕ) (start end : RawPluralCategory) → byte ≡ range_byte start end → (r ≡ Err RangeKey → ⊥)
+named : {A : Type 0} (r : Result A JsonError) (byte : ℕ) (start end : RawPluralCategory) → byte ≡ range_byte start end
+    → (r ≡ Err RangeKey → ⊥)
     → (r ≡ Err RangeKey) ↔ ((s : RawPluralCategory) (e : RawPluralCategory) → byte ≢ range_byte s e)
 named r byte start end is no_key = (λ key. absurd (no_key key), λ never. absurd (never start end is))
 
