@@ -1,5 +1,5 @@
 -- An answer that is read, or a fault that is there, is the exact one.
-use Rattle.std.proofs.Common.{◌≡◌, ℕ, List, [], Result, Ok, Err, refl, sym, ap, ◌∙◌, subst, inl, inr}
+use Rattle.std.proofs.Common.{◌≡◌, ℕ, List, [], true, Result, Ok, Err, refl, sym, ap, ◌∙◌, subst, inl, inr}
 use Rattle.plural_reference.specs.declared.ast.Condition.{Condition}
 use Rattle.plural_reference.specs.declared.ast.Rule.{Rule}
 use Rattle.plural_reference.specs.declared.error.ParseError.{ParseError}
@@ -8,15 +8,17 @@ use Rattle.plural_reference.specs.declared.error.ReadError.TheVariants.{Parse, M
 use Rattle.plural_reference.specs.declared.token.Token.{Token}
 use Rattle.plural_reference.specs.Lexer.{AreTokensOf}
 use Rattle.plural_reference.specs.Parser.{Reads, Faulty}
-use Rattle.plural_reference.specs.Reading.{AnswersExactly, IsAnswer, AnswersUnlessMemory}
+use Rattle.plural_reference.specs.Reading.{AnswersExactly, IsAnswer, IsFault, AnswersUnlessMemory}
 use Rattle.plural_reference.specs.ReadingLaws.{HasOneReading}
-use Rattle.plural_reference.specs.Samples.{ReadsRule, FaultyRule}
+use Rattle.plural_reference.specs.Samples.{ReadsRule, ReadsCondition, FaultyRule}
 use Rattle.plural_reference.specs.Inner.Reader.{run, begin}
-use Rattle.plural_reference.specs.Inner.SampleReader.{ReadsAllSamples, after_sections, run_samples}
+use Rattle.plural_reference.specs.Inner.SampleReader.{ReadsKept, ReadsAllSamples, after_sections, run_samples}
+use Rattle.plural_reference.specs.Inner.RuleReader.{rule_of, of_condition, with_samples}
 use Rattle.plural_reference.proofs.ScanSound.{tokens_are}
 use Rattle.plural_reference.proofs.ReaderSound.{Said, said}
 use Rattle.plural_reference.proofs.Readings.{one_reading}
-use Rattle.plural_reference.proofs.RuleReadings.{rule_of, of_condition, with_samples, Given, given, one_rule}
+use Rattle.plural_reference.proofs.SampleSinks.{kept_is_read}
+use Rattle.plural_reference.proofs.RuleReadings.{Given, given, one_rule}
 
 -- ---- one answer
 
@@ -64,11 +66,37 @@ pub rule_answers : (text : List ℕ) (tokens : List Token) (r : Result Rule Read
 rule_answers text tokens r t h = exactly ReadsRule FaultyRule text tokens r t (one_rule tokens) (rule_said tokens r h)
 
 -- a condition, and samples behind it
-pub rule_is : (tokens middle rest : List Token) (rule : Rule) → run begin tokens ≡ Ok (rule.condition, middle) → ReadsAllSamples middle rule.samples rest → rule_of tokens ≡ Ok rule
+rule_is : (tokens middle rest : List Token) (rule : Rule) → run begin tokens ≡ Ok (rule.condition, middle) → ReadsAllSamples middle rule.samples rest → rule_of tokens ≡ Ok rule
 rule_is tokens middle rest rule h k = ap of_condition h ∙ ap (with_samples rule.condition) k.run_is ∙ ap (λ x. Ok (record { condition = rule.condition; samples = x })) (sym k.samples_are)
+
+-- the same of samples that are kept
+pub kept_rule_is : (tokens middle rest : List Token) (rule : Rule) → run begin tokens ≡ Ok (rule.condition, middle) → ReadsKept true ReadsAllSamples middle rule.samples rest → rule_of tokens ≡ Ok rule
+kept_rule_is tokens middle rest rule h k = rule_is tokens middle rest rule h (kept_is_read ReadsAllSamples middle rule.samples rest k)
 
 pub condition_fault : (tokens : List Token) (kind : ParseError) → run begin tokens ≡ Err kind → rule_of tokens ≡ Err kind
 condition_fault tokens kind h = ap of_condition h
 
 pub samples_fault : (tokens middle : List Token) (c : Condition) (kind : ParseError) → run begin tokens ≡ Ok (c, middle) → run_samples (after_sections []) middle ≡ Err kind → rule_of tokens ≡ Err kind
 samples_fault tokens middle c kind h k = ap of_condition h ∙ ap (with_samples c) k
+
+-- ---- rules without their samples
+
+-- of every list of tokens one rule's condition is read, or it has one fault
+one_of_rules : (tokens : List Token) → HasOneReading ReadsRule FaultyRule tokens → HasOneReading ReadsCondition FaultyRule tokens
+one_of_rules tokens (inl ((rule, read, only), none)) =
+    inl ((rule.condition, (rule, read, refl), (λ c h. sym h.2 ∙ ap (λ (x : Rule). x.condition) (only h.0 h.1))), none)
+one_of_rules tokens (inr (one, none)) = inr (one, (λ c h. none h.0 h.1))
+
+-- a condition, and samples behind it that are left out
+pub without_samples_answers : (text : List ℕ) (tokens middle rest : List Token) (rule : Rule) → AreTokensOf text tokens → run begin tokens ≡ Ok (rule.condition, middle) → ReadsAllSamples middle rule.samples rest → AnswersExactly ReadsCondition FaultyRule text (Ok rule.condition)
+unfolding Given
+without_samples_answers text tokens middle rest rule t h k =
+    exactly ReadsCondition FaultyRule text tokens (Ok rule.condition) t (one_of_rules tokens (one_rule tokens))
+    (rule, subst (Given tokens) (rule_is tokens middle rest rule h k) (given tokens), refl)
+
+-- a fault of either, or want of memory
+pub without_samples_refuses : (text : List ℕ) (tokens : List Token) (e : ReadError) → AreTokensOf text tokens → IsFault (λ kind. rule_of tokens ≡ Err kind) e → AnswersExactly ReadsCondition FaultyRule text (Err e)
+unfolding Given
+without_samples_refuses text tokens (Parse kind) t h =
+    exactly ReadsCondition FaultyRule text tokens (Err (Parse kind)) t (one_of_rules tokens (one_rule tokens)) (subst (Given tokens) h (given tokens))
+without_samples_refuses text tokens Memory t h = exactly ReadsCondition FaultyRule text tokens (Err Memory) t (one_of_rules tokens (one_rule tokens)) tt

@@ -10,35 +10,21 @@ use Rattle.plural_reference.specs.Samples.{Section, samples_of, ReadsSamples, Re
 use Rattle.plural_reference.specs.ReadingLaws.{HasOneReading, HaveOneRule}
 use Rattle.plural_reference.specs.Inner.Reader.{run, begin, Outcome}
 use Rattle.plural_reference.specs.Inner.SampleReader.{after_sections, run_samples, SampleOutcome}
+use Rattle.plural_reference.specs.Inner.RuleReader.{RuleOutcome, with_samples, of_condition, rule_of}
 use Rattle.plural_reference.proofs.ReaderComplete.{reads_run, faulty_run}
 use Rattle.plural_reference.proofs.ReaderSound.{Said, said}
 use Rattle.plural_reference.proofs.SampleSound.{SaidSamples, said_samples}
 use Rattle.plural_reference.proofs.SampleComplete.{reads_samples_run, faulty_samples_run}
 
--- what a whole rule gives
-abbrev pub RuleOutcome : Type 0
-RuleOutcome = Result Rule ParseError
-
-abbrev pub with_samples : Condition → SampleOutcome → RuleOutcome
-with_samples c (Ok (sections, rest)) = Ok (record { condition = c; samples = samples_of sections })
-with_samples c (Err kind) = Err kind
-
-abbrev pub of_condition : Outcome → RuleOutcome
-of_condition (Ok (c, rest)) = with_samples c (run_samples (after_sections []) rest)
-of_condition (Err kind) = Err kind
-
-abbrev pub rule_of : List Token → RuleOutcome
-rule_of tokens = of_condition (run begin tokens)
-
 sections_read : (tokens : List Token) (s : Option samples.Samples) → ReadsSamples tokens s → (sections : List Section) × (rest : List Token) × (run_samples (after_sections []) tokens ≡ Ok (sections, rest)) × (s ≡ samples_of sections)
 sections_read tokens s h = (h.0, h.2, reads_samples_run tokens h.0 h.2 (h.1, h.3, h.4, h.5), h.6)
 
-reads_rule : (tokens : List Token) (r : Rule) → ReadsRule tokens r → rule_of tokens ≡ Ok r
+pub reads_rule : (tokens : List Token) (r : Rule) → ReadsRule tokens r → rule_of tokens ≡ Ok r
 reads_rule tokens r h =
     let s = sections_read h.0 r.samples h.2 in
     ap of_condition (reads_run tokens r.condition h.0 h.1) ∙ ap (with_samples r.condition) s.2 ∙ ap (λ (x : Option samples.Samples). Ok (record { condition = r.condition; samples = x })) (sym s.3)
 
-faulty_rule : (tokens : List Token) (kind : ParseError) → FaultyRule tokens kind → rule_of tokens ≡ Err kind
+pub faulty_rule : (tokens : List Token) (kind : ParseError) → FaultyRule tokens kind → rule_of tokens ≡ Err kind
 faulty_rule tokens kind (inl h) = ap of_condition (faulty_run tokens kind h)
 faulty_rule tokens kind (inr (c, rest, h, k)) = ap of_condition (reads_run tokens c rest h) ∙ ap (with_samples c) (faulty_samples_run rest kind k)
 

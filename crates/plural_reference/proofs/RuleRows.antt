@@ -19,8 +19,9 @@ use Rattle.plural_reference.specs.Serializer.{rule_text}
 use Rattle.plural_reference.specs.Inner.Scan.{tokens_of, tokens_from}
 use Rattle.plural_reference.specs.Inner.Reader.{run}
 use Rattle.plural_reference.specs.Inner.SampleReader.{run_samples}
+use Rattle.plural_reference.specs.Inner.RuleReader.{rule_of}
 use Rattle.plural_reference.proofs.ScanSound.{has_tokens}
-use Rattle.plural_reference.proofs.RuleReadings.{rule_of, Given, given}
+use Rattle.plural_reference.proofs.RuleReadings.{Given, given}
 
 reads : (text : List ℕ) (r : Rule) → rule_of (tokens_of text) ≡ Ok r → TextReads ReadsRule text r
 unfolding Given

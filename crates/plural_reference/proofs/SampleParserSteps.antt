@@ -22,7 +22,7 @@ use Rattle.plural_reference.specs.Inner.Reader.{TakesValue}
 use Rattle.plural_reference.specs.Samples.{Section, IsDigits, IsExponentMark, IsSampleType, Takes, token_text, has_exponent, has_point, type_fault, sample_fault, samples_of, with_list}
 use Rattle.plural_reference.specs.Inner.SampleReader.{Partial, after_sections, behind_at, awaits_sample, behind_comma, in_sample, behind_mark, with_sections, ranges_with, begin_list, run_samples, type_token, sample_at, joined_list, TakesText, NoDigits, NoMark, ReadsDigits, ReadsNumber, JoinsExponent, ReadsExponent, ReadsSample, ReadsRange, ReadsRanges, ReadsSampleList, ReadsLists, ReadsAllSamples}
 use Rattle.plural_reference.proofs.SampleSound.{left_false, right_false}
-use Rattle.plural_reference.proofs.SampleComplete.{any-append, digits_no_mark, digits_no_point, digit_run, point_run, mark_run, after_mark_run, first_digit_run, first_point_run, first_mark_run, at_start, tilde_run, comma_run, ellipsis_run, type_run, joins_ends, tilde_ends, type_stop, sample_stop, mark_stop}
+use Rattle.plural_reference.proofs.SampleComplete.{any-append, digits_no_mark, digits_no_point, digit_run, point_run, mark_run, after_mark_run, first_digit_run, first_point_run, first_mark_run, at_start, tilde_run, comma_run, ellipsis_run, type_run, joins_ends, tilde_ends, type_stop, mark_stop}
 
 -- ---- texts
 
@@ -100,20 +100,27 @@ mark_joins p (b ∷ bs) t rest m h = mark_run p (b ∷ bs) t rest m h
 -- ---- digits
 
 pub no_digits_yet : (text : List ℕ) (old : List Token) → has_exponent text ≡ false → ReadsDigits text old text old
-no_digits_yet text old h = record { run_is = λ p. refl; no_mark = h; same_point = refl }
+no_digits_yet text old h = record { run_is = λ p. refl; no_mark = h; same_point = refl; nothing = λ e. refl }
+
+-- a text that was joined by another that isn't empty
+joined_not_empty : (u v : List ℕ) → IsNotEmpty v → u ++ v ≢ []
+joined_not_empty [] [] h e = h
+joined_not_empty [] (x ∷ v) h e = cc
+joined_not_empty (x ∷ u) v h e = cc
 
 pub more_digits : (before after : List ℕ) (n : ℕ) (old middle new : List Token) → ReadsDigits before old after middle → TakesText IsDigits middle (decimal n) new → ReadsDigits before old (after ++ decimal n) new
 more_digits before after n old middle new h (t, e, d, w) = record {
   run_is = λ p. h.run_is p ∙ ap (run_samples (sample_at p after)) e ∙ digits_join p after t new d h.no_mark ∙ ap (λ x. run_samples (sample_at p (after ++ x)) new) w;
   no_mark = ap (λ x. has_exponent (after ++ x)) (sym w) ∙ any-append _ after (token_text t) h.no_mark (digits_no_mark t d);
   same_point = ap (λ x. has_point (after ++ x)) (sym w) ∙ any-append_none _ after (token_text t) (digits_no_point t d) ∙ h.same_point;
+  nothing = λ none. absurd (joined_not_empty after (decimal n) (decimal_not_empty n) none);
 }
 
 pub point_has_no_mark : (text : List ℕ) → has_exponent text ≡ false → has_exponent (text ++ 46 ∷ []) ≡ false
 point_has_no_mark text h = any-append _ text (46 ∷ []) h refl
 
 pub number_alone : (text : List ℕ) (old middle new : List Token) → ReadsDigits [] old text middle → NoDigits middle → first middle ≢ Some Dot → new ≡ middle → ReadsNumber old text new
-number_alone text old middle new h d n e = record { run_is = λ p. h.run_is p ∙ ap (run_samples (sample_at p text)) (sym e); no_mark = h.no_mark; no_digits = rw e d; no_point = λ k. absurd (n (rw e at k)) }
+number_alone text old middle new h d n e = record { run_is = λ p. h.run_is p ∙ ap (run_samples (sample_at p text)) (sym e); no_mark = h.no_mark; no_digits = rw e d; no_point = λ k. absurd (n (rw e at k)); nothing = λ k. e ∙ h.nothing k }
 
 pub number_with_point : (first_text text : List ℕ) (old middle after new : List Token) → ReadsDigits [] old first_text middle → middle ≡ Dot ∷ after → ReadsDigits (first_text ++ 46 ∷ []) after text new → NoDigits new → ReadsNumber old text new
 number_with_point first_text text old middle after new h e k d = record {
@@ -121,6 +128,7 @@ number_with_point first_text text old middle after new h e k d = record {
   no_mark = k.no_mark;
   no_digits = d;
   no_point = λ _. k.same_point ∙ any-append_second _ first_text (46 ∷ []) refl;
+  nothing = λ none. absurd (true≢false (sym (k.same_point ∙ any-append_second _ first_text (46 ∷ []) refl) ∙ ap has_point none));
 }
 
 -- ---- exponents
@@ -170,12 +178,13 @@ not_empty_at : (p : Partial) (text : List ℕ) → text ≢ [] → sample_at p t
 not_empty_at p [] h = absurd (h refl)
 not_empty_at p (b ∷ bs) h = refl
 
-pub no_sample : (before text : List ℕ) (old middle new : List Token) → ReadsNumber old before middle → ReadsExponent before middle text new → text ≡ [] → (p : Partial) → run_samples (awaits_sample p) old ≡ Err ExpectedValue
-no_sample before text old middle new h (inl (e, f, m)) w p =
-    let nothing : before ≡ [] = sym e ∙ w in
-    h.run_is p ∙ ap (λ x. run_samples (sample_at p x) middle) nothing
-    ∙ sample_stop p middle ExpectedValue (nothing_next middle h.no_digits (λ k. ap has_point (sym nothing) ∙ h.no_point k) m)
-no_sample before text old middle new h (inr k) w p = absurd (true≢false (sym k.a_mark ∙ ap has_exponent w))
+-- a sample that has begun isn't empty
+pub begun_not_empty : (before text : List ℕ) (old middle new : List Token) → sample_fault (first old) ≡ None → ReadsNumber old before middle → ReadsExponent before middle text new → text ≢ []
+begun_not_empty before text old middle new b h (inl (e, f, m)) w =
+    let none : before ≡ [] = sym e ∙ w in
+    let fault = nothing_next middle h.no_digits (λ k. ap has_point (sym none) ∙ h.no_point k) m in
+    none_is_not_some (sym b ∙ ap (λ x. sample_fault (first x)) (sym (h.nothing none)) ∙ fault)
+begun_not_empty before text old middle new b h (inr k) w = true≢false (sym k.a_mark ∙ ap has_exponent w)
 
 pub a_sample : (before text : List ℕ) (old middle new : List Token) → ReadsNumber old before middle → ReadsExponent before middle text new → text ≢ [] → ReadsSample old text new
 a_sample before text old middle new h (inl (e, f, m)) w = record {

@@ -20,3 +20,4 @@ mod WorkedRules
 mod SpellableTrees
 mod PrintedAgain
 mod FaultKinds
+mod TextAnswers

@@ -1,13 +1,11 @@
 -- The groups of a rule and of its tree.
-use Rattle.std.proofs.Common.{◌≡◌, ℕ, ◌+◌, ◌<◌, List, [], ◌∷◌, ◌++◌, length, take, drop, get_or, map, refl, sym, ap, ◌∙◌, Some, arith, append_assoc, append-nil}
-use Rattle.std.specs.Prelude.{slice_get, option_map, ◌==◌, Bool, true, false}
-use Rattle.std.proofs.lemmas.List.{take_more, drop_more, map-append}
-use Rattle.std.proofs.lemmas.Option.{slice_get-get_or}
+use Rattle.std.proofs.Common.{◌≡◌, ℕ, ◌<◌, List, [], ◌∷◌, ◌++◌, length, map, refl, sym, ap, ◌∙◌, arith, append_assoc, append-nil}
+use Rattle.std.specs.Prelude.{◌==◌, Bool, true, false}
+use Rattle.std.proofs.lemmas.List.{map-append}
 use Rattle.plural_reference.specs.declared.ast.AndCondition.{AndCondition}
 use Rattle.plural_reference.specs.declared.ast.Relation.{Relation}
 use Rattle.plural_runtime.specs.declared.kinds.AndOr.{AndOr}
 use Rattle.plural_runtime.specs.declared.kinds.AndOr.TheVariants.{And, Or}
-use Rattle.plural_runtime.specs.declared.range.RangeOrValue.{RangeOrValue}
 use Rattle.plural_runtime.specs.RuleKinds.{item_of, range_or_value}
 use Rattle.plural_runtime.specs.PackedRelations.{PackedRelation, groups, at_front, cut_before}
 use Rattle.plural_runtime.specs.PackedTree.{packed_relation, packed_and_condition, packed_groups, packed, unpacked_range, unpacked_relation, unpacked_groups, unpacked}
@@ -63,14 +61,10 @@ item_of-range range = by (range.0 == range.1) refl
     by true h = rw h refl
     by false h = rw h refl
 
--- one more range of a list
-pub made_more : (ranges : List (ℕ × ℕ)) (k : ℕ) (range : RangeOrValue) → k < length ranges → Some range ≡ option_map range_or_value (slice_get ranges k) → map unpacked_range (take k ranges) ++ item_of range ∷ [] ≡ map unpacked_range (take (k + 1) ranges)
-made_more ranges k range h e =
-    let g = slice_get-get_or ranges k (0, 0) h in
-    let f : Some range ≡ Some (range_or_value (get_or ranges k (0, 0))) = e ∙ ap (option_map range_or_value) g in
-    let i : range ≡ range_or_value (get_or ranges k (0, 0)) = cc in
-    ap (λ r. map unpacked_range (take k ranges) ++ item_of r ∷ []) i ∙ ap (λ r. map unpacked_range (take k ranges) ++ r ∷ []) (item_of-range (get_or ranges k (0, 0)))
-    ∙ sym (map-append unpacked_range (take k ranges) (get_or ranges k (0, 0) ∷ [])) ∙ ap (map unpacked_range) (sym (take_more ranges k (0, 0) h))
+-- the items of all ranges
+pub made_all : (ranges : List (ℕ × ℕ)) → map item_of (map range_or_value ranges) ≡ map unpacked_range ranges
+made_all [] = refl
+made_all (range ∷ ranges) = ap (λ item. item ∷ map item_of (map range_or_value ranges)) (item_of-range range) ∙ ap (λ items. unpacked_range range ∷ items) (made_all ranges)
 
 -- the tree of no relation
 pub no_relations : (conditions : List AndCondition) (relations : List PackedRelation) → length relations ≡ 0 → conditions ≡ [] → record { 0 = conditions } ≡ unpacked relations
@@ -107,13 +101,6 @@ glued-all [] h = absurd (omega arith)
 glued-all (relation ∷ relations) h =
     let f = first_group (relation ∷ relations) in
     glued-groups [] [] (relation ∷ relations) ∙ ap (λ gs. with_open [] (map (map unpacked_relation) gs)) f.is ∙ ap (map (map unpacked_relation)) (sym f.is)
-
--- one more relation is glued
-pub glued_more : (done : List (List Relation)) (group : List Relation) (relations : List PackedRelation) (k : ℕ) (relation : PackedRelation) → k < length relations → Some relation ≡ slice_get relations k → glued done group (drop k relations) ≡ glued (done_before relation.and_or done group) (open_before relation.and_or group ++ unpacked_relation relation ∷ []) (drop (k + 1) relations)
-glued_more done group relations k relation h e =
-    let g = slice_get-get_or relations k relation h in
-    let i : get_or relations k relation ≡ relation = cc in
-    ap (glued done group) (drop_more relations k relation h) ∙ ap (λ r. glued done group (r ∷ drop (k + 1) relations)) i
 
 -- the groups that are done and the open one are the tree
 pub whole_tree : (conditions : List AndCondition) (group : List Relation) (relations : List PackedRelation) → map (λ (c : AndCondition). c.0) conditions ++ group ∷ [] ≡ unpacked_groups relations → record { 0 = conditions ++ record { 0 = group } ∷ [] } ≡ unpacked relations

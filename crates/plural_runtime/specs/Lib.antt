@@ -5,5 +5,6 @@ pub mod PackedTree
 pub mod RuleKinds
 pub mod PluralRuntimeErrors
 pub mod RuleText
+pub mod RuleOfText
 pub mod Inner
 -- not definitions of the subject

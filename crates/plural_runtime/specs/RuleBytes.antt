@@ -38,6 +38,14 @@ operand_number E = 7
 abbrev pub first_byte : AndOr → Operator → Operand → ℕ
 first_byte and_or operator operand = and_or_bit and_or + operator_bit operator + operand_number operand
 
+-- how many bytes a relation has before its ranges: the first byte and the modulus
+abbrev pub head_length : ℕ
+head_length = 5
+
+-- how many bytes a range has: both its ends
+abbrev pub range_length : ℕ
+range_length = 8
+
 -- both ends of a range, each as four bytes, low byte first
 abbrev pub range_bytes : ℕ × ℕ → List ℕ
 range_bytes range = to_le_bytes w32 range.0 ++ to_le_bytes w32 range.1
@@ -58,9 +66,13 @@ pub record RuleBytes (relations : List PackedRelation) (bytes : List ℕ) : Type
 
 -- ---- What is wrong with the items of a packed list that is no rule.
 
--- an item's length is 5 and a multiple of 8
+-- so many bytes are whole ranges
+abbrev pub is_whole : ℕ → Bool
+is_whole n = n % range_length == 0
+
+-- an item's length is that of the head and of whole ranges
 abbrev pub is_item_length : ℕ → Bool
-is_item_length n = nat_le 5 n && ((n - 5) % 8 == 0)
+is_item_length n = nat_le head_length n && is_whole (n - head_length)
 
 -- an item is a relation: its length, and the operand in bits 0 to 5 of its first byte
 abbrev pub is_relation : List ℕ → Bool

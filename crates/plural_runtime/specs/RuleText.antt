@@ -2,8 +2,7 @@
 use Rattle.std.specs.Prelude.{ℕ, List, [], ◌∷◌, ◌++◌, codes, Bool, true, false, if◌then◌else◌, ◌==◌, ◌≡◌, None, Ok}
 use Rattle.std.specs.Fmt.{decimal}
 use Rattle.plural_reference.specs.declared.ast.Operator.{Operator}
-use Rattle.plural_reference.specs.declared.ast.Operator.TheVariants.{Eq, NotEq}
-use Rattle.plural_reference.specs.Serializer.{joined, operand_text, condition_text}
+use Rattle.plural_reference.specs.Serializer.{joined, operand_text, operator_text, condition_text}
 use Rattle.plural_reference.specs.Truth.{RelationMeaning}
 use Rattle.plural_runtime.specs.declared.kinds.AndOr.{AndOr}
 use Rattle.plural_runtime.specs.declared.kinds.AndOr.TheVariants.{And, Or}
@@ -24,9 +23,9 @@ mark_text is_first And = if is_first then [] else codes " and "
 abbrev pub modulus_text : ℕ → List ℕ
 modulus_text modulus = if modulus == 0 then [] else (codes " % " ++ decimal modulus)
 
+-- the operator, with a space on each side
 abbrev pub sign_text : Operator → List ℕ
-sign_text Eq = codes " = "
-sign_text NotEq = codes " != "
+sign_text operator = codes " " ++ operator_text operator ++ codes " "
 
 abbrev pub range_shown : RangeOrValue → List ℕ
 range_shown (Range start end) = decimal start ++ (codes ".." ++ decimal end)

@@ -8,12 +8,14 @@ ghost use Rattle.plural_runtime.specs.RuleBytes.{RuleBytes};
 ghost use Rattle.plural_runtime.specs.Inner.RuleReading.{relations_in};
 ghost use Rattle.plural_runtime.specs.PackedTree.{packed, unpacked, has_no_negated_n};
 ghost use Rattle.plural_runtime.specs.PackedTruth.{packed_truth, needed_ranges, all_ranges};
+ghost use Rattle.plural_runtime.specs.RuleOfText.{TextsGiveOneAnswer};
 ghost use Rattle.plural_runtime.specs.RuleText.{PrintedRulesPackAgain};
 
 use packed_list::laws::read_again;
 use plural_reference::laws::printing::{
     conditions_of_texts_are_spellable, spellable_conditions_print_back,
 };
+use plural_reference::laws::reading::texts_are_read;
 
 /// Rules are the same bytes exactly if they are the same relations.
 pub fn one_encoding()
@@ -53,4 +55,12 @@ pub fn printed_rules_pack_again()
 {
     conditions_of_texts_are_spellable();
     spellable_conditions_print_back();
+}
+
+/// Every text gives one answer as a rule, and no other: the relations that its condition is packed to, or the reason why it
+/// gives none. It is a function of the text.
+pub fn texts_give_one_answer()
+    ensures { TextsGiveOneAnswer }
+{
+    texts_are_read();
 }

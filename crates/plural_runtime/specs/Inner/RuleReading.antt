@@ -8,7 +8,7 @@ use Rattle.plural_reference.specs.declared.ast.Operator.TheVariants.{Eq, NotEq}
 use Rattle.plural_runtime.specs.declared.kinds.AndOr.{AndOr}
 use Rattle.plural_runtime.specs.declared.kinds.AndOr.TheVariants.{And, Or}
 use Rattle.plural_runtime.specs.PackedRelations.{PackedRelation}
-use Rattle.plural_runtime.specs.RuleBytes.{RuleBytes}
+use Rattle.plural_runtime.specs.RuleBytes.{head_length, RuleBytes}
 
 -- what bit 7 of a byte says
 abbrev pub and_or_in : ℕ → AndOr
@@ -55,7 +55,7 @@ relation_in bytes = record {
     operand = operand_or_n (operand_in (slice_index bytes 0));
     modulus = number_of (slice_index bytes 1) (slice_index bytes 2) (slice_index bytes 3) (slice_index bytes 4);
     operator = operator_in (slice_index bytes 0);
-    ranges = ranges_in (drop 5 bytes);
+    ranges = ranges_in (drop head_length bytes);
   };
 }
 

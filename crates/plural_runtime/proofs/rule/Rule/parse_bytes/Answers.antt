@@ -7,6 +7,9 @@ use Rattle.plural_runtime.specs.RuleBytes.{first_fault, is_relation, relation_by
 use Rattle.plural_runtime.proofs.RuleItems.{is_rule, items_pass, no_fault, relations_in_one, first_fault-list}
 use Rattle.plural_runtime.proofs.rule.Rule.parse_bytes.Goals as goal
 
+pub first_fault_of-requires : goal.first_fault_of-requires
+first_fault_of-requires c = c.in-Ok.ensures.ok.can_pack.count
+
 pub returns-in-Some-clause-accepted : goal.returns-in-Some-clause-accepted
 returns-in-Some-clause-accepted c = λ relations h.
     let list = c.in-Ok.ensures.accepted (map relation_bytes relations) h.packed in

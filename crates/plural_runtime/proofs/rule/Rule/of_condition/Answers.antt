@@ -4,17 +4,17 @@ use Rattle.packed_list.specs.ListBytes.{ListBytes}
 use Rattle.plural_runtime.specs.PackedTree.{packed}
 use Rattle.plural_runtime.specs.RuleBytes.{RuleBytes}
 use Rattle.plural_runtime.proofs.PackedTrees.{packing-large, packing-high, packing-ok, small_tree}
-use Rattle.plural_runtime.proofs.rule.Rule.try_from.Goals as goal
+use Rattle.plural_runtime.proofs.rule.Rule.of_condition.Goals as goal
 
 pub returns-then-has_large_value-clause-packs : goal.returns-then-has_large_value-clause-packs
-returns-then-has_large_value-clause-packs c = inl (sym (packing-large c.args.rule.now.condition (sym c.if-has_large_value.ensures)))
+returns-then-has_large_value-clause-packs c = inl (sym (packing-large c.args.condition.now (sym c.if-has_large_value.ensures)))
 
 pub returns-in_default-clause-packs : goal.returns-in_default-clause-packs
-returns-in_default-clause-packs c = inl (sym (packing-high c.args.rule.now.condition (sym c.if-has_large_value.ensures) c.in_default.ensures.high))
+returns-in_default-clause-packs c = inl (sym (packing-high c.args.condition.now (sym c.if-has_large_value.ensures) c.in_default.ensures.high))
 
 pub owned-requires : goal.owned-requires
 owned-requires c =
-    let condition = c.args.rule.now.condition in
+    let condition = c.args.condition.now in
     let bytes = c.in-Ok.bytes.items in
     let here : RuleBytes (packed condition) bytes = record {
       fit = small_tree condition (sym c.if-has_large_value.ensures);
@@ -24,7 +24,7 @@ owned-requires c =
 
 pub returns-in-Ok-clause-packs : goal.returns-in-Ok-clause-packs
 returns-in-Ok-clause-packs c =
-    let condition = c.args.rule.now.condition in
+    let condition = c.args.condition.now in
     let bytes = c.in-Ok.bytes.items in
     let law = c.relations_read_again.ensures in
     let no_large = sym c.if-has_large_value.ensures in
