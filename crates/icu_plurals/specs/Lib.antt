@@ -33,6 +33,7 @@ pub use Rattle.plural_runtime.specs.PackedRelations
 pub use Rattle.plural_runtime.specs.RuleBytes
 pub use Rattle.plural_runtime.specs.PackedTruth
 pub use Rattle.plural_runtime.specs.PackedTree
+pub use Rattle.plural_runtime.specs.RuleOfText
 pub use Rattle.plural_runtime.specs.PluralRuntimeErrors
 pub use Rattle.plural_runtime.specs.RuleKinds
 pub use Rattle.plural_runtime.specs.Inner.RuleReading

@@ -50,9 +50,9 @@ packed_listed : (moduli : List ℕ) (relations : List PackedRelation) → Covers
 packed_listed moduli [] covers = tt
 packed_listed moduli (relation ∷ relations) covers = (
   listed_of moduli relation.meaning.operand relation.meaning.modulus
-  (λ m here. covers m (Contains-append_left (moduli_of_relation relation) (flat_map moduli_of_relation relations) m here)),
+      (λ m here. covers m (Contains-append_left (moduli_of_relation relation) (flat_map moduli_of_relation relations) m here)),
   packed_listed moduli relations
-  (λ m here. covers m (Contains-append_right (moduli_of_relation relation) (flat_map moduli_of_relation relations) m here)),
+      (λ m here. covers m (Contains-append_right (moduli_of_relation relation) (flat_map moduli_of_relation relations) m here)),
 )
 
 -- ---- From packed relations to a tree's

@@ -8,7 +8,6 @@ use Rattle.plural_base.specs.FiveRules.{FiveRules}
 use Rattle.plural_base.specs.Json.{Stands, IsRefusal}
 use Rattle.plural_base.specs.RangesJson.{ranges_meant}
 use Rattle.plural_base.specs.RulesJson.{rules_meant}
-use Rattle.plural_base.specs.RuleTexts.{TextReader}
 use Rattle.serde_json.specs.Data.{Data}
 use Rattle.serde_json.specs.Find.{get, as_object}
 
@@ -29,20 +28,20 @@ third_of_three : (cardinal ordinal : Stands (Rows FiveRules)) (ranges : Stands (
 third_of_three cardinal ordinal ranges c o e first second third = rw (first, second, third) refl
 
 -- what refuses the ranges refuses the document, where both maps of rules are read
-pub ranges_refused : (texts : TextReader) (value : Data) (a b r : Option Data) (c o : Rows FiveRules) (e : JsonError)
+pub ranges_refused : (value : Data) (a b r : Option Data) (c o : Rows FiveRules) (e : JsonError)
     → true ≡ is_some (as_object value)
     → a ≡ get (codes "cardinal") value → b ≡ get (codes "ordinal") value → r ≡ get (codes "ranges") value
-    → map_meant (rules_meant texts) a ≡ Ok c → map_meant (rules_meant texts) b ≡ Ok o
-    → IsRefusal e (map_meant ranges_meant r) → IsRefusal e (document_meant texts value)
-ranges_refused texts value a b r c o e is_object a_is b_is r_is first second third =
-    let cardinal = map_meant (rules_meant texts) (get (codes "cardinal") value) in
-    let ordinal = map_meant (rules_meant texts) (get (codes "ordinal") value) in
+    → map_meant rules_meant a ≡ Ok c → map_meant rules_meant b ≡ Ok o
+    → IsRefusal e (map_meant ranges_meant r) → IsRefusal e (document_meant value)
+ranges_refused value a b r c o e is_object a_is b_is r_is first second third =
+    let cardinal = map_meant rules_meant (get (codes "cardinal") value) in
+    let ordinal = map_meant rules_meant (get (codes "ordinal") value) in
     let ranges = map_meant ranges_meant (get (codes "ranges") value) in
-    refused_with e (map_meant ranges_meant r) (document_meant texts value)
+    refused_with e (map_meant ranges_meant r) (document_meant value)
     (λ refused.
-        ap (λ b. if b then all_maps cardinal ordinal ranges else Err Shape) (sym is_object)
-        ∙ third_of_three cardinal ordinal ranges c o e
-        (ap (map_meant (rules_meant texts)) (sym a_is) ∙ first)
-        (ap (map_meant (rules_meant texts)) (sym b_is) ∙ second)
-        (ap (map_meant ranges_meant) (sym r_is) ∙ refused))
+    ap (λ b. if b then all_maps cardinal ordinal ranges else Err Shape) (sym is_object)
+    ∙ third_of_three cardinal ordinal ranges c o e
+    (ap (map_meant rules_meant) (sym a_is) ∙ first)
+    (ap (map_meant rules_meant) (sym b_is) ∙ second)
+    (ap (map_meant ranges_meant) (sym r_is) ∙ refused))
     third

@@ -6,7 +6,6 @@ pub mod ConditionsAdmitted
 pub mod ExactCategories
 pub mod Answered
 pub mod WidestChoice
-pub mod TextsGiven
 pub mod EveryReading
 pub mod RuleRefusals
 pub mod Rows

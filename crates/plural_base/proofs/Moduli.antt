@@ -22,9 +22,11 @@ divides_cases : (m n : ℕ) (none zero_left : Bool) → (m == 0) ≡ none → (n
     → IsTrue (none || zero_left) ↔ (0 < m → m ∣ n)
 divides_cases m n true left e f = (λ _ above. absurd (omega (arith, eqb-true m 0 e)), λ _. refl)
 divides_cases m n false true e f = (λ _ _. (dvd_iff_mod-eq-zero m {n = n}).1 (eqb-true (n % m) 0 f), λ _. refl)
-divides_cases m n false false e f =
-    (λ h. cc, λ divides. let above : 0 < m = omega (arith, false_ne m 0 e) in let left : n % m ≡ 0 = (dvd_iff_mod-eq-zero m {n = n}).0
-    (divides above) in absurd (false_ne (n % m) 0 f left))
+divides_cases m n false false e f = (
+  λ h. cc,
+  λ divides. let above : 0 < m = omega (arith, false_ne m 0 e) in let left : n % m ≡ 0 = (dvd_iff_mod-eq-zero m {n = n}).0
+      (divides above) in absurd (false_ne (n % m) 0 f left),
+)
 
 -- so it does at 10 ^ 18
 test_tells : (m : ℕ) → IsTrue (divides_ten_to_18 m) ↔ (0 < m → m ∣ 10 ^ 18)

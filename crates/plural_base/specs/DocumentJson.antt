@@ -1,6 +1,6 @@
 -- What a JSON document stands for: maps from locales to rules and to ranges (docs/JSON.md).
 --     found locale rows      what stands in the first row of the locale
---     document_of_json texts value      the maps of a document, or its first refusal
+--     document_of_json value      the maps of a document, or its first refusal
 --     IsReadAt value rules      nothing on both sides, or the rules of the texts in the value
 --     AreRangesAt value ranges      nothing on both sides, or the ranges that the value stands for
 use Rattle.std.specs.Prelude.{◌≡◌, ℕ, List, [], ◌∷◌, codes, ⊤, Option, Some, None, is_some, Ok, Err, bytes_eq, if◌then◌else◌}
@@ -8,9 +8,9 @@ use Rattle.std.specs.Map.{lookup}
 use Rattle.std.specs.Option.{option_and_then}
 use Rattle.plural_base.specs.declared.json.error.JsonError.TheVariants.{Shape}
 use Rattle.plural_base.specs.declared.ranges.PluralRanges.{PluralRanges}
-use Rattle.plural_base.specs.FiveRules.{FiveRules}
+use Rattle.plural_base.specs.FiveRules.{FiveRules, Paired}
 use Rattle.plural_base.specs.RangesJson.{ranges_meant}
-use Rattle.plural_base.specs.RuleTexts.{AreRulesOf, TextReader}
+use Rattle.plural_base.specs.RuleTexts.{AreRulesOf}
 use Rattle.plural_base.specs.Json.{Stands, ◌>>=◌, unless_float}
 use Rattle.plural_base.specs.RulesJson.{rules_meant, texts_in}
 use Rattle.serde_json.specs.Data.{Data, Members, no_members, member}
@@ -59,15 +59,15 @@ all_maps cardinal ordinal ranges = do
   Ok (record { cardinal = rows; ordinal = others; ranges = tables })
 
 -- a document is an object with three maps; its other keys are not looked at
-abbrev pub document_meant : TextReader → Data → Stands Document
-document_meant texts value =
+abbrev pub document_meant : Data → Stands Document
+document_meant value =
     if is_some (as_object value)
-    then all_maps (map_meant (rules_meant texts) (get (codes "cardinal") value)) (map_meant (rules_meant texts) (get (codes "ordinal") value))
+    then all_maps (map_meant rules_meant (get (codes "cardinal") value)) (map_meant rules_meant (get (codes "ordinal") value))
     (map_meant ranges_meant (get (codes "ranges") value))
     else Err Shape
 
-abbrev pub document_of_json : TextReader → Data → Stands Document
-document_of_json texts = unless_float (document_meant texts)
+abbrev pub document_of_json : Data → Stands Document
+document_of_json = unless_float document_meant
 
 -- ---- What a locale has
 
@@ -75,16 +75,10 @@ document_of_json texts = unless_float (document_meant texts)
 abbrev pub value_of_locale : List ℕ → List ℕ → Data → Option Data
 value_of_locale key locale value = option_and_then (get locale) (get key value)
 
--- neither is there, or what is there is read from the value
-abbrev pub IsThereAs : {A : Type 0} → (Data → A → Type 0) → Option Data → Option A → Type 0
-IsThereAs Reads None None = ⊤
-IsThereAs Reads (Some value) (Some thing) = Reads value thing
-IsThereAs Reads _ _ = ⊥
-
--- the rules are those of the texts in the value
+-- the rules are those of the texts in the value, or neither is there
 abbrev pub IsReadAt : Option Data → Option FiveRules → Type 0
-IsReadAt = IsThereAs (λ value rules. AreRulesOf (texts_in value) rules)
+IsReadAt = Paired (λ value rules. AreRulesOf (texts_in value) rules)
 
--- the ranges are those that the value stands for
+-- the ranges are those that the value stands for, or neither is there
 abbrev pub AreRangesAt : Option Data → Option PluralRanges → Type 0
-AreRangesAt = IsThereAs (λ value ranges. ranges_meant value ≡ Ok ranges)
+AreRangesAt = Paired (λ value ranges. ranges_meant value ≡ Ok ranges)

@@ -22,6 +22,20 @@ pub record Five (A : Type 0) : Type 0 where
 abbrev pub five : {A : Type 0} → A → A → A → A → A → Five A
 five zero one two few many = record { zero = zero; one = one; two = two; few = few; many = many }
 
+-- neither is there, or both are and the relation holds of them
+abbrev pub Paired : {A B : Type 0} → (A → B → Type 0) → Option A → Option B → Type 0
+Paired Related None None = Unit {0}
+Paired Related (Some x) (Some y) = Related x y
+Paired Related _ _ = ⊥
+
+-- the same of each of five
+pub record ArePaired {A B : Type 0} (Related : A → B → Type 0) (xs : Five (Option A)) (ys : Five (Option B)) : Type 0 where
+  pub zero : Paired Related xs.zero ys.zero
+  pub one : Paired Related xs.one ys.one
+  pub two : Paired Related xs.two ys.two
+  pub few : Paired Related xs.few ys.few
+  pub many : Paired Related xs.many ys.many
+
 -- a rule for each category that has one
 abbrev pub FiveRules : Type 0
 FiveRules = Five (Option (List PackedRelation))

@@ -1,17 +1,17 @@
 -- What a JSON value stands for as rules, or why it stands for none, and the one JSON value that is written for rules
--- (docs/JSON.md). Values are what serde_json's accessors show of them; `texts` is what every text gives as a rule.
+-- (docs/JSON.md). Values are what serde_json's accessors show of them.
 use Rattle.std.specs.Prelude.{ℕ, List, Option, Some, None, is_some, Ok, Err, if◌then◌else◌}
 use Rattle.std.specs.Option.{option_and_then}
 use Rattle.plural_reference.specs.Serializer.{condition_text}
 use Rattle.plural_runtime.specs.PackedRelations.{PackedRelation}
 use Rattle.plural_runtime.specs.PackedTree.{unpacked}
+use Rattle.plural_runtime.specs.RuleOfText.{RuleAnswer, rule_of_text}
 use Rattle.plural_base.specs.declared.category.PluralCategory.{PluralCategory}
 use Rattle.plural_base.specs.declared.category.PluralCategory.TheVariants.{Zero, One, Two, Few, Many}
 use Rattle.plural_base.specs.Categories.{name_of}
 use Rattle.plural_base.specs.declared.json.error.JsonError.TheVariants.{Shape, Rule}
 use Rattle.plural_base.specs.FiveRules.{Five, five, FiveRules}
 use Rattle.plural_base.specs.Json.{Stands, ◌>>=◌, all_five, unless_float}
-use Rattle.plural_base.specs.RuleTexts.{RuleAnswer, TextReader}
 use Rattle.serde_json.specs.Data.{Data, null, string, object, no_members, member}
 use Rattle.serde_json.specs.Find.{get, as_null, as_str, as_object}
 
@@ -22,39 +22,39 @@ abbrev pub named : Option PluralCategory → RuleAnswer → Stands (List PackedR
 named category (Ok rule) = Ok rule
 named category (Err fault) = Err (Rule category fault)
 
-abbrev pub text_meant : TextReader → Option PluralCategory → Option (List ℕ) → Stands (List PackedRelation)
-text_meant texts category None = Err Shape
-text_meant texts category (Some text) = named category (texts text)
+abbrev pub text_meant : Option PluralCategory → Option (List ℕ) → Stands (List PackedRelation)
+text_meant category None = Err Shape
+text_meant category (Some text) = named category (rule_of_text text)
 
 -- a rule is a text
-abbrev pub rule_meant : TextReader → Option PluralCategory → Data → Stands (List PackedRelation)
-rule_meant texts category value = text_meant texts category (as_str value)
+abbrev pub rule_meant : Option PluralCategory → Data → Stands (List PackedRelation)
+rule_meant category value = text_meant category (as_str value)
 
 -- a rule that may be absent or null
-abbrev pub optional_meant : TextReader → PluralCategory → Option Data → Stands (Option (List PackedRelation))
-optional_meant texts category None = Ok None
-optional_meant texts category (Some value) =
-    if is_some (as_null value) then Ok None else rule_meant texts (Some category) value >>= λ rule. Ok (Some rule)
+abbrev pub optional_meant : PluralCategory → Option Data → Stands (Option (List PackedRelation))
+optional_meant category None = Ok None
+optional_meant category (Some value) =
+    if is_some (as_null value) then Ok None else rule_meant (Some category) value >>= λ rule. Ok (Some rule)
 
 -- the rule under the name of its category
-abbrev pub member_meant : TextReader → PluralCategory → Data → Stands (Option (List PackedRelation))
-member_meant texts category value = optional_meant texts category (get (name_of category) value)
+abbrev pub member_meant : PluralCategory → Data → Stands (Option (List PackedRelation))
+member_meant category value = optional_meant category (get (name_of category) value)
 
 -- five rules are an object, looked at from zero to many; its other keys are not looked at
-abbrev pub rules_meant : TextReader → Data → Stands FiveRules
-rules_meant texts value =
+abbrev pub rules_meant : Data → Stands FiveRules
+rules_meant value =
     if is_some (as_object value)
-    then all_five (member_meant texts Zero value) (member_meant texts One value) (member_meant texts Two value)
-    (member_meant texts Few value) (member_meant texts Many value)
+    then all_five (member_meant Zero value) (member_meant One value) (member_meant Two value) (member_meant Few value)
+    (member_meant Many value)
     else Err Shape
 
 -- the rule of a value
-abbrev pub rule_of_json : TextReader → Data → Stands (List PackedRelation)
-rule_of_json texts = unless_float (rule_meant texts None)
+abbrev pub rule_of_json : Data → Stands (List PackedRelation)
+rule_of_json = unless_float (rule_meant None)
 
 -- the five rules of a value
-abbrev pub rules_of_json : TextReader → Data → Stands FiveRules
-rules_of_json texts = unless_float (rules_meant texts)
+abbrev pub rules_of_json : Data → Stands FiveRules
+rules_of_json = unless_float rules_meant
 
 -- the text that stands under the name of a category
 abbrev pub text_under : PluralCategory → Data → Option (List ℕ)

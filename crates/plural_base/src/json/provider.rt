@@ -6,7 +6,6 @@ ghost use Rattle.plural_base.specs.DocumentJson.{document_meant, found};
 ghost use Rattle.plural_base.specs.Inner.JsonSteps.{range_rows_of, rows_of};
 ghost use Rattle.plural_base.specs.Providers.{Loads, LoadsRanges};
 ghost use Rattle.plural_base.specs.Json.{Answers};
-ghost use Rattle.plural_base.specs.RuleTexts.{TextReader, TellsTexts};
 ghost use Rattle.serde_json.specs.Find.{as_object};
 ghost use Rattle.serde_json.specs.View.{view};
 ghost use Rattle.serde_json.specs.Written.{has_float};
@@ -14,11 +13,11 @@ ghost use Rattle.serde_json.specs.Written.{has_float};
 use crate::json::error::JsonError;
 use crate::json::float::holds_float;
 use crate::json::rows::read_map;
-use crate::laws::texts_give_one_answer;
 use crate::provider::{DataError, PluralsProvider};
 use crate::ranges::PluralRanges;
 use crate::rules::data::PluralRulesData;
 use plural_runtime::RuleError;
+use plural_runtime::laws::texts_give_one_answer;
 use serde_json::Value;
 use std::alloc::Global;
 use std::collections::BTreeMap;
@@ -59,7 +58,7 @@ impl JsonProvider {
     /// order of their bytes, each as [`PluralRulesData::from_json`] or [`PluralRanges::from_json`] refuses
     /// it. It takes memory; want of it is [`JsonError::Memory`].
     pub fn from_value(alloc: Global, value: &Value) -> Result<JsonProvider, JsonError>
-        ensures answers { (texts : TextReader) → TellsTexts texts → Answers (λ provider. provider) result (document_of_json texts (view value.now)) }
+        ensures answers { Answers (λ provider. provider) result (document_of_json (view value.now)) }
         // A locale has rules exactly where its key is there, and they are those of the texts under it.
         ensures cardinal { IfOk result (λ provider. (locale : List ℕ) → IsReadAt (value_of_locale (codes "cardinal") locale (view value.now)) (found locale provider.cardinal)) }
         ensures ordinal { IfOk result (λ provider. (locale : List ℕ) → IsReadAt (value_of_locale (codes "ordinal") locale (view value.now)) (found locale provider.ordinal)) }
@@ -128,7 +127,7 @@ fn load_copied(
 
 // The provider of a document without floats.
 fn read_document(alloc: Global, value: &Value) -> Result<JsonProvider, JsonError>
-    ensures answers { (texts : TextReader) → TellsTexts texts → Answers (λ provider. provider) result (document_meant texts (view value.now)) }
+    ensures answers { Answers (λ provider. provider) result (document_meant (view value.now)) }
     ensures float { result ≢ Err JsonError.Float }
     ensures shape { as_object (view value.now) ≡ None → result ≡ Err JsonError.Shape }
     ensures memory { (category : Option PluralCategory) → result ≢ Err (JsonError.Rule category RuleError.Memory) }

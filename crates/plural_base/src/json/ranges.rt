@@ -99,7 +99,7 @@ impl FromJson for PluralRanges {
 
     ghost seen = { λ ranges. ranges };
 
-    ghost meant = { λ texts. ranges_meant };
+    ghost meant = { ranges_meant };
 
     fn read(_alloc: Global, value: &Value) -> Result<PluralRanges, JsonError> {
         read_ranges(value)

@@ -8,7 +8,6 @@ ghost use Rattle.plural_base.specs.declared.category.PluralCategory.{PluralCateg
 ghost use Rattle.plural_base.specs.DocumentJson.{map_meant, rows_meant};
 ghost use Rattle.plural_base.specs.Inner.JsonSteps.{rows_by};
 ghost use Rattle.plural_base.specs.Json.{Answers, Stands};
-ghost use Rattle.plural_base.specs.RuleTexts.{TextReader, TellsTexts};
 ghost use Rattle.serde_json.specs.Data.{Data};
 ghost use Rattle.serde_json.specs.View.{view, members_view};
 
@@ -26,10 +25,10 @@ pub(crate) trait FromJson: Drop {
     ghost seen: { Self → Seen };
 
     // What a value stands for as one, or its refusal.
-    ghost meant: { TextReader → Data → Stands Seen };
+    ghost meant: { Data → Stands Seen };
 
     fn read(alloc: Global, value: &Value) -> Result<Self, JsonError>
-        ensures answers { (texts : TextReader) → TellsTexts texts → Answers seen result (meant texts (view value.now)) }
+        ensures answers { Answers seen result (meant (view value.now)) }
         ensures float { result ≢ Err JsonError.Float }
         ensures memory { (category : Option PluralCategory) → result ≢ Err (JsonError.Rule category RuleError.Memory) };
 }
@@ -39,7 +38,7 @@ pub(crate) fn read_map<T: FromJson>(
     alloc: Global,
     value: Option<&Value>,
 ) -> Result<BTreeMap<String, T>, JsonError>
-    ensures answers { (texts : TextReader) → TellsTexts texts → Answers (λ rows. rows_by T.seen rows.entries) result (map_meant (T.meant texts) (option_map (λ v. view v.now) value.entry)) }
+    ensures answers { Answers (λ rows. rows_by T.seen rows.entries) result (map_meant T.meant (option_map (λ v. view v.now) value.entry)) }
     ensures float { result ≢ Err JsonError.Float }
     ensures memory { (category : Option PluralCategory) → result ≢ Err (JsonError.Rule category RuleError.Memory) }
 {
@@ -60,7 +59,7 @@ fn read_rows<T: FromJson>(
     alloc: Global,
     members: &Map<String, Value>,
 ) -> Result<BTreeMap<String, T>, JsonError>
-    ensures answers { (texts : TextReader) → TellsTexts texts → Answers (λ rows. rows_by T.seen rows.entries) result (rows_meant (T.meant texts) (members_view members.now.entries)) }
+    ensures answers { Answers (λ rows. rows_by T.seen rows.entries) result (rows_meant T.meant (members_view members.now.entries)) }
     ensures float { result ≢ Err JsonError.Float }
     ensures memory { (category : Option PluralCategory) → result ≢ Err (JsonError.Rule category RuleError.Memory) }
 {

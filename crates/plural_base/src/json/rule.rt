@@ -5,7 +5,7 @@ ghost use Rattle.plural_base.specs.declared.category.PluralCategory.{PluralCateg
 ghost use Rattle.plural_base.specs.Inner.JsonSteps.{refusal_of};
 ghost use Rattle.plural_base.specs.Json.{Answers};
 ghost use Rattle.plural_base.specs.RulesJson.{rule_meant, rule_of_json, rule_json};
-ghost use Rattle.plural_base.specs.RuleTexts.{IsTakenAs, TextReader, TellsTexts};
+ghost use Rattle.plural_base.specs.RuleTexts.{IsRuleOf};
 ghost use Rattle.serde_json.specs.Find.{as_str};
 ghost use Rattle.serde_json.specs.View.{view};
 ghost use Rattle.serde_json.specs.Written.{has_float};
@@ -25,8 +25,8 @@ use std::alloc::Global;
 /// is no text, else [`JsonError::Rule`] without a category where the text gives no rule. It takes
 /// memory for the rule; want of it is [`JsonError::Memory`].
 pub fn rule_from_json(alloc: Global, value: &Value) -> Result<Rule<'static>, JsonError>
-    ensures answers { (texts : TextReader) → TellsTexts texts → Answers (λ rule. rule) result (rule_of_json texts (view value.now)) }
-    ensures read { IfOk result (λ rule. IsTakenAs (as_str (view value.now)) (Some rule)) }
+    ensures answers { Answers (λ rule. rule) result (rule_of_json (view value.now)) }
+    ensures read { IfOk result (λ rule. IsRuleOf (as_str (view value.now)) (Some rule)) }
     // Both are looked for before memory is taken.
     ensures float { (result ≡ Err JsonError.Float) ↔ IsTrue (has_float (view value.now)) }
     ensures shape { (result ≡ Err JsonError.Shape) ↔ (IsFalse (has_float (view value.now)) × (as_str (view value.now) ≡ None)) }
@@ -53,8 +53,8 @@ pub(crate) fn read_rule(
     value: &Value,
     category: Option<PluralCategory>,
 ) -> Result<Rule<'static>, JsonError>
-    ensures answers { (texts : TextReader) → TellsTexts texts → Answers (λ rule. rule) result (rule_meant texts category (view value.now)) }
-    ensures read { IfOk result (λ rule. IsTakenAs (as_str (view value.now)) (Some rule)) }
+    ensures answers { Answers (λ rule. rule) result (rule_meant category (view value.now)) }
+    ensures read { IfOk result (λ rule. IsRuleOf (as_str (view value.now)) (Some rule)) }
     ensures float { result ≢ Err JsonError.Float }
     ensures shape { (result ≡ Err JsonError.Shape) ↔ (as_str (view value.now) ≡ None) }
     ensures memory { (c : Option Category) → result ≢ Err (JsonError.Rule c RuleError.Memory) }

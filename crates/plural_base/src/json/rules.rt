@@ -3,7 +3,7 @@
 ghost use Rattle.std.specs.Prelude.{◌≡◌, ◌≢◌, ◌↔◌, Option, Some, None, Err, option_map, IfOk, IfErr, IsTrue, IsFalse};
 ghost use Rattle.std.specs.Option.{option_and_then};
 ghost use Rattle.plural_base.specs.declared.category.PluralCategory.{PluralCategory as Category};
-ghost use Rattle.plural_base.specs.RuleTexts.{AreRulesOf, IsTakenAs, TextReader, TellsTexts};
+ghost use Rattle.plural_base.specs.RuleTexts.{AreRulesOf, IsRuleOf};
 ghost use Rattle.plural_base.specs.FiveRules.{rules_of, five};
 ghost use Rattle.plural_base.specs.Json.{Answers};
 ghost use Rattle.plural_base.specs.RulesJson.{member_meant, optional_rule_json, optional_meant, rules_meant, text_under, texts_in};
@@ -36,7 +36,7 @@ impl PluralRulesData<'static> {
     /// where the text gives no rule. It takes memory for each rule; want of it is
     /// [`JsonError::Memory`].
     pub fn from_json(alloc: Global, value: &Value) -> Result<PluralRulesData<'static>, JsonError>
-        ensures answers { (texts : TextReader) → TellsTexts texts → Answers rules_of result (rules_of_json texts (view value.now)) }
+        ensures answers { Answers rules_of result (rules_of_json (view value.now)) }
         // The rules are those of the texts under the five keys.
         ensures read { IfOk result (λ rules. AreRulesOf (texts_in (view value.now)) (rules_of rules)) }
         // Both are looked for before memory is taken.
@@ -86,7 +86,7 @@ impl FromJson for PluralRulesData<'static> {
 
 // The five rules of a value without floats.
 fn read_rules(alloc: Global, value: &Value) -> Result<PluralRulesData<'static>, JsonError>
-    ensures answers { (texts : TextReader) → TellsTexts texts → Answers rules_of result (rules_meant texts (view value.now)) }
+    ensures answers { Answers rules_of result (rules_meant (view value.now)) }
     ensures read { IfOk result (λ rules. AreRulesOf (texts_in (view value.now)) (rules_of rules)) }
     ensures float { result ≢ Err JsonError.Float }
     ensures shape { as_object (view value.now) ≡ None → result ≡ Err JsonError.Shape }
@@ -110,8 +110,8 @@ fn read_member(
     value: &Value,
     category: PluralCategory,
 ) -> Result<Option<Rule<'static>>, JsonError>
-    ensures answers { (texts : TextReader) → TellsTexts texts → Answers (λ rule. rule) result (member_meant texts category (view value.now)) }
-    ensures read { IfOk result (λ rule. IsTakenAs (text_under category (view value.now)) rule) }
+    ensures answers { Answers (λ rule. rule) result (member_meant category (view value.now)) }
+    ensures read { IfOk result (λ rule. IsRuleOf (text_under category (view value.now)) rule) }
     ensures float { result ≢ Err JsonError.Float }
     ensures memory { (c : Option Category) → result ≢ Err (JsonError.Rule c RuleError.Memory) }
 {
@@ -128,8 +128,8 @@ fn read_optional(
     value: Option<&Value>,
     category: PluralCategory,
 ) -> Result<Option<Rule<'static>>, JsonError>
-    ensures answers { (texts : TextReader) → TellsTexts texts → Answers (λ rule. rule) result (optional_meant texts category (option_map (λ v. view v.now) value.entry)) }
-    ensures read { IfOk result (λ rule. IsTakenAs (option_and_then as_str (option_map (λ v. view v.now) value.entry)) rule) }
+    ensures answers { Answers (λ rule. rule) result (optional_meant category (option_map (λ v. view v.now) value.entry)) }
+    ensures read { IfOk result (λ rule. IsRuleOf (option_and_then as_str (option_map (λ v. view v.now) value.entry)) rule) }
     ensures float { result ≢ Err JsonError.Float }
     ensures memory { (c : Option Category) → result ≢ Err (JsonError.Rule c RuleError.Memory) }
 {

@@ -1,16 +1,17 @@
 //! Rules from texts.
 
-ghost use Rattle.std.specs.Prelude.{◌≡◌, ◌≢◌, ◌++◌, ◌⊎◌, Some, Err, option_map, codes, IfOk, IfErr};
+ghost use Rattle.std.specs.Prelude.{◌≡◌, ◌≢◌, ◌++◌, ◌⊎◌, Some, Ok, Err, codes, IfOk, IfErr};
 ghost use Rattle.std.specs.Option.{option_copied};
 ghost use Rattle.plural_runtime.specs.PluralRuntimeErrors.{rule_error_text};
+ghost use Rattle.plural_runtime.specs.RuleOfText.{TextGives, rule_of_text};
 ghost use Rattle.plural_base.specs.Categories.{name_of};
-ghost use Rattle.plural_base.specs.RuleTexts.{IsTakenAs, HasRuleError, IsRefused, IsFirstRefused, TextReader, TellsTexts};
+ghost use Rattle.plural_base.specs.RuleTexts.{IsRuleOf, IsRefused, IsFirstRefused};
 
 use crate::category::PluralCategory;
 use crate::category::raw::RawPluralCategory;
 use crate::rules::data::PluralRulesData;
 use plural_reference::ParseError;
-use plural_reference::laws::reading::{one_list_of_tokens, one_rule};
+use plural_runtime::laws::texts_give_one_answer;
 use plural_runtime::{Rule, RuleError};
 use std::alloc::Global;
 use std::error::Error;
@@ -80,7 +81,7 @@ fn rule_of(
     text: Option<&str>,
     category: PluralCategory,
 ) -> Result<Option<Rule<'static>>, RulesTextError>
-    ensures ok { IfOk result (λ rule. IsTakenAs (option_copied text.entry) rule) }
+    ensures ok { IfOk result (λ rule. IsRuleOf (option_copied text.entry) rule) }
     ensures refused { IfErr result (λ e.
         (e.category ≡ category) × IsRefused (option_copied text.entry) e.error) }
     ensures fits { IfErr result (λ e. e.error ≢ RuleError.Parse ParseError.ValueTooLarge) }
@@ -96,12 +97,11 @@ fn rule_of(
 
 // The rule of a text.
 pub(crate) fn packed(alloc: Global, text: &str) -> Result<Rule<'static>, RuleError>
-    ensures told { (texts : TextReader) → TellsTexts texts → (result ≡ texts text.now) ⊎ (result ≡ Err RuleError.Memory) }
-    ensures ok { IfOk result (λ rule. IsTakenAs (Some text.now) (Some rule)) }
-    ensures refused { IfErr result (λ e. HasRuleError text.now e ⊎ (e ≡ RuleError.Memory)) }
+    ensures told { (result ≡ rule_of_text text.now) ⊎ (result ≡ Err RuleError.Memory) }
+    ensures ok { IfOk result (λ rule. TextGives text.now (Ok rule)) }
+    ensures refused { IfErr result (λ e. TextGives text.now (Err e) ⊎ (e ≡ RuleError.Memory)) }
     ensures fits { IfErr result (λ e. e ≢ RuleError.Parse ParseError.ValueTooLarge) }
 {
-    one_list_of_tokens();
-    one_rule();
+    texts_give_one_answer();
     Rule::from_str(alloc, text)
 }

@@ -18,7 +18,7 @@ all_left g c = c.into_iter-locale-iterator.ensures.into_iter_gives ∙ c.iter-lo
 pub loop-locale-init : goal.loop-locale-init
 loop-locale-init g c =
     let left = all_left g c in (
-      λ texts tells. rw (c.new-rows.ensures.empty, left) (behind_none _),
+      rw (c.new-rows.ensures.empty, left) (behind_none _),
       rw (c.new-rows.ensures.empty, left) (ascend_bytes c.args.members.now.entries c.iter-locale-items.ensures.ordered),
     )
 
@@ -44,12 +44,11 @@ pub loop-locale-preserved : goal.loop-locale-preserved
 loop-locale-preserved g c =
     let row = g.T.FromJson.seen c.in_ok-row.row in
     let rows = rows_by g.T.FromJson.seen c.loop-locale.rows.entries in
-    let keys = key_bytes c.next.new.self in (
-      λ texts tells.
-          let meant = g.T.FromJson.meant texts in
-          c.loop-locale.invariant.0 texts tells
+    let keys = key_bytes c.next.new.self in
+    let meant = g.T.FromJson.meant in (
+      c.loop-locale.invariant.0
           ∙ ap (λ left. behind rows (rows_meant meant (members_view left))) c.in-Some.ensures.steps
           ∙ rows_kept _ _ (string_bytes c.in-Some.locale.now) row keys meant (view c.in-Some.value.now) (members_view c.next.new.self)
-          (is_put g c) (in_order g c) (c.in_ok-row.ensures.answers texts tells),
+          (is_put g c) (in_order g c) c.in_ok-row.ensures.answers,
       order_kept _ _ (string_bytes c.in-Some.locale.now) row keys (is_put g c) (in_order g c),
     )

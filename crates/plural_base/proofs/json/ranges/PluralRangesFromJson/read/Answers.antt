@@ -6,7 +6,7 @@ use Rattle.plural_base.proofs.json.ranges.PluralRangesFromJson.read.Goals as goa
 use Rattle.plural_runtime.specs.declared.error.RuleError.TheVariants as fault
 
 pub returns-clause-answers : goal.returns-clause-answers
-returns-clause-answers c = λ texts tells. exactly_answered c.read_ranges.result (ranges_meant (view c.args.value.now)) c.read_ranges.ensures
+returns-clause-answers c = exactly_answered c.read_ranges.result (ranges_meant (view c.args.value.now)) c.read_ranges.ensures
 
 pub returns-clause-float : goal.returns-clause-float
 returns-clause-float c = λ float. ranges_no_float (view c.args.value.now) (sym c.read_ranges.ensures ∙ float)
