@@ -144,13 +144,13 @@ run_samples s (t ∷ ts) = sample_proceed (sample_step s t) (t ∷ ts) (λ next.
 -- Their private contracts cite it, and no public clause does.
 
 -- what is stored is what is read, where samples are kept
-abbrev pub IsKept : {A : Type 0} → Bool → A → A → Type 0
-IsKept true stored read = stored ≡ read
-IsKept false stored read = Unit {0}
+abbrev pub IsStored : {A : Type 0} → Bool → A → A → Type 0
+IsStored true stored read = stored ≡ read
+IsStored false stored read = Unit {0}
 
 -- something is read, and it is what is stored where samples are kept
-abbrev pub ReadsKept : {A : Type 0} → Bool → (List Token → A → List Token → Type 0) → List Token → A → List Token → Type 0
-ReadsKept {A = A} keeps Read old stored new = (read : A) × IsKept keeps stored read × Read old read new
+abbrev pub ReadsStored : {A : Type 0} → Bool → (List Token → A → List Token → Type 0) → List Token → A → List Token → Type 0
+ReadsStored {A = A} keeps Read old stored new = (read : A) × IsStored keeps stored read × Read old read new
 
 -- the token of a type of samples
 abbrev pub type_token : SampleType → Token

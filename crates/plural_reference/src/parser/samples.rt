@@ -5,7 +5,7 @@ ghost use Rattle.plural_reference.specs.declared.error.ParseError.TheVariants.{E
 ghost use Rattle.plural_reference.specs.Lexer.{first};
 ghost use Rattle.plural_reference.specs.Reading.{IsAnswer};
 ghost use Rattle.plural_reference.specs.Samples.{IsExponentMark, has_exponent, sample_fault, token_text};
-ghost use Rattle.plural_reference.specs.Inner.SampleReader.{after_sections, run_samples, IsKept, ReadsKept, TakesText, NoDigits, NoMark, NoType, type_token, joined_list, ReadsDigits, ReadsNumber, ReadsExponent, ReadsSample, ReadsRange, ReadsSampleList, ReadsAllSamples, FailsInSample, FailsAtSample, FailsAtRange, FailsAtList};
+ghost use Rattle.plural_reference.specs.Inner.SampleReader.{after_sections, run_samples, IsStored, ReadsStored, TakesText, NoDigits, NoMark, NoType, type_token, joined_list, ReadsDigits, ReadsNumber, ReadsExponent, ReadsSample, ReadsRange, ReadsSampleList, ReadsAllSamples, FailsInSample, FailsAtSample, FailsAtRange, FailsAtList};
 
 use super::Parser;
 use super::sink::Sink;
@@ -26,7 +26,7 @@ impl<'p> Parser<'p> {
     // samples = (At (Integer | Decimal) list)*
     pub(super) fn samples<S: Sink>(&mut self, alloc: Global) -> Result<Option<Samples>, ReadError>
         ensures { IsAnswer
-            (λ samples. ReadsKept S.keeps ReadsAllSamples self.old samples self.new)
+            (λ samples. ReadsStored S.keeps ReadsAllSamples self.old samples self.new)
             (λ e. run_samples (after_sections []) self.old ≡ Err e)
             result }
     {
@@ -54,7 +54,7 @@ impl<'p> Parser<'p> {
     // list = range (Comma range)* (Comma Ellipsis)?
     fn sample_list<S: Sink>(&mut self, alloc: Global) -> Result<SampleList, ReadError>
         ensures shorter { length self.new ≤ length self.old }
-        ensures list { IsAnswer (λ list. ReadsKept S.keeps ReadsSampleList self.old list self.new) (FailsAtList self.old) result }
+        ensures list { IsAnswer (λ list. ReadsStored S.keeps ReadsSampleList self.old list self.new) (FailsAtList self.old) result }
     {
         let mut ranges = Vec::new(alloc);
         S::push_range(&mut ranges, self.sample_range::<S>(alloc)?)?;
@@ -76,7 +76,7 @@ impl<'p> Parser<'p> {
     // range = sample (Tilde sample)?
     fn sample_range<S: Sink>(&mut self, alloc: Global) -> Result<SampleRange, ReadError>
         ensures shorter { length self.new ≤ length self.old }
-        ensures range { IsAnswer (λ range. ReadsKept S.keeps ReadsRange self.old range self.new) (FailsAtRange self.old) result }
+        ensures range { IsAnswer (λ range. ReadsStored S.keeps ReadsRange self.old range self.new) (FailsAtRange self.old) result }
     {
         let lower_val = self.sample::<S>(alloc)?;
         if !self.take_if(Token::Tilde) {
@@ -95,7 +95,7 @@ impl<'p> Parser<'p> {
     // sample = digits (Dot digits)? ((E | C) (Number | Zero))?, and not empty
     fn sample<S: Sink>(&mut self, alloc: Global) -> Result<DecimalValue, ReadError>
         ensures shorter { length self.new ≤ length self.old }
-        ensures sample { IsAnswer (λ text. ReadsKept S.keeps ReadsSample self.old text self.new) (FailsAtSample self.old) result }
+        ensures sample { IsAnswer (λ text. ReadsStored S.keeps ReadsSample self.old text self.new) (FailsAtSample self.old) result }
     {
         if !self.is_before_sample() {
             return Err(ReadError::Parse(ParseError::ExpectedValue));
@@ -122,8 +122,8 @@ impl<'p> Parser<'p> {
     // digits (Dot digits)?
     fn number<S: Sink>(&mut self, text: &mut String) -> Result<(), AllocError>
         ensures shorter { length self.new ≤ length self.old }
-        ensures number { IsKept S.keeps (string_bytes text.old) [] → OnOk result
-            (ReadsKept S.keeps ReadsNumber self.old (string_bytes text.new) self.new) }
+        ensures number { IsStored S.keeps (string_bytes text.old) [] → OnOk result
+            (ReadsStored S.keeps ReadsNumber self.old (string_bytes text.new) self.new) }
     {
         self.digits::<S>(text)?;
         if !self.take_if(Token::Dot) {
@@ -137,8 +137,8 @@ impl<'p> Parser<'p> {
     // digits = (Number | Zero)*
     fn digits<S: Sink>(&mut self, text: &mut String) -> Result<(), AllocError>
         ensures shorter { length self.new ≤ length self.old }
-        ensures digits { (before : List ℕ) → has_exponent before ≡ false → IsKept S.keeps (string_bytes text.old) before → OnOk result
-            (ReadsKept S.keeps (ReadsDigits before) self.old (string_bytes text.new) self.new × NoDigits self.new) }
+        ensures digits { (before : List ℕ) → has_exponent before ≡ false → IsStored S.keeps (string_bytes text.old) before → OnOk result
+            (ReadsStored S.keeps (ReadsDigits before) self.old (string_bytes text.new) self.new × NoDigits self.new) }
     {
         'digits: while let Some(number) = self.take_number() {
             S::push_number(text, number)?;
@@ -149,8 +149,8 @@ impl<'p> Parser<'p> {
     // ((E | C) (Number | Zero))?
     fn exponent<S: Sink>(&mut self, text: &mut String) -> Result<(), ReadError>
         ensures shorter { length self.new ≤ length self.old }
-        ensures exponent { (before : List ℕ) → has_exponent before ≡ false → IsKept S.keeps (string_bytes text.old) before → IsAnswer
-            (λ _. ReadsKept S.keeps (ReadsExponent before) self.old (string_bytes text.new) self.new)
+        ensures exponent { (before : List ℕ) → has_exponent before ≡ false → IsStored S.keeps (string_bytes text.old) before → IsAnswer
+            (λ _. ReadsStored S.keeps (ReadsExponent before) self.old (string_bytes text.new) self.new)
             (FailsInSample before self.old)
             result }
     {

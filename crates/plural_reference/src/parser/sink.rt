@@ -2,7 +2,7 @@
 
 ghost use Rattle.std.specs.Prelude.{◌≡◌, ◌∷◌, ◌++◌, [], true, false, IfOk, OnOk, string_bytes};
 ghost use Rattle.std.specs.Fmt.{decimal};
-ghost use Rattle.plural_reference.specs.Inner.SampleReader.{IsKept};
+ghost use Rattle.plural_reference.specs.Inner.SampleReader.{IsStored};
 
 use crate::ast::SampleRange;
 use itoa::Buffer;
@@ -23,15 +23,15 @@ pub(super) trait Sink {
 
     // Digits join the text.
     fn push_number(text: &mut String, number: u32) -> Result<(), AllocError>
-        ensures { OnOk result (IsKept keeps (string_bytes text.new) (string_bytes text.old ++ decimal number)) };
+        ensures { OnOk result (IsStored keeps (string_bytes text.new) (string_bytes text.old ++ decimal number)) };
 
     // A point or the mark of an exponent joins the text.
     fn push_mark(text: &mut String, mark: &str) -> Result<(), AllocError>
-        ensures { OnOk result (IsKept keeps (string_bytes text.new) (string_bytes text.old ++ mark.now)) };
+        ensures { OnOk result (IsStored keeps (string_bytes text.new) (string_bytes text.old ++ mark.now)) };
 
     // A range joins a list.
     fn push_range(ranges: &mut Vec<SampleRange>, range: SampleRange) -> Result<(), AllocError>
-        ensures { OnOk result (IsKept keeps ranges.new.items (ranges.old.items ++ range ∷ [])) };
+        ensures { OnOk result (IsStored keeps ranges.new.items (ranges.old.items ++ range ∷ [])) };
 }
 
 // Keeps the samples.
