@@ -60,7 +60,7 @@ start_is (item ∷ items) bytes h (suc k) pos below =
     ∙ two_byte_number-cons (n % 256) (n / 256) rest (2 * k)))
 
 -- each item has one start, from the first byte of the data on
-pub length-starts : (items : List (List ℕ)) → length (item_starts items) ≡ length items
+pub length-item_starts : (items : List (List ℕ)) → length (item_starts items) ≡ length items
 length-item_starts items = length-starts_from 0 items
 
 -- a start is not above the length of the data

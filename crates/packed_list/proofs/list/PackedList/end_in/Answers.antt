@@ -1,7 +1,7 @@
 use Rattle.std.proofs.lemmas.Option.{slice_get_past}
 use Rattle.packed_list.specs.ListBytes.{item_starts}
 use Rattle.std.proofs.Common.{rules, arith, ◌+◌, ◌≤◌, length}
-use Rattle.packed_list.proofs.ListPlaces.{length-starts}
+use Rattle.packed_list.proofs.ListPlaces.{length-item_starts}
 use Rattle.packed_list.proofs.list.PackedList.end_in.Goals as goal
 
 pub returns-else-index-count : goal.returns-else-index-count
