@@ -4,7 +4,7 @@ use Rattle.std.specs.Prelude.{IsTrue, map, nat_lt, unwrap_or}
 use Rattle.std.specs.List.{AllByRecursion}
 use Rattle.std.proofs.lemmas.Bool.{lt-ltb, le-ltb, ltb-true, ltb-false}
 use Rattle.packed_list.specs.ListBytes.{CanPack, has_high_start}
-use Rattle.plural_base.specs.declared.json_error.ElementsPackError.TheVariants.{DefaultLimit, StartLimit}
+use Rattle.plural_base.specs.declared.elements_pack_error.ElementsPackError.TheVariants.{DefaultLimit, StartLimit}
 use Rattle.icu_plurals.specs.declared.encode.items.Item.{Item}
 use Rattle.icu_plurals.specs.Elements.{Elements, element_at}
 use Rattle.icu_plurals.specs.PackedElements.{AnswersAs, fault_beside, pack_fault, PackedValue, PackedItem, IsPackedValue, IsPackedItem, CanPackItems, ElementsBytes, bytes_with, elements_of, item_bytes, none_if_empty, packed_items, packed_of}

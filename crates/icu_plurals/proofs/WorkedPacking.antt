@@ -2,8 +2,8 @@
 use Rattle.std.proofs.Common.{◌≡◌, ℕ, List, [], ◌∷◌, Some, None, refl, replicate}
 use Rattle.std.specs.Prelude.{codes, Ok, Err}
 use Rattle.serde_json.specs.Data.{Data, null, number, unsigned, string, array, item, no_items, object, member, no_members}
-use Rattle.plural_base.specs.declared.json_error.ElementsPackError.TheVariants.{DefaultLimit, StartLimit}
-use Rattle.plural_base.specs.declared.json_error.JsonError.TheVariants.{Shape}
+use Rattle.plural_base.specs.declared.elements_pack_error.ElementsPackError.TheVariants.{DefaultLimit, StartLimit}
+use Rattle.plural_base.specs.declared.json.error.JsonError.TheVariants.{Shape}
 use Rattle.icu_plurals.specs.Elements.{Elements, only_other}
 use Rattle.icu_plurals.specs.ElementsJson.{elements_json, packed_of_json}
 use Rattle.icu_plurals.specs.PackedElements.{pack_fault, without_repeats, PackedValue, elements_bytes, packed_of}

@@ -4,9 +4,9 @@ use Rattle.std.specs.Prelude.{ℕ, List, codes, Option, Some, None, is_some, opt
 use Rattle.std.specs.Option.{option_and_then}
 use Rattle.serde_json.specs.Data.{Data, number, unsigned, string, array, item, no_items, object, Members, no_members, put}
 use Rattle.serde_json.specs.Find.{at, get, as_null, as_number, as_str, as_u64}
-use Rattle.plural_base.specs.declared.json_error.ElementsPackError.{ElementsPackError}
-use Rattle.plural_base.specs.declared.json_error.JsonError.TheVariants.{Shape, Pack}
-use Rattle.plural_base.specs.RulesJson.{Stands, unless_float}
+use Rattle.plural_base.specs.declared.elements_pack_error.ElementsPackError.{ElementsPackError}
+use Rattle.plural_base.specs.declared.json.error.JsonError.TheVariants.{Shape, Pack}
+use Rattle.plural_base.specs.Json.{Stands, unless_float}
 use Rattle.icu_plurals.specs.Elements.{Elements}
 use Rattle.icu_plurals.specs.PackedElements.{pack_fault, PackedValue, PackedElements, packed_of}
 

@@ -33,6 +33,7 @@ pub use Rattle.plural_runtime.specs.PackedRelations
 pub use Rattle.plural_runtime.specs.RuleBytes
 pub use Rattle.plural_runtime.specs.PackedTruth
 pub use Rattle.plural_runtime.specs.PackedTree
+pub use Rattle.plural_runtime.specs.RuleOfText
 pub use Rattle.plural_runtime.specs.PluralRuntimeErrors
 pub use Rattle.plural_runtime.specs.RuleKinds
 pub use Rattle.plural_runtime.specs.Inner.RuleReading
@@ -46,6 +47,7 @@ pub use Rattle.plural_base.specs.DecimalChoice
 pub use Rattle.plural_base.specs.Ranges
 pub use Rattle.plural_base.specs.Providers
 -- JSON and providers
+pub use Rattle.plural_base.specs.Json
 pub use Rattle.plural_base.specs.RulesJson
 pub use Rattle.plural_base.specs.RangesJson
 pub use Rattle.plural_base.specs.PluralBaseErrors

@@ -11,8 +11,8 @@ use Rattle.icu_plurals.specs.Elements.{Elements, unless_equal, element_at}
 use Rattle.std.specs.Borrow.{Bor}
 use Rattle.plural_reference.specs.Operands.{Operands}
 use Rattle.plural_base.specs.FiveRules.{FiveRules}
-use Rattle.plural_base.specs.declared.json_error.ElementsPackError.{ElementsPackError}
-use Rattle.plural_base.specs.declared.json_error.ElementsPackError.TheVariants.{DefaultLimit, StartLimit}
+use Rattle.plural_base.specs.declared.elements_pack_error.ElementsPackError.{ElementsPackError}
+use Rattle.plural_base.specs.declared.elements_pack_error.ElementsPackError.TheVariants.{DefaultLimit, StartLimit}
 
 -- metadata, and the bytes of a text
 pub record PackedValue : Type 0 where

@@ -2,7 +2,7 @@
 
 ghost use Rattle.std.specs.Prelude.{◌≡◌, ◌≢◌, Err, IfErr, IfOk, OnOk, option_map};
 ghost use Rattle.std.specs.Option.{option_and_then};
-ghost use Rattle.plural_base.specs.RulesJson.{Answers};
+ghost use Rattle.plural_base.specs.Json.{Answers};
 ghost use Rattle.serde_json.specs.Find.{as_str};
 ghost use Rattle.serde_json.specs.View.{view, members_view};
 ghost use Rattle.icu_plurals.specs.Elements.{each_by};

@@ -1,7 +1,8 @@
 //! Writes items as the bytes of a list.
 
-ghost use Rattle.std.specs.Prelude.{◌≡◌, ◌≢◌, ◌⊎◌, ◌↔◌, ◌+◌, ◌++◌, ◌^◌, ◌<◌, ◌≤◌, Err, IfOk, IfSome, IfNone, IsTrue, IsFalse, OnOk, flat_map, length, nat_lt};
+ghost use Rattle.std.specs.Prelude.{◌≡◌, ◌≢◌, ◌⊎◌, ◌↔◌, ◌+◌, ◌*◌, ◌++◌, ◌^◌, ◌<◌, ◌≤◌, Err, IfOk, IfSome, IfNone, IsTrue, IsFalse, OnOk, flat_map, length, nat_lt};
 ghost use Rattle.std.specs.List.{concat, list_any};
+ghost use Rattle.std.specs.Vec.{vec_capacity, vec_len};
 ghost use Rattle.packed_list.specs.ListBytes.{CanPack, ListBytes, has_high_start, list_bytes, starts_from, two_bytes};
 
 use crate::error::PackError;
@@ -75,8 +76,9 @@ impl<I: ByteItems> ListWriter<I> {
         let Some(first) = others.next_item() else {
             return Ok(());
         };
-        push_number(bytes, self.count)?;
-        push_starts(bytes, first.byte_count(), others)?;
+        bytes.reserve(2 * self.count)?;
+        push_number(bytes, self.count);
+        push_starts(bytes, first.byte_count(), others);
         push_items(bytes, self.items)
     }
 
@@ -135,29 +137,31 @@ fn is_high(start: usize) -> bool
     start > 65535
 }
 
-// Writes a number as two bytes, low byte first.
+// Writes a number as two bytes, low byte first, where there is room for them.
 #[inline]
-fn push_number(bytes: &mut Vec<u8>, n: usize) -> Result<(), AllocError>
-    requires { n ≤ 65535 }
-    ensures { OnOk result (bytes.new.items ≡ bytes.old.items ++ two_bytes n) }
+fn push_number(bytes: &mut Vec<u8>, n: usize)
+    requires small { n ≤ 65535 }
+    requires room { vec_len bytes.old + 2 ≤ vec_capacity bytes.old }
+    ensures items { bytes.new.items ≡ bytes.old.items ++ two_bytes n }
+    ensures len { vec_len bytes.new ≡ vec_len bytes.old + 2 }
+    ensures capacity { vec_capacity bytes.new ≡ vec_capacity bytes.old }
 {
-    bytes.push((n % 256) as u8)?;
-    bytes.push((n / 256) as u8)?;
-    Ok(())
+    bytes.push_reserved((n % 256) as u8);
+    bytes.push_reserved((n / 256) as u8);
 }
 
-// Writes where each item starts, if the first one starts at a given place.
-fn push_starts<I: ByteItems>(bytes: &mut Vec<u8>, place: usize, items: I) -> Result<(), AllocError>
-    requires { IsFalse (list_any (λ start. nat_lt 65535 start) (starts_from place (I.items items))) }
-    ensures { OnOk result (bytes.new.items ≡ bytes.old.items ++ flat_map two_bytes (starts_from place (I.items items))) }
+// Writes where each item starts, if the first one starts at a given place, where there is room for two bytes each.
+fn push_starts<I: ByteItems>(bytes: &mut Vec<u8>, place: usize, items: I)
+    requires low { IsFalse (list_any (λ start. nat_lt 65535 start) (starts_from place (I.items items))) }
+    requires room { vec_len bytes.old + 2 * length (I.items items) ≤ vec_capacity bytes.old }
+    ensures { bytes.new.items ≡ bytes.old.items ++ flat_map two_bytes (starts_from place (I.items items)) }
 {
     let mut left = items;
     let mut start = place;
     while let Some(item) = left.next_item() {
-        push_number(bytes, start)?;
+        push_number(bytes, start);
         start += item.byte_count();
     }
-    Ok(())
 }
 
 // Writes the items without gaps.

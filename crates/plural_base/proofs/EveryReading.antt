@@ -1,11 +1,15 @@
--- Rules of texts are read from every reading of these texts.
-use Rattle.std.proofs.Common.{◌≡◌, ℕ, List, sym, subst, ◌∙◌, Option, Some, None, inl, inr}
+-- Rules of texts are those of every reading of these texts.
+use Rattle.std.proofs.Common.{◌≡◌, ℕ, List, sym, subst, ◌∙◌, Option, Some, None, Ok, inl, inr}
 use Rattle.plural_reference.specs.declared.ast.Condition.{Condition}
 use Rattle.plural_reference.specs.Parser.{Reads}
 use Rattle.plural_reference.specs.Reading.{TextReads}
 use Rattle.plural_reference.specs.ReadingLaws.{HaveOneListOfTokens, HaveOneReading}
+use Rattle.plural_reference.specs.Samples.{ReadsCondition}
 use Rattle.plural_runtime.specs.PackedRelations.{PackedRelation}
-use Rattle.plural_base.specs.RuleTexts.{ReadsAs, IsReadFrom, IsAnswerFor, IsReading, HaveEveryReading}
+use Rattle.plural_runtime.specs.PackedTree.{packing}
+use Rattle.plural_runtime.specs.RuleOfText.{TextGives}
+use Rattle.plural_base.specs.FiveRules.{Paired}
+use Rattle.plural_base.specs.RuleTexts.{IsRuleOf, IsAnswerFor, HaveEveryReading}
 
 -- what a text is read as in two ways is one condition
 one_condition : HaveOneListOfTokens → HaveOneReading → (text : List ℕ) (a b : Condition)
@@ -20,37 +24,46 @@ one_condition one_list one_reading text a b g h =
     ]
 
 -- a text that is read as a rule is read as its condition
-condition_of_rule : (text : List ℕ) (condition : Condition) → ReadsAs text condition → TextReads Reads text condition
+condition_of_rule : (text : List ℕ) (condition : Condition) → TextReads ReadsCondition text condition → TextReads Reads text condition
 condition_of_rule text condition h =
     let P : Condition → Type 0 = λ c. TextReads Reads text c in
-    let read = h.1.2 in
-    subst P h.2 (h.1.0, h.1.1, (read.0, read.1))
+    let read = h.2.1 in
+    subst P h.2.2 (h.0, h.1, (read.0, read.1))
 
--- a rule is read from every reading of its text
-rule_again : HaveOneListOfTokens → HaveOneReading → (text : Option (List ℕ)) (known condition : Option Condition) (rule : Option (List PackedRelation))
-    → IsReadFrom text known rule → IsReading (TextReads Reads) text condition → IsReadFrom text condition rule
-rule_again one_list one_reading None None None None read reading = read
-rule_again one_list one_reading (Some text) (Some known) (Some condition) (Some rule) read reading =
-    let P : Condition → Type 0 = λ c. IsReadFrom (Some text) (Some c) (Some rule) in
-    subst P (one_condition one_list one_reading text known condition (condition_of_rule text known read.0) reading) read
-rule_again one_list one_reading None known (Some condition) rule read reading = absurd reading
-rule_again one_list one_reading (Some text) known None rule read reading = absurd reading
-rule_again one_list one_reading None None None (Some rule) read reading = absurd read
-rule_again one_list one_reading None (Some known) None rule read reading = absurd read
-rule_again one_list one_reading (Some text) None (Some condition) rule read reading = absurd read
-rule_again one_list one_reading (Some text) (Some known) (Some condition) None read reading = absurd read
+-- a condition that is read of a text that gives a rule is that of the rule, which is its packing
+rule_again : HaveOneListOfTokens → HaveOneReading → (text : List ℕ) (condition : Condition) (rule : List PackedRelation)
+    → TextGives text (Ok rule) → TextReads Reads text condition → TextReads ReadsCondition text condition × (packing condition ≡ Ok rule)
+rule_again one_list one_reading text condition rule (inl known) reading =
+    let P : Condition → Type 0 = λ c. TextReads ReadsCondition text c × (packing c ≡ Ok rule) in
+    subst P (one_condition one_list one_reading text known.0 condition (condition_of_rule text known.0 known.1) reading)
+    (known.1, sym known.2)
+rule_again one_list one_reading text condition rule (inr fault) reading = absurd (let e = fault.2 in cc)
+
+-- so it is where the text may be absent
+optional_again : HaveOneListOfTokens → HaveOneReading
+    → (text : Option (List ℕ)) (condition : Option Condition) (rule : Option (List PackedRelation))
+    → IsRuleOf text rule → Paired (TextReads Reads) text condition
+    → Paired (TextReads ReadsCondition) text condition × Paired (λ c r. packing c ≡ Ok r) condition rule
+optional_again one_list one_reading None None None gives reading = (tt, tt)
+optional_again one_list one_reading (Some text) (Some condition) (Some rule) gives reading =
+    rule_again one_list one_reading text condition rule gives reading
+optional_again one_list one_reading None None (Some rule) gives reading = absurd gives
+optional_again one_list one_reading (Some text) (Some condition) None gives reading = absurd gives
+optional_again one_list one_reading None (Some condition) rule gives reading = absurd reading
+optional_again one_list one_reading (Some text) None rule gives reading = absurd reading
 
 -- by the conditions that are read
 pub every_condition : HaveOneListOfTokens → HaveOneReading → HaveEveryReading (TextReads Reads)
-every_condition one_list one_reading = λ texts conditions rules known readings.
-    let known_read = known.1 in
-    record {
-      zero = rule_again one_list one_reading texts.zero known.0.zero conditions.zero rules.zero known_read.zero readings.zero;
-      one = rule_again one_list one_reading texts.one known.0.one conditions.one rules.one known_read.one readings.one;
-      two = rule_again one_list one_reading texts.two known.0.two conditions.two rules.two known_read.two readings.two;
-      few = rule_again one_list one_reading texts.few known.0.few conditions.few rules.few known_read.few readings.few;
-      many = rule_again one_list one_reading texts.many known.0.many conditions.many rules.many known_read.many readings.many;
-    }
+every_condition one_list one_reading = λ texts conditions rules gives readings.
+    let again = optional_again one_list one_reading in
+    let zero = again texts.zero conditions.zero rules.zero gives.zero readings.zero in
+    let one = again texts.one conditions.one rules.one gives.one readings.one in
+    let two = again texts.two conditions.two rules.two gives.two readings.two in
+    let few = again texts.few conditions.few rules.few gives.few readings.few in
+    let many = again texts.many conditions.many rules.many gives.many readings.many in (
+      record { zero = zero.0; one = one.0; two = two.0; few = few.0; many = many.0 },
+      record { zero = zero.1; one = one.1; two = two.1; few = few.1; many = many.1 },
+    )
 
 -- ---- Readings of other kinds
 
@@ -58,16 +71,19 @@ every_condition one_list one_reading = λ texts conditions rules known readings.
 abbrev AreConditions : (List ℕ → Condition → Type 0) → Type 0
 AreConditions Read = (text : List ℕ) (condition : Condition) → Read text condition → TextReads Reads text condition
 
+-- so it is where the text may be absent
 as_condition : (Read : List ℕ → Condition → Type 0) → AreConditions Read → (text : Option (List ℕ)) (condition : Option Condition)
-    → IsReading Read text condition → IsReading (TextReads Reads) text condition
+    → Paired Read text condition → Paired (TextReads Reads) text condition
 as_condition Read to None None reading = reading
 as_condition Read to (Some text) (Some condition) reading = to text condition reading
 as_condition Read to None (Some condition) reading = absurd reading
 as_condition Read to (Some text) None reading = absurd reading
 
-every_reading : (Read : List ℕ → Condition → Type 0) → AreConditions Read → HaveOneListOfTokens → HaveOneReading → HaveEveryReading Read
-every_reading Read to one_list one_reading = λ texts conditions rules known readings.
-    every_condition one_list one_reading texts conditions rules known (record {
+-- by every relation whose readings are read as conditions
+every_reading : (Read : List ℕ → Condition → Type 0) → AreConditions Read → HaveOneListOfTokens → HaveOneReading
+    → HaveEveryReading Read
+every_reading Read to one_list one_reading = λ texts conditions rules gives readings.
+    every_condition one_list one_reading texts conditions rules gives (record {
       zero = as_condition Read to texts.zero conditions.zero readings.zero;
       one = as_condition Read to texts.one conditions.one readings.one;
       two = as_condition Read to texts.two conditions.two readings.two;
@@ -76,11 +92,12 @@ every_reading Read to one_list one_reading = λ texts conditions rules known rea
     })
 
 -- by the rules that are read
-pub every_rule : HaveOneListOfTokens → HaveOneReading → HaveEveryReading ReadsAs
-every_rule = every_reading ReadsAs condition_of_rule
+pub every_rule : HaveOneListOfTokens → HaveOneReading → HaveEveryReading (TextReads ReadsCondition)
+every_rule = every_reading (TextReads ReadsCondition) condition_of_rule
 
 -- by the conditions that are answered
 pub every_answer : HaveOneListOfTokens → HaveOneReading → HaveEveryReading IsAnswerFor
 every_answer one_list one_reading =
-    let read : AreConditions IsAnswerFor = λ text condition h. let tokens = one_list text in (tokens.0, tokens.1, h tokens.0 tokens.1) in
+    let read : AreConditions IsAnswerFor = λ text condition h.
+    let tokens = one_list text in (tokens.0, tokens.1, h tokens.0 tokens.1) in
     every_reading IsAnswerFor read one_list one_reading

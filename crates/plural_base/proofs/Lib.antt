@@ -6,11 +6,11 @@ pub mod ConditionsAdmitted
 pub mod ExactCategories
 pub mod Answered
 pub mod WidestChoice
-pub mod TextsGiven
 pub mod EveryReading
 pub mod RuleRefusals
 pub mod Rows
 pub mod RowsRead
+pub mod DocumentRefusals
 pub mod RulesRead
 pub mod RawCategories
 pub mod RangeNames

@@ -26,18 +26,24 @@ IsFilled (x ∷ xs) = Unit {0}
 
 -- relations marked And before others stand in the first group of these
 and_before : (relations : List Relation) (others : List PackedRelation) (first : List PackedRelation) (more : List (List PackedRelation))
-    → groups others ≡ first ∷ more → groups (map (packed_relation And) relations ++ others) ≡ (map (packed_relation And) relations ++ first) ∷ more
+    → groups others ≡ first ∷ more
+    → groups (map (packed_relation And) relations ++ others) ≡ (map (packed_relation And) relations ++ first) ∷ more
 and_before [] others first more e = e
-and_before (relation ∷ relations) others first more e = ap (at_front (packed_relation And relation)) (and_before relations others first more e)
+and_before (relation ∷ relations) others first more e =
+    ap (at_front (packed_relation And relation)) (and_before relations others first more e)
 
 -- each filled group begins with Or
-or_groups : (gs : List (List Relation)) → AllByRecursion IsFilled gs → groups (flat_map (packed_and_condition Or) gs) ≡ [] ∷ map (packed_and_condition Or) gs
+or_groups : (gs : List (List Relation)) → AllByRecursion IsFilled gs
+    → groups (flat_map (packed_and_condition Or) gs) ≡ [] ∷ map (packed_and_condition Or) gs
 or_groups [] filled = refl
 or_groups ([] ∷ gs) filled = absurd filled.0
 or_groups ((relation ∷ relations) ∷ gs) filled =
-    ap (λ found. [] ∷ at_front (packed_relation Or relation) found) (and_before relations (flat_map (packed_and_condition Or) gs) [] _ (or_groups gs filled.1))
-    ∙ ap (λ group. [] ∷ (packed_relation Or relation ∷ group) ∷ map (packed_and_condition Or) gs) (append-nil (map (packed_relation And) relations))
+    ap (λ found. [] ∷ at_front (packed_relation Or relation) found)
+    (and_before relations (flat_map (packed_and_condition Or) gs) [] _ (or_groups gs filled.1))
+    ∙ ap (λ group. [] ∷ (packed_relation Or relation ∷ group) ∷ map (packed_and_condition Or) gs)
+    (append-nil (map (packed_relation And) relations))
 
+-- an and-condition that begins with And has nothing but And
 and_group : (group : List Relation) → packed_and_condition And group ≡ map (packed_relation And) group
 and_group [] = refl
 and_group (relation ∷ relations) = refl
@@ -56,15 +62,21 @@ packed_groups_are group gs filled =
 abbrev pub test_of : Operands → Relation → Bool
 test_of number relation = relation_truth number (meaning_of relation)
 
-marked_alike : (number : Operands) (relations : List Relation) → list_all (is_true_at number) (map (packed_relation And) relations) ≡ list_all (test_of number) relations
+-- relations marked And are true as those of the tree
+marked_alike : (number : Operands) (relations : List Relation)
+    → list_all (is_true_at number) (map (packed_relation And) relations) ≡ list_all (test_of number) relations
 marked_alike number [] = refl
 marked_alike number (relation ∷ relations) = ap (λ b. test_of number relation && b) (marked_alike number relations)
 
-group_alike : (number : Operands) (mark : AndOr) (group : List Relation) → list_all (is_true_at number) (packed_and_condition mark group) ≡ list_all (test_of number) group
+-- so is an and-condition, however it is marked
+group_alike : (number : Operands) (mark : AndOr) (group : List Relation)
+    → list_all (is_true_at number) (packed_and_condition mark group) ≡ list_all (test_of number) group
 group_alike number mark [] = refl
 group_alike number mark (relation ∷ relations) = ap (λ b. test_of number relation && b) (marked_alike number relations)
 
-groups_alike : (number : Operands) (gs : List (List Relation)) → list_any (list_all (is_true_at number)) (map (packed_and_condition Or) gs) ≡ list_any (list_all (test_of number)) gs
+-- so is one of several and-conditions
+groups_alike : (number : Operands) (gs : List (List Relation))
+    → list_any (list_all (is_true_at number)) (map (packed_and_condition Or) gs) ≡ list_any (list_all (test_of number)) gs
 groups_alike number [] = refl
 groups_alike number (group ∷ gs) =
     ap (λ b. b || list_any (list_all (is_true_at number)) (map (packed_and_condition Or) gs)) (group_alike number Or group)
@@ -75,6 +87,7 @@ abbrev pub AreLaterFilled : {A : Type 0} → List (List A) → Type 0
 AreLaterFilled [] = Unit {0}
 AreLaterFilled (group ∷ gs) = AllByRecursion IsFilled gs
 
+-- all groups together are true as the condition is
 truth_of_groups : (number : Operands) (gs : List (List Relation)) → AreLaterFilled gs
     → some_group (is_true_at number) (groups (packed_groups gs)) ≡ is_true_of (test_of number) gs
 truth_of_groups number [] filled = refl
@@ -91,23 +104,29 @@ packed_truth-packed number condition filled = truth_of_groups number (groups_of 
 
 -- ---- What is read has filled groups
 
+-- an and-condition that is read has a relation
 filled_group : (ts : List Token) (group : AndCondition) → IsAndCondition ts group → IsFilled group.0
 filled_group ts group h = filled ts group.0 h
   where
+    -- relations that are read one after the other are some
     filled : (us : List Token) (relations : List Relation) → Separated tokens.And IsRelation us relations → IsFilled relations
     filled us [] h = absurd h
     filled us (relation ∷ relations) h = tt
 
-filled_groups : (ts : List Token) (gs : List AndCondition) → Separated tokens.Or IsAndCondition ts gs → AllByRecursion IsFilled (map (λ group. group.0) gs)
+-- each of the and-conditions that are read one after the other has a relation
+filled_groups : (ts : List Token) (gs : List AndCondition) → Separated tokens.Or IsAndCondition ts gs
+    → AllByRecursion IsFilled (map (λ group. group.0) gs)
 filled_groups ts [] h = tt
 filled_groups ts (group ∷ []) h = (filled_group ts group h, tt)
 filled_groups ts (group ∷ next ∷ gs) h = (filled_group h.0 group h.3, filled_groups h.1 (next ∷ gs) h.4)
 
+-- where all groups have a relation, all but the first have
 later_filled : (gs : List (List Relation)) → AllByRecursion IsFilled gs → AreLaterFilled gs
 later_filled [] filled = tt
 later_filled (group ∷ gs) filled = filled.1
 
 -- all groups but the first of a condition that is read have a relation
-pub read_is_filled : (ts : List Token) (condition : Condition) (rest : List Token) → ReadsUpTo ts condition rest → AreLaterFilled (groups_of condition)
+pub read_is_filled : (ts : List Token) (condition : Condition) (rest : List Token) → ReadsUpTo ts condition rest
+    → AreLaterFilled (groups_of condition)
 read_is_filled ts condition rest (inl none) = let P : Condition → Type 0 = λ c. AreLaterFilled (groups_of c) in subst P (sym none.0) tt
 read_is_filled ts condition rest (inr some) = later_filled (groups_of condition) (filled_groups some.0 condition.0 some.2)

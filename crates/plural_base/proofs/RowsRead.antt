@@ -1,7 +1,7 @@
 -- Rows that are read, member by member.
 use Rattle.std.proofs.Common.{◌≡◌, ℕ, List, [], ◌∷◌, ◌++◌, Ok, Err, refl, sym, ap, ◌∙◌}
-use Rattle.plural_base.specs.DocumentJson.{Rows, rows_shape}
-use Rattle.plural_base.specs.RulesJson.{Stands, ◌>>=◌}
+use Rattle.plural_base.specs.DocumentJson.{Rows, rows_meant}
+use Rattle.plural_base.specs.Json.{Stands, ◌>>=◌}
 use Rattle.std.proofs.lemmas.List.{append_assoc}
 use Rattle.std.specs.BTreeMap.{insert_entry}
 use Rattle.std.specs.Cmp.Lexicographic.{slice_cmp}
@@ -20,14 +20,17 @@ pub behind_none : {A : Type 0} (more : Stands (Rows A)) → more ≡ behind [] m
 behind_none (Ok more) = refl
 behind_none (Err e) = refl
 
-module _ {A : Type 0} (shape : Data → Stands A) (rows : Rows A) (k : List ℕ) (d : Data) (ms : Members) where
-  push_behind : (first : A) (more : Stands (Rows A)) → behind rows (more >>= λ rest. Ok ((k, first) ∷ rest)) ≡ behind (rows ++ (k, first) ∷ []) more
+module _ {A : Type 0} (meant : Data → Stands A) (rows : Rows A) (k : List ℕ) (d : Data) (ms : Members) where
+  -- a row behind others, before those that are left, is pushed to them
+  push_behind : (first : A) (more : Stands (Rows A))
+      → behind rows (more >>= λ rest. Ok ((k, first) ∷ rest)) ≡ behind (rows ++ (k, first) ∷ []) more
   push_behind first (Ok more) = ap Ok (sym (append_assoc rows ((k, first) ∷ []) more))
   push_behind first (Err e) = refl
 
   -- a member that is read is the next row
-  pub taken_row : (first : A) → shape d ≡ Ok first → behind rows (rows_shape shape (member k d ms)) ≡ behind (rows ++ (k, first) ∷ []) (rows_shape shape ms)
-  taken_row first h = rw h (push_behind first (rows_shape shape ms))
+  pub taken_row : (first : A) → meant d ≡ Ok first
+      → behind rows (rows_meant meant (member k d ms)) ≡ behind (rows ++ (k, first) ∷ []) (rows_meant meant ms)
+  taken_row first h = rw h (push_behind first (rows_meant meant ms))
 
 -- ---- A step
 
@@ -41,6 +44,8 @@ module _ {A : Type 0} (rows new : Rows A) (k : List ℕ) (first : A) (keys : Lis
   order_kept put h = rw (put_behind put h) (ascend_push rows k first keys h)
 
   -- and the rows are those of the members so far
-  pub rows_kept : (shape : Data → Stands A) (d : Data) (ms : Members) → new ≡ insert_entry (slice_cmp nat_cmp) rows k first → Ascend (keys_of rows ++ k ∷ keys)
-      → shape d ≡ Ok first → behind rows (rows_shape shape (member k d ms)) ≡ behind new (rows_shape shape ms)
-  rows_kept shape d ms put h read = taken_row shape rows k d ms first read ∙ ap (λ r. behind r (rows_shape shape ms)) (sym (put_behind put h))
+  pub rows_kept : (meant : Data → Stands A) (d : Data) (ms : Members) → new ≡ insert_entry (slice_cmp nat_cmp) rows k first
+      → Ascend (keys_of rows ++ k ∷ keys)
+      → meant d ≡ Ok first → behind rows (rows_meant meant (member k d ms)) ≡ behind new (rows_meant meant ms)
+  rows_kept meant d ms put h read =
+      taken_row meant rows k d ms first read ∙ ap (λ r. behind r (rows_meant meant ms)) (sym (put_behind put h))

@@ -1,47 +1,62 @@
 -- Rules that a value stands for are those of the texts in it.
-use Rattle.std.proofs.Common.{◌≡◌, ℕ, List, ◌∷◌, Bool, true, false, cond, Option, Some, None, is_some, Result, Ok, Err, codes, if◌then◌else◌, IfOk, refl, sym, subst, inl, inr, Ordering, Less, Equal, Greater, is_eq, nat_cmp}
+use Rattle.std.proofs.Common.{◌≡◌, ℕ, List, ◌∷◌, Bool, true, false, cond, Option, Some, None, is_some, Result, Ok, Err, codes}
+use Rattle.std.proofs.Common.{if◌then◌else◌, IfOk, refl, subst, Ordering, Less, Equal, Greater, is_eq, nat_cmp}
 use Rattle.std.proofs.lemmas.Map.Text.{is_eq-slice_cmp}
 use Rattle.std.specs.Cmp.Lexicographic.{slice_cmp}
 use Rattle.std.specs.Option.{option_and_then}
 use Rattle.std.specs.Ordering.{match_ordering}
 use Rattle.plural_runtime.specs.PackedRelations.{PackedRelation}
+use Rattle.plural_runtime.specs.RuleOfText.{RuleAnswer, TextGives, TextsGiveOneAnswer, rule_of_text}
 use Rattle.plural_base.specs.declared.category.PluralCategory.{PluralCategory}
 use Rattle.plural_base.specs.declared.category.PluralCategory.TheVariants.{Zero, One, Two, Few, Many}
-use Rattle.plural_base.specs.declared.json_error.JsonError.{JsonError}
-use Rattle.plural_base.specs.declared.json_error.JsonError.TheVariants.{Shape}
-use Rattle.plural_base.specs.DocumentJson.{Rows, Document, found, rows_shape, map_shape, all_maps, document_shape, value_at, IsThereAs, IsReadAt, AreRangesAt}
+use Rattle.plural_base.specs.declared.json.error.JsonError.{JsonError}
+use Rattle.plural_base.specs.declared.json.error.JsonError.TheVariants.{Shape}
+use Rattle.plural_base.specs.DocumentJson.{Rows, Document, found, rows_meant, map_meant, all_maps, document_meant, value_of_locale}
+use Rattle.plural_base.specs.DocumentJson.{IsReadAt}
+use Rattle.plural_base.specs.DocumentJson.{AreRangesAt}
 use Rattle.plural_base.specs.declared.ranges.PluralRanges.{PluralRanges}
-use Rattle.plural_base.specs.FiveRules.{Five, FiveRules}
-use Rattle.plural_base.specs.RangesJson.{ranges_shape}
-use Rattle.plural_base.specs.RulesJson.{Stands, ◌>>=◌, named, optional_shape, member_shape, rules_shape, all_five, texts_in, Answers}
-use Rattle.plural_base.specs.RuleTexts.{AreRulesOf, IsTakenAs, RuleAnswer, TextGives, TextReader, TellsTexts}
+use Rattle.plural_base.specs.FiveRules.{Five, FiveRules, Paired}
+use Rattle.plural_base.specs.RangesJson.{ranges_meant}
+use Rattle.plural_base.specs.Json.{Stands, ◌>>=◌, all_five, Answers}
+use Rattle.plural_base.specs.RulesJson.{named, optional_meant, member_meant, rules_meant, texts_in}
+use Rattle.plural_base.specs.RuleTexts.{AreRulesOf, IsRuleOf}
 use Rattle.serde_json.specs.Data.{Data, null, boolean, number, string, array, object, Members, no_members, member}
 use Rattle.serde_json.specs.Find.{get, get_member, as_object, as_str}
 
+-- what is answered without a refusal is one thing
 same_ok : {A : Type 0} (x y : A) → ◌≡◌ {A = Stands A} (Ok x) (Ok y) → x ≡ y
 same_ok x y same = cc
 
 -- ---- One rule
 
+-- a rule as contracts see it
 abbrev pub Rule : Type 0
 Rule = List PackedRelation
 
+-- each text gives what the reader says
+abbrev pub AreGiven : Type 0
+AreGiven = (text : List ℕ) → TextGives text (rule_of_text text)
+
+-- by the law that a text gives what the reader says
+pub are_given : TextsGiveOneAnswer → AreGiven
+are_given one_answer text = (one_answer text (rule_of_text text)).1 refl
+
+-- the rule that a text stands for is the one that it gives
 taken_text : (text : List ℕ) (answer : RuleAnswer) → TextGives text answer → (category : PluralCategory) (rule : Option Rule)
-    → (named (Some category) answer >>= λ r. Ok (Some r)) ≡ Ok rule → IsTakenAs (Some text) rule
-taken_text text (Ok r) (inl given) category rule h = subst (λ x. IsTakenAs (Some text) x) (same_ok _ _ h) (Some given.0, (given.1, sym given.2))
-taken_text text (Ok r) (inr fault) category rule h = absurd (let e = fault.2 in cc)
+    → (named (Some category) answer >>= λ r. Ok (Some r)) ≡ Ok rule → IsRuleOf (Some text) rule
+taken_text text (Ok r) given category rule h = subst (λ x. IsRuleOf (Some text) x) (same_ok _ _ h) given
 taken_text text (Err e) given category rule h = absurd cc
 
 -- what an optional rule stands for is that of its text
-pub optional_taken : (texts : TextReader) → TellsTexts texts → (category : PluralCategory) (value : Option Data) (rule : Option Rule)
-    → optional_shape texts category value ≡ Ok rule → IsTakenAs (option_and_then as_str value) rule
-optional_taken texts tells category None rule h = subst (λ x. IsTakenAs None x) (same_ok _ _ h) (None, tt)
-optional_taken texts tells category (Some null) rule h = subst (λ x. IsTakenAs None x) (same_ok _ _ h) (None, tt)
-optional_taken texts tells category (Some (boolean b)) rule h = absurd cc
-optional_taken texts tells category (Some (number n)) rule h = absurd cc
-optional_taken texts tells category (Some (string s)) rule h = taken_text s (texts s) (tells s) category rule h
-optional_taken texts tells category (Some (array items)) rule h = absurd cc
-optional_taken texts tells category (Some (object ms)) rule h = absurd cc
+pub optional_taken : AreGiven → (category : PluralCategory) (value : Option Data) (rule : Option Rule)
+    → optional_meant category value ≡ Ok rule → IsRuleOf (option_and_then as_str value) rule
+optional_taken given category None rule h = subst (λ x. IsRuleOf None x) (same_ok _ _ h) tt
+optional_taken given category (Some null) rule h = subst (λ x. IsRuleOf None x) (same_ok _ _ h) tt
+optional_taken given category (Some (boolean b)) rule h = absurd cc
+optional_taken given category (Some (number n)) rule h = absurd cc
+optional_taken given category (Some (string s)) rule h = taken_text s (rule_of_text s) (given s) category rule h
+optional_taken given category (Some (array items)) rule h = absurd cc
+optional_taken given category (Some (object ms)) rule h = absurd cc
 
 -- ---- Five rules
 
@@ -53,26 +68,30 @@ record AreFive {A : Type 0} (zero one two few many : Stands A) (all : Five A) : 
   pub few_is : few ≡ Ok all.few
   pub many_is : many ≡ Ok all.many
 
-are_five : {A : Type 0} (zero one two few many : Stands A) (all : Five A) → all_five zero one two few many ≡ Ok all → AreFive zero one two few many all
+-- five that stand for something together do so one by one
+are_five : {A : Type 0} (zero one two few many : Stands A) (all : Five A) → all_five zero one two few many ≡ Ok all
+    → AreFive zero one two few many all
 are_five (Err e) one two few many all h = absurd cc
 are_five (Ok z) (Err e) two few many all h = absurd cc
 are_five (Ok z) (Ok o) (Err e) few many all h = absurd cc
 are_five (Ok z) (Ok o) (Ok t) (Err e) many all h = absurd cc
 are_five (Ok z) (Ok o) (Ok t) (Ok f) (Err e) all h = absurd cc
-are_five (Ok z) (Ok o) (Ok t) (Ok f) (Ok m) all h = subst (AreFive (Ok z) (Ok o) (Ok t) (Ok f) (Ok m)) (same_ok _ _ h) (record { zero_is = refl; one_is = refl; two_is = refl; few_is = refl; many_is = refl })
+are_five (Ok z) (Ok o) (Ok t) (Ok f) (Ok m) all h =
+    subst (AreFive (Ok z) (Ok o) (Ok t) (Ok f) (Ok m)) (same_ok _ _ h)
+    (record { zero_is = refl; one_is = refl; two_is = refl; few_is = refl; many_is = refl })
 
-taken_members : (texts : TextReader) → TellsTexts texts → (value : Data) (rules : FiveRules)
-    → AreFive (member_shape texts Zero value) (member_shape texts One value) (member_shape texts Two value) (member_shape texts Few value) (member_shape texts Many value) rules
+-- five rules that are there are those of the texts under the five names
+taken_members : AreGiven → (value : Data) (rules : FiveRules)
+    → AreFive (member_meant Zero value) (member_meant One value) (member_meant Two value) (member_meant Few value)
+    (member_meant Many value) rules
     → AreRulesOf (texts_in value) rules
-taken_members texts tells value rules all =
-    let zero = optional_taken texts tells Zero _ rules.zero all.zero_is in
-    let one = optional_taken texts tells One _ rules.one all.one_is in
-    let two = optional_taken texts tells Two _ rules.two all.two_is in
-    let few = optional_taken texts tells Few _ rules.few all.few_is in
-    let many = optional_taken texts tells Many _ rules.many all.many_is in (
-      record { zero = zero.0; one = one.0; two = two.0; few = few.0; many = many.0 },
-      record { zero = zero.1; one = one.1; two = two.1; few = few.1; many = many.1 },
-    )
+taken_members given value rules all =
+    let zero = optional_taken given Zero _ rules.zero all.zero_is in
+    let one = optional_taken given One _ rules.one all.one_is in
+    let two = optional_taken given Two _ rules.two all.two_is in
+    let few = optional_taken given Few _ rules.few all.few_is in
+    let many = optional_taken given Many _ rules.many all.many_is in
+    record { zero = zero; one = one; two = two; few = few; many = many }
 
 -- only what passes a test is read
 if_read : {A : Type 0} (b : Bool) (e : JsonError) (read : Stands A) (x : A) → (if b then read else Err e) ≡ Ok x → read ≡ Ok x
@@ -80,36 +99,44 @@ if_read true e read x h = h
 if_read false e read x h = absurd cc
 
 -- the rules that a value stands for are those of the texts in it
-pub rules_taken : (texts : TextReader) → TellsTexts texts → (value : Data) (rules : FiveRules) → rules_shape texts value ≡ Ok rules → AreRulesOf (texts_in value) rules
-rules_taken texts tells value rules h = taken_members texts tells value rules (are_five _ _ _ _ _ rules (if_read (is_some (as_object value)) Shape _ rules h))
+pub rules_taken : AreGiven → (value : Data) (rules : FiveRules) → rules_meant value ≡ Ok rules → AreRulesOf (texts_in value) rules
+rules_taken given value rules h =
+    taken_members given value rules (are_five _ _ _ _ _ rules (if_read (is_some (as_object value)) Shape _ rules h))
 
 -- ---- A map
 
-module _ {A : Type 0} (shape : Data → Stands A) (Reads : Data → A → Type 0) (taken : (value : Data) (thing : A) → shape value ≡ Ok thing → Reads value thing) (locale : List ℕ) where
-  at_key : (o : Ordering) (value : Data) (thing : A) (there : Option Data) (there' : Option A) → Reads value thing → IsThereAs Reads there there'
-      → IsThereAs Reads (match_ordering o there (Some value) there) (cond (is_eq o) (Some thing) there')
+module _ {A : Type 0} (meant : Data → Stands A) (Reads : Data → A → Type 0)
+    (taken : (value : Data) (thing : A) → meant value ≡ Ok thing → Reads value thing) (locale : List ℕ) where
+  -- at the key of a row stands what is read of its value, at another what the others have
+  at_key : (o : Ordering) (value : Data) (thing : A) (there : Option Data) (there' : Option A) → Reads value thing
+      → Paired Reads there there'
+      → Paired Reads (match_ordering o there (Some value) there) (cond (is_eq o) (Some thing) there')
   at_key Less value thing there there' h g = g
   at_key Equal value thing there there' h g = h
   at_key Greater value thing there there' h g = g
 
+  -- a row is read where its key is there, and so are the others
   row_read : (k : List ℕ) (value : Data) (ms : Members) (first : Stands A) (more : Stands (Rows A)) (rows : Rows A)
-      → shape value ≡ first → ((rest : Rows A) → more ≡ Ok rest → IsThereAs Reads (get_member locale ms) (found locale rest))
-      → (first >>= λ x. (more >>= λ rest. Ok ((k, x) ∷ rest))) ≡ Ok rows → IsThereAs Reads (get_member locale (member k value ms)) (found locale rows)
+      → meant value ≡ first → ((rest : Rows A) → more ≡ Ok rest → Paired Reads (get_member locale ms) (found locale rest))
+      → (first >>= λ x. (more >>= λ rest. Ok ((k, x) ∷ rest))) ≡ Ok rows
+      → Paired Reads (get_member locale (member k value ms)) (found locale rows)
   row_read k value ms (Err e) more rows read others h = absurd cc
   row_read k value ms (Ok x) (Err e) rows read others h = absurd cc
   row_read k value ms (Ok x) (Ok rest) rows read others h =
-      subst (λ r. IsThereAs Reads (get_member locale (member k value ms)) (found locale r)) (same_ok _ _ h)
-      (subst (λ b. IsThereAs Reads (get_member locale (member k value ms)) (cond b (Some x) (found locale rest))) (is_eq-slice_cmp locale k)
+      subst (λ r. Paired Reads (get_member locale (member k value ms)) (found locale r)) (same_ok _ _ h)
+      (subst (λ b. Paired Reads (get_member locale (member k value ms)) (cond b (Some x) (found locale rest))) (is_eq-slice_cmp locale k)
       (at_key (slice_cmp nat_cmp locale k) value x _ _ (taken value x read) (others rest refl)))
 
   -- a row is read where its key is there
-  rows_read : (ms : Members) (rows : Rows A) → rows_shape shape ms ≡ Ok rows → IsThereAs Reads (get_member locale ms) (found locale rows)
-  rows_read no_members rows h = subst (λ r. IsThereAs Reads None (found locale r)) (same_ok _ _ h) tt
+  rows_read : (ms : Members) (rows : Rows A) → rows_meant meant ms ≡ Ok rows → Paired Reads (get_member locale ms) (found locale rows)
+  rows_read no_members rows h = subst (λ r. Paired Reads None (found locale r)) (same_ok _ _ h) tt
   rows_read (member k value ms) rows h = row_read k value ms _ _ rows refl (λ rest read. rows_read ms rest read) h
 
-  map_read : (value : Option Data) (rows : Rows A) → map_shape shape value ≡ Ok rows → IsThereAs Reads (option_and_then (get locale) value) (found locale rows)
-  map_read None rows h = subst (λ r. IsThereAs Reads None (found locale r)) (same_ok _ _ h) tt
-  map_read (Some null) rows h = subst (λ r. IsThereAs Reads None (found locale r)) (same_ok _ _ h) tt
+  -- what a locale has in a map is read of the value under its key
+  map_read : (value : Option Data) (rows : Rows A) → map_meant meant value ≡ Ok rows
+      → Paired Reads (option_and_then (get locale) value) (found locale rows)
+  map_read None rows h = subst (λ r. Paired Reads None (found locale r)) (same_ok _ _ h) tt
+  map_read (Some null) rows h = subst (λ r. Paired Reads None (found locale r)) (same_ok _ _ h) tt
   map_read (Some (boolean b)) rows h = absurd cc
   map_read (Some (number n)) rows h = absurd cc
   map_read (Some (string s)) rows h = absurd cc
@@ -124,33 +151,44 @@ record AreMaps (cardinal ordinal : Stands (Rows FiveRules)) (ranges : Stands (Ro
   pub ordinal_is : ordinal ≡ Ok document.ordinal
   pub ranges_are : ranges ≡ Ok document.ranges
 
-are_maps : (cardinal ordinal : Stands (Rows FiveRules)) (ranges : Stands (Rows PluralRanges)) (document : Document) → all_maps cardinal ordinal ranges ≡ Ok document
+-- three maps that stand for something together do so one by one
+are_maps : (cardinal ordinal : Stands (Rows FiveRules)) (ranges : Stands (Rows PluralRanges)) (document : Document)
+    → all_maps cardinal ordinal ranges ≡ Ok document
     → AreMaps cardinal ordinal ranges document
 are_maps (Err e) ordinal ranges document h = absurd cc
 are_maps (Ok c) (Err e) ranges document h = absurd cc
 are_maps (Ok c) (Ok o) (Err e) document h = absurd cc
-are_maps (Ok c) (Ok o) (Ok r) document h = subst (AreMaps (Ok c) (Ok o) (Ok r)) (same_ok _ _ h) (record { cardinal_is = refl; ordinal_is = refl; ranges_are = refl })
+are_maps (Ok c) (Ok o) (Ok r) document h =
+    subst (AreMaps (Ok c) (Ok o) (Ok r)) (same_ok _ _ h) (record { cardinal_is = refl; ordinal_is = refl; ranges_are = refl })
 
 -- each map of a document is read from what stands under its key
-module _ (texts : TextReader) (tells : TellsTexts texts) (value : Data) where
-  maps_of : (document : Document) → document_shape texts value ≡ Ok document
-      → AreMaps (map_shape (rules_shape texts) (get (codes "cardinal") value)) (map_shape (rules_shape texts) (get (codes "ordinal") value)) (map_shape ranges_shape (get (codes "ranges") value)) document
+module _ (given : AreGiven) (value : Data) where
+  -- the maps of a document are those under its keys
+  maps_of : (document : Document) → document_meant value ≡ Ok document
+      → AreMaps (map_meant rules_meant (get (codes "cardinal") value)) (map_meant rules_meant (get (codes "ordinal") value))
+      (map_meant ranges_meant (get (codes "ranges") value)) document
   maps_of document h = are_maps _ _ _ document (if_read (is_some (as_object value)) Shape _ document h)
 
-  pub cardinal_read : (read : Result Document JsonError) → Answers (λ d. d) read (document_shape texts value)
-      → IfOk read (λ d. (locale : List ℕ) → IsReadAt (value_at (codes "cardinal") locale value) (found locale d.cardinal))
+  -- the rules for cardinal numbers of a locale are those of the texts under it
+  pub cardinal_read : (read : Result Document JsonError) → Answers (λ d. d) read (document_meant value)
+      → IfOk read (λ d. (locale : List ℕ) → IsReadAt (value_of_locale (codes "cardinal") locale value) (found locale d.cardinal))
   cardinal_read (Err e) h = tt
   cardinal_read (Ok document) h = λ locale.
-      map_read (rules_shape texts) (λ v rules. AreRulesOf (texts_in v) rules) (rules_taken texts tells) locale _ document.cardinal (maps_of document h).cardinal_is
+      map_read rules_meant (λ v rules. AreRulesOf (texts_in v) rules) (rules_taken given) locale _ document.cardinal
+      (maps_of document h).cardinal_is
 
-  pub ordinal_read : (read : Result Document JsonError) → Answers (λ d. d) read (document_shape texts value)
-      → IfOk read (λ d. (locale : List ℕ) → IsReadAt (value_at (codes "ordinal") locale value) (found locale d.ordinal))
+  -- so are those for ordinal numbers
+  pub ordinal_read : (read : Result Document JsonError) → Answers (λ d. d) read (document_meant value)
+      → IfOk read (λ d. (locale : List ℕ) → IsReadAt (value_of_locale (codes "ordinal") locale value) (found locale d.ordinal))
   ordinal_read (Err e) h = tt
   ordinal_read (Ok document) h = λ locale.
-      map_read (rules_shape texts) (λ v rules. AreRulesOf (texts_in v) rules) (rules_taken texts tells) locale _ document.ordinal (maps_of document h).ordinal_is
+      map_read rules_meant (λ v rules. AreRulesOf (texts_in v) rules) (rules_taken given) locale _ document.ordinal
+      (maps_of document h).ordinal_is
 
-  pub ranges_read : (read : Result Document JsonError) → Answers (λ d. d) read (document_shape texts value)
-      → IfOk read (λ d. (locale : List ℕ) → AreRangesAt (value_at (codes "ranges") locale value) (found locale d.ranges))
+  -- the ranges of a locale are those that the value under it stands for
+  pub ranges_read : (read : Result Document JsonError) → Answers (λ d. d) read (document_meant value)
+      → IfOk read (λ d. (locale : List ℕ) → AreRangesAt (value_of_locale (codes "ranges") locale value) (found locale d.ranges))
   ranges_read (Err e) h = tt
   ranges_read (Ok document) h = λ locale.
-      map_read ranges_shape (λ v ranges. ranges_shape v ≡ Ok ranges) (λ v ranges read. read) locale _ document.ranges (maps_of document h).ranges_are
+      map_read ranges_meant (λ v ranges. ranges_meant v ≡ Ok ranges) (λ v ranges read. read) locale _ document.ranges
+      (maps_of document h).ranges_are

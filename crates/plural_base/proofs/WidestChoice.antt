@@ -19,28 +19,38 @@ test_alone true = refl
 test_alone false = refl
 
 -- rules with one alone choose it where its thing passes
-chosen_one : {A : Type 0} (test : A → Bool) (thing : A) (truth : Bool) → test thing ≡ truth → first_category test (only_one thing) ≡ (if truth then One else Other)
+chosen_one : {A : Type 0} (test : A → Bool) (thing : A) (truth : Bool) → test thing ≡ truth
+    → first_category test (only_one thing) ≡ (if truth then One else Other)
 chosen_one test thing truth same = ap (λ b. if b then One else Other) same
 
-exact_at : (exact : Operands) (m : ℕ) → exact_truth exact (alone (leaves m (2 * 10 ^ 18 % m))) ≡ exact_relation_truth exact (left_of_twice m)
+-- the rule alone is true of the exact number where its relation is
+exact_at : (exact : Operands) (m : ℕ)
+    → exact_truth exact (alone (leaves m (2 * 10 ^ 18 % m))) ≡ exact_relation_truth exact (left_of_twice m)
 exact_at exact m = test_alone (exact_relation_truth exact (left_of_twice m))
 
-kept_at : (kept : Operands) (m : ℕ) → packed_truth kept (packed (alone (leaves m (2 * 10 ^ 18 % m)))) ≡ relation_truth kept (left_of_twice m)
+-- packed, it is true of the kept operands where its relation is
+kept_at : (kept : Operands) (m : ℕ)
+    → packed_truth kept (packed (alone (leaves m (2 * 10 ^ 18 % m)))) ≡ relation_truth kept (left_of_twice m)
 unfolding packed_truth packed
 kept_at kept m = test_alone (relation_truth kept (left_of_twice m))
 
+-- where neither value is large, none in the condition is
 none_large : (a b : Bool) → a ≡ false → b ≡ false → (((a || (b || false)) || false) || false) ≡ false
 none_large a b e f = rw (e, f) refl
 
 -- neither the modulus nor what it leaves is above 32 bits
 small : (m r : ℕ) → m < 2 ^ 32 → r < 2 ^ 32 → has_large_value (alone (leaves m r)) ≡ false
 unfolding has_large_value
-small m r h k = none_large (nat_lt 4294967295 m) (nat_lt 4294967295 r) (le-ltb 4294967295 m (omega (arith, h))) (le-ltb 4294967295 r (omega (arith, k)))
+small m r h k =
+    none_large (nat_lt 4294967295 m) (nat_lt 4294967295 r) (le-ltb 4294967295 m (omega (arith, h)))
+    (le-ltb 4294967295 r (omega (arith, k)))
 
+-- a condition without large values packs to its relations
 packs_small : (m r : ℕ) → has_large_value (alone (leaves m r)) ≡ false → packing (alone (leaves m r)) ≡ Ok (packed (alone (leaves m r)))
 unfolding packing packed
 packs_small m r h = rw h refl
 
+-- from the law on relations to the choice of five rules
 pub widest_choice : BoundIsWidest → BoundIsWidestForChoice
 widest_choice widest m x kept exact above below apart twice cut are_exact =
     let law = widest m x kept exact above apart twice cut are_exact in

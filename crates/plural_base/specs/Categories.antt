@@ -2,8 +2,8 @@
 use Rattle.std.specs.Prelude.{ℕ, List, [], ◌∷◌, codes}
 use Rattle.plural_base.specs.declared.category.PluralCategory.{PluralCategory}
 use Rattle.plural_base.specs.declared.category.PluralCategory.TheVariants.{Zero, One, Two, Few, Many, Other}
-use Rattle.plural_base.specs.declared.raw_category.RawPluralCategory.{RawPluralCategory}
-use Rattle.plural_base.specs.declared.raw_category.RawPluralCategory.TheVariants as raw
+use Rattle.plural_base.specs.declared.category.raw.RawPluralCategory.{RawPluralCategory}
+use Rattle.plural_base.specs.declared.category.raw.RawPluralCategory.TheVariants as raw
 
 -- the name in lower case
 abbrev pub name_of : PluralCategory → List ℕ
@@ -50,13 +50,13 @@ abbrev pub raw_name_of : RawPluralCategory → List ℕ
 raw_name_of raw = name_of (category_of raw)
 
 -- its number
-abbrev pub number_of : RawPluralCategory → ℕ
-number_of raw.Other = 0
-number_of raw.Zero = 1
-number_of raw.One = 2
-number_of raw.Two = 3
-number_of raw.Few = 4
-number_of raw.Many = 5
+abbrev pub category_number : RawPluralCategory → ℕ
+category_number raw.Other = 0
+category_number raw.Zero = 1
+category_number raw.One = 2
+category_number raw.Two = 3
+category_number raw.Few = 4
+category_number raw.Many = 5
 
 -- all six, in the order of their numbers
 abbrev pub all_raw_categories : List RawPluralCategory

@@ -11,8 +11,9 @@ use Rattle.plural_base.specs.declared.category.PluralCategory.{PluralCategory}
 use Rattle.plural_base.specs.FiveRules.{Five, FiveRules, first_category, moduli_of}
 use Rattle.plural_base.specs.RuleTexts.{AreReadFrom}
 
--- Whatever five texts the rules are read from: if the number, with its compact exponent, is within the bound, the category
--- is the first of zero, one, two, few, many whose condition is present and true of the exact number, else other.
+-- Whatever five texts the rules are those of, and whatever conditions these are read as: if the number, with its compact exponent, is
+-- within the bound, the category is the first of zero, one, two, few, many whose condition is present and true of the exact number,
+-- else other.
 -- The standard doesn't say what a modulus 0 means: in exact truth it is no modulus, as in packed rules.
 abbrev pub IsExactChoice : FiveRules → Places → ℕ → PluralCategory → Type 0
 IsExactChoice rules number exponent category =

@@ -6,7 +6,7 @@ use Rattle.std.specs.Prelude.{List, [], ◌∷◌, ◌++◌, Bool, false, Option
 use Rattle.plural_base.specs.declared.category.PluralCategory.{PluralCategory}
 use Rattle.plural_base.specs.declared.category.PluralCategory.TheVariants.{Zero, One, Two, Few, Many, Other}
 use Rattle.plural_runtime.specs.PackedRelations.{PackedRelation}
-use Rattle.plural_base.specs.declared.rules_data.PluralRulesData.{PluralRulesData}
+use Rattle.plural_base.specs.declared.rules.data.PluralRulesData.{PluralRulesData}
 use Rattle.plural_reference.specs.declared.ast.Operand.{Operand}
 use Rattle.plural_reference.specs.declared.ast.Operand.TheVariants.{N, I, V, W, F, T, C, E}
 
@@ -21,6 +21,20 @@ pub record Five (A : Type 0) : Type 0 where
 -- the five by name
 abbrev pub five : {A : Type 0} → A → A → A → A → A → Five A
 five zero one two few many = record { zero = zero; one = one; two = two; few = few; many = many }
+
+-- neither is there, or both are and the relation holds of them
+abbrev pub Paired : {A B : Type 0} → (A → B → Type 0) → Option A → Option B → Type 0
+Paired Related None None = Unit {0}
+Paired Related (Some x) (Some y) = Related x y
+Paired Related _ _ = ⊥
+
+-- the same of each of five
+pub record ArePaired {A B : Type 0} (Related : A → B → Type 0) (xs : Five (Option A)) (ys : Five (Option B)) : Type 0 where
+  pub zero : Paired Related xs.zero ys.zero
+  pub one : Paired Related xs.one ys.one
+  pub two : Paired Related xs.two ys.two
+  pub few : Paired Related xs.few ys.few
+  pub many : Paired Related xs.many ys.many
 
 -- a rule for each category that has one
 abbrev pub FiveRules : Type 0

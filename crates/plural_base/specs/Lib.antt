@@ -13,6 +13,7 @@ pub use Rattle.plural_reference.specs.ExactnessLaws
 pub use Rattle.plural_runtime.specs.PackedRelations
 pub use Rattle.plural_runtime.specs.PackedTruth
 pub use Rattle.plural_runtime.specs.PackedTree
+pub use Rattle.plural_runtime.specs.RuleOfText
 pub use Rattle.plural_runtime.specs.PluralRuntimeErrors
 -- categories
 pub mod Categories
@@ -20,6 +21,7 @@ pub mod FiveRules
 pub mod Ranges
 pub mod RuleTexts
 pub mod PluralBaseErrors
+pub mod Json
 pub mod RulesJson
 pub mod RangesJson
 pub mod Providers

@@ -3,10 +3,10 @@ use Rattle.std.specs.Prelude.{ℕ, List, ◌++◌, codes, Option, Some, None}
 use Rattle.plural_runtime.specs.PluralRuntimeErrors.{rule_error_text}
 use Rattle.plural_base.specs.declared.category.PluralCategory.{PluralCategory}
 use Rattle.plural_base.specs.Categories.{name_of}
-use Rattle.plural_base.specs.declared.json_error.ElementsPackError.{ElementsPackError}
-use Rattle.plural_base.specs.declared.json_error.ElementsPackError.TheVariants as packing
-use Rattle.plural_base.specs.declared.json_error.JsonError.{JsonError}
-use Rattle.plural_base.specs.declared.json_error.JsonError.TheVariants.{Float, Shape, Rule, RangeKey, RangeValue, Pack, Memory}
+use Rattle.plural_base.specs.declared.elements_pack_error.ElementsPackError.{ElementsPackError}
+use Rattle.plural_base.specs.declared.elements_pack_error.ElementsPackError.TheVariants as packing
+use Rattle.plural_base.specs.declared.json.error.JsonError.{JsonError}
+use Rattle.plural_base.specs.declared.json.error.JsonError.TheVariants.{Float, Shape, Rule, RangeKey, RangeValue, Pack, Memory}
 
 -- why elements can't be packed
 abbrev pub elements_pack_error_text : ElementsPackError → List ℕ

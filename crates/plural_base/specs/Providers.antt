@@ -1,11 +1,11 @@
 -- What a provider answers: three maps from locales, texts that are compared byte by byte: to cardinal rules, to ordinal rules and to ranges.
 use Rattle.std.specs.Prelude.{◌≡◌, Option, Some, None, Result, Ok, Err, ◌⊎◌}
-use Rattle.plural_base.specs.declared.options.PluralRuleType.{PluralRuleType}
-use Rattle.plural_base.specs.declared.options.PluralRuleType.TheVariants.{Cardinal, Ordinal}
+use Rattle.plural_base.specs.declared.provider.options.PluralRuleType.{PluralRuleType}
+use Rattle.plural_base.specs.declared.provider.options.PluralRuleType.TheVariants.{Cardinal, Ordinal}
 use Rattle.plural_base.specs.declared.provider.DataError.{DataError}
 use Rattle.plural_base.specs.declared.ranges.PluralRanges.{PluralRanges}
 use Rattle.plural_base.specs.declared.rules.PluralRules.{PluralRules}
-use Rattle.plural_base.specs.declared.rules_data.PluralRulesData.{PluralRulesData}
+use Rattle.plural_base.specs.declared.rules.data.PluralRulesData.{PluralRulesData}
 use Rattle.plural_base.specs.FiveRules.{FiveRules, rules_of}
 
 -- the rules that are there are answered, and NotFound exactly where there are none

@@ -3,11 +3,11 @@
 --     at things category      the thing of a category
 --     put_at things category thing      the same things, but for this one
 use Rattle.std.specs.Prelude.{◌==◌, if◌then◌else◌, ◌≡◌, ℕ, ◌+◌, ◌*◌, List, ◌++◌, codes, map, flat_map, find, Option, bytes_eq, Some, None, is_some, option_map, unwrap_or, count_by, sum_by}
-use Rattle.plural_base.specs.declared.by_category.ByCategory.{ByCategory}
-use Rattle.plural_base.specs.declared.raw_category.RawPluralCategory.{RawPluralCategory}
-use Rattle.plural_base.specs.declared.raw_category.RawPluralCategory.TheVariants.{Other, Zero, One, Two, Few, Many}
-use Rattle.plural_base.specs.Categories.{number_of, raw_name_of, all_raw_categories, category_of, raw_category_of}
-use Rattle.plural_base.specs.declared.range_key.UnvalidatedPluralRange.{UnvalidatedPluralRange}
+use Rattle.plural_base.specs.declared.category.by_category.ByCategory.{ByCategory}
+use Rattle.plural_base.specs.declared.category.raw.RawPluralCategory.{RawPluralCategory}
+use Rattle.plural_base.specs.declared.category.raw.RawPluralCategory.TheVariants.{Other, Zero, One, Two, Few, Many}
+use Rattle.plural_base.specs.Categories.{category_number, raw_name_of, all_raw_categories, category_of, raw_category_of}
+use Rattle.plural_base.specs.declared.ranges.key.UnvalidatedPluralRange.{UnvalidatedPluralRange}
 use Rattle.plural_base.specs.declared.category.PluralCategory.{PluralCategory}
 use Rattle.plural_base.specs.declared.ranges.PluralRanges.{PluralRanges}
 
@@ -23,7 +23,7 @@ at things Few = things.few
 at things Many = things.many
 
 abbrev pub put_at : {A : Type 0} → ByCategory A → RawPluralCategory → A → ByCategory A
-put_at things category thing = each (λ c. if number_of c == number_of category then thing else at things c)
+put_at things category thing = each (λ c. if category_number c == category_number category then thing else at things c)
 
 -- ---- A range of numbers by the categories of its start and its end (UTS 35 Part 3, Plural Ranges): its byte and its text (docs/RANGES.md).
 --     range_key start end      the byte: 16 times the start's number, and the end's number
@@ -36,13 +36,13 @@ abbrev pub Range : Type 0
 Range = RawPluralCategory × RawPluralCategory
 
 -- all 36
-abbrev pub all_ranges : List Range
-all_ranges = flat_map (λ start. map (λ end. (start, end)) all_raw_categories) all_raw_categories
+abbrev pub all_category_ranges : List Range
+all_category_ranges = flat_map (λ start. map (λ end. (start, end)) all_raw_categories) all_raw_categories
 
 -- ---- Bytes
 
 abbrev pub range_byte : RawPluralCategory → RawPluralCategory → ℕ
-range_byte start end = number_of start * 16 + number_of end
+range_byte start end = category_number start * 16 + category_number end
 
 abbrev pub range_key : RawPluralCategory → RawPluralCategory → UnvalidatedPluralRange
 range_key start end = record { 0 = range_byte start end }
@@ -64,7 +64,7 @@ IsKeyOfText text key =
 
 -- the range of a text
 unfoldable pub range_named : List ℕ → Option Range
-range_named text = find (λ range. bytes_eq text (range_text range.0 range.1)) all_ranges
+range_named text = find (λ range. bytes_eq text (range_text range.0 range.1)) all_category_ranges
 
 -- the category of a name
 unfoldable pub category_named : List ℕ → Option RawPluralCategory

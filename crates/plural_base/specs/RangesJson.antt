@@ -1,60 +1,54 @@
 -- What a JSON value stands for as a range or as the categories of ranges, or why it stands for none, and the one JSON value that is
 -- written for them (docs/JSON.md). Values are what serde_json's accessors show of them.
-use Rattle.std.specs.Prelude.{◌≡◌, ℕ, List, [], ◌∷◌, codes, Option, Some, None, option_map, Ok, Err}
+use Rattle.std.specs.Prelude.{◌≡◌, ℕ, List, [], ◌∷◌, codes, Option, option_map, Ok}
 use Rattle.std.specs.Cmp.Lexicographic.{slice_cmp}
 use Rattle.std.specs.List.Sorted.{IsStrictlySortedBy}
 use Rattle.std.specs.Option.{option_and_then}
 use Rattle.std.specs.Ordering.{nat_cmp}
-use Rattle.plural_base.specs.declared.json_error.JsonError.{JsonError}
-use Rattle.plural_base.specs.declared.json_error.JsonError.TheVariants.{Shape, RangeKey, RangeValue}
-use Rattle.plural_base.specs.declared.range_key.UnvalidatedPluralRange.{UnvalidatedPluralRange}
+use Rattle.plural_base.specs.declared.json.error.JsonError.TheVariants.{Shape, RangeKey, RangeValue}
+use Rattle.plural_base.specs.declared.ranges.key.UnvalidatedPluralRange.{UnvalidatedPluralRange}
 use Rattle.plural_base.specs.declared.ranges.PluralRanges.{PluralRanges}
-use Rattle.plural_base.specs.declared.raw_category.RawPluralCategory.{RawPluralCategory}
+use Rattle.plural_base.specs.declared.category.raw.RawPluralCategory.{RawPluralCategory}
 use Rattle.plural_base.specs.Categories.{raw_name_of}
 use Rattle.plural_base.specs.Ranges.{Range, range_key, range_named, range_text, category_named, category_at, no_ranges, with_range}
-use Rattle.plural_base.specs.RulesJson.{Stands, ◌>>=◌, unless_float}
+use Rattle.plural_base.specs.Json.{Stands, ◌>>=◌, there_or, unless_float}
 use Rattle.serde_json.specs.Data.{Data, string, object, Members, no_members, member}
 use Rattle.serde_json.specs.Find.{get, get_member, as_str, as_object}
-
--- what is there, or the refusal
-abbrev pub there_or : {A : Type 0} → JsonError → Option A → Stands A
-there_or refusal None = Err refusal
-there_or refusal (Some x) = Ok x
 
 -- ---- Reading
 
 -- a range is the text of one
-abbrev pub key_shape : Data → Stands UnvalidatedPluralRange
-key_shape value = do
+abbrev pub key_meant : Data → Stands UnvalidatedPluralRange
+key_meant value = do
   text ← there_or Shape (as_str value)
   range ← there_or RangeKey (range_named text)
   Ok (range_key range.0 range.1)
 
 -- a range's category is its name
-abbrev pub category_shape : Data → Stands RawPluralCategory
-category_shape value = do
+abbrev pub category_meant : Data → Stands RawPluralCategory
+category_meant value = do
   text ← there_or Shape (as_str value)
   there_or RangeValue (category_named text)
 
 -- each member gives its range its category; the members stand in the order of the keys' bytes, and a key is looked at before its value
-abbrev pub members_shape : PluralRanges → Members → Stands PluralRanges
-members_shape ranges no_members = Ok ranges
-members_shape ranges (member key value members) = do
+abbrev pub members_meant : PluralRanges → Members → Stands PluralRanges
+members_meant ranges no_members = Ok ranges
+members_meant ranges (member key value members) = do
   range ← there_or RangeKey (range_named key)
-  category ← category_shape value
-  members_shape (with_range ranges range.0 range.1 category) members
+  category ← category_meant value
+  members_meant (with_range ranges range.0 range.1 category) members
 
 -- categories of ranges are an object with an object under `ranges`; its other keys are not looked at
-abbrev pub ranges_shape : Data → Stands PluralRanges
-ranges_shape value = there_or Shape (option_and_then as_object (get (codes "ranges") value)) >>= members_shape no_ranges
+abbrev pub ranges_meant : Data → Stands PluralRanges
+ranges_meant value = there_or Shape (option_and_then as_object (get (codes "ranges") value)) >>= members_meant no_ranges
 
 -- the range of a value
 abbrev pub key_of_json : Data → Stands UnvalidatedPluralRange
-key_of_json = unless_float key_shape
+key_of_json = unless_float key_meant
 
 -- the categories of ranges of a value
 abbrev pub ranges_of_json : Data → Stands PluralRanges
-ranges_of_json = unless_float ranges_shape
+ranges_of_json = unless_float ranges_meant
 
 -- ---- Writing
 

@@ -1,46 +1,19 @@
 -- What a JSON value stands for as rules, or why it stands for none, and the one JSON value that is written for rules
--- (docs/JSON.md). Values are what serde_json's accessors show of them; `texts` is what every text gives as a rule.
-use Rattle.std.specs.Prelude.{◌≡◌, ℕ, List, ⊤, Option, Some, None, is_some, Result, Ok, Err, if◌then◌else◌}
+-- (docs/JSON.md). Values are what serde_json's accessors show of them.
+use Rattle.std.specs.Prelude.{ℕ, List, Option, Some, None, is_some, Ok, Err, if◌then◌else◌}
 use Rattle.std.specs.Option.{option_and_then}
 use Rattle.plural_reference.specs.Serializer.{condition_text}
 use Rattle.plural_runtime.specs.PackedRelations.{PackedRelation}
 use Rattle.plural_runtime.specs.PackedTree.{unpacked}
+use Rattle.plural_runtime.specs.RuleOfText.{RuleAnswer, rule_of_text}
 use Rattle.plural_base.specs.declared.category.PluralCategory.{PluralCategory}
 use Rattle.plural_base.specs.declared.category.PluralCategory.TheVariants.{Zero, One, Two, Few, Many}
 use Rattle.plural_base.specs.Categories.{name_of}
-use Rattle.plural_base.specs.declared.json_error.JsonError.{JsonError}
-use Rattle.plural_base.specs.declared.json_error.JsonError.TheVariants.{Float, Shape, Rule, Memory}
+use Rattle.plural_base.specs.declared.json.error.JsonError.TheVariants.{Shape, Rule}
 use Rattle.plural_base.specs.FiveRules.{Five, five, FiveRules}
-use Rattle.plural_base.specs.RuleTexts.{RuleAnswer, TextReader}
+use Rattle.plural_base.specs.Json.{Stands, ◌>>=◌, all_five, unless_float}
 use Rattle.serde_json.specs.Data.{Data, null, string, object, no_members, member}
 use Rattle.serde_json.specs.Find.{get, as_null, as_str, as_object}
-use Rattle.serde_json.specs.Written.{has_float}
-
--- ---- The first refusal
-
--- what a value stands for, or why it stands for nothing
-abbrev pub Stands : Type 0 → Type 0
-Stands A = Result A JsonError
-
--- the second after the first: a refusal of the first is the answer
-infixl 10 ◌>>=◌
-abbrev pub ◌>>=◌ : {A B : Type 0} → Stands A → (A → Stands B) → Stands B
-(Ok x) >>= next = next x
-(Err refusal) >>= next = Err refusal
-
--- five things, or the first refusal in this order
-abbrev pub all_five : {A : Type 0} → Stands A → Stands A → Stands A → Stands A → Stands A → Stands (Five A)
-all_five zero one two few many = do
-  zero' ← zero
-  one' ← one
-  two' ← two
-  few' ← few
-  many' ← many
-  Ok (five zero' one' two' few' many')
-
--- A number for which `as_u64` and `as_i64` both answer None, wherever it is, is refused before all else.
-abbrev pub unless_float : {A : Type 0} → (Data → Stands A) → Data → Stands A
-unless_float shape value = if has_float value then Err Float else shape value
 
 -- ---- Reading rules
 
@@ -49,39 +22,39 @@ abbrev pub named : Option PluralCategory → RuleAnswer → Stands (List PackedR
 named category (Ok rule) = Ok rule
 named category (Err fault) = Err (Rule category fault)
 
-abbrev pub text_shape : TextReader → Option PluralCategory → Option (List ℕ) → Stands (List PackedRelation)
-text_shape texts category None = Err Shape
-text_shape texts category (Some text) = named category (texts text)
+abbrev pub text_meant : Option PluralCategory → Option (List ℕ) → Stands (List PackedRelation)
+text_meant category None = Err Shape
+text_meant category (Some text) = named category (rule_of_text text)
 
 -- a rule is a text
-abbrev pub rule_shape : TextReader → Option PluralCategory → Data → Stands (List PackedRelation)
-rule_shape texts category value = text_shape texts category (as_str value)
+abbrev pub rule_meant : Option PluralCategory → Data → Stands (List PackedRelation)
+rule_meant category value = text_meant category (as_str value)
 
 -- a rule that may be absent or null
-abbrev pub optional_shape : TextReader → PluralCategory → Option Data → Stands (Option (List PackedRelation))
-optional_shape texts category None = Ok None
-optional_shape texts category (Some value) =
-    if is_some (as_null value) then Ok None else rule_shape texts (Some category) value >>= λ rule. Ok (Some rule)
+abbrev pub optional_meant : PluralCategory → Option Data → Stands (Option (List PackedRelation))
+optional_meant category None = Ok None
+optional_meant category (Some value) =
+    if is_some (as_null value) then Ok None else rule_meant (Some category) value >>= λ rule. Ok (Some rule)
 
 -- the rule under the name of its category
-abbrev pub member_shape : TextReader → PluralCategory → Data → Stands (Option (List PackedRelation))
-member_shape texts category value = optional_shape texts category (get (name_of category) value)
+abbrev pub member_meant : PluralCategory → Data → Stands (Option (List PackedRelation))
+member_meant category value = optional_meant category (get (name_of category) value)
 
 -- five rules are an object, looked at from zero to many; its other keys are not looked at
-abbrev pub rules_shape : TextReader → Data → Stands FiveRules
-rules_shape texts value =
+abbrev pub rules_meant : Data → Stands FiveRules
+rules_meant value =
     if is_some (as_object value)
-    then all_five (member_shape texts Zero value) (member_shape texts One value) (member_shape texts Two value)
-    (member_shape texts Few value) (member_shape texts Many value)
+    then all_five (member_meant Zero value) (member_meant One value) (member_meant Two value) (member_meant Few value)
+    (member_meant Many value)
     else Err Shape
 
 -- the rule of a value
-abbrev pub rule_of_json : TextReader → Data → Stands (List PackedRelation)
-rule_of_json texts = unless_float (rule_shape texts None)
+abbrev pub rule_of_json : Data → Stands (List PackedRelation)
+rule_of_json = unless_float (rule_meant None)
 
 -- the five rules of a value
-abbrev pub rules_of_json : TextReader → Data → Stands FiveRules
-rules_of_json texts = unless_float (rules_shape texts)
+abbrev pub rules_of_json : Data → Stands FiveRules
+rules_of_json = unless_float rules_meant
 
 -- the text that stands under the name of a category
 abbrev pub text_under : PluralCategory → Data → Option (List ℕ)
@@ -91,18 +64,6 @@ text_under category value = option_and_then as_str (get (name_of category) value
 abbrev pub texts_in : Data → Five (Option (List ℕ))
 texts_in value =
     five (text_under Zero value) (text_under One value) (text_under Two value) (text_under Few value) (text_under Many value)
-
--- ---- What a call answers
-
--- want of memory may come before any refusal
-abbrev pub IsRefusal : {B : Type 0} → JsonError → Stands B → Type 0
-IsRefusal Memory stands = ⊤
-IsRefusal error stands = stands ≡ Err error
-
--- the call answers what the value stands for, as `seen`, or its refusal, or want of memory
-abbrev pub Answers : {A B : Type 0} → (A → B) → Result A JsonError → Stands B → Type 0
-Answers seen (Ok x) stands = stands ≡ Ok (seen x)
-Answers seen (Err error) stands = IsRefusal error stands
 
 -- ---- Writing rules
 

@@ -5,6 +5,9 @@ ghost use Rattle.std.specs.Iterator.{YieldsFirst, UpTo, at_most, item_count};
 ghost use Rattle.std.specs.Iterator.SizeHint.{IsWithinCount};
 ghost use Rattle.plural_base.specs.Categories.{name_of, all_categories};
 
+pub(crate) mod by_category;
+pub(crate) mod raw;
+
 use std::marker::Model;
 
 /// A plural category (UTS 35 Part 3, Language Plural Rules). What a category stands for differs from

@@ -7,6 +7,7 @@ use crate::rules::PluralRules;
 use fixed_decimal::{CompactDecimal, Decimal};
 use plural_reference::PluralOperands;
 use plural_reference::laws::exactness::kept_operands_agree;
+use plural_runtime::laws::texts_give_one_answer;
 
 impl<'data> PluralRules<'data> {
     /// The category of a decimal by the operands that are kept of it. Where
@@ -17,6 +18,7 @@ impl<'data> PluralRules<'data> {
         ensures exact { IsExactChoice self.now number.now.absolute 0 result }
     {
         kept_operands_agree();
+        texts_give_one_answer();
         self.category_for(PluralOperands::from(number))
     }
 
@@ -30,6 +32,7 @@ impl<'data> PluralRules<'data> {
             IsExactChoice self.now digits number.now.exponent result }
     {
         kept_operands_agree();
+        texts_give_one_answer();
         let operands = PluralOperands::from(number);
         self.category_for(operands)
     }

@@ -2,12 +2,15 @@
 
 ghost use Rattle.plural_base.specs.ChoiceLaws.{BoundIsWidestForChoice, KeptChoiceIsExact};
 ghost use Rattle.plural_base.specs.Ranges.{RangeBytesDiffer, RangesAreTheirMaps};
-ghost use Rattle.plural_base.specs.RuleTexts.{HaveEveryReading, IsAnswerFor, ReadsAs, TextsGiveOneAnswer};
+ghost use Rattle.plural_base.specs.RuleTexts.{HaveEveryReading, IsAnswerFor};
 ghost use Rattle.plural_reference.specs.Parser.{Reads};
 ghost use Rattle.plural_reference.specs.Reading.{TextReads};
+ghost use Rattle.plural_reference.specs.Samples.{ReadsCondition};
+ghost use Rattle.plural_runtime.specs.RuleOfText.{TextsGiveOneAnswer};
 
 use plural_reference::laws::exactness;
-use plural_reference::laws::reading::{one_list_of_tokens, one_reading, one_rule};
+use plural_reference::laws::reading::{one_list_of_tokens, one_reading};
+use plural_runtime::laws as runtime;
 
 /// Within the bound, under rules that are read from texts, the category that the kept operands of a
 /// number choose is the one that the exact number has.
@@ -15,6 +18,7 @@ pub fn kept_choice_is_exact()
     ensures { KeptChoiceIsExact }
 {
     exactness::kept_operands_agree();
+    runtime::texts_give_one_answer();
 }
 
 /// The bound on moduli is the widest: for each modulus `m` up to 4294967295 that doesn't divide
@@ -31,8 +35,7 @@ pub fn bound_is_widest()
 pub fn texts_give_one_answer()
     ensures { TextsGiveOneAnswer }
 {
-    one_list_of_tokens();
-    one_rule();
+    runtime::texts_give_one_answer();
 }
 
 /// Rules of texts are read from every reading of these texts, be they read as rules (`rules`), as
@@ -42,7 +45,7 @@ pub fn texts_give_one_answer()
 ///
 /// [`PluralRules::category_for_decimal`]: crate::PluralRules::category_for_decimal
 pub fn rules_have_every_reading()
-    ensures rules { HaveEveryReading ReadsAs }
+    ensures rules { HaveEveryReading (TextReads ReadsCondition) }
     ensures conditions { HaveEveryReading (TextReads Reads) }
     ensures answers { HaveEveryReading IsAnswerFor }
 {

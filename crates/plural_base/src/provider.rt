@@ -1,7 +1,10 @@
 //! Who provides rules and ranges.
 
+pub(crate) mod options;
+mod rules;
+
 use crate::ranges::PluralRanges;
-use crate::rules_data::PluralRulesData;
+use crate::rules::data::PluralRulesData;
 use std::error::Error;
 use std::fmt;
 

@@ -1,11 +1,14 @@
 //! The categories of ranges.
 
 ghost use Rattle.std.specs.Prelude.{◌≡◌, ◌≢◌, ◌==◌, ◌≤◌, ◌⊎◌, Some};
-ghost use Rattle.plural_base.specs.declared.raw_category.RawPluralCategory.{RawPluralCategory as Category};
+ghost use Rattle.plural_base.specs.declared.category.raw.RawPluralCategory.{RawPluralCategory as Category};
 ghost use Rattle.plural_base.specs.Ranges.{category_at, no_ranges, row_size, size_of, with_range};
 
-use crate::by_category::ByCategory;
-use crate::raw_category::{ALL, RawPluralCategory};
+pub(crate) mod key;
+pub(crate) mod rules_with_ranges;
+
+use crate::category::by_category::ByCategory;
+use crate::category::raw::{ALL, RawPluralCategory};
 use std::marker::Model;
 
 /// The categories that ranges of numbers have, by the categories of their starts and their ends (UTS 35
@@ -19,8 +22,8 @@ pub struct PluralRanges {
 
 impl Model for PluralRanges {
     ghost use Rattle.std.specs.Prelude.{Option};
-    ghost use Rattle.plural_base.specs.declared.by_category.ByCategory.{ByCategory};
-    ghost use Rattle.plural_base.specs.declared.raw_category.RawPluralCategory.{RawPluralCategory};
+    ghost use Rattle.plural_base.specs.declared.category.by_category.ByCategory.{ByCategory};
+    ghost use Rattle.plural_base.specs.declared.category.raw.RawPluralCategory.{RawPluralCategory};
 
     // What stands at each start is what stands at each end: the pair's category, where it has one.
     ghost Value = { ByCategory (ByCategory (Option RawPluralCategory)) };

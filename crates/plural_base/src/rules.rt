@@ -5,9 +5,14 @@ ghost use Rattle.plural_runtime.specs.PackedTruth.{packed_truth};
 ghost use Rattle.plural_base.specs.FiveRules.{first_category, passes, categories_of};
 ghost use Rattle.plural_base.specs.declared.category.PluralCategory.TheVariants.{Other};
 
-use crate::categories::Categories;
+pub(crate) mod as_plural_rules;
+pub(crate) mod categories;
+pub(crate) mod data;
+pub(crate) mod text;
+
 use crate::category::PluralCategory;
-use crate::rules_data::PluralRulesData;
+use crate::rules::categories::Categories;
+use crate::rules::data::PluralRulesData;
 use plural_reference::PluralOperands;
 use plural_runtime::{Rule, test_rule};
 use std::marker::Model;
@@ -40,7 +45,8 @@ impl<'data> PluralRules<'data> {
     }
 
     /// The category of a number by its operands. It takes no memory.
-    #[inline]
+    // Inlined with the two below, the operands of an integer stay constants: a sixth of the instructions less.
+    #[inline(always)]
     pub fn category_for(&self, operands: PluralOperands) -> PluralCategory
         ensures first { result ≡ first_category (packed_truth operands) self.now }
         ensures member { Contains (categories_of self.now) result }
@@ -49,7 +55,7 @@ impl<'data> PluralRules<'data> {
     }
 
     // The first category whose rule is there and true, else other.
-    #[inline]
+    #[inline(always)]
     fn first_true(&self, operands: &PluralOperands) -> PluralCategory
         ensures { result ≡ first_category (packed_truth operands.now) self.now }
     {
@@ -79,7 +85,7 @@ impl<'data> PluralRules<'data> {
 }
 
 // Whether a rule is there and true.
-#[inline]
+#[inline(always)]
 fn is_true_of(rule: &Option<Rule<'_>>, operands: &PluralOperands) -> bool
     ensures { result ≡ passes (packed_truth operands.now) rule.now }
 {

@@ -30,12 +30,16 @@ OneFilling =
     (number text : List ℕ) → (filled : List ℕ) × IsFilling number text filled
     × ((other : List ℕ) → IsFilling number text other → other ≡ filled)
 
--- ---- The message of a number: an element's text with the number's text in it.
---     IsMessageOf IsChosen number message      the filling of the element that the number has
+-- ---- The message of a number: the text of the element that the number has, with a text that stands for the number in it.
+--     IsMessageWith IsChosen x text message      the filling by this text of the element that the number x has
+--     IsMessageOf IsChosen number message      the same where the text is the number's own: it writes the number
 
--- The number's text writes a number, of the elements this one is chosen for its digits and its exponent, and the message is the
--- element's text, filled by the number's.
+-- Of the elements one is chosen for the number's digits and its exponent, and the message is the element's text, filled by the
+-- given one.
+abbrev pub IsMessageWith : (Places → ℕ → PackedValue → Type 0) → CompactNumber → List ℕ → List ℕ → Type 0
+IsMessageWith IsChosen x text message =
+    (element : PackedValue) × IsChosen x.significand.absolute x.exponent element × IsFilling text element.text message
+
+-- The number's text writes a number, and the message is that number's with this text.
 abbrev pub IsMessageOf : (Places → ℕ → PackedValue → Type 0) → List ℕ → List ℕ → Type 0
-IsMessageOf IsChosen number message =
-    (x : CompactNumber) × (element : PackedValue) × WritesCompact number x × IsChosen x.significand.absolute x.exponent element
-    × IsFilling number element.text message
+IsMessageOf IsChosen number message = (x : CompactNumber) × WritesCompact number x × IsMessageWith IsChosen x number message

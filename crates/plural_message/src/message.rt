@@ -5,7 +5,7 @@ ghost use Rattle.fixed_decimal.specs.Written.{CompactNumber, WritesCompact, IsCo
 ghost use Rattle.icu_plurals.specs.Elements.{IsExactElement, IsKeptElement};
 ghost use Rattle.icu_plurals.specs.Inner.ElementsViews.{lent_elements};
 ghost use Rattle.icu_plurals.specs.PackedElements.{elements_of};
-ghost use Rattle.plural_message.specs.Messages.{IsMessageOf};
+ghost use Rattle.plural_message.specs.Messages.{IsMessageOf, IsMessageWith};
 
 use crate::error::MessageError;
 use crate::fill::fill;
@@ -13,7 +13,7 @@ use fixed_decimal::{CompactDecimal, DecimalError};
 use icu_plurals::laws::kept_element_is_exact;
 use icu_plurals::provider::PluralElementsPackedULE;
 use icu_plurals::{PluralOperands, PluralRules};
-use std::alloc::Global;
+use std::alloc::{AllocError, Global};
 use std::marker::Model;
 
 /// A text for each plural category, and for exactly 0 and exactly 1, in which `{}` stands for the number.
@@ -61,10 +61,31 @@ impl<'a> Message<'a> {
             ↔ ((x : CompactNumber) × WritesCompact number.now x × IsCompactOverLimit x) }
         ensures memory { ¬ (result ≡ Err (MessageError.Number DecimalError.Memory)) }
     {
-        kept_element_is_exact();
         let compact = CompactDecimal::from_str(alloc, number)?;
-        let operands = PluralOperands::from(&compact);
-        let (_, text) = self.elements.get(operands, rules);
-        Ok(fill(alloc, text, number)?)
+        Ok(self.format_number(alloc, &compact, number, rules)?)
+    }
+
+    /// The message for a number that was read already, and a text that is to stand for it: as it was written, or
+    /// in the digits and marks of a locale. The number's operands and the rules choose an element, as for
+    /// [`Message::format`], and in the element's text each `{}`, from the left, is replaced by the given text.
+    /// Whether the text writes the number isn't looked at. The message takes memory, and the only error is
+    /// that there is none.
+    pub fn format_number(
+        &self,
+        alloc: Global,
+        number: &CompactDecimal,
+        text: &str,
+        rules: &PluralRules<'_>,
+    ) -> Result<String, AllocError>
+        ensures kept { IfOk result (λ filled.
+            IsMessageWith (IsKeptElement self.now rules.now) number.now text.now (string_bytes filled)) }
+        ensures exact { IfOk result (λ filled.
+            IsMessageWith (IsExactElement self.now rules.now) number.now text.now (string_bytes filled)) }
+    {
+        // Within the exactness bound the element is that of the number itself.
+        kept_element_is_exact();
+        let operands = PluralOperands::from(number);
+        let (_, element) = self.elements.get(operands, rules);
+        fill(alloc, element, text)
     }
 }

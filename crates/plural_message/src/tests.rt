@@ -4,7 +4,7 @@ mod assertion;
 
 use crate::tests::assertion::holds;
 use crate::{Message, MessageError};
-use fixed_decimal::DecimalError;
+use fixed_decimal::{CompactDecimal, DecimalError};
 use icu_plurals::provider::{PluralElementsPackedULE, PluralRulesData};
 use icu_plurals::{PluralRules, RulesTextError};
 use std::alloc::Global;
@@ -89,6 +89,27 @@ fn each_place_is_filled_with_the_text_as_given(rt: HostRuntime) -> Result<(), Fa
         let message = Message::new(PluralElementsPackedULE::parse_bytes(elements)?);
         let filled = message.format(rt.alloc(), number, &rules)?;
         holds!(rt; filled.as_str() == text, number);
+    }
+    Ok(())
+}
+
+#[test]
+fn a_number_that_was_read_stands_as_the_given_text(rt: HostRuntime) -> Result<(), Fail> {
+    let rules = rules(rt.alloc(), "i = 1 and v = 0")?;
+    let rows: [(&[u8], &str, &str, &str); 7] = [
+        (ITEMS, "1", "1", "1 item"),
+        (ITEMS, "1", "\u{661}", "\u{661} item"),
+        (ITEMS, "1234.5", "1,234.5", "1,234.5 items"),
+        (ITEMS, "1c6", "1M", "1M items"),
+        (ITEMS, "-1", "", " item"),
+        (ITEMS, "1", "{}", "{} item"),
+        (NONE_AT_ZERO, "0", "zero", "none"),
+    ];
+    for (elements, number, shown, text) in rows {
+        let message = Message::new(PluralElementsPackedULE::parse_bytes(elements)?);
+        let number = CompactDecimal::from_str(rt.alloc(), number)?;
+        let filled = message.format_number(rt.alloc(), &number, shown, &rules)?;
+        holds!(rt; filled.as_str() == text, shown);
     }
     Ok(())
 }

@@ -1,10 +1,11 @@
--- Laws on the bound, and on relations of exact numbers.
-use Rattle.std.proofs.Common.{◌≡◌, ℕ, zero, suc, ◌+◌, ◌-◌, ◌*◌, ◌/◌, ◌%◌, ◌^◌, ◌<◌, ◌≤◌, ◌≤ℤ◌, inl, inr, List, [], ◌∷◌, refl, sym, ◌∙◌}
-use Rattle.std.proofs.Common.{ap, subst, length, arith, lit<, ℤ, pos, negsuc, ◌-ℤ◌, get_or, reverse, Bool, true, false, eqb, cond, Some}
-use Rattle.std.proofs.Common.{None}
+-- Laws on the bound, and on relations of exact numbers: which ranges hold an exact value, the bound told before the shift,
+-- and that no modulus more can be admitted. The laws of exactness cite it.
+use Rattle.std.proofs.Common.{◌≡◌, ℕ, zero, suc, ◌+◌, ◌-◌, ◌*◌, ◌/◌, ◌%◌, ◌^◌, ◌<◌, ◌≤◌, ◌≤ℤ◌, inl, inr}
+use Rattle.std.proofs.Common.{List, [], ◌∷◌, refl, sym, ◌∙◌, ap, subst, length, arith, lit<, ℤ, pos}
+use Rattle.std.proofs.Common.{negsuc, ◌-ℤ◌, get_or, reverse, Bool, true, false, eqb, cond, Some, None}
 use Rattle.std.specs.Prelude.{IsTrue}
-use Rattle.std.proofs.lemmas.Bool.{cases_lt, le-leb, leb-true, eqb-true, eq-eqb, and_parts, and_from, or_left, or_cases, cond-true}
-use Rattle.std.proofs.lemmas.Bool.{false_from_ne_true, false≢true}
+use Rattle.std.proofs.lemmas.Bool.{cases_lt, le-leb, leb-true, eqb-true, eq-eqb, and_parts, and_from}
+use Rattle.std.proofs.lemmas.Bool.{or_left, or_cases, cond-true, false_from_ne_true, false≢true}
 use Rattle.std.proofs.lemmas.Int.{ints}
 use Rattle.std.proofs.lemmas.List.{length-reverse}
 use Rattle.std.proofs.lemmas.Nat.{div-add-mod', div-mul-add, mod-mul-add}
@@ -24,27 +25,28 @@ use Rattle.plural_reference.proofs.Conversion.{length-whole, length-fraction, di
 
 -- ---- whole numbers
 
--- A value that is in the ranges is a whole number of units.
+-- a number whose whole quotient by a unit is in ranges is some whole number of them, times the unit
 some_whole : (ranges : List (ℕ × ℕ)) (unit count : ℕ) (b : Bool) → b ≡ eqb (count % unit) 0
-    → IsTrue (holds_value ranges (cond b (Some (count / unit)) None)) → (k : ℕ) × IsTrue (is_in_ranges ranges k) × (count ≡ k * unit)
+    → IsTrue (holds_value ranges (cond b (Some (count / unit)) None))
+    → (k : ℕ) × IsTrue (is_in_ranges ranges k) × (count ≡ k * unit)
 some_whole ranges unit count true e h =
     let none : count % unit ≡ 0 = eqb-true (count % unit) 0 (sym e) in
     let split : count / unit * unit + count % unit ≡ count = div-add-mod' count unit in
     (count / unit, h, omega arith)
 some_whole ranges unit count false e h = absurd (false≢true h)
 
--- A whole number of units, as one of the ranges holds, is a value in them.
+-- a whole number of the ranges, times a unit, has its quotient by the unit in the ranges
 whole_from : (ranges : List (ℕ × ℕ)) (unit count k : ℕ) → 0 < unit → IsTrue (is_in_ranges ranges k) → count ≡ k * unit
     → IsTrue (holds_value ranges (whole_of unit count))
 whole_from ranges unit count k some h e =
     let padded : count ≡ k * unit + 0 = omega arith in
     let none : count % unit ≡ 0 = ap (λ n. n % unit) padded ∙ mod-mul-add k unit 0 some in
     let quotient : count / unit ≡ k = ap (λ n. n / unit) padded ∙ div-mul-add k unit 0 some in
-    let w : whole_of unit count ≡ Some k
-    = cond-true (eqb (count % unit) 0) (Some (count / unit)) None (eq-eqb (count % unit) 0 none) ∙ ap Some quotient in
+    let w : whole_of unit count ≡ Some k =
+    cond-true (eqb (count % unit) 0) (Some (count / unit)) None (eq-eqb (count % unit) 0 none) ∙ ap Some quotient in
     ap (holds_value ranges) w ∙ h
 
--- A relation on n speaks of whole numbers.
+-- the exact value of n is in ranges exactly if a whole number of them is what the modulus leaves of the number
 pub holds_whole_numbers : HoldsWholeNumbers
 holds_whole_numbers ranges modulus o = (
   λ h. some_whole ranges (10 ^ o.v) (remainder (modulus * 10 ^ o.v) (parts o)) _ refl h,
@@ -53,11 +55,11 @@ holds_whole_numbers ranges modulus o = (
 
 -- ---- the bound before the shift
 
--- A shift adds integer places, and takes fraction places.
+-- the point moved to the right: so many more integer places, and fewer fraction places
 pub shifted_places : ShiftedPlaces
 shifted_places x e = (length-whole e x, length-fraction e x)
 
--- a number of 10 ^ n or more has a digit that isn't 0 before the last n
+-- digits that write 10 ^ n or more have one that isn't 0 before the last n
 long_digits : (ds : List ℕ) (n : ℕ) → AreDigits ds → 10 ^ n ≤ value_of ds → (i : ℕ) × (i + n < length ds) × (0 < get_or ds i 0)
 long_digits [] n h v = absurd (let p : 0 < 10 ^ n = power_above n in omega arith)
 long_digits (zero ∷ ds) n h v =
@@ -73,7 +75,7 @@ long_digits (suc d ∷ ds) n h v =
       | inr long ↦ (0, omega arith, omega arith)
     ]
 
--- A digit that isn't 0 before the last n makes a number of 10 ^ n or more.
+-- digits with one that isn't 0 before the last n write 10 ^ n or more
 long_value_of : (ds : List ℕ) (n i : ℕ) → i + n < length ds → 0 < get_or ds i 0 → 10 ^ n ≤ value_of ds
 long_value_of [] n i h d = absurd (omega arith)
 long_value_of (d ∷ ds) n zero h k =
@@ -88,7 +90,7 @@ long_value_of (d ∷ ds) n (suc i) h k =
     let v : 10 ^ n ≤ value_of ds = long_value_of ds n i (omega arith) k in
     omega arith
 
--- the digit at a place that is written, by its index from the front
+-- a place with a digit that isn't 0 is one of the digits, counted from the front
 digit_index : (x : Places) (z : ℤ) → 0 < digit_at x z → (i : ℕ) × (z ≡ (pos (length x.whole) -ℤ pos 1) -ℤ pos i)
 digit_index x (pos k) h =
     elim (cases_lt k (length x.whole)) [
@@ -100,7 +102,7 @@ digit_index x (pos k) h =
     ]
 digit_index x (negsuc k) h = (length x.whole + k, omega (arith, ints))
 
--- So the integer part is that long exactly if such a digit stands high enough before the shift.
+-- after the shift the integer digits write 10 ^ n or more exactly if some digit but 0 stands high enough before it
 pub long_value : LongValue
 long_value x e n h =
     let y : Places = shift_right e x in
@@ -110,7 +112,9 @@ long_value x e n h =
           let i : (i : ℕ) × (i + n < length y.whole) × (0 < get_or y.whole i 0) = long_digits y.whole n w.whole v in
           let few : i.0 + n < length y.whole = i.1 in
           let z : ℤ = (pos (length x.whole) -ℤ pos 1) -ℤ pos i.0 in
-          let d : digit_at x z ≡ get_or y.whole i.0 0 = digit_at_index x i.0 z refl ∙ sym (same_digits e x i.0)
+          let d : digit_at x z ≡ get_or y.whole i.0 0 =
+          digit_at_index x i.0 z refl
+          ∙ sym (same_digits e x i.0)
           ∙ get_or-append y.whole y.fraction 0 i.0 (omega arith) in
           (z, omega (arith, ints), subst (λ (m : ℕ). 0 < m) (sym d) i.2),
       λ p.
@@ -118,14 +122,16 @@ long_value x e n h =
           let above : (pos n -ℤ pos e) ≤ℤ p.0 = p.1 in
           let same : p.0 ≡ (pos (length x.whole) -ℤ pos 1) -ℤ pos i.0 = i.1 in
           let few : i.0 + n < length y.whole = omega (arith, ints) in
-          let d : digit_at x p.0 ≡ get_or y.whole i.0 0 = digit_at_index x i.0 p.0 same ∙ sym (same_digits e x i.0)
+          let d : digit_at x p.0 ≡ get_or y.whole i.0 0 =
+          digit_at_index x i.0 p.0 same
+          ∙ sym (same_digits e x i.0)
           ∙ get_or-append y.whole y.fraction 0 i.0 (omega arith) in
           long_value_of y.whole n i.0 few (subst (λ (m : ℕ). 0 < m) d p.2),
     )
 
 -- ---- the widest bound
 
--- where a number and its double leave the same, the number leaves nothing
+-- where m leaves the same of a number and of its double, it divides the number
 double_leaves : (n m : ℕ) → n % m ≡ 2 * n % m → m ∣ n
 double_leaves n m e =
     let q : n / m * m + n % m ≡ n = div-add-mod' n m in
@@ -136,7 +142,7 @@ double_leaves n m e =
     lay : (n a b r s : ℕ) → a + r ≡ n → b + s ≡ 2 * n → r ≡ s → b ≡ a + n
     lay n a b r s h k e = omega arith
 
--- 2 * 10 ^ 18 has more than 18 digits.
+-- 2 * 10 ^ 18 has more than 18 digits
 long_twice : (x : Places) → IsTwice x → 18 < length x.whole
 long_twice x h =
     elim (cases_lt 18 (length x.whole)) [
@@ -148,11 +154,11 @@ long_twice x h =
           absurd (omega arith)
     ]
 
--- What is kept of it is 10 ^ 18.
+-- what is kept of 2 * 10 ^ 18 is 10 ^ 18
 cut_twice : (x : Places) → IsTwice x → cut_whole x.whole ≡ 10 ^ 18
 cut_twice x h = cut_whole-long x.whole h.0.digits (long_twice x h) ∙ ap (λ n. n % 10 ^ 18 + 10 ^ 18) h.0.value
 
--- It is a written number.
+-- the digits of 2 * 10 ^ 18 are digits, and there are some
 written_twice : (x : Places) → IsTwice x → IsWritten x
 written_twice x h = record {
   nonempty = (let long : 18 < length x.whole = long_twice x h in omega arith);
@@ -160,11 +166,11 @@ written_twice x h = record {
   fraction = subst AreDigits (sym h.1) tt;
 }
 
--- a range of one number holds it, and no other
+-- a range of one number holds that number
 pub in_it : (a k : ℕ) → k ≡ a → is_in_ranges ((a, a) ∷ []) k ≡ true
 in_it a k e = or_left (range_holds k (a, a)) false (and_from _ _ (le-leb a k (omega arith)) (le-leb k a (omega arith)))
 
--- It holds no other.
+-- and no other
 pub only_it : (a k : ℕ) → is_in_ranges ((a, a) ∷ []) k ≡ true → k ≡ a
 only_it a k h =
     elim (or_cases (range_holds k (a, a)) false h) [
@@ -176,12 +182,13 @@ only_it a k h =
       | inr none ↦ absurd (false≢true none)
     ]
 
--- Each modulus that doesn't divide 10 ^ 18 tells 2 * 10 ^ 18 from what is kept of it.
+-- a modulus that doesn't divide 10 ^ 18 tells the exact 2 * 10 ^ 18 from what is kept of it
 pub bound_is_widest : BoundIsWidest
 bound_is_widest m x cut exact some other twice c y =
     let r : ℕ = 2 * 10 ^ 18 % m in
-    let e : remainder m exact.i ≡ r
-    = ap (remainder m) (exact_whole x 0 exact (written_twice x twice) y ∙ twice.0.value) ∙ remainder-some m (2 * 10 ^ 18) some in
+    let e : remainder m exact.i ≡ r =
+    ap (remainder m) (exact_whole x 0 exact (written_twice x twice) y ∙ twice.0.value)
+    ∙ remainder-some m (2 * 10 ^ 18) some in
     let k : remainder m cut.i ≡ 10 ^ 18 % m = ap (remainder m) (c.i ∙ cut_twice x twice) ∙ remainder-some m (10 ^ 18) some in (
       in_it r (remainder m exact.i) e,
       false_from_ne_true (is_in_ranges ((r, r) ∷ []) (remainder m cut.i))

@@ -1,4 +1,5 @@
--- Within the bound a condition is true of the kept operands just where it is true of the exact number.
+-- Within the bound a condition is true of the kept operands just where it is true of the exact number: from one relation, in
+-- Agreement, to groups of them. The law kept_operands_agree cites it.
 use Rattle.std.proofs.Common.{◌≡◌, List, [], ◌∷◌, refl, ◌∙◌, ap, Bool, ◌&&◌, ◌||◌}
 use Rattle.std.specs.List.{AllByRecursion, list_all}
 use Rattle.fixed_decimal.specs.Places.{shift_right}
@@ -10,21 +11,21 @@ use Rattle.plural_reference.proofs.Agreement.{relation_agrees}
 
 -- ---- tests that agree on all members agree on groups of them
 
--- Tests that agree on the members agree on whether all pass.
+-- two tests that agree on each member of a group agree on whether all pass
 all_agree : {A : Type 0} (p q : A → Bool) (K : A → Type 0) (group : List A) → ((a : A) → K a → p a ≡ q a)
     → AllByRecursion K group → list_all p group ≡ list_all q group
 all_agree p q K [] h k = refl
 all_agree p q K (a ∷ group) h k =
     ap (λ b. b && list_all p group) (h a k.0) ∙ ap (λ b. q a && b) (all_agree p q K group h k.1)
 
--- So they do on whether all of some group pass.
+-- and on whether all members of some group do
 some_agree : {A : Type 0} (p q : A → Bool) (K : A → Type 0) (groups : List (List A)) → ((a : A) → K a → p a ≡ q a)
     → AllByRecursion (AllByRecursion K) groups → some_group p groups ≡ some_group q groups
 some_agree p q K [] h k = refl
 some_agree p q K (group ∷ groups) h k =
     ap (λ b. b || some_group p groups) (all_agree p q K group h k.0) ∙ ap (λ b. list_all q group || b) (some_agree p q K groups h k.1)
 
--- And on whether groups are true.
+-- and on whether there is no group, or all members of some group pass
 pub groups_agree_by : {A : Type 0} (p q : A → Bool) (K : A → Type 0) (groups : List (List A))
     → ((a : A) → K a → p a ≡ q a) → AllByRecursion (AllByRecursion K) groups → is_true_of p groups ≡ is_true_of q groups
 groups_agree_by p q K [] h k = refl
@@ -32,19 +33,20 @@ groups_agree_by p q K (group ∷ groups) h k = some_agree p q K (group ∷ group
 
 -- ---- the laws
 
--- A relation is true of the kept operands exactly if it is of the exact ones.
+-- within the bound a relation is true of the kept operands exactly if it is true of the exact ones
 pub relations_agree : RelationsAgree
 relations_agree x e moduli cut exact relation h k =
     relation_agrees (shift_right e x) e moduli cut exact (IsWritten-shift_right e x h.written) h.within h.are_cut h.are_exact relation k
 
--- So it is with groups of relations.
+-- so are groups of relations
 pub groups_agree : GroupsAgree
 groups_agree x e moduli cut exact groups h k =
     groups_agree_by (relation_truth cut) (exact_relation_truth exact) (IsAdmitted moduli) groups
     (λ relation a. relations_agree x e moduli cut exact relation h a) k
 
--- And with a condition.
+-- so is a condition
 pub conditions_agree : ConditionsAgree
 conditions_agree x e moduli cut exact condition h k =
     groups_agree_by (λ r. relation_truth cut (meaning_of r)) (λ r. exact_relation_truth exact (meaning_of r))
-    (λ r. IsAdmitted moduli (meaning_of r)) (groups_of condition) (λ r a. relations_agree x e moduli cut exact (meaning_of r) h a) k
+    (λ r. IsAdmitted moduli (meaning_of r)) (groups_of condition)
+    (λ r a. relations_agree x e moduli cut exact (meaning_of r) h a) k

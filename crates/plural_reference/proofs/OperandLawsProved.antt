@@ -1,6 +1,8 @@
--- Laws on the operands of every number.
-use Rattle.std.proofs.Common.{◌≡◌, ℕ, zero, suc, ◌+◌, ◌-◌, ◌*◌, ◌/◌, ◌%◌, ◌^◌, ◌≤◌, ◌↔◌, inl, inr, List, refl, sym, ◌∙◌, ap, subst}
-use Rattle.std.proofs.Common.{length, take, arith, ltb}
+-- Laws on the operands of every number: integers of 64 and 128 bits, numbers of which nothing is cut, that a number has one
+-- list of kept and one of exact operands, and what the exact ones tell. The laws of operands cite it, and NamedOnce that
+-- operands are known by their parts.
+use Rattle.std.proofs.Common.{◌≡◌, ℕ, zero, suc, ◌+◌, ◌-◌, ◌*◌, ◌/◌, ◌%◌, ◌^◌, ◌≤◌, ◌↔◌, inl}
+use Rattle.std.proofs.Common.{inr, List, refl, sym, ◌∙◌, ap, subst, length, take, arith, ltb}
 use Rattle.std.proofs.lemmas.Bool.{lt-ltb, le-ltb, cond-true, cond-false, cases_eq}
 use Rattle.std.proofs.lemmas.List.{take_all}
 use Rattle.std.proofs.lemmas.Nat.{div-add-mod'}
@@ -11,16 +13,15 @@ use Rattle.fixed_decimal.specs.Places.{Places, IsWritten, shift_right}
 use Rattle.plural_reference.specs.Operands.{Operands, of_whole, of_wide, HasFraction, IsCutAt, IsExactAt, all_digits_value, cut_whole}
 use Rattle.plural_reference.specs.OperandLaws.{SameBelowLimit, CongruentFromLimit, NothingIsCut, OneCut, OneExact, TellTheNumber}
 use Rattle.plural_reference.proofs.Numbers.{value_of-append-div, value_of-append-mod}
-use Rattle.plural_reference.proofs.Fractions.{SameFraction, one_fraction, exact_whole, exact_fraction, cut_fraction}
-use Rattle.plural_reference.proofs.Fractions.{IsWritten-shift_right}
+use Rattle.plural_reference.proofs.Fractions.{SameFraction, one_fraction, exact_whole, exact_fraction, cut_fraction, IsWritten-shift_right}
 use Rattle.plural_reference.proofs.Agreement.{cut_whole-short}
 use Rattle.plural_reference.proofs.Conversion.{one_zero_less, quotient, no_fewer}
 
--- Below 10 ^ 18 an integer of 128 bits is kept as it is.
+-- a whole number below 10 ^ 18 has the same operands at 64 and at 128 bits
 pub same_below_limit : SameBelowLimit
 same_below_limit n h = ap of_whole (cond-true (ltb n (10 ^ 18)) n (n % 10 ^ 18 + 10 ^ 18) (lt-ltb n (10 ^ 18) h))
 
--- From there on what is kept leaves the same by 10 ^ 18.
+-- from 10 ^ 18 on both integer parts are at least that, and leave the same by it
 pub congruent_from_limit : CongruentFromLimit
 congruent_from_limit n h =
     let e : (of_wide n).i ≡ n % 10 ^ 18 + 10 ^ 18 = cond-false (ltb n (10 ^ 18)) n (n % 10 ^ 18 + 10 ^ 18) (le-ltb n (10 ^ 18) h) in
@@ -28,7 +29,7 @@ congruent_from_limit n h =
 
 -- ---- short numbers
 
--- With at most 18 places on each side the kept operands are the exact ones.
+-- digits of at most 18 places on each side have the same kept and exact operands
 short_at : (y : Places) (e : ℕ) (o : Operands) → IsWritten y → length y.whole ≤ 18 → length y.fraction ≤ 18
     → IsCutAt y e o ↔ IsExactAt y e o
 short_at y e o h i f =
@@ -36,7 +37,8 @@ short_at y e o h i f =
     let t : take 18 y.fraction ≡ y.fraction = take_all 18 y.fraction f in (
       λ k. record {
         i = k.i ∙ c ∙ sym (value_of-append-div y.whole y.fraction h.fraction);
-        fraction = subst (λ (n : ℕ). HasFraction o (length y.fraction) n)
+        fraction =
+            subst (λ (n : ℕ). HasFraction o (length y.fraction) n)
             (sym (value_of-append-mod y.whole y.fraction h.fraction)) (cut_fraction y e o f k);
         c = k.c;
       },
@@ -47,37 +49,37 @@ short_at y e o h i f =
       },
     )
 
--- So it is with a number and its exponent.
+-- so has a number whose digits are so few after the shift by its exponent
 pub nothing_is_cut : NothingIsCut
 nothing_is_cut x e o h i f = short_at (shift_right e x) e o (IsWritten-shift_right e x h) i f
 
 -- ---- one list of operands
 
--- The six operands, as one term that nothing unfolds.
+-- the operands of six numbers
 unfoldable six : ℕ → ℕ → ℕ → ℕ → ℕ → ℕ → Operands
 six i v w f t c = record { i = i; v = v; w = w; f = f; t = t; c = c }
 
--- A list of operands is that of its six parts.
+-- operands are those of their six numbers
 six_parts : (o : Operands) → o ≡ six o.i o.v o.w o.f o.t o.c
 unfolding six
 six_parts o = refl
 
--- The same six parts make the same list.
+-- six numbers that are equal give equal operands
 same_six : (a b : Operands) → a.i ≡ b.i → a.v ≡ b.v → a.w ≡ b.w → a.f ≡ b.f → a.t ≡ b.t → a.c ≡ b.c
     → six a.i a.v a.w a.f a.t a.c ≡ six b.i b.v b.w b.f b.t b.c
 same_six a b i v w f t c = cc
 
--- Operands are equal if all six are.
+-- operands with equal integer parts, fractions and exponents are equal
 pub one_record : (a b : Operands) → a.i ≡ b.i → SameFraction a b → a.c ≡ b.c → a ≡ b
 one_record a b i s c = six_parts a ∙ same_six a b i s.v s.w s.f s.t c ∙ sym (six_parts b)
 
--- a count without trailing zeros, and what is left then
+-- so many digits are left of a written fraction without its last zeros, and t is their number
 record IsLeast (shown written w t : ℕ) : Type 0 where
   pub divides : 10 ^ (shown - w) ∣ written
   pub least : (k : ℕ) → 10 ^ (shown - k) ∣ written → w ≤ k
   pub quotient : t ≡ written / 10 ^ (shown - w)
 
--- A count with the property that no smaller one has it is the least.
+-- a count that writes the fraction with zeros behind it, as no smaller one does, is the least
 found : (left number shown written : ℕ) → written ≡ number * 10 ^ (shown - left)
     → ((k : ℕ) → 10 ^ (shown - k) ∣ written → left ≤ k) → IsLeast shown written left number
 found left number shown written e l = record {
@@ -86,44 +88,36 @@ found left number shown written e l = record {
   quotient = quotient number shown left written e;
 }
 
--- Below each count with the property there is a least one.
-least_from : (left number shown written : ℕ) → left ≤ shown → written ≡ number * 10 ^ (shown - left)
-    → (w t : ℕ) × IsLeast shown written w t
+-- from a count of digits that is enough, zeros are dropped until the least is found
+least_from : (left number shown written : ℕ) → left ≤ shown → written ≡ number * 10 ^ (shown - left) → (w t : ℕ) × IsLeast shown written w t
 least_from zero number shown written h e = (0, number, found zero number shown written e (λ k d. omega arith))
 least_from (suc left) number shown written h e =
     elim (cases_eq (number % 10) 0) [
       | inl none ↦
-          let less : written ≡ number / 10 * 10 ^ (shown - (suc left - 1))
-          = one_zero_less number shown (suc left) written (omega arith) h e none in
+          let less : written ≡ number / 10 * 10 ^ (shown - (suc left - 1)) =
+          one_zero_less number shown (suc left) written (omega arith) h e none in
           let same : suc left - 1 ≡ left = omega arith in
-          least_from left (number / 10) shown written (omega arith)
-          (subst (λ (j : ℕ). written ≡ number / 10 * 10 ^ (shown - j)) same less)
+          least_from left (number / 10) shown written (omega arith) (subst (λ (j : ℕ). written ≡ number / 10 * 10 ^ (shown - j)) same less)
       | inr some ↦ (suc left, number, found (suc left) number shown written e (no_fewer number shown (suc left) written h e some))
     ]
 
--- So there is a least one for each fraction.
+-- every written fraction has such a count, and what is left then
 least_of : (shown written : ℕ) → (w t : ℕ) × IsLeast shown written w t
-least_of shown written
-    = least_from shown written shown written (omega arith) (let z : shown - shown ≡ 0
-    = omega arith in subst (λ (j : ℕ). written ≡ written * 10 ^ j) (sym z) (omega arith))
+least_of shown written =
+    least_from shown written shown written (omega arith)
+    (let z : shown - shown ≡ 0 = omega arith in subst (λ (j : ℕ). written ≡ written * 10 ^ j) (sym z) (omega arith))
 
--- the operands of an integer part, a fraction and an exponent
+-- an integer part, a written fraction and an exponent have operands
 made : (i shown written c : ℕ) → (o : Operands) × (o.i ≡ i) × HasFraction o shown written × (o.c ≡ c)
 made i shown written c =
     let l : (w t : ℕ) × IsLeast shown written w t = least_of shown written in (
       record { i = i; v = shown; w = l.0; f = written; t = l.1; c = c },
       refl,
-      record {
-        v = refl;
-        f = refl;
-        w_divides = l.2.divides;
-        w_least = l.2.least;
-        t = l.2.quotient;
-      },
+      record { v = refl; f = refl; w_divides = l.2.divides; w_least = l.2.least; t = l.2.quotient },
       refl,
     )
 
--- A number has one list of kept operands.
+-- a number has kept operands, and no others
 pub one_cut : OneCut
 one_cut x e =
     let y : Places = shift_right e x in
@@ -133,7 +127,7 @@ one_cut x e =
     let k : IsCutAt y e m.0 = record { i = m.1; fraction = m.2; c = m.3 } in
     (m.0, k, λ b h. one_record b m.0 (h.i ∙ sym k.i) (one_fraction b m.0 _ _ h.fraction k.fraction) (h.c ∙ sym k.c))
 
--- It has one list of exact operands.
+-- a number has exact operands, and no others
 pub one_exact : OneExact
 one_exact x e =
     let y : Places = shift_right e x in
@@ -145,7 +139,7 @@ one_exact x e =
 
 -- ---- the number
 
--- The exact operands give the number back.
+-- the exact operands tell what all digits write, and how many fraction digits there are
 pub tell_the_number : TellTheNumber
 tell_the_number x e o h =
     let y : Places = shift_right e x in (

@@ -10,22 +10,29 @@ use Rattle.plural_reference.specs.declared.ast.SampleRange.{SampleRange}
 use Rattle.plural_reference.specs.declared.ast.Samples as samples
 use Rattle.plural_reference.specs.declared.error.ParseError.TheVariants.{ExpectedValue, ExpectedSampleType}
 use Rattle.plural_reference.specs.declared.token.Token.{Token}
-use Rattle.plural_reference.specs.declared.token.Token.TheVariants.{Operand, Number, Zero, Dot, DotDot, Comma, At, Decimal, Integer, Ellipsis, Tilde, E, Junk}
-use Rattle.plural_reference.specs.Samples.{IsSample, IsDigits, IsFraction, IsExponent, ReadsSamples, FaultyInSamples, after_at, after_comma, after_mark, token_text, samples_of}
+use Rattle.plural_reference.specs.declared.token.Token.TheVariants.{Operand, Number, Zero, Dot, DotDot, Comma, At, Decimal, Integer}
+use Rattle.plural_reference.specs.declared.token.Token.TheVariants.{Ellipsis, Tilde, E, Junk}
+use Rattle.plural_reference.specs.Samples.{IsSample, IsDigits, IsFraction, IsExponent, ReadsSamples, FaultyInSamples, after_at}
+use Rattle.plural_reference.specs.Samples.{after_comma, after_mark, token_text, samples_of}
 
 abbrev one : List ℕ → SampleRange
 one text = record { lower_val = text; upper_val = None }
 
+-- a list of one range
 abbrev list_of : SampleRange → Bool → SampleList
 list_of r more = record { sample_ranges = r ∷ []; ellipsis = more }
 
+-- samples of integers alone
 abbrev integer_only : SampleList → Option samples.Samples
 integer_only l = Some (record { integer = Some l; decimal = None })
 
 -- a sample, from its parts
-sample : (i f e : List Token) (text : List ℕ) → AllByRecursion IsDigits i → IsFraction f → IsExponent e → (i ++ f ++ e ≢ []) → text ≡ flat_map token_text (i ++ f ++ e) → IsSample (i ++ f ++ e) text
+sample : (i f e : List Token) (text : List ℕ)
+    → AllByRecursion IsDigits i → IsFraction f → IsExponent e → (i ++ f ++ e ≢ []) → text ≡ flat_map token_text (i ++ f ++ e)
+    → IsSample (i ++ f ++ e) text
 sample i f e text a b c d t = (record { integer = i; fraction = f; exponent = e }, (refl, a, b, c, d), t)
 
+-- a list with a token isn't empty
 not_empty : (t : Token) (ts : List Token) → t ∷ ts ≢ []
 not_empty t ts e = cc
 
@@ -37,7 +44,26 @@ joined_digits = (
   _,
   [],
   refl,
-  (Number 1 ∷ Number 2 ∷ Comma ∷ Ellipsis ∷ [], [], refl, tt, (Number 1 ∷ Number 2 ∷ [], Comma ∷ Ellipsis ∷ [], refl, (Number 1 ∷ Number 2 ∷ [], [], refl, sample (Number 1 ∷ Number 2 ∷ []) [] [] (codes "12") (tt, (tt, tt)) tt tt (not_empty _ _) refl, refl), refl), refl),
+  (
+    Number 1 ∷ Number 2 ∷ Comma ∷ Ellipsis ∷ [],
+    [],
+    refl,
+    tt,
+    (
+      Number 1 ∷ Number 2 ∷ [],
+      Comma ∷ Ellipsis ∷ [],
+      refl,
+      (
+        Number 1 ∷ Number 2 ∷ [],
+        [],
+        refl,
+        sample (Number 1 ∷ Number 2 ∷ []) [] [] (codes "12") (tt, (tt, tt)) tt tt (not_empty _ _) refl,
+        refl,
+      ),
+      refl,
+    ),
+    refl,
+  ),
   tt,
   refl,
 )
@@ -50,7 +76,26 @@ exponent_of_one = (
   _,
   Number 5 ∷ [],
   refl,
-  (Number 1 ∷ E ∷ Zero ∷ [], [], refl, tt, (Number 1 ∷ E ∷ Zero ∷ [], [], refl, (Number 1 ∷ E ∷ Zero ∷ [], [], refl, sample (Number 1 ∷ []) [] (E ∷ Zero ∷ []) (codes "1e0") (tt, tt) tt (tt, tt) (not_empty _ _) refl, refl), refl), refl),
+  (
+    Number 1 ∷ E ∷ Zero ∷ [],
+    [],
+    refl,
+    tt,
+    (
+      Number 1 ∷ E ∷ Zero ∷ [],
+      [],
+      refl,
+      (
+        Number 1 ∷ E ∷ Zero ∷ [],
+        [],
+        refl,
+        sample (Number 1 ∷ []) [] (E ∷ Zero ∷ []) (codes "1e0") (tt, tt) tt (tt, tt) (not_empty _ _) refl,
+        refl,
+      ),
+      refl,
+    ),
+    refl,
+  ),
   (λ k. true≢false k.0),
   refl,
 )
@@ -63,7 +108,26 @@ compact = (
   _,
   [],
   refl,
-  (Number 1 ∷ Operand C ∷ Number 6 ∷ [], [], refl, tt, (Number 1 ∷ Operand C ∷ Number 6 ∷ [], [], refl, (Number 1 ∷ Operand C ∷ Number 6 ∷ [], [], refl, sample (Number 1 ∷ []) [] (Operand C ∷ Number 6 ∷ []) (codes "1c6") (tt, tt) tt (tt, tt) (not_empty _ _) refl, refl), refl), refl),
+  (
+    Number 1 ∷ Operand C ∷ Number 6 ∷ [],
+    [],
+    refl,
+    tt,
+    (
+      Number 1 ∷ Operand C ∷ Number 6 ∷ [],
+      [],
+      refl,
+      (
+        Number 1 ∷ Operand C ∷ Number 6 ∷ [],
+        [],
+        refl,
+        sample (Number 1 ∷ []) [] (Operand C ∷ Number 6 ∷ []) (codes "1c6") (tt, tt) tt (tt, tt) (not_empty _ _) refl,
+        refl,
+      ),
+      refl,
+    ),
+    refl,
+  ),
   tt,
   refl,
 )
@@ -76,7 +140,26 @@ dots_for_ellipsis = (
   At ∷ Integer ∷ Number 1 ∷ Comma ∷ [],
   DotDot ∷ Dot ∷ [],
   refl,
-  (At ∷ Integer ∷ Number 1 ∷ [], record { type = Integer; list = list_of (one (codes "1")) false } ∷ [], refl, (Number 1 ∷ [], [], refl, tt, (Number 1 ∷ [], [], refl, (Number 1 ∷ [], [], refl, sample (Number 1 ∷ []) [] [] (codes "1") (tt, tt) tt tt (not_empty _ _) refl, refl), refl), refl), refl),
+  (
+    At ∷ Integer ∷ Number 1 ∷ [],
+    record { type = Integer; list = list_of (one (codes "1")) false } ∷ [],
+    refl,
+    (
+      Number 1 ∷ [],
+      [],
+      refl,
+      tt,
+      (
+        Number 1 ∷ [],
+        [],
+        refl,
+        (Number 1 ∷ [], [], refl, sample (Number 1 ∷ []) [] [] (codes "1") (tt, tt) tt tt (not_empty _ _) refl, refl),
+        refl,
+      ),
+      refl,
+    ),
+    refl,
+  ),
   refl,
 )
 
@@ -85,7 +168,8 @@ at_foo : FaultyInSamples (At ∷ Operand F ∷ Junk ∷ []) ExpectedSampleType
 at_foo = (after_at, At ∷ [], Operand F ∷ Junk ∷ [], refl, ([], [], refl, refl, tt), refl)
 
 -- `@decimal .~e5`
-point_to_exponent : ReadsSamples (At ∷ Decimal ∷ Dot ∷ Tilde ∷ E ∷ Number 5 ∷ []) (Some (record { integer = None; decimal = Some (list_of (record { lower_val = codes "."; upper_val = Some (codes "e5") }) false) }))
+point_to_exponent : ReadsSamples (At ∷ Decimal ∷ Dot ∷ Tilde ∷ E ∷ Number 5 ∷ [])
+    (Some (record { integer = None; decimal = Some (list_of (record { lower_val = codes "."; upper_val = Some (codes "e5") }) false) }))
 unfolding digits
 point_to_exponent = (
   record { type = Decimal; list = list_of (record { lower_val = codes "."; upper_val = Some (codes "e5") }) false } ∷ [],
@@ -124,10 +208,37 @@ mark_alone = (
   At ∷ Integer ∷ Number 1 ∷ Operand C ∷ [],
   [],
   refl,
-  (Operand C, tt, inr (At ∷ Integer ∷ Number 1 ∷ [], record { type = Integer; list = list_of (one (codes "1")) false } ∷ [], refl, (Number 1 ∷ [], [], refl, tt, (Number 1 ∷ [], [], refl, (Number 1 ∷ [], [], refl, sample (Number 1 ∷ []) [] [] (codes "1") (tt, tt) tt tt (not_empty _ _) refl, refl), refl), refl), (refl, inr tt))),
+  (
+    Operand C,
+    tt,
+    inr (
+      At ∷ Integer ∷ Number 1 ∷ [],
+      record { type = Integer; list = list_of (one (codes "1")) false } ∷ [],
+      refl,
+      (
+        Number 1 ∷ [],
+        [],
+        refl,
+        tt,
+        (
+          Number 1 ∷ [],
+          [],
+          refl,
+          (Number 1 ∷ [], [], refl, sample (Number 1 ∷ []) [] [] (codes "1") (tt, tt) tt tt (not_empty _ _) refl, refl),
+          refl,
+        ),
+        refl,
+      ),
+      (refl, inr tt),
+    ),
+  ),
   refl,
 )
 
 -- `@integer 1, … @integer 2`
-replaced : samples_of (record { type = Integer; list = list_of (one (codes "1")) true } ∷ record { type = Integer; list = list_of (one (codes "2")) false } ∷ []) ≡ integer_only (list_of (one (codes "2")) false)
+replaced :
+    samples_of
+    (record { type = Integer; list = list_of (one (codes "1")) true } ∷ record { type = Integer; list = list_of (one (codes "2")) false }
+    ∷ [])
+    ≡ integer_only (list_of (one (codes "2")) false)
 replaced = refl

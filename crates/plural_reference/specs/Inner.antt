@@ -2,4 +2,5 @@
 pub mod Scan
 pub mod Reader
 pub mod SampleReader
+pub mod RuleReader
 pub mod OperandReader

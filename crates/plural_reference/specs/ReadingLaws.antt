@@ -1,10 +1,13 @@
 -- What is read of a text is determined.
-use Rattle.std.specs.Prelude.{◌≡◌, ◌⊎◌, ℕ, List}
+use Rattle.std.specs.Prelude.{◌≡◌, ◌⊎◌, ◌↔◌, ℕ, List, Ok, Err}
+use Rattle.plural_reference.specs.declared.ast.Condition.{Condition}
 use Rattle.plural_reference.specs.declared.error.ParseError.{ParseError}
 use Rattle.plural_reference.specs.declared.token.Token.{Token}
 use Rattle.plural_reference.specs.Lexer.{IsCut, AreTokensOf}
 use Rattle.plural_reference.specs.Parser.{Reads, Faulty}
-use Rattle.plural_reference.specs.Samples.{ReadsRule, FaultyRule}
+use Rattle.plural_reference.specs.Samples.{ReadsRule, ReadsCondition, FaultyRule}
+use Rattle.plural_reference.specs.Reading.{TextReads, TextFaulty}
+use Rattle.plural_reference.specs.Inner.RuleReader.{condition_of_text}
 
 -- there is one thing of this kind, and no other
 abbrev pub ThereIsOne : {A : Type 0} → (A → Type 0) → Type 0
@@ -31,3 +34,10 @@ HaveOneReading = (tokens : List Token) → HasOneReading Reads Faulty tokens
 -- of every list of tokens one rule is read, or it has one fault
 abbrev pub HaveOneRule : Type 0
 HaveOneRule = (tokens : List Token) → HasOneReading ReadsRule FaultyRule tokens
+
+-- of every text, the reader of rules gives the condition that is read, and the fault that the text has
+abbrev pub TextsAreRead : Type 0
+TextsAreRead =
+    (text : List ℕ)
+    → ((c : Condition) → TextReads ReadsCondition text c ↔ (condition_of_text text ≡ Ok c))
+    × ((kind : ParseError) → TextFaulty FaultyRule text kind ↔ (condition_of_text text ≡ Err kind))

@@ -241,6 +241,10 @@ FaultyInSamples tokens kind =
 abbrev pub ReadsRule : List Token → Rule → Type 0
 ReadsRule tokens rule = (rest : List Token) × ReadsUpTo tokens rule.condition rest × ReadsSamples rest rule.samples
 
+-- of the tokens a rule with this condition is read
+abbrev pub ReadsCondition : List Token → Condition → Type 0
+ReadsCondition tokens condition = (rule : Rule) × ReadsRule tokens rule × (rule.condition ≡ condition)
+
 -- the condition has the fault, or it is read and the samples have the fault
 abbrev pub FaultyRule : List Token → ParseError → Type 0
 FaultyRule tokens kind = Faulty tokens kind ⊎ ((c : Condition) × (rest : List Token) × ReadsUpTo tokens c rest × FaultyInSamples rest kind)

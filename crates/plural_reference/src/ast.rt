@@ -53,6 +53,21 @@ pub enum Operator {
     NotEq,
 }
 
+impl Operator {
+    ghost use Rattle.plural_reference.specs.Serializer.{operator_text};
+
+    /// The sign as it is written: `=` or `!=`.
+    #[inline]
+    pub fn as_str(self) -> &'static str
+        ensures { result.now ≡ operator_text self }
+    {
+        match self {
+            Operator::Eq => "=",
+            Operator::NotEq => "!=",
+        }
+    }
+}
+
 /// An operand, or its remainder: `n % 10`.
 #[derive(Debug, PartialEq, Drop)]
 pub struct Expression {
@@ -81,6 +96,27 @@ pub enum Operand {
     C,
     /// A synonym of [`Operand::C`].
     E,
+}
+
+impl Operand {
+    ghost use Rattle.plural_reference.specs.Serializer.{operand_text};
+
+    /// The letter as it is written: `n`, `i`, `v`, `w`, `f`, `t`, `c` or `e`.
+    #[inline]
+    pub fn as_str(self) -> &'static str
+        ensures { result.now ≡ operand_text self }
+    {
+        match self {
+            Operand::N => "n",
+            Operand::I => "i",
+            Operand::V => "v",
+            Operand::W => "w",
+            Operand::F => "f",
+            Operand::T => "t",
+            Operand::C => "c",
+            Operand::E => "e",
+        }
+    }
 }
 
 /// The ranges and values of a relation.

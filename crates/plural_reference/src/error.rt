@@ -47,7 +47,8 @@ impl fmt::Display for ParseError {
 
 impl Error for ParseError {}
 
-/// Why [`parse`](crate::parse) and [`parse_condition`](crate::parse_condition) answer no tree.
+/// Why [`parse`](crate::parse), [`parse_without_samples`](crate::parse_without_samples) and
+/// [`parse_condition`](crate::parse_condition) answer no tree.
 #[derive(Clone, Copy, Debug, PartialEq, Eq)]
 pub enum ReadError {
     /// The text is no rule.

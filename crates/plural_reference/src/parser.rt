@@ -1,6 +1,7 @@
 //! Reading rules (UTS 35 Part 3, Plural Rules Syntax).
 
 mod samples;
+mod sink;
 
 ghost use Rattle.std.specs.Prelude.{◌≡◌, ◌≢◌, ◌∷◌, [], Some, None, Ok, Err, length, ◌≤◌, MatchBool, MatchOption, MatchResult};
 ghost use Rattle.plural_reference.specs.declared.token.Token.TheVariants as token;
@@ -8,7 +9,7 @@ ghost use Rattle.plural_reference.specs.declared.token.Token.TheVariants.{Comma}
 ghost use Rattle.plural_reference.specs.Lexer.{AreTokensOf, first};
 ghost use Rattle.plural_reference.specs.Parser.{Reads, Faulty, operand_of, value_of, value_fault};
 ghost use Rattle.plural_reference.specs.declared.error.ParseError.TheVariants.{ExpectedValue};
-ghost use Rattle.plural_reference.specs.Samples.{ReadsRule, FaultyRule};
+ghost use Rattle.plural_reference.specs.Samples.{ReadsRule, ReadsCondition, FaultyRule};
 ghost use Rattle.plural_reference.specs.Reading.{AnswersExactly, IsAnswer};
 ghost use Rattle.plural_reference.specs.Inner.Reader.{run, begin, TakesValue, NoValue, TakesOperand, NoOperand, NoOperator, ReadsItem, ReadsItems, ReadsExpression, ReadsRelation, ReadsWholeGroup, ReadsOption, FailsAtItem, FailsAtItems, FailsAtOperand, FailsAtGroup};
 
@@ -18,6 +19,7 @@ use crate::ast::{
 };
 use crate::error::{ParseError, ReadError};
 use crate::lexer::Lexer;
+use crate::parser::sink::{Kept, LeftOut};
 use crate::sequence::Sequence;
 use crate::token::Token;
 use std::alloc::Global;
@@ -47,8 +49,21 @@ pub fn parse(alloc: Global, text: &[u8]) -> Result<Rule, ReadError>
 {
     let mut parser = Parser::new(text);
     let condition = parser.condition(alloc)?;
-    let samples = parser.samples(alloc)?;
+    let samples = parser.samples::<Kept>(alloc)?;
     Ok(Rule { condition, samples })
+}
+
+/// The condition of a rule, as by [`parse`]: the samples behind it are checked and left out.
+///
+/// It refuses the texts that [`parse`] refuses, by the same [`ParseError`], or for want of memory, which is taken for the
+/// condition alone.
+pub fn parse_without_samples(alloc: Global, text: &[u8]) -> Result<Condition, ReadError>
+    ensures { AnswersExactly ReadsCondition FaultyRule text.now result }
+{
+    let mut parser = Parser::new(text);
+    let condition = parser.condition(alloc)?;
+    parser.samples::<LeftOut>(alloc)?;
+    Ok(condition)
 }
 
 // The tokens that are left, the first of them at hand.

@@ -2,10 +2,10 @@
 
 ghost use Rattle.std.specs.Prelude.{◌≡◌};
 ghost use Rattle.std.specs.List.{list_all, list_any};
-ghost use Rattle.plural_reference.specs.Truth.{operand_value, is_in_ranges, ends_of, ranges_of, tree_truth, tree_relation_truth, tree_value};
+ghost use Rattle.plural_reference.specs.Truth.{is_in_ranges, ends_of, ranges_of, tree_truth, tree_relation_truth, tree_value};
 
 use crate::ast::{
-    AndCondition, Condition, Expression, Operand, Operator, RangeList, RangeListItem, Relation,
+    AndCondition, Condition, Expression, Operator, RangeList, RangeListItem, Relation,
 };
 use crate::operands::PluralOperands;
 
@@ -58,25 +58,10 @@ fn test_relation(relation: &Relation, operands: &PluralOperands) -> bool
 fn calculate_expression(expression: &Expression, operands: &PluralOperands) -> Option<u64>
     ensures { result ≡ tree_value operands.now expression.now }
 {
-    let value = operand_value(expression.operand, operands)?;
+    let value = operands.value(expression.operand)?;
     match &expression.modulus {
         None => Some(value),
         Some(modulus) => value.checked_rem(modulus.0),
-    }
-}
-
-// The value of an operand: none for n with a fraction.
-fn operand_value(operand: Operand, operands: &PluralOperands) -> Option<u64>
-    ensures { result ≡ operand_value operand operands.now }
-{
-    match operand {
-        Operand::N if operands.w != 0 => None,
-        Operand::N | Operand::I => Some(operands.i),
-        Operand::V => Some(operands.v as u64),
-        Operand::W => Some(operands.w as u64),
-        Operand::F => Some(operands.f),
-        Operand::T => Some(operands.t),
-        Operand::C | Operand::E => Some(operands.c as u64),
     }
 }
 

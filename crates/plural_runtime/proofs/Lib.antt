@@ -1,18 +1,18 @@
+mod KindsAgain
 mod ItemBytes
 mod FirstBytes
 mod ItemRanges
 mod RuleItems
 mod Meanings
+mod Walks
+mod TreeWalks
 mod TreeGroups
 mod Counts
 mod NeededGroups
-mod Walks
 mod RangeSteps
 mod NeededMost
 mod TwoTruths
-mod KindsAgain
 mod PackedTrees
-mod TreeWalks
 mod JoinedTexts
 mod RuleTexts
 mod SameRelations
@@ -20,3 +20,4 @@ mod WorkedRules
 mod SpellableTrees
 mod PrintedAgain
 mod FaultKinds
+mod TextAnswers

@@ -5,5 +5,6 @@ pub mod PackedTree
 pub mod RuleKinds
 pub mod PluralRuntimeErrors
 pub mod RuleText
-pub mod Inner
+pub mod RuleOfText
 -- not definitions of the subject
+pub mod Inner

@@ -38,6 +38,14 @@ operand_number E = 7
 abbrev pub first_byte : AndOr → Operator → Operand → ℕ
 first_byte and_or operator operand = and_or_bit and_or + operator_bit operator + operand_number operand
 
+-- how many bytes a relation has before its ranges: the first byte and the modulus
+abbrev pub head_length : ℕ
+head_length = 5
+
+-- how many bytes a range has: both its ends
+abbrev pub range_length : ℕ
+range_length = 8
+
 -- both ends of a range, each as four bytes, low byte first
 abbrev pub range_bytes : ℕ × ℕ → List ℕ
 range_bytes range = to_le_bytes w32 range.0 ++ to_le_bytes w32 range.1
@@ -58,17 +66,21 @@ pub record RuleBytes (relations : List PackedRelation) (bytes : List ℕ) : Type
 
 -- ---- What is wrong with the items of a packed list that is no rule.
 
--- an item's length is 5 and a multiple of 8
+-- so many bytes are whole ranges
+abbrev pub is_whole : ℕ → Bool
+is_whole n = n % range_length == 0
+
+-- an item's length is that of the head and of whole ranges
 abbrev pub is_item_length : ℕ → Bool
-is_item_length n = nat_le 5 n && ((n - 5) % 8 == 0)
+is_item_length n = nat_le head_length n && is_whole (n - head_length)
 
 -- an item is a relation: its length, and the operand in bits 0 to 5 of its first byte
 abbrev pub is_relation : List ℕ → Bool
 is_relation item = is_item_length (length item) && nat_le (slice_index item 0 % 64) 7
 
 -- what is wrong with the item at a place: its length before its operand
-abbrev pub item_fault : ℕ → List ℕ → Option RuleBytesError
-item_fault place item =
+abbrev pub relation_fault : ℕ → List ℕ → Option RuleBytesError
+relation_fault place item =
     if not (is_item_length (length item)) then Some (errors.ItemLength place)
     else (if nat_lt 7 (slice_index item 0 % 64) then Some (errors.Operand place) else None)
 
@@ -77,9 +89,9 @@ or_else None other = other
 or_else (Some fault) other = Some fault
 
 -- what is wrong with the first bad item, if there is one; the first item stands at the given place
-abbrev pub first_fault : ℕ → List (List ℕ) → Option RuleBytesError
-first_fault place [] = None
-first_fault place (item ∷ items) = or_else (item_fault place item) (first_fault (place + 1) items)
+abbrev pub first_relation_fault : ℕ → List (List ℕ) → Option RuleBytesError
+first_relation_fault place [] = None
+first_relation_fault place (item ∷ items) = or_else (relation_fault place item) (first_relation_fault (place + 1) items)
 
 -- ---- When two packed relations are the same.
 

@@ -2,8 +2,7 @@
 use Rattle.std.specs.Prelude.{ℕ, List, [], ◌∷◌, ◌++◌, codes, Bool, true, false, if◌then◌else◌, ◌==◌, ◌≡◌, None, Ok}
 use Rattle.std.specs.Fmt.{decimal}
 use Rattle.plural_reference.specs.declared.ast.Operator.{Operator}
-use Rattle.plural_reference.specs.declared.ast.Operator.TheVariants.{Eq, NotEq}
-use Rattle.plural_reference.specs.Serializer.{joined, operand_text, condition_text}
+use Rattle.plural_reference.specs.Serializer.{joined, operand_text, operator_text, condition_text}
 use Rattle.plural_reference.specs.Truth.{RelationMeaning}
 use Rattle.plural_runtime.specs.declared.kinds.AndOr.{AndOr}
 use Rattle.plural_runtime.specs.declared.kinds.AndOr.TheVariants.{And, Or}
@@ -24,9 +23,9 @@ mark_text is_first And = if is_first then [] else codes " and "
 abbrev pub modulus_text : ℕ → List ℕ
 modulus_text modulus = if modulus == 0 then [] else (codes " % " ++ decimal modulus)
 
-abbrev pub sign_text : Operator → List ℕ
-sign_text Eq = codes " = "
-sign_text NotEq = codes " != "
+-- the operator, with a space on each side
+abbrev pub operator_shown : Operator → List ℕ
+operator_shown operator = codes " " ++ operator_text operator ++ codes " "
 
 abbrev pub range_shown : RangeOrValue → List ℕ
 range_shown (Range start end) = decimal start ++ (codes ".." ++ decimal end)
@@ -36,7 +35,7 @@ abbrev pub ranges_shown : List (ℕ × ℕ) → List ℕ
 ranges_shown ranges = joined (codes ", ") (λ range. range_shown (range_or_value range)) ranges
 
 abbrev pub relation_shown : RelationMeaning → List ℕ
-relation_shown relation = (operand_text relation.operand ++ modulus_text relation.modulus) ++ (sign_text relation.operator ++ ranges_shown relation.ranges)
+relation_shown relation = (operand_text relation.operand ++ modulus_text relation.modulus) ++ (operator_shown relation.operator ++ ranges_shown relation.ranges)
 
 -- the relations behind the first one
 abbrev pub others_shown : List PackedRelation → List ℕ

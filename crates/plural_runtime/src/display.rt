@@ -5,7 +5,7 @@ ghost use Rattle.std.specs.Fmt.{DisplaysOnOk};
 ghost use Rattle.plural_reference.specs.Serializer.{operand_text};
 ghost use Rattle.plural_runtime.specs.PackedRelations.{PackedRelation};
 ghost use Rattle.plural_runtime.specs.RuleKinds.{operator_of, tree_operand_of};
-ghost use Rattle.plural_runtime.specs.RuleText.{mark_text, modulus_text, range_shown, ranges_shown, relation_shown, relations_shown, sign_text};
+ghost use Rattle.plural_runtime.specs.RuleText.{mark_text, modulus_text, range_shown, ranges_shown, relation_shown, relations_shown, operator_shown};
 ghost use Rattle.plural_runtime.specs.Inner.RuleViews.{lent_relation};
 
 use crate::kinds::{AndOr, Operand, Polarity};
@@ -33,11 +33,10 @@ impl<'data> fmt::Display for Rule<'data> {
 fn write_relations<W: fmt::Write>(rule: &Rule<'_>, f: &mut fmt::Formatter<W>) -> fmt::Result
     ensures { DisplaysOnOk W.write_str_gives f.old result (Some (relations_shown rule.now)) f.new }
 {
-    for index in 0..rule.len() {
-        let Some(item) = rule.get(index) else {
-            unreachable!();
-        };
-        write_next(index == 0, &item.as_relation(), f)?;
+    let mut is_first = true;
+    for item in rule.iter() {
+        write_next(is_first, &item.as_relation(), f)?;
+        is_first = false;
     }
     Ok(())
 }
@@ -81,24 +80,8 @@ fn write_expression<W: fmt::Write>(
 ) -> fmt::Result
     ensures { DisplaysOnOk W.write_str_gives f.old result (Some (operand_text (tree_operand_of operand) ++ modulus_text modulo)) f.new }
 {
-    f.write_str(letter(operand))?;
+    f.write_str(operand.as_str())?;
     write_modulus(modulo, f)
-}
-
-// The letter of an operand.
-fn letter(operand: Operand) -> &'static str
-    ensures { result.now ≡ operand_text (tree_operand_of operand) }
-{
-    match operand {
-        Operand::N => "n",
-        Operand::I => "i",
-        Operand::V => "v",
-        Operand::W => "w",
-        Operand::F => "f",
-        Operand::T => "t",
-        Operand::C => "c",
-        Operand::E => "e",
-    }
 }
 
 // Prints a modulus where it isn't 0.
@@ -115,31 +98,29 @@ fn write_modulus<W: fmt::Write>(modulo: u32, f: &mut fmt::Formatter<W>) -> fmt::
 // Prints the operator and the ranges of a relation.
 fn write_list<W: fmt::Write>(relation: &Relation<'_>, f: &mut fmt::Formatter<W>) -> fmt::Result
     ensures { let meaning = (lent_relation relation.now).meaning in
-        DisplaysOnOk W.write_str_gives f.old result (Some (sign_text meaning.operator ++ ranges_shown meaning.ranges)) f.new }
+        DisplaysOnOk W.write_str_gives f.old result (Some (operator_shown meaning.operator ++ ranges_shown meaning.ranges)) f.new }
 {
-    f.write_str(sign(relation.polarity()))?;
+    write_sign(relation.polarity(), f)?;
     write_ranges(relation, f)
 }
 
-// The operator of a polarity, with a space on each side.
-fn sign(polarity: Polarity) -> &'static str
-    ensures { result.now ≡ sign_text (operator_of polarity) }
+// Prints the operator of a polarity, with a space on each side.
+fn write_sign<W: fmt::Write>(polarity: Polarity, f: &mut fmt::Formatter<W>) -> fmt::Result
+    ensures { DisplaysOnOk W.write_str_gives f.old result (Some (operator_shown (operator_of polarity))) f.new }
 {
-    match polarity {
-        Polarity::Positive => " = ",
-        Polarity::Negative => " != ",
-    }
+    f.write_str(" ")?;
+    f.write_str(polarity.as_str())?;
+    f.write_str(" ")
 }
 
 // Prints the ranges of a relation with a comma between each two.
 fn write_ranges<W: fmt::Write>(relation: &Relation<'_>, f: &mut fmt::Formatter<W>) -> fmt::Result
     ensures { DisplaysOnOk W.write_str_gives f.old result (Some (ranges_shown (lent_relation relation.now).meaning.ranges)) f.new }
 {
-    for index in 0..relation.len() {
-        let Some(range) = relation.range(index) else {
-            unreachable!();
-        };
-        write_next_range(index == 0, range, f)?;
+    let mut is_first = true;
+    for range in relation.ranges() {
+        write_next_range(is_first, range, f)?;
+        is_first = false;
     }
     Ok(())
 }

@@ -1,6 +1,6 @@
 //! The first byte of a packed relation.
 
-ghost use Rattle.std.specs.Prelude.{◌≡◌, IfSome, Some, option_map};
+ghost use Rattle.std.specs.Prelude.{◌≡◌, ◌↔◌, ◌≤◌, ◌%◌, IfSome, IsSome, Some, option_map};
 ghost use Rattle.plural_runtime.specs.RuleKinds.{byte_of, operator_of, tree_operand_of};
 ghost use Rattle.plural_runtime.specs.Inner.RuleReading.{and_or_in, operand_in, operator_in};
 
@@ -71,7 +71,8 @@ pub(crate) fn polarity_of(byte: u8) -> Polarity
 // What bits 0 to 5 say.
 #[inline]
 pub(crate) fn operand_of(byte: u8) -> Option<Operand>
-    ensures { option_map tree_operand_of result ≡ operand_in byte }
+    ensures operand { option_map tree_operand_of result ≡ operand_in byte }
+    ensures known { IsSome result ↔ (byte % 64 ≤ 7) }
 {
     Some(match byte % 64 {
         0 => Operand::N,

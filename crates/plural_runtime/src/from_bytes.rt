@@ -1,11 +1,13 @@
 //! Reads bytes as a rule.
 
-ghost use Rattle.std.specs.Prelude.{◌≡◌, ◌↔◌, List, ℕ, IfOk, MatchResult, Ok, Err, Some, None};
+ghost use Rattle.std.specs.Prelude.{◌≡◌, ◌↔◌, ◌≤◌, List, ℕ, length, IfOk, MatchResult, Ok, Err, Some, None};
 ghost use Rattle.packed_list.specs.ListBytes.{ListBytes, HasFault};
 ghost use Rattle.plural_runtime.specs.PackedRelations.{PackedRelation};
-ghost use Rattle.plural_runtime.specs.RuleBytes.{RuleBytes, item_fault, first_fault};
+ghost use Rattle.plural_runtime.specs.RuleBytes.{RuleBytes, relation_fault, first_relation_fault};
 
 use crate::error::RuleBytesError;
+use crate::first_byte::operand_of;
+use crate::item::{HEAD_LENGTH, RANGE_LENGTH};
 use crate::rule::Rule;
 use packed_list::laws::{item_bytes, read_again};
 use packed_list::{ListError, PackedList};
@@ -21,7 +23,7 @@ impl<'data> Rule<'data> {
         ensures accepted { (relations : List PackedRelation) → RuleBytes relations bytes.now → result ≡ Ok relations }
         ensures list_fault { (fault : ListError) → (result ≡ Err (RuleBytesError.List fault)) ↔ HasFault bytes.now fault }
         ensures item_fault { (items : List (List ℕ)) → ListBytes items bytes.now
-            → MatchResult result (λ _. first_fault 0 items ≡ None) (λ fault. first_fault 0 items ≡ Some fault) }
+            → MatchResult result (λ _. first_relation_fault 0 items ≡ None) (λ fault. first_relation_fault 0 items ≡ Some fault) }
     {
         read_again();
         item_bytes();
@@ -38,13 +40,11 @@ impl<'data> Rule<'data> {
 
 // What is wrong with the first bad item.
 fn first_fault_of(list: &PackedList<'_>) -> Option<RuleBytesError>
-    ensures { result ≡ first_fault 0 list.now }
+    requires { length list.now ≤ 65535 }
+    ensures { result ≡ first_relation_fault 0 list.now }
 {
-    for index in 0..list.len() {
-        let Some(item) = list.get(index) else {
-            unreachable!();
-        };
-        let fault = fault_of(index, item);
+    for (place, item) in list.iter().enumerate() {
+        let fault = fault_of(place, item);
         if fault.is_some() {
             return fault;
         }
@@ -54,11 +54,11 @@ fn first_fault_of(list: &PackedList<'_>) -> Option<RuleBytesError>
 
 // What is wrong with the item at a place.
 fn fault_of(place: usize, item: &[u8]) -> Option<RuleBytesError>
-    ensures { result ≡ item_fault place item.now }
+    ensures { result ≡ relation_fault place item.now }
 {
-    if item.len() < 5 || (item.len() - 5) % 8 != 0 {
+    if item.len() < HEAD_LENGTH || (item.len() - HEAD_LENGTH) % RANGE_LENGTH != 0 {
         Some(RuleBytesError::ItemLength(place))
-    } else if item[0] % 64 > 7 {
+    } else if operand_of(item[0]).is_none() {
         Some(RuleBytesError::Operand(place))
     } else {
         None

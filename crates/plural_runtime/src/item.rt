@@ -1,12 +1,18 @@
 //! Reads the parts of a packed relation in place.
 
-ghost use Rattle.std.specs.Prelude.{◌≡◌, ◌%◌, ◌==◌, length, IsTrue};
-ghost use Rattle.plural_runtime.specs.RuleBytes.{is_relation};
+ghost use Rattle.std.specs.Prelude.{◌≡◌, length, IsTrue};
+ghost use Rattle.plural_runtime.specs.RuleBytes.{is_relation, is_whole};
 ghost use Rattle.plural_runtime.specs.Inner.RuleReading.{relation_in, ranges_in};
 ghost use Rattle.plural_runtime.specs.RuleKinds.{operator_of, tree_operand_of};
 
 use crate::first_byte::{and_or_of, operand_of, polarity_of};
 use crate::kinds::{AndOr, Operand, Polarity};
+
+// How many bytes an item has before its ranges: the first byte and the modulus.
+pub(crate) const HEAD_LENGTH: usize = 5;
+
+// How many bytes a range has: both its ends.
+pub(crate) const RANGE_LENGTH: usize = 8;
 
 // How the relation of an item is joined to the one before it.
 #[inline]
@@ -29,6 +35,7 @@ pub(crate) fn polarity_at(item: &[u8]) -> Polarity
 }
 
 // What of a number the relation of an item looks at.
+#[inline]
 #[tactic(auto, unfolding(crate::specs::Inner::RuleReading::relation_in))]
 pub(crate) fn operand_at(item: &[u8]) -> Operand
     requires { IsTrue (is_relation item.now) }
@@ -56,7 +63,7 @@ pub(crate) fn modulo_at(item: &[u8]) -> u32
 pub(crate) fn ranges_at(item: &[u8]) -> &[u8]
     requires { IsTrue (is_relation item.now) }
     ensures ranges { ranges_in result.now ≡ (relation_in item.now).meaning.ranges }
-    ensures whole { IsTrue (length result.now % 8 == 0) }
+    ensures whole { IsTrue (is_whole (length result.now)) }
 {
-    &item[5..]
+    &item[HEAD_LENGTH..]
 }

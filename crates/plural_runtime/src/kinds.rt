@@ -1,6 +1,7 @@
 //! The kinds that a packed relation is made of.
 
 ghost use Rattle.std.specs.Prelude.{◌≡◌};
+ghost use Rattle.plural_reference.specs.Serializer.{operand_text, operator_text};
 ghost use Rattle.plural_runtime.specs.RuleKinds.{operator_of, packed_operand_of, polarity_of, tree_operand_of};
 ghost use Rattle.plural_runtime.specs.PackedTree.{unpacked_modulus};
 
@@ -70,6 +71,7 @@ impl From<Polarity> for ast::Operator {
 impl From<ast::Operand> for Operand {
     ghost from_gives = { λ operand packed. packed ≡ packed_operand_of operand };
 
+    #[inline]
     fn from(operand: ast::Operand) -> Operand {
         match operand {
             ast::Operand::N => Operand::N,
@@ -87,6 +89,7 @@ impl From<ast::Operand> for Operand {
 impl From<Operand> for ast::Operand {
     ghost from_gives = { λ operand tree. tree ≡ tree_operand_of operand };
 
+    #[inline]
     fn from(operand: Operand) -> ast::Operand {
         match operand {
             Operand::N => ast::Operand::N,
@@ -101,7 +104,25 @@ impl From<Operand> for ast::Operand {
     }
 }
 
+impl Polarity {
+    // Its operator as it is written.
+    #[inline]
+    pub(crate) fn as_str(self) -> &'static str
+        ensures { result.now ≡ operator_text (operator_of self) }
+    {
+        ast::Operator::from(self).as_str()
+    }
+}
+
 impl Operand {
+    // Its letter as it is written.
+    #[inline]
+    pub(crate) fn as_str(self) -> &'static str
+        ensures { result.now ≡ operand_text (tree_operand_of self) }
+    {
+        ast::Operand::from(self).as_str()
+    }
+
     /// The expression of the operand, with the modulus where it isn't 0.
     pub fn with_modulo(self, modulo: u32) -> ast::Expression
         ensures operand { result.operand ≡ tree_operand_of self }

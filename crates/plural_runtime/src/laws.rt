@@ -7,13 +7,15 @@ ghost use Rattle.plural_runtime.specs.PackedRelations.{PackedRelation};
 ghost use Rattle.plural_runtime.specs.RuleBytes.{RuleBytes};
 ghost use Rattle.plural_runtime.specs.Inner.RuleReading.{relations_in};
 ghost use Rattle.plural_runtime.specs.PackedTree.{packed, unpacked, has_no_negated_n};
-ghost use Rattle.plural_runtime.specs.PackedTruth.{packed_truth, needed_ranges, all_ranges};
+ghost use Rattle.plural_runtime.specs.PackedTruth.{packed_truth, needed_ranges, range_count};
+ghost use Rattle.plural_runtime.specs.RuleOfText.{TextsGiveOneAnswer};
 ghost use Rattle.plural_runtime.specs.RuleText.{PrintedRulesPackAgain};
 
 use packed_list::laws::read_again;
 use plural_reference::laws::printing::{
     conditions_of_texts_are_spellable, spellable_conditions_print_back,
 };
+use plural_reference::laws::reading::texts_are_read;
 
 /// Rules are the same bytes exactly if they are the same relations.
 pub fn one_encoding()
@@ -37,7 +39,7 @@ pub fn packs_again()
 
 /// No more ranges are needed than there are.
 pub fn at_most_all()
-    ensures { (number : Operands) (relations : List PackedRelation) → needed_ranges number relations ≤ all_ranges relations }
+    ensures { (number : Operands) (relations : List PackedRelation) → needed_ranges number relations ≤ range_count relations }
 {}
 
 /// A rule is true exactly where its tree is, if the fraction is zero or no relation tests `n` with `!=`.
@@ -53,4 +55,12 @@ pub fn printed_rules_pack_again()
 {
     conditions_of_texts_are_spellable();
     spellable_conditions_print_back();
+}
+
+/// Every text gives one answer as a rule, and no other: the relations that its condition is packed to, or the reason why it
+/// gives none. It is a function of the text.
+pub fn texts_give_one_answer()
+    ensures { TextsGiveOneAnswer }
+{
+    texts_are_read();
 }

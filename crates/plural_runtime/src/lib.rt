@@ -11,6 +11,7 @@ mod kinds;
 pub mod laws;
 mod pack;
 mod range;
+mod ranges;
 mod relation;
 mod relations;
 mod resolver;

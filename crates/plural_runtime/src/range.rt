@@ -1,7 +1,7 @@
 //! The ranges of a packed relation.
 
-ghost use Rattle.std.specs.Prelude.{◌≡◌, length};
-ghost use Rattle.plural_runtime.specs.RuleBytes.{range_bytes};
+ghost use Rattle.std.specs.Prelude.{◌≡◌, ◌≤◌, length};
+ghost use Rattle.plural_runtime.specs.RuleBytes.{range_bytes, range_length};
 ghost use Rattle.plural_runtime.specs.Inner.RuleReading.{range_in};
 ghost use Rattle.plural_runtime.specs.RuleKinds.{ends, item_of, ItemGives, range_or_value};
 
@@ -71,7 +71,7 @@ impl RangeOrValue {
 
 // Read for the proof alone: eight bytes are those of the range that they hold.
 fn spelled(bytes: &[u8])
-    requires { length bytes.now ≡ 8 }
+    requires { length bytes.now ≡ range_length }
     ensures { range_bytes (range_in bytes.now) ≡ bytes.now }
 {}
 
@@ -88,4 +88,15 @@ pub(crate) fn range_of(bytes: [u8; 8]) -> RangeOrValue
     } else {
         RangeOrValue::Range(start, end)
     }
+}
+
+// The range in the first eight bytes.
+#[inline]
+pub(crate) fn first_range(bytes: &[u8]) -> RangeOrValue
+    requires { range_length ≤ length bytes.now }
+    ensures { result ≡ range_or_value (range_in bytes.now) }
+{
+    range_of([
+        bytes[0], bytes[1], bytes[2], bytes[3], bytes[4], bytes[5], bytes[6], bytes[7],
+    ])
 }

@@ -1,14 +1,15 @@
 //! One relation of a packed rule: its checked bytes, and what they say.
 
-ghost use Rattle.std.specs.Prelude.{◌≡◌, ◌↔◌, ◌*◌, ◌/◌, ◌<◌, drop, flat_map, IsTrue, length, ◌%◌, ◌==◌};
-ghost use Rattle.plural_runtime.specs.RuleBytes.{range_bytes, relation_bytes, is_relation};
+ghost use Rattle.std.specs.Prelude.{◌≡◌, ◌↔◌, ◌*◌, ◌/◌, ◌<◌, drop, flat_map, IsTrue, length};
+ghost use Rattle.plural_runtime.specs.RuleBytes.{range_bytes, range_length, relation_bytes, is_relation, is_whole};
 ghost use Rattle.plural_runtime.specs.Inner.RuleReading.{range_in, ranges_in, relation_in};
 ghost use Rattle.plural_runtime.specs.RuleKinds.{range_or_value};
 
 use crate::first_byte::AndOrPolarityOperand;
-use crate::item::{and_or_at, modulo_at, operand_at, polarity_at, ranges_at};
+use crate::item::{RANGE_LENGTH, and_or_at, modulo_at, operand_at, polarity_at, ranges_at};
 use crate::kinds::{AndOr, Operand, Polarity};
-use crate::range::{RangeOrValue, range_of};
+use crate::range::{RangeOrValue, first_range};
+use crate::ranges::Ranges;
 
 /// A relation, as the checked bytes of an item of a rule.
 #[derive(Clone, Copy, Debug, PartialEq, Eq)]
@@ -24,7 +25,7 @@ pub struct Relation<'a> {
     kind: AndOrPolarityOperand,
     modulo: u32,
     ranges: &'a [u8],
-    ghost whole: { IsTrue (length ranges.now % 8 == 0) },
+    ghost whole: { IsTrue (is_whole (length ranges.now)) },
 }
 
 impl<'a> RelationULE<'a> {
@@ -69,7 +70,7 @@ impl<'a> RelationULE<'a> {
 }
 
 impl<'a> Relation<'a> {
-    ghost use Rattle.std.specs.Prelude.{◌≡◌, ◌==◌, length, option_map, slice_get};
+    ghost use Rattle.std.specs.Prelude.{◌≡◌, ◌==◌, length, map, option_map, slice_get};
     ghost use Rattle.plural_runtime.specs.RuleKinds.{operator_of, range_or_value, tree_operand_of};
     ghost use Rattle.plural_runtime.specs.Inner.RuleViews.{lent_relation};
 
@@ -110,7 +111,7 @@ impl<'a> Relation<'a> {
     pub fn len(&self) -> usize
         ensures { result ≡ length (lent_relation self.now).meaning.ranges }
     {
-        self.ranges.len() / 8
+        self.ranges.len() / RANGE_LENGTH
     }
 
     /// Whether it has no range.
@@ -131,6 +132,14 @@ impl<'a> Relation<'a> {
         } else {
             None
         }
+    }
+
+    // The ranges, from the first one on.
+    #[inline]
+    pub(crate) fn ranges(&self) -> Ranges<'a>
+        ensures { result ≡ map range_or_value (lent_relation self.now).meaning.ranges }
+    {
+        Ranges::of(self.ranges)
     }
 }
 
@@ -177,8 +186,8 @@ fn same_kind(kind: AndOrPolarityOperand, other: AndOrPolarityOperand) -> bool
 
 // Whether two lists of ranges are the same: they are if their bytes are.
 fn same_ranges(ranges: &[u8], others: &[u8]) -> bool
-    requires ranges { IsTrue (length ranges.now % 8 == 0) }
-    requires others { IsTrue (length others.now % 8 == 0) }
+    requires ranges { IsTrue (is_whole (length ranges.now)) }
+    requires others { IsTrue (is_whole (length others.now)) }
     ensures { IsTrue result ↔ (ranges_in ranges.now ≡ ranges_in others.now) }
 {
     spelled_ranges(ranges) == spelled_ranges(others)
@@ -186,7 +195,7 @@ fn same_ranges(ranges: &[u8], others: &[u8]) -> bool
 
 // The bytes of ranges are those of the ranges that they hold.
 fn spelled_ranges(ranges: &[u8]) -> &[u8]
-    requires { IsTrue (length ranges.now % 8 == 0) }
+    requires { IsTrue (is_whole (length ranges.now)) }
     ensures same { result.now ≡ ranges.now }
     ensures spelled { flat_map range_bytes (ranges_in ranges.now) ≡ ranges.now }
 {
@@ -195,13 +204,10 @@ fn spelled_ranges(ranges: &[u8]) -> &[u8]
 
 // The range at a place.
 fn range_at(ranges: &[u8], index: usize) -> RangeOrValue
-    requires { index < length ranges.now / 8 }
-    ensures { result ≡ range_or_value (range_in (drop (8 * index) ranges.now)) }
+    requires { index < length ranges.now / range_length }
+    ensures { result ≡ range_or_value (range_in (drop (range_length * index) ranges.now)) }
 {
-    let bytes = &ranges[8 * index..];
-    range_of([
-        bytes[0], bytes[1], bytes[2], bytes[3], bytes[4], bytes[5], bytes[6], bytes[7],
-    ])
+    first_range(&ranges[RANGE_LENGTH * index..])
 }
 
 // The bytes of an item are those of its relation.

@@ -1,18 +1,18 @@
 //! Tells whether a rule is true, by its bytes alone.
 
-ghost use Rattle.std.specs.Prelude.{◌≡◌, ◌≤◌, ◌+◌, ◌<◌, ◌%◌, ◌==◌, min, length, option_map, IsTrue};
+ghost use Rattle.std.specs.Prelude.{◌≡◌, ◌≤◌, ◌+◌, ◌<◌, min, length, option_map, IsTrue};
 ghost use Rattle.std.specs.Fn.{iterate};
 ghost use Rattle.plural_reference.specs.Truth.{holds_value, is_in_ranges, operand_value, range_holds, remainder};
-ghost use Rattle.plural_runtime.specs.RuleBytes.{is_relation};
+ghost use Rattle.plural_runtime.specs.RuleBytes.{is_relation, is_whole, range_length};
 ghost use Rattle.plural_runtime.specs.Inner.RuleReading.{relation_in, range_in, ranges_in};
-ghost use Rattle.plural_runtime.specs.PackedTruth.{packed_truth, is_true_at, needed_ranges, all_ranges, needed_of_relation, needed_of_list};
+ghost use Rattle.plural_runtime.specs.PackedTruth.{packed_truth, is_true_at, needed_ranges, range_count, needed_of_relation, needed_of_list};
 
-use crate::item::{and_or_at, modulo_at, polarity_at, ranges_at};
+use crate::item::{RANGE_LENGTH, and_or_at, modulo_at, operand_at, polarity_at, ranges_at};
 use crate::kinds::{AndOr, Polarity};
 use crate::laws::at_most_all;
 use crate::rule::Rule;
 use crate::steps::{Counter, Steps, Uncounted};
-use plural_reference::{PluralOperands, RawPluralOperands};
+use plural_reference::{PluralOperands, ast};
 
 /// Whether the rule is true of the operands: all relations of one of its groups are (UTS 35 Part 3, Plural Rules
 /// Syntax). A rule without relations is true, and so is one whose first relation is marked Or.
@@ -33,7 +33,7 @@ pub fn test_rule(rule: &Rule<'_>, operands: &PluralOperands) -> bool
 pub fn test_rule_counted(rule: &Rule<'_>, operands: &PluralOperands, steps: &mut Steps) -> bool
     ensures answer { result ≡ packed_truth operands.now rule.now }
     ensures count { steps.new ≡ min (steps.old + needed_ranges operands.now rule.now) 18446744073709551615 }
-    ensures at_most { steps.new ≤ steps.old + all_ranges rule.now }
+    ensures at_most { steps.new ≤ steps.old + range_count rule.now }
 {
     // Read for the proof: that the count so far is one of 64 bits.
     let _before = steps.count();
@@ -96,22 +96,11 @@ fn is_in_list<C: Counter>(item: &[u8], operands: &PluralOperands, counter: &mut 
 
 // The value of an item's operand: none of n where the fraction isn't zero.
 #[inline]
-#[tactic(auto, unfolding(crate::specs::Inner::RuleReading::relation_in))]
 fn value_at(item: &[u8], operands: &PluralOperands) -> Option<u64>
     requires { IsTrue (is_relation item.now) }
     ensures { result ≡ operand_value (relation_in item.now).meaning.operand operands.now }
 {
-    let operands = RawPluralOperands::from(*operands);
-    match item[0] % 64 {
-        0 if operands.w != 0 => None,
-        0 | 1 => Some(operands.i),
-        2 => Some(operands.v as u64),
-        3 => Some(operands.w as u64),
-        4 => Some(operands.f),
-        5 => Some(operands.t),
-        6 | 7 => Some(operands.c as u64),
-        _ => unreachable!(),
-    }
+    operands.value(ast::Operand::from(operand_at(item)))
 }
 
 // What a modulus leaves of a value.
@@ -129,7 +118,7 @@ fn reduced(modulo: u32, value: u64) -> u64
 // Whether some range holds the value. None is read behind the first that does.
 #[inline]
 fn any_holds<C: Counter>(value: u64, ranges: &[u8], counter: &mut C) -> bool
-    requires { IsTrue (length ranges.now % 8 == 0) }
+    requires { IsTrue (is_whole (length ranges.now)) }
     ensures answer { result ≡ is_in_ranges (ranges_in ranges.now) value }
     ensures count { counter.new ≡ iterate C.after_one (needed_of_list (ranges_in ranges.now) value) counter.old }
 {
@@ -138,7 +127,7 @@ fn any_holds<C: Counter>(value: u64, ranges: &[u8], counter: &mut C) -> bool
     }
     let mut rest = ranges;
     loop {
-        let (range, others) = rest.split_at(8);
+        let (range, others) = rest.split_at(RANGE_LENGTH);
         if holds(value, range, counter) {
             return true;
         }
@@ -152,7 +141,7 @@ fn any_holds<C: Counter>(value: u64, ranges: &[u8], counter: &mut C) -> bool
 // Reads the ends of a range and counts it: whether it holds the value.
 #[inline]
 fn holds<C: Counter>(value: u64, range: &[u8], counter: &mut C) -> bool
-    requires { length range.now ≡ 8 }
+    requires { length range.now ≡ range_length }
     ensures answer { result ≡ range_holds value (range_in range.now) }
     ensures count { counter.new ≡ C.after_one counter.old }
 {

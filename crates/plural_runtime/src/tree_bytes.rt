@@ -1,6 +1,6 @@
 //! The relations of a tree, as items that are packed.
 
-ghost use Rattle.std.specs.Prelude.{◌≡◌, ◌++◌, OnOk};
+ghost use Rattle.std.specs.Prelude.{◌≡◌, ◌∷◌};
 ghost use Rattle.std.specs.Int.{w32, to_le_bytes};
 ghost use Rattle.plural_reference.specs.Truth.{ends_of, modulus_of};
 ghost use Rattle.plural_runtime.specs.RuleBytes.{first_byte, range_bytes};
@@ -8,6 +8,7 @@ ghost use Rattle.plural_runtime.specs.PackedTree.{packed};
 ghost use Rattle.plural_runtime.specs.Inner.TreeWalk.{relations_left};
 
 use crate::first_byte::AndOrPolarityOperand;
+use crate::item::{HEAD_LENGTH, RANGE_LENGTH};
 use crate::kinds::{AndOr, Operand, Polarity};
 use packed_list::{ByteItem, ByteItems};
 use plural_reference::ast;
@@ -83,18 +84,25 @@ impl<'a> ByteItem for TreeRelation<'a> {
 
     #[inline]
     fn byte_count(&self) -> usize {
-        5 + 8 * self.relation.range_list.0.as_slice().len()
+        HEAD_LENGTH + RANGE_LENGTH * self.relation.range_list.0.as_slice().len()
     }
 
     #[tactic(auto, unfolding(crate::specs::RuleBytes::relation_bytes))]
     fn write_to(&self, bytes: &mut Vec<u8>) -> Result<(), AllocError> {
-        bytes.push(first_byte_of(self.and_or, self.relation))?;
-        push_number(bytes, modulus_of(&self.relation.expression))?;
+        bytes.extend_from_slice(&head_of(self.and_or, self.relation))?;
         for item in self.relation.range_list.0.as_slice() {
-            push_range(bytes, item)?;
+            bytes.extend_from_slice(&range_of(item))?;
         }
         Ok(())
     }
+}
+
+// What stands before the ranges of a relation: its first byte and its modulus.
+fn head_of(and_or: AndOr, relation: &ast::Relation) -> [u8; HEAD_LENGTH]
+    ensures { result ≡ first_byte and_or relation.now.operator relation.now.expression.operand ∷ to_le_bytes w32 (modulus_of relation.now.expression.modulus) }
+{
+    let [a, b, c, d, _, _, _, _] = modulus_of(&relation.expression).to_le_bytes();
+    [first_byte_of(and_or, relation), a, b, c, d]
 }
 
 // The first byte of a relation.
@@ -120,22 +128,15 @@ fn modulus_of(expression: &ast::Expression) -> u64
     }
 }
 
-// Writes both ends of a range.
-fn push_range(bytes: &mut Vec<u8>, item: &ast::RangeListItem) -> Result<(), AllocError>
-    ensures { OnOk result (bytes.new.items ≡ bytes.old.items ++ range_bytes (ends_of item.now)) }
+// Both ends of a range.
+fn range_of(item: &ast::RangeListItem) -> [u8; RANGE_LENGTH]
+    ensures { result ≡ range_bytes (ends_of item.now) }
 {
     let (start, end) = match item {
         ast::RangeListItem::Range(start, end) => (start.0, end.0),
         ast::RangeListItem::Value(value) => (value.0, value.0),
     };
-    push_number(bytes, start)?;
-    push_number(bytes, end)
-}
-
-// Writes the low four bytes of a number, low byte first.
-fn push_number(bytes: &mut Vec<u8>, number: u64) -> Result<(), AllocError>
-    ensures { OnOk result (bytes.new.items ≡ bytes.old.items ++ to_le_bytes w32 number) }
-{
-    let [a, b, c, d, _, _, _, _] = number.to_le_bytes();
-    bytes.extend_from_slice(&[a, b, c, d])
+    let [a, b, c, d, _, _, _, _] = start.to_le_bytes();
+    let [e, f, g, h, _, _, _, _] = end.to_le_bytes();
+    [a, b, c, d, e, f, g, h]
 }

@@ -32,15 +32,11 @@ fn condition_of(alloc: Global, rule: &Rule<'_>) -> Result<ast::Condition, AllocE
     ensures { IfOk result (λ condition. condition ≡ unpacked rule.now) }
 {
     let mut groups = Vec::new(alloc);
-    let count = rule.len();
-    if count == 0 {
+    if rule.is_empty() {
         return Ok(ast::Condition(Sequence(groups)));
     }
     let mut group = Vec::new(alloc);
-    for index in 0..count {
-        let Some(item) = rule.get(index) else {
-            unreachable!();
-        };
+    for item in rule.iter() {
         let relation = item.as_relation();
         close_group(alloc, relation.and_or(), &mut groups, &mut group)?;
         group.push(relation_of(alloc, &relation)?)?;
@@ -84,12 +80,9 @@ fn relation_of(alloc: Global, relation: &Relation<'_>) -> Result<ast::Relation, 
 fn ranges_of(alloc: Global, relation: &Relation<'_>) -> Result<ast::RangeList, AllocError>
     ensures { IfOk result (λ list. list.0 ≡ map unpacked_range (lent_relation relation.now).meaning.ranges) }
 {
-    let mut items = Vec::new(alloc);
-    for index in 0..relation.len() {
-        let Some(range) = relation.range(index) else {
-            unreachable!();
-        };
-        items.push(ast::RangeListItem::from(range))?;
+    let mut items = Vec::with_capacity(alloc, relation.len())?;
+    for range in relation.ranges() {
+        items.push_reserved(ast::RangeListItem::from(range));
     }
     Ok(ast::RangeList(Sequence(items)))
 }

@@ -2,7 +2,7 @@
 use Rattle.std.specs.Prelude.{List, ◌++◌}
 use Rattle.plural_base.specs.declared.category.PluralCategory.{PluralCategory}
 use Rattle.plural_base.specs.declared.category.PluralCategory.TheVariants.{Zero, One, Two, Few, Many, Other}
-use Rattle.plural_base.specs.declared.categories.Categories.TheInside.{Inside}
+use Rattle.plural_base.specs.declared.rules.categories.Categories.TheInside.{Inside}
 use Rattle.plural_base.specs.FiveRules.{listed}
 
 -- those whose flag is set

@@ -3,16 +3,16 @@ use Rattle.std.specs.Prelude.{Option, fold, Some, None, List, map, String, strin
 use Rattle.plural_runtime.specs.declared.error.RuleError.{RuleError}
 use Rattle.plural_runtime.specs.declared.error.RuleError.TheVariants as fault
 use Rattle.plural_base.specs.declared.category.PluralCategory.{PluralCategory}
-use Rattle.plural_base.specs.declared.json_error.JsonError.{JsonError}
-use Rattle.plural_base.specs.declared.json_error.JsonError.TheVariants.{Rule, Memory}
+use Rattle.plural_base.specs.declared.json.error.JsonError.{JsonError}
+use Rattle.plural_base.specs.declared.json.error.JsonError.TheVariants.{Rule, Memory}
 use Rattle.plural_base.specs.declared.ranges.PluralRanges.{PluralRanges}
-use Rattle.plural_base.specs.declared.raw_category.RawPluralCategory.{RawPluralCategory}
+use Rattle.plural_base.specs.declared.category.raw.RawPluralCategory.{RawPluralCategory}
 use Rattle.plural_base.specs.Categories.{all_raw_categories}
 use Rattle.plural_base.specs.Ranges.{range_text, category_at}
 use Rattle.plural_base.specs.RangesJson.{name_json}
 use Rattle.serde_json.specs.Data.{Members, no_members, put}
 use Rattle.std.specs.declared.alloc.Global.{Global}
-use Rattle.plural_base.specs.declared.rules_data.PluralRulesData.{PluralRulesData}
+use Rattle.plural_base.specs.declared.rules.data.PluralRulesData.{PluralRulesData}
 use Rattle.plural_base.specs.DocumentJson.{Rows}
 use Rattle.plural_base.specs.FiveRules.{FiveRules, rules_of}
 

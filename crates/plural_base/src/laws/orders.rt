@@ -2,13 +2,13 @@
 
 ghost use Rattle.std.specs.Prelude.{◌≡◌, None};
 ghost use Rattle.std.specs.Ordering.{nat_cmp};
-ghost use Rattle.plural_base.specs.Categories.{number_of, place_of};
+ghost use Rattle.plural_base.specs.Categories.{category_number, place_of};
 
 use crate::category::PluralCategory;
-use crate::options::{PluralRuleType, PluralRulesOptions};
-use crate::range_key::UnvalidatedPluralRange;
-use crate::raw_category::RawPluralCategory;
-use crate::rules_data::PluralRulesData;
+use crate::category::raw::RawPluralCategory;
+use crate::provider::options::{PluralRuleType, PluralRulesOptions};
+use crate::ranges::key::UnvalidatedPluralRange;
+use crate::rules::data::PluralRulesData;
 use std::cmp::Ordering;
 
 /// Categories are in the order zero, one, two, few, many, other.
@@ -20,7 +20,7 @@ pub fn order_of_categories(first: PluralCategory, second: PluralCategory) -> Ord
 
 /// Numbered categories are in the order of their numbers.
 pub fn order_of_raw_categories(first: RawPluralCategory, second: RawPluralCategory) -> Ordering
-    ensures { result ≡ nat_cmp (number_of first) (number_of second) }
+    ensures { result ≡ nat_cmp (category_number first) (category_number second) }
 {
     first.cmp(&second)
 }

@@ -52,8 +52,8 @@ abbrev pub with_group : Before → Before
 with_group b = record { groups = b.groups ++ (record { 0 = b.relations }) ∷ []; relations = [] }
 
 -- the condition that ends here
-abbrev pub condition_of : Before → Condition
-condition_of b = record { 0 = b.groups ++ (record { 0 = b.relations }) ∷ [] }
+abbrev pub ended_condition : Before → Condition
+ended_condition b = record { 0 = b.groups ++ (record { 0 = b.relations }) ∷ [] }
 
 -- what a token does: it leads on, ends the condition, or is a fault
 pub data Move : Type 0 where
@@ -86,7 +86,7 @@ operator_move _ b e = refuse ExpectedOperator
 -- dots behind an item
 abbrev pub dots_move : Opened → List RangeListItem → RangeListItem → Move
 dots_move o xs (items.Value v) = go (before_end o xs v)
-dots_move o xs (items.Range a b) = finish (condition_of (with_relation o.before (relation_of o (xs ++ (items.Range a b) ∷ []))))
+dots_move o xs (items.Range a b) = finish (ended_condition (with_relation o.before (relation_of o (xs ++ (items.Range a b) ∷ []))))
 
 -- a token behind an item
 abbrev pub item_move : Opened → List RangeListItem → RangeListItem → Token → Move
@@ -94,7 +94,7 @@ item_move o xs x And = go (before_operand (with_relation o.before (relation_of o
 item_move o xs x Or = go (before_operand (with_group (with_relation o.before (relation_of o (xs ++ x ∷ [])))))
 item_move o xs x Comma = go (before_item o (xs ++ x ∷ []))
 item_move o xs x DotDot = dots_move o xs x
-item_move o xs x _ = finish (condition_of (with_relation o.before (relation_of o (xs ++ x ∷ []))))
+item_move o xs x _ = finish (ended_condition (with_relation o.before (relation_of o (xs ++ x ∷ []))))
 
 -- a token behind an operand
 abbrev pub operand_next : Token → Before → operand.Operand → Move
@@ -118,7 +118,7 @@ at_end (after_operand b o) = refuse ExpectedOperator
 at_end (after_modulo b o) = refuse ExpectedValue
 at_end (after_modulus b e) = refuse ExpectedOperator
 at_end (before_item o xs) = refuse ExpectedValue
-at_end (after_item o xs x) = finish (condition_of (with_relation o.before (relation_of o (xs ++ x ∷ []))))
+at_end (after_item o xs x) = finish (ended_condition (with_relation o.before (relation_of o (xs ++ x ∷ []))))
 at_end (before_end o xs v) = refuse ExpectedValue
 
 -- the condition, and the tokens that are left

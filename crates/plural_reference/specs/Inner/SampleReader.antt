@@ -143,6 +143,15 @@ run_samples s (t ∷ ts) = sample_proceed (sample_step s t) (t ∷ ts) (λ next.
 -- ---- Not a definition of the subject: what the parts of the parser do that read samples, as steps of the reader of samples.
 -- Their private contracts cite it, and no public clause does.
 
+-- what is stored is what is read, where samples are kept
+abbrev pub IsStored : {A : Type 0} → Bool → A → A → Type 0
+IsStored true stored read = stored ≡ read
+IsStored false stored read = Unit {0}
+
+-- something is read, and it is what is stored where samples are kept
+abbrev pub ReadsStored : {A : Type 0} → Bool → (List Token → A → List Token → Type 0) → List Token → A → List Token → Type 0
+ReadsStored {A = A} keeps Read old stored new = (read : A) × IsStored keeps stored read × Read old read new
+
 -- the token of a type of samples
 abbrev pub type_token : SampleType → Token
 type_token types.Integer = Integer
@@ -174,6 +183,7 @@ pub record ReadsDigits (before : DecimalValue) (old : List Token) (after : Decim
   pub run_is : (p : Partial) → run_samples (sample_at p before) old ≡ run_samples (sample_at p after) new
   pub no_mark : has_exponent after ≡ false
   pub same_point : has_point after ≡ has_point before
+  pub nothing : after ≡ [] → new ≡ old
 
 -- a sample without its exponent is read: no digits come next, nor a point that would fit
 pub record ReadsNumber (old : List Token) (text : DecimalValue) (new : List Token) : Type 0 where
@@ -181,6 +191,7 @@ pub record ReadsNumber (old : List Token) (text : DecimalValue) (new : List Toke
   pub no_mark : has_exponent text ≡ false
   pub no_digits : NoDigits new
   pub no_point : first new ≡ Some Dot → has_point text ≡ true
+  pub nothing : text ≡ [] → new ≡ old
 
 -- an exponent joins a text
 pub record JoinsExponent (before : DecimalValue) (old : List Token) (after : DecimalValue) (new : List Token) : Type 0 where

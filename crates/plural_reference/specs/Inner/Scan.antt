@@ -1,12 +1,13 @@
 -- Not a definition of the subject: the tokens of a text, byte by byte. The view of the lexer and its private contracts
 -- cite it; that these are the tokens of the text's pieces is proved.
-use Rattle.std.specs.Prelude.{ℕ, ◌+◌, ◌*◌, List, [], ◌∷◌, ◌++◌, Option, Some, None, nat_eq, cond, nat_le}
+use Rattle.std.specs.Prelude.{ℕ, ◌+◌, ◌*◌, List, [], ◌∷◌, ◌++◌, Option, Some, None, nat_eq, cond, nat_le, codes}
+use Rattle.std.specs.Str.{byte}
 use Rattle.std.specs.Char.{is_ascii_digit, digit_value}
 use Rattle.plural_reference.specs.declared.ast.Operand.TheVariants.{N, I, F, T, V, W, C}
 use Rattle.plural_reference.specs.declared.ast.Operator.TheVariants.{Eq, NotEq}
 use Rattle.plural_reference.specs.declared.token.Token.{Token}
 use Rattle.plural_reference.specs.declared.token.Token.TheVariants.{Operand, Operator, Number, Zero, Dot, DotDot, Comma, Or, And, Modulo, Junk, At, Decimal, Integer, Ellipsis, Tilde, E}
-use Rattle.plural_reference.specs.Lexer.{max_number}
+use Rattle.plural_reference.specs.Lexer.{blank, max_number}
 
 -- where the bytes so far stand in a piece
 pub data Scan : Type 0 where
@@ -21,66 +22,74 @@ pub data Start : Type 0 where
   gives : Token → Start
   opens : Scan → Start
 
+-- a keyword of which these bytes are awaited
+abbrev pub awaits : List ℕ → Token → Scan
+awaits [] t = between
+awaits (k ∷ ks) t = in_keyword k ks t
+
 -- the first bytes of the pieces but spaces and numbers
-abbrev pub starts : List (ℕ × Start)
-starts =
-    (110, gives (Operand N)) ∷ (102, gives (Operand F)) ∷ (116, gives (Operand T)) ∷ (118, gives (Operand V)) ∷ (119, gives (Operand W)) ∷ (99, gives (Operand C))
-    ∷ (105, opens after_i) ∷ (101, gives E) ∷ (61, gives (Operator Eq)) ∷ (48, gives Zero) ∷ (46, opens after_point)
-    ∷ (44, gives Comma) ∷ (37, gives Modulo) ∷ (64, gives At) ∷ (126, gives Tilde)
-    ∷ (97, opens (in_keyword 110 (100 ∷ []) And)) ∷ (111, opens (in_keyword 114 [] Or)) ∷ (33, opens (in_keyword 61 [] (Operator NotEq)))
-    ∷ (100, opens (in_keyword 101 (99 ∷ 105 ∷ 109 ∷ 97 ∷ 108 ∷ []) Decimal)) ∷ (0xe2, opens (in_keyword 0x80 (0xa6 ∷ []) Ellipsis)) ∷ []
+abbrev pub piece_starts : List (ℕ × Start)
+piece_starts =
+    (byte "n", gives (Operand N)) ∷ (byte "f", gives (Operand F)) ∷ (byte "t", gives (Operand T)) ∷ (byte "v", gives (Operand V))
+    ∷ (byte "w", gives (Operand W)) ∷ (byte "c", gives (Operand C)) ∷ (byte "i", opens after_i) ∷ (byte "e", gives E)
+    ∷ (byte "=", gives (Operator Eq)) ∷ (byte "0", gives Zero) ∷ (byte ".", opens after_point) ∷ (byte ",", gives Comma)
+    ∷ (byte "%", gives Modulo) ∷ (byte "@", gives At) ∷ (byte "~", gives Tilde) ∷ (byte "a", opens (awaits (codes "nd") And))
+    ∷ (byte "o", opens (awaits (codes "r") Or)) ∷ (byte "!", opens (awaits (codes "=") (Operator NotEq)))
+    ∷ (byte "d", opens (awaits (codes "ecimal") Decimal)) ∷ (0xe2, opens (awaits (0x80 ∷ 0xa6 ∷ []) Ellipsis)) ∷ []
 
 -- the tokens that a byte ends, and where it leads
-abbrev pub Move : Type 0
-Move = List Token × Scan
+abbrev pub ScanMove : Type 0
+ScanMove = List Token × Scan
 
 -- what the first byte of a piece does
-abbrev pub start_move : Start → Move
+abbrev pub start_move : Start → ScanMove
 start_move (gives t) = (t ∷ [], between)
 start_move (opens s) = ([], s)
 
 -- the same by a table: a byte that isn't in it is Junk
-abbrev pub look_up : ℕ → List (ℕ × Start) → Move
+abbrev pub look_up : ℕ → List (ℕ × Start) → ScanMove
 look_up b [] = (Junk ∷ [], between)
 look_up b (s ∷ ss) = cond (nat_eq b s.0) (start_move s.1) (look_up b ss)
 
 -- a byte that begins a piece
-abbrev pub begin : ℕ → Move
-begin b = cond (nat_eq b 32) ([], between) (cond (nat_le 49 b) (cond (nat_le b 57) ([], in_number (0 * 10 + digit_value b)) (look_up b starts)) (look_up b starts))
+abbrev pub begin_piece : ℕ → ScanMove
+begin_piece b =
+    cond (nat_eq b blank) ([], between)
+    (cond (nat_le (byte "1") b) (cond (nat_le b (byte "9")) ([], in_number (0 * 10 + digit_value b)) (look_up b piece_starts)) (look_up b piece_starts))
 
 -- the token of a whole number
 abbrev pub number_token : ℕ → Token
 number_token n = cond (nat_le n max_number) (Number n) Junk
 
 -- a byte of a keyword that fits
-abbrev pub keyword_move : List ℕ → Token → Move
+abbrev pub keyword_move : List ℕ → Token → ScanMove
 keyword_move [] t = (t ∷ [], between)
 keyword_move (k ∷ ks) t = ([], in_keyword k ks t)
 
 -- the token first, then what the byte begins
-abbrev pub then_begin : Token → Move → Move
+abbrev pub then_begin : Token → ScanMove → ScanMove
 then_begin t m = (t ∷ m.0, m.1)
 
 -- what a byte does
-abbrev pub step : Scan → ℕ → Move
-step between b = begin b
-step (in_keyword k ks t) b = cond (nat_eq b k) (keyword_move ks t) (Junk ∷ [], between)
-step (in_number n) b = cond (is_ascii_digit b) ([], in_number (n * 10 + digit_value b)) (then_begin (number_token n) (begin b))
-step after_i b = cond (nat_eq b 110) ([], in_keyword 116 (101 ∷ 103 ∷ 101 ∷ 114 ∷ []) Integer) (then_begin (Operand I) (begin b))
-step after_point b = cond (nat_eq b 46) (DotDot ∷ [], between) (then_begin Dot (begin b))
+abbrev pub scan_step : Scan → ℕ → ScanMove
+scan_step between b = begin_piece b
+scan_step (in_keyword k ks t) b = cond (nat_eq b k) (keyword_move ks t) (Junk ∷ [], between)
+scan_step (in_number n) b = cond (is_ascii_digit b) ([], in_number (n * 10 + digit_value b)) (then_begin (number_token n) (begin_piece b))
+scan_step after_i b = cond (nat_eq b (byte "n")) ([], awaits (codes "teger") Integer) (then_begin (Operand I) (begin_piece b))
+scan_step after_point b = cond (nat_eq b (byte ".")) (DotDot ∷ [], between) (then_begin Dot (begin_piece b))
 
 -- what the end of the text does
-abbrev pub at_end : Scan → List Token
-at_end between = []
-at_end (in_keyword k ks t) = Junk ∷ []
-at_end (in_number n) = number_token n ∷ []
-at_end after_i = Operand I ∷ []
-at_end after_point = Dot ∷ []
+abbrev pub scan_end : Scan → List Token
+scan_end between = []
+scan_end (in_keyword k ks t) = Junk ∷ []
+scan_end (in_number n) = number_token n ∷ []
+scan_end after_i = Operand I ∷ []
+scan_end after_point = Dot ∷ []
 
 -- the tokens of the bytes that are left
 unfoldable pub tokens_from : Scan → List ℕ → List Token
-tokens_from s [] = at_end s
-tokens_from s (b ∷ bs) = let m = step s b in m.0 ++ tokens_from m.1 bs
+tokens_from s [] = scan_end s
+tokens_from s (b ∷ bs) = let m = scan_step s b in m.0 ++ tokens_from m.1 bs
 
 -- the tokens of a text
 abbrev pub tokens_of : List ℕ → List Token

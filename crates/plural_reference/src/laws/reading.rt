@@ -1,6 +1,6 @@
 //! What is read of a text is determined.
 
-ghost use Rattle.plural_reference.specs.ReadingLaws.{HaveOneCut, HaveOneListOfTokens, HaveOneReading, HaveOneRule};
+ghost use Rattle.plural_reference.specs.ReadingLaws.{HaveOneCut, HaveOneListOfTokens, HaveOneReading, HaveOneRule, TextsAreRead};
 
 /// Every text is cut into pieces in exactly one way.
 pub fn one_cut()
@@ -20,4 +20,10 @@ pub fn one_reading()
 /// Of every list of tokens exactly one rule is read, or it has exactly one fault.
 pub fn one_rule()
     ensures { HaveOneRule }
+{}
+
+/// What a text gives as a rule's condition, or as its fault, is what a reader gives that is a function of the text: readers of
+/// documents are stated by it.
+pub fn texts_are_read()
+    ensures { TextsAreRead }
 {}

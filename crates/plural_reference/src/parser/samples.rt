@@ -1,11 +1,14 @@
 //! Reading the samples of rules (UTS 35 Part 3, Samples).
 
-ghost use Rattle.std.specs.Prelude.{◌≡◌, ◌≤◌, ◌∷◌, [], Some, Err, IfOk, OnOk, false, length, string_bytes, MatchOption, MatchResult};
+ghost use Rattle.std.specs.Prelude.{◌≡◌, ◌≤◌, ◌∷◌, [], Some, None, Err, OnOk, false, List, ℕ, length, string_bytes, MatchBool, MatchOption, MatchResult};
+ghost use Rattle.plural_reference.specs.declared.error.ParseError.TheVariants.{ExpectedValue};
+ghost use Rattle.plural_reference.specs.Lexer.{first};
 ghost use Rattle.plural_reference.specs.Reading.{IsAnswer};
-ghost use Rattle.plural_reference.specs.Samples.{IsExponentMark, has_exponent, token_text};
-ghost use Rattle.plural_reference.specs.Inner.SampleReader.{after_sections, run_samples, TakesText, NoDigits, NoMark, NoType, type_token, joined_list, ReadsDigits, ReadsNumber, ReadsExponent, ReadsSample, ReadsRange, ReadsSampleList, ReadsAllSamples, FailsInSample, FailsAtSample, FailsAtRange, FailsAtList};
+ghost use Rattle.plural_reference.specs.Samples.{IsExponentMark, has_exponent, sample_fault, token_text};
+ghost use Rattle.plural_reference.specs.Inner.SampleReader.{after_sections, run_samples, IsStored, ReadsStored, TakesText, NoDigits, NoMark, NoType, type_token, joined_list, ReadsDigits, ReadsNumber, ReadsExponent, ReadsSample, ReadsRange, ReadsSampleList, ReadsAllSamples, FailsInSample, FailsAtSample, FailsAtRange, FailsAtList};
 
 use super::Parser;
+use super::sink::Sink;
 use crate::ast::{DecimalValue, Operand, SampleList, SampleRange, Samples};
 use crate::error::{ParseError, ReadError};
 use crate::sequence::Sequence;
@@ -21,16 +24,16 @@ enum SampleType {
 
 impl<'p> Parser<'p> {
     // samples = (At (Integer | Decimal) list)*
-    pub(super) fn samples(&mut self, alloc: Global) -> Result<Option<Samples>, ReadError>
+    pub(super) fn samples<S: Sink>(&mut self, alloc: Global) -> Result<Option<Samples>, ReadError>
         ensures { IsAnswer
-            (λ samples. ReadsAllSamples self.old samples self.new)
+            (λ samples. ReadsStored S.keeps ReadsAllSamples self.old samples self.new)
             (λ e. run_samples (after_sections []) self.old ≡ Err e)
             result }
     {
         let mut samples = None;
         'lists: while self.take_if(Token::At) {
             let kind = self.sample_type()?;
-            let list = self.sample_list(alloc)?;
+            let list = self.sample_list::<S>(alloc)?;
             samples = Some(with_list(samples, kind, list));
         }
         Ok(samples)
@@ -49,12 +52,12 @@ impl<'p> Parser<'p> {
     }
 
     // list = range (Comma range)* (Comma Ellipsis)?
-    fn sample_list(&mut self, alloc: Global) -> Result<SampleList, ReadError>
+    fn sample_list<S: Sink>(&mut self, alloc: Global) -> Result<SampleList, ReadError>
         ensures shorter { length self.new ≤ length self.old }
-        ensures list { IsAnswer (λ list. ReadsSampleList self.old list self.new) (FailsAtList self.old) result }
+        ensures list { IsAnswer (λ list. ReadsStored S.keeps ReadsSampleList self.old list self.new) (FailsAtList self.old) result }
     {
         let mut ranges = Vec::new(alloc);
-        ranges.push(self.sample_range(alloc)?)?;
+        S::push_range(&mut ranges, self.sample_range::<S>(alloc)?)?;
         'list: while self.take_if(Token::Comma) {
             if self.take_if(Token::Ellipsis) {
                 return Ok(SampleList {
@@ -62,7 +65,7 @@ impl<'p> Parser<'p> {
                     ellipsis: true,
                 });
             }
-            ranges.push(self.sample_range(alloc)?)?;
+            S::push_range(&mut ranges, self.sample_range::<S>(alloc)?)?;
         }
         Ok(SampleList {
             sample_ranges: Sequence(ranges),
@@ -71,18 +74,18 @@ impl<'p> Parser<'p> {
     }
 
     // range = sample (Tilde sample)?
-    fn sample_range(&mut self, alloc: Global) -> Result<SampleRange, ReadError>
+    fn sample_range<S: Sink>(&mut self, alloc: Global) -> Result<SampleRange, ReadError>
         ensures shorter { length self.new ≤ length self.old }
-        ensures range { IsAnswer (λ range. ReadsRange self.old range self.new) (FailsAtRange self.old) result }
+        ensures range { IsAnswer (λ range. ReadsStored S.keeps ReadsRange self.old range self.new) (FailsAtRange self.old) result }
     {
-        let lower_val = self.sample(alloc)?;
+        let lower_val = self.sample::<S>(alloc)?;
         if !self.take_if(Token::Tilde) {
             return Ok(SampleRange {
                 lower_val,
                 upper_val: None,
             });
         }
-        let upper_val = Some(self.sample(alloc)?);
+        let upper_val = Some(self.sample::<S>(alloc)?);
         Ok(SampleRange {
             lower_val,
             upper_val,
@@ -90,63 +93,75 @@ impl<'p> Parser<'p> {
     }
 
     // sample = digits (Dot digits)? ((E | C) (Number | Zero))?, and not empty
-    fn sample(&mut self, alloc: Global) -> Result<DecimalValue, ReadError>
+    fn sample<S: Sink>(&mut self, alloc: Global) -> Result<DecimalValue, ReadError>
         ensures shorter { length self.new ≤ length self.old }
-        ensures sample { IsAnswer (λ text. ReadsSample self.old text self.new) (FailsAtSample self.old) result }
+        ensures sample { IsAnswer (λ text. ReadsStored S.keeps ReadsSample self.old text self.new) (FailsAtSample self.old) result }
     {
-        let mut text = self.number(alloc)?;
-        self.exponent(&mut text)?;
-        if text.as_str().is_empty() {
+        if !self.is_before_sample() {
             return Err(ReadError::Parse(ParseError::ExpectedValue));
         }
+        let mut text = S::begin(alloc)?;
+        self.number::<S>(&mut text)?;
+        self.exponent::<S>(&mut text)?;
         Ok(DecimalValue(text))
     }
 
-    // digits (Dot digits)?
-    fn number(&mut self, alloc: Global) -> Result<String, AllocError>
-        ensures shorter { length self.new ≤ length self.old }
-        ensures number { IfOk result (λ text. ReadsNumber self.old (string_bytes text) self.new) }
+    // Whether the next token begins a sample.
+    #[inline]
+    fn is_before_sample(&self) -> bool
+        ensures { MatchBool result
+            (sample_fault (first self.now) ≡ None)
+            (sample_fault (first self.now) ≡ Some ExpectedValue) }
     {
-        let mut text = String::new(alloc);
-        self.digits(&mut text)?;
-        if !self.take_if(Token::Dot) {
-            return Ok(text);
+        match &self.ahead {
+            Some(token) => begins_sample(token),
+            None => false,
         }
-        text.push_str(".")?;
-        self.digits(&mut text)?;
-        Ok(text)
+    }
+
+    // digits (Dot digits)?
+    fn number<S: Sink>(&mut self, text: &mut String) -> Result<(), AllocError>
+        ensures shorter { length self.new ≤ length self.old }
+        ensures number { IsStored S.keeps (string_bytes text.old) [] → OnOk result
+            (ReadsStored S.keeps ReadsNumber self.old (string_bytes text.new) self.new) }
+    {
+        self.digits::<S>(text)?;
+        if !self.take_if(Token::Dot) {
+            return Ok(());
+        }
+        S::push_mark(text, ".")?;
+        self.digits::<S>(text)?;
+        Ok(())
     }
 
     // digits = (Number | Zero)*
-    fn digits(&mut self, text: &mut String) -> Result<(), AllocError>
-        requires { has_exponent (string_bytes text.old) ≡ false }
+    fn digits<S: Sink>(&mut self, text: &mut String) -> Result<(), AllocError>
         ensures shorter { length self.new ≤ length self.old }
-        ensures digits { OnOk result
-            (ReadsDigits (string_bytes text.old) self.old (string_bytes text.new) self.new × NoDigits self.new) }
+        ensures digits { (before : List ℕ) → has_exponent before ≡ false → IsStored S.keeps (string_bytes text.old) before → OnOk result
+            (ReadsStored S.keeps (ReadsDigits before) self.old (string_bytes text.new) self.new × NoDigits self.new) }
     {
         'digits: while let Some(number) = self.take_number() {
-            write!(text, "{number}")?;
+            S::push_number(text, number)?;
         }
         Ok(())
     }
 
     // ((E | C) (Number | Zero))?
-    fn exponent(&mut self, text: &mut String) -> Result<(), ReadError>
-        requires { has_exponent (string_bytes text.old) ≡ false }
+    fn exponent<S: Sink>(&mut self, text: &mut String) -> Result<(), ReadError>
         ensures shorter { length self.new ≤ length self.old }
-        ensures exponent { IsAnswer
-            (λ _. ReadsExponent (string_bytes text.old) self.old (string_bytes text.new) self.new)
-            (FailsInSample (string_bytes text.old) self.old)
+        ensures exponent { (before : List ℕ) → has_exponent before ≡ false → IsStored S.keeps (string_bytes text.old) before → IsAnswer
+            (λ _. ReadsStored S.keeps (ReadsExponent before) self.old (string_bytes text.new) self.new)
+            (FailsInSample before self.old)
             result }
     {
         let Some(mark) = self.take_mark() else {
             return Ok(());
         };
-        text.push_str(mark)?;
+        S::push_mark(text, mark)?;
         let Some(number) = self.take_number() else {
             return Err(ReadError::Parse(ParseError::ExpectedValue));
         };
-        write!(text, "{number}")?;
+        S::push_number(text, number)?;
         Ok(())
     }
 
@@ -160,6 +175,20 @@ impl<'p> Parser<'p> {
         let mark = mark_of(self.ahead.as_ref()?)?;
         self.next();
         Some(mark)
+    }
+}
+
+// Whether a token begins a sample.
+#[inline]
+fn begins_sample(token: &Token) -> bool
+    ensures { MatchBool result
+        (sample_fault (Some token.now) ≡ None)
+        (sample_fault (Some token.now) ≡ Some ExpectedValue) }
+{
+    match token {
+        Token::Number(_) | Token::Zero | Token::Dot | Token::E => true,
+        Token::Operand(operand) => *operand == Operand::C,
+        _ => false,
     }
 }
 

@@ -3,6 +3,7 @@
 
 use super::part::{Part, serialize_joined, serialize_prefixed};
 use crate::ast;
+use itoa::Buffer;
 use std::fmt;
 
 impl Part for ast::AndCondition {
@@ -46,16 +47,7 @@ impl Part for ast::Operand {
     ghost text = { operand_text };
 
     fn write_to<W: fmt::Write>(&self, w: &mut W) -> fmt::Result {
-        match self {
-            ast::Operand::N => w.write_str("n"),
-            ast::Operand::I => w.write_str("i"),
-            ast::Operand::V => w.write_str("v"),
-            ast::Operand::W => w.write_str("w"),
-            ast::Operand::F => w.write_str("f"),
-            ast::Operand::T => w.write_str("t"),
-            ast::Operand::C => w.write_str("c"),
-            ast::Operand::E => w.write_str("e"),
-        }
+        w.write_str(self.as_str())
     }
 }
 
@@ -65,10 +57,7 @@ impl Part for ast::Operator {
     ghost text = { operator_text };
 
     fn write_to<W: fmt::Write>(&self, w: &mut W) -> fmt::Result {
-        match self {
-            ast::Operator::Eq => w.write_str("="),
-            ast::Operator::NotEq => w.write_str("!="),
-        }
+        w.write_str(self.as_str())
     }
 }
 
@@ -105,7 +94,7 @@ impl Part for ast::Value {
     ghost text = { value_text };
 
     fn write_to<W: fmt::Write>(&self, w: &mut W) -> fmt::Result {
-        let number = self.0;
-        write!(w, "{number}")
+        let mut digits = Buffer::new();
+        w.write_str(digits.format(self.0))
     }
 }

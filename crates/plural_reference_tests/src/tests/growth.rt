@@ -4,7 +4,8 @@ use crate::tests::assertion::holds;
 use crate::tests::{BENGALI_ONE, FRENCH_MANY, RUSSIAN_FEW};
 use plural_reference::ast::{Condition, Rule};
 use plural_reference::{
-    ParseError, ReadError, parse, parse_condition, serialize, serialize_condition,
+    ParseError, ReadError, parse, parse_condition, parse_without_samples, serialize,
+    serialize_condition,
 };
 use std::alloc::Global;
 use std::fmt;
@@ -21,6 +22,14 @@ fn rule_of(alloc: Global, text: &str) -> Result<Rule, ReadError> {
 fn condition_of(alloc: Global, text: &str) -> Result<Condition, ReadError> {
     match parse_condition(alloc, text.as_bytes()) {
         Err(ReadError::Memory) => parse_condition(alloc, text.as_bytes()),
+        answer => answer,
+    }
+}
+
+// The same of a rule without its samples.
+fn condition_of_rule(alloc: Global, text: &str) -> Result<Condition, ReadError> {
+    match parse_without_samples(alloc, text.as_bytes()) {
+        Err(ReadError::Memory) => parse_without_samples(alloc, text.as_bytes()),
         answer => answer,
     }
 }
@@ -71,6 +80,30 @@ fn growth_of_rules_may_be_refused(rt: HostRuntime) {
     ] {
         let rule = rule_of(rt.alloc(), text);
         holds!(rt; rule.is_ok_and(|read| rule_prints(&read, text)), text);
+    }
+}
+
+#[test]
+fn growth_of_rules_without_samples_may_be_refused(rt: HostRuntime) {
+    let table = [
+        ("i = 0 or n = 1 @integer 0, 1, … @decimal 0.0~1.0", "i = 0 or n = 1"),
+        (RUSSIAN_FEW, "v = 0 and i % 10 = 2..4 and i % 100 != 12..14"),
+    ];
+    for (text, printed) in table {
+        let condition = condition_of_rule(rt.alloc(), text);
+        holds!(rt; condition.is_ok_and(|read| condition_prints(&read, printed)), text);
+    }
+}
+
+// No growth is asked for here, so none is refused.
+#[test]
+fn samples_that_are_left_out_take_no_memory(rt: HostRuntime) {
+    for text in [
+        "@integer 0, 1~17, 1000000, … @decimal 0.0~1.5, 10.00000000000, …",
+        "@integer 1c6, 2c6, 1234567890e5, …",
+    ] {
+        let condition = parse_without_samples(rt.alloc(), text.as_bytes());
+        holds!(rt; condition.is_ok_and(|read| condition_prints(&read, "")), text);
     }
 }
 

@@ -3,7 +3,7 @@
 use crate::tests::assertion::holds;
 use crate::tests::{FRENCH_MANY, RUSSIAN_FEW};
 use plural_reference::ast::SampleList;
-use plural_reference::{ParseError, ReadError, parse, parse_condition};
+use plural_reference::{ParseError, ReadError, parse, parse_condition, parse_without_samples};
 use std::alloc::Global;
 use std::test::Fail;
 
@@ -70,6 +70,7 @@ fn reads_lists_of_samples(rt: HostRuntime) -> Result<(), Fail> {
         let samples = rule.samples.ok_or("no samples")?;
         holds!(rt; shown(rt.alloc(), &samples.integer)?.as_str() == integer, text);
         holds!(rt; shown(rt.alloc(), &samples.decimal)?.as_str() == decimal, text);
+        holds!(rt; rule.condition == parse_without_samples(rt.alloc(), text.as_bytes())?, text);
     }
     Ok(())
 }
@@ -111,5 +112,28 @@ fn names_the_fault_of_samples(rt: HostRuntime) {
     ];
     for (text, want) in table {
         holds!(rt; parse(rt.alloc(), text.as_bytes()) == Err(ReadError::Parse(want)), text);
+        holds!(rt; parse_without_samples(rt.alloc(), text.as_bytes()) == Err(ReadError::Parse(want)), text);
     }
+}
+
+#[test]
+fn reads_conditions_without_their_samples(rt: HostRuntime) -> Result<(), Fail> {
+    let table = [
+        (RUSSIAN_FEW, "v = 0 and i % 10 = 2..4 and i % 100 != 12..14"),
+        (
+            FRENCH_MANY,
+            "e = 0 and i != 0 and i % 1000000 = 0 and v = 0 or e != 0..5",
+        ),
+        ("@integer 1, \u{2026} @decimal 1.0", ""),
+        ("i = 1 @integer 1 2 @", "i = 1"),
+        ("i = 1..2..3 @foo", "i = 1..2"),
+    ];
+    for (text, condition) in table {
+        let want = match parse(rt.alloc(), text.as_bytes()) {
+            Ok(_) => Ok(parse_condition(rt.alloc(), condition.as_bytes())?),
+            Err(fault) => Err(fault),
+        };
+        holds!(rt; parse_without_samples(rt.alloc(), text.as_bytes()) == want, text);
+    }
+    Ok(())
 }

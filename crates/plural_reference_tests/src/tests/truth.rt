@@ -1,6 +1,7 @@
 //! When a condition is true.
 
 use crate::tests::assertion::holds;
+use plural_reference::ast::Operand;
 use plural_reference::{PluralOperands, RawPluralOperands, parse_condition, test_condition};
 use std::test::Fail;
 
@@ -70,4 +71,30 @@ fn knows_no_whole_number_at_a_fraction(rt: HostRuntime) -> Result<(), Fail> {
         holds!(rt; test_condition(&condition, &whole) == at_whole, text);
     }
     Ok(())
+}
+
+#[test]
+fn tells_the_value_of_each_operand(rt: HostRuntime) {
+    let number = PluralOperands::from(RawPluralOperands {
+        i: 1,
+        v: 2,
+        w: 1,
+        f: 50,
+        t: 5,
+        c: 3,
+    });
+    let table = [
+        (Operand::N, None),
+        (Operand::I, Some(1)),
+        (Operand::V, Some(2)),
+        (Operand::W, Some(1)),
+        (Operand::F, Some(50)),
+        (Operand::T, Some(5)),
+        (Operand::C, Some(3)),
+        (Operand::E, Some(3)),
+    ];
+    for (operand, value) in table {
+        holds!(rt; number.value(operand) == value);
+    }
+    holds!(rt; PluralOperands::from(7u32).value(Operand::N) == Some(7));
 }

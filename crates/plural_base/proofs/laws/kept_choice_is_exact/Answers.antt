@@ -9,4 +9,5 @@ returns c = λ rules x exponent category written choice texts conditions exact r
     let kept : IsKept x exponent (moduli_of rules) choice.0 exact =
     record { written = written; within = within; are_cut = choice.1; are_exact = are_exact } in
     choice.2
-    ∙ first_category-exact c.kept_operands_agree.ensures.conditions x exponent choice.0 exact texts conditions rules kept read
+    ∙ first_category-exact c.kept_operands_agree.ensures.conditions c.texts_give_one_answer.ensures x exponent choice.0 exact texts
+    conditions rules kept read

@@ -1,6 +1,6 @@
 use Rattle.std.proofs.lemmas.Result.{err_from_is_err_and}
 use Rattle.plural_reference.proofs.ParserSteps.{passes_on}
-use Rattle.plural_reference.proofs.Answered.{rule_answers, rule_is, condition_fault, samples_fault}
+use Rattle.plural_reference.proofs.Answered.{rule_answers, kept_rule_is, condition_fault, samples_fault}
 use Rattle.plural_reference.proofs.parser.parse.Goals as goal
 
 pub returns-in_err-condition : goal.returns-in_err-condition
@@ -14,4 +14,4 @@ returns-in_err-samples c =
     rw (p.1, p.2) (rule_answers _ _ _ c.new-parser.ensures (passes_on _ _ c.in_err-samples.field-0.0 c.in_err-samples.ensures (λ kind q. samples_fault _ _ _ kind c.in_ok-condition.ensures q)))
 
 pub returns : goal.returns
-returns c = rule_answers _ _ _ c.new-parser.ensures (rule_is _ _ _ _ c.in_ok-condition.ensures c.in_ok-samples.ensures)
+returns c = rule_answers _ _ _ c.new-parser.ensures (kept_rule_is _ _ _ _ c.in_ok-condition.ensures c.in_ok-samples.ensures)

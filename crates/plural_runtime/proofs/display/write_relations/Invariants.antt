@@ -1,8 +1,11 @@
-use Rattle.std.proofs.Common.{take}
+use Rattle.std.proofs.Common.{◌≡◌, ◌++◌, List, ℕ}
 use Rattle.std.specs.Fmt.{HasWritten, IsPlainFormatter}
 use Rattle.plural_runtime.specs.RuleText.{relations_shown}
+use Rattle.plural_runtime.proofs.RuleTexts.{shown_from}
 use Rattle.plural_runtime.proofs.display.write_relations.Given as goal
 
--- The relations so far are printed.
-abbrev pub invariant-loop-index : goal.invariant-loop-index
-invariant-loop-index g l = IsPlainFormatter l.initial.f → HasWritten g.W.Write.write_str_gives l.initial.f (relations_shown (take l.index l.rule)) l.f
+-- What is printed and the text of the relations that are left are the whole text.
+abbrev pub invariant-loop-item : goal.invariant-loop-item
+invariant-loop-item g l =
+    (so_far : List ℕ) × (so_far ++ shown_from l.is_first l.item-iterator ≡ relations_shown l.rule)
+    × (IsPlainFormatter l.initial.f → HasWritten g.W.Write.write_str_gives l.initial.f so_far l.f)

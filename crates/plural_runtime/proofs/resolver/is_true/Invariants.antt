@@ -12,5 +12,6 @@ abbrev pub invariant-loop-item : goal.invariant-loop-item
 invariant-loop-item g l = record {
   items : IsTrue (list_all is_relation l.item-iterator);
   truth : truth_left l.operands l.holds (map relation_in l.item-iterator) ≡ packed_truth l.operands l.rule;
-  count : iterate g.C.Counter.after_one (needed_left l.operands l.holds (map relation_in l.item-iterator)) l.counter ≡ iterate g.C.Counter.after_one (needed_ranges l.operands l.rule) l.fn.counter;
+  count : iterate g.C.Counter.after_one (needed_left l.operands l.holds (map relation_in l.item-iterator)) l.counter
+      ≡ iterate g.C.Counter.after_one (needed_ranges l.operands l.rule) l.fn.counter;
 }

@@ -1,7 +1,7 @@
 use Rattle.std.proofs.Common.{◌≡◌, ◌≤◌, length, ap, subst, ◌∙◌, ◌↔◌, Some}
 use Rattle.std.specs.Prelude.{map, Err}
 use Rattle.std.proofs.lemmas.Result.{err_from_is_err_and}
-use Rattle.plural_base.specs.declared.json_error.ElementsPackError.TheVariants.{DefaultLimit, StartLimit}
+use Rattle.plural_base.specs.declared.elements_pack_error.ElementsPackError.TheVariants.{DefaultLimit, StartLimit}
 use Rattle.icu_plurals.specs.Elements.{Elements, each_by}
 use Rattle.icu_plurals.specs.PackedElements.{pack_fault, PackedValue, IsPackedValue, ElementsBytes, item_bytes, packed_items, packed_of}
 use Rattle.icu_plurals.specs.Inner.ElementsReading.{bytes_with_items}

@@ -1,51 +1,55 @@
 use Rattle.std.proofs.Common.{◌≡◌, ◌∙◌, ap, subst, sym, inl, inr, Err}
-use Rattle.plural_reference.specs.Lexer.{AreTokensOf}
 use Rattle.plural_reference.specs.declared.error.ParseError.TheVariants.{ValueTooLarge}
-use Rattle.plural_reference.specs.Reading.{IsAnswer}
-use Rattle.plural_reference.specs.Samples.{ReadsRule, FaultyRule}
-use Rattle.plural_runtime.specs.PackedTree.{Packs}
+use Rattle.plural_reference.specs.Reading.{IsAnswer, TextFaulty, TextReads}
+use Rattle.plural_reference.specs.Samples.{ReadsCondition, FaultyRule}
+use Rattle.plural_runtime.specs.PackedTree.{has_large_value}
 use Rattle.plural_runtime.proofs.FaultKinds.{never_too_large, packing_not_large}
 use Rattle.plural_runtime.proofs.SpellableTrees.{spellable_is_small}
+use Rattle.plural_runtime.proofs.TextAnswers.{gives_when_read, gives_when_faulty}
 use Rattle.plural_runtime.proofs.rule.Rule.from_str.Goals as goal
 
-pub returns-in-Ok-clause-read : goal.returns-in-Ok-clause-read
-returns-in-Ok-clause-read c = λ tokens rule are reads.
-    let here = subst (λ text. AreTokensOf text tokens) (sym c.as_bytes.ensures.value) are in
-    elim (c.parse.ensures.read tokens rule here reads) [
-      | inl same ↦ let e : c.in-Ok.rule ≡ rule = cc in subst (λ r. Packs r.condition c.try_from.result) e c.try_from.ensures.packs
-      | inr memory ↦ cc
-    ]
+pub returns-in-Ok-clause-gives : goal.returns-in-Ok-clause-gives
+returns-in-Ok-clause-gives c =
+    let condition = c.in-Ok.condition in
+    let text = c.as_bytes.result.now in
+    let law = c.one_list_of_tokens.ensures text in
+    let reads : ReadsCondition law.0 condition =
+    subst (λ r. IsAnswer (ReadsCondition law.0) (FaultyRule law.0) r) c.in-Ok.is (c.parse_without_samples.ensures.only law.0 law.1) in
+    let here : TextReads ReadsCondition text condition = (law.0, law.1, reads) in
+    gives_when_read c.args.text.now condition c.of_condition.result
+    (subst (λ t. TextReads ReadsCondition t condition) c.as_bytes.ensures.value here) c.of_condition.ensures.packs
 
-pub returns-in-Ok-clause-fault : goal.returns-in-Ok-clause-fault
-returns-in-Ok-clause-fault c = λ tokens fault are faulty.
-    let here = subst (λ text. AreTokensOf text tokens) (sym c.as_bytes.ensures.value) are in
-    elim (c.parse.ensures.fault tokens fault here faulty) [ inl same ↦ cc | inr memory ↦ cc ]
-
-pub returns-in-Err-Parse-clause-read : goal.returns-in-Err-Parse-clause-read
-returns-in-Err-Parse-clause-read c = λ tokens rule are reads.
-    let here = subst (λ text. AreTokensOf text tokens) (sym c.as_bytes.ensures.value) are in
-    elim (c.parse.ensures.read tokens rule here reads) [ inl same ↦ cc | inr memory ↦ cc ]
-
-pub returns-in-Err-Parse-clause-fault : goal.returns-in-Err-Parse-clause-fault
-returns-in-Err-Parse-clause-fault c = λ tokens fault are faulty.
-    let here = subst (λ text. AreTokensOf text tokens) (sym c.as_bytes.ensures.value) are in
-    elim (c.parse.ensures.fault tokens fault here faulty) [ inl same ↦ inl cc | inr memory ↦ cc ]
+pub returns-in-Err-Parse-clause-gives : goal.returns-in-Err-Parse-clause-gives
+returns-in-Err-Parse-clause-gives c =
+    let fault = c.in-Err-Parse.fault in
+    let text = c.as_bytes.result.now in
+    let law = c.one_list_of_tokens.ensures text in
+    let found = c.in-Err-Parse.is ∙ ap Err c.in-Err-Parse.field-0-is in
+    let faulty : FaultyRule law.0 fault =
+    subst (λ r. IsAnswer (ReadsCondition law.0) (FaultyRule law.0) r) found (c.parse_without_samples.ensures.only law.0 law.1) in
+    let here : TextFaulty FaultyRule text fault = (law.0, law.1, faulty) in
+    inl (gives_when_faulty c.args.text.now fault (subst (λ t. TextFaulty FaultyRule t fault) c.as_bytes.ensures.value here))
 
 pub returns-in-Ok-clause-fits : goal.returns-in-Ok-clause-fits
 returns-in-Ok-clause-fits c = λ h.
-    let condition = c.in-Ok.rule.condition in
+    let condition = c.in-Ok.condition in
     let text = c.as_bytes.result.now in
     let law = c.one_list_of_tokens.ensures text in
     let tokens = law.0 in
-    let reads : ReadsRule tokens c.in-Ok.rule = subst (λ r. IsAnswer (ReadsRule tokens) (FaultyRule tokens) r) c.in-Ok.is (c.parse.ensures.only tokens law.1) in
-    let small = spellable_is_small condition (c.conditions_of_texts_are_spellable.ensures text condition (tokens, law.1, (reads.0, reads.1))) in
-    elim c.try_from.ensures.packs [ inl e ↦ packing_not_large condition small (sym e ∙ h) | inr memory ↦ cc ]
+    let reads : ReadsCondition tokens condition =
+    subst (λ r. IsAnswer (ReadsCondition tokens) (FaultyRule tokens) r) c.in-Ok.is
+    (c.parse_without_samples.ensures.only tokens law.1) in
+    let rule = reads.0 in
+    let spellable = c.conditions_of_texts_are_spellable.ensures text rule.condition (tokens, law.1, (reads.1.0, reads.1.1)) in
+    let small = ap has_large_value (sym reads.2) ∙ spellable_is_small rule.condition spellable in
+    elim c.of_condition.ensures.packs [ inl e ↦ packing_not_large condition small (sym e ∙ h) | inr memory ↦ cc ]
 
 pub returns-in-Err-Parse-clause-fits : goal.returns-in-Err-Parse-clause-fits
 returns-in-Err-Parse-clause-fits c = λ h.
     let law = c.one_list_of_tokens.ensures c.as_bytes.result.now in
     let tokens = law.0 in
     let found = c.in-Err-Parse.is ∙ ap Err c.in-Err-Parse.field-0-is in
-    let faulty : FaultyRule tokens c.in-Err-Parse.fault = subst (λ r. IsAnswer (ReadsRule tokens) (FaultyRule tokens) r) found (c.parse.ensures.only tokens law.1) in
+    let faulty : FaultyRule tokens c.in-Err-Parse.fault =
+    subst (λ r. IsAnswer (ReadsCondition tokens) (FaultyRule tokens) r) found (c.parse_without_samples.ensures.only tokens law.1) in
     let same : c.in-Err-Parse.fault ≡ ValueTooLarge = cc in
     never_too_large tokens (subst (λ kind. FaultyRule tokens kind) same faulty)

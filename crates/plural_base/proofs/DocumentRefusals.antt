@@ -1,0 +1,47 @@
+-- What refuses a map of a document refuses the document.
+use Rattle.std.proofs.Common.{◌≡◌, true, codes, if◌then◌else◌, is_some, Option, Ok, Err, refl, sym, ap, ◌∙◌}
+use Rattle.plural_base.specs.declared.json.error.JsonError.{JsonError}
+use Rattle.plural_base.specs.declared.json.error.JsonError.TheVariants.{Float, Shape, Rule, RangeKey, RangeValue, Pack, Memory}
+use Rattle.plural_base.specs.declared.ranges.PluralRanges.{PluralRanges}
+use Rattle.plural_base.specs.DocumentJson.{Rows, map_meant, all_maps, document_meant}
+use Rattle.plural_base.specs.FiveRules.{FiveRules}
+use Rattle.plural_base.specs.Json.{Stands, IsRefusal}
+use Rattle.plural_base.specs.RangesJson.{ranges_meant}
+use Rattle.plural_base.specs.RulesJson.{rules_meant}
+use Rattle.serde_json.specs.Data.{Data}
+use Rattle.serde_json.specs.Find.{get, as_object}
+
+-- a refusal is that of the whole, where the whole has that of the part
+refused_with : {A B : Type 0} (e : JsonError) (part : Stands A) (whole : Stands B) → (part ≡ Err e → whole ≡ Err e)
+    → IsRefusal e part → IsRefusal e whole
+refused_with Float part whole carry h = carry h
+refused_with Shape part whole carry h = carry h
+refused_with (Rule category fault) part whole carry h = carry h
+refused_with RangeKey part whole carry h = carry h
+refused_with RangeValue part whole carry h = carry h
+refused_with (Pack fault) part whole carry h = carry h
+refused_with Memory part whole carry h = tt
+
+-- behind two maps that are read the third is refused
+third_of_three : (cardinal ordinal : Stands (Rows FiveRules)) (ranges : Stands (Rows PluralRanges)) (c o : Rows FiveRules) (e : JsonError)
+    → cardinal ≡ Ok c → ordinal ≡ Ok o → ranges ≡ Err e → all_maps cardinal ordinal ranges ≡ Err e
+third_of_three cardinal ordinal ranges c o e first second third = rw (first, second, third) refl
+
+-- what refuses the ranges refuses the document, where both maps of rules are read
+pub ranges_refused : (value : Data) (a b r : Option Data) (c o : Rows FiveRules) (e : JsonError)
+    → true ≡ is_some (as_object value)
+    → a ≡ get (codes "cardinal") value → b ≡ get (codes "ordinal") value → r ≡ get (codes "ranges") value
+    → map_meant rules_meant a ≡ Ok c → map_meant rules_meant b ≡ Ok o
+    → IsRefusal e (map_meant ranges_meant r) → IsRefusal e (document_meant value)
+ranges_refused value a b r c o e is_object a_is b_is r_is first second third =
+    let cardinal = map_meant rules_meant (get (codes "cardinal") value) in
+    let ordinal = map_meant rules_meant (get (codes "ordinal") value) in
+    let ranges = map_meant ranges_meant (get (codes "ranges") value) in
+    refused_with e (map_meant ranges_meant r) (document_meant value)
+    (λ refused.
+    ap (λ b. if b then all_maps cardinal ordinal ranges else Err Shape) (sym is_object)
+    ∙ third_of_three cardinal ordinal ranges c o e
+    (ap (map_meant rules_meant) (sym a_is) ∙ first)
+    (ap (map_meant rules_meant) (sym b_is) ∙ second)
+    (ap (map_meant ranges_meant) (sym r_is) ∙ refused))
+    third

@@ -1,0 +1,16 @@
+use Rattle.std.proofs.Common.{◌≡◌, ◌++◌}
+use Rattle.std.specs.Map.{keys_of}
+use Rattle.plural_base.specs.DocumentJson.{rows_meant}
+use Rattle.plural_base.specs.Inner.JsonSteps.{rows_by}
+use Rattle.plural_base.proofs.Rows.{Ascend, key_bytes}
+use Rattle.plural_base.proofs.RowsRead.{behind}
+use Rattle.serde_json.specs.View.{members_view}
+use Rattle.plural_base.proofs.json.rows.read_rows.Given as goal
+
+-- the rows that are there, and behind them those of the members that are left; the keys of both ascend
+abbrev pub invariant-loop-locale : goal.invariant-loop-locale
+invariant-loop-locale g l =
+    let rows = rows_by g.T.FromJson.seen l.rows.entries in
+    let meant = g.T.FromJson.meant in
+    (rows_meant meant (members_view l.members.entries) ≡ behind rows (rows_meant meant (members_view l.locale-iterator)))
+    × Ascend (keys_of rows ++ key_bytes l.locale-iterator)

@@ -1,0 +1,54 @@
+-- The machinery of what JSON values mean (docs/JSON.md): what a value stands for or the first refusal, the order in which refusals are
+-- looked for, and what a call answers. Values are what serde_json's accessors show of them.
+--     Stands A      a thing, or the refusal of the value
+--     unless_float meant      floats are refused before all else
+--     Answers seen result stands      the call answers the thing, or its refusal, or want of memory
+use Rattle.std.specs.Prelude.{◌≡◌, ⊤, Option, Some, None, Result, Ok, Err, if◌then◌else◌}
+use Rattle.plural_base.specs.declared.json.error.JsonError.{JsonError}
+use Rattle.plural_base.specs.declared.json.error.JsonError.TheVariants.{Float, Memory}
+use Rattle.plural_base.specs.FiveRules.{Five, five}
+use Rattle.serde_json.specs.Data.{Data}
+use Rattle.serde_json.specs.Written.{has_float}
+
+-- ---- The first refusal
+
+-- what a value stands for, or why it stands for nothing
+abbrev pub Stands : Type 0 → Type 0
+Stands A = Result A JsonError
+
+-- the second after the first: a refusal of the first is the answer
+infixl 10 ◌>>=◌
+abbrev pub ◌>>=◌ : {A B : Type 0} → Stands A → (A → Stands B) → Stands B
+(Ok x) >>= next = next x
+(Err refusal) >>= next = Err refusal
+
+-- what is there, or the refusal
+abbrev pub there_or : {A : Type 0} → JsonError → Option A → Stands A
+there_or refusal None = Err refusal
+there_or refusal (Some x) = Ok x
+
+-- five things, or the first refusal in this order
+abbrev pub all_five : {A : Type 0} → Stands A → Stands A → Stands A → Stands A → Stands A → Stands (Five A)
+all_five zero one two few many = do
+  zero' ← zero
+  one' ← one
+  two' ← two
+  few' ← few
+  many' ← many
+  Ok (five zero' one' two' few' many')
+
+-- A number for which `as_u64` and `as_i64` both answer None, wherever it is, is refused before all else.
+abbrev pub unless_float : {A : Type 0} → (Data → Stands A) → Data → Stands A
+unless_float meant value = if has_float value then Err Float else meant value
+
+-- ---- What a call answers
+
+-- want of memory may come before any refusal
+abbrev pub IsRefusal : {B : Type 0} → JsonError → Stands B → Type 0
+IsRefusal Memory stands = ⊤
+IsRefusal error stands = stands ≡ Err error
+
+-- the call answers what the value stands for, as `seen`, or its refusal, or want of memory
+abbrev pub Answers : {A B : Type 0} → (A → B) → Result A JsonError → Stands B → Type 0
+Answers seen (Ok x) stands = stands ≡ Ok (seen x)
+Answers seen (Err error) stands = IsRefusal error stands

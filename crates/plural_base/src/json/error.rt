@@ -1,0 +1,65 @@
+//! Why JSON values stand for nothing.
+
+use crate::category::PluralCategory;
+use crate::category::raw::RawPluralCategory;
+use crate::elements_pack_error::ElementsPackError;
+use plural_runtime::RuleError;
+use std::alloc::AllocError;
+use std::error::Error;
+use std::fmt;
+
+/// Why a JSON value stands for nothing, or can't be written.
+#[derive(Clone, Copy, Debug, PartialEq, Eq)]
+pub enum JsonError {
+    /// A number that is no integer of 64 bits stands somewhere in the value.
+    Float,
+    /// A part of the value is of another kind than its form asks for.
+    Shape,
+    /// A text gives no rule, for this reason; the category, where the text is that of one. The
+    /// reason is never want of memory.
+    Rule(Option<PluralCategory>, RuleError),
+    /// A text or a byte names no range of two categories.
+    RangeKey,
+    /// The text of a range's category names none.
+    RangeValue,
+    /// The elements can't be packed, for this reason. It is never want of memory.
+    Pack(ElementsPackError),
+    /// There is no memory for what is read or written.
+    Memory,
+}
+
+impl fmt::Display for JsonError {
+    ghost use Rattle.std.specs.Prelude.{Some};
+    ghost use Rattle.plural_base.specs.PluralBaseErrors.{json_error_text};
+
+    ghost output = { λ error. Some (json_error_text error) };
+
+    fn fmt<W: fmt::Write>(&self, f: &mut fmt::Formatter<W>) -> fmt::Result {
+        match self {
+            JsonError::Float => f.write_str("float"),
+            JsonError::Shape => f.write_str("shape"),
+            JsonError::Rule(Some(category), fault) => {
+                let name = RawPluralCategory::from(*category).as_str();
+                write!(f, "rule {}: {}", name, *fault)
+            }
+            JsonError::Rule(None, fault) => write!(f, "rule: {fault}"),
+            JsonError::RangeKey => f.write_str("range key"),
+            JsonError::RangeValue => f.write_str("range value"),
+            JsonError::Pack(fault) => write!(f, "{fault}"),
+            JsonError::Memory => f.write_str("out of memory"),
+        }
+    }
+}
+
+impl Error for JsonError {}
+
+impl From<AllocError> for JsonError {
+    ghost use Rattle.std.specs.Prelude.{◌≡◌};
+    ghost use Rattle.plural_base.specs.declared.json.error.JsonError.TheVariants.{Memory};
+
+    ghost from_gives = { λ _ error. error ≡ Memory };
+
+    fn from(_error: AllocError) -> JsonError {
+        JsonError::Memory
+    }
+}

@@ -1,0 +1,143 @@
+//! Rules and ranges by locale from a JSON document.
+
+ghost use Rattle.std.specs.Prelude.{◌≡◌, ◌≢◌, ◌↔◌, Option, None, Err, IfOk, IsTrue, IsFalse, List, ℕ, codes};
+ghost use Rattle.plural_base.specs.declared.category.PluralCategory.{PluralCategory};
+ghost use Rattle.plural_base.specs.DocumentJson.{document_meant, found};
+ghost use Rattle.plural_base.specs.Inner.JsonSteps.{range_rows_of, rows_of};
+ghost use Rattle.plural_base.specs.Providers.{Loads, LoadsRanges};
+ghost use Rattle.plural_base.specs.Json.{Answers};
+ghost use Rattle.serde_json.specs.Find.{as_object};
+ghost use Rattle.serde_json.specs.View.{view};
+ghost use Rattle.serde_json.specs.Written.{has_float};
+
+use crate::json::error::JsonError;
+use crate::json::float::holds_float;
+use crate::json::rows::read_map;
+use crate::provider::{DataError, PluralsProvider};
+use crate::ranges::PluralRanges;
+use crate::rules::data::PluralRulesData;
+use plural_runtime::RuleError;
+use plural_runtime::laws::texts_give_one_answer;
+use serde_json::Value;
+use std::alloc::Global;
+use std::collections::BTreeMap;
+use std::marker::Model;
+
+/// Rules and ranges by locale that were read from a JSON document. It owns them.
+#[derive(Debug, Drop)]
+pub struct JsonProvider {
+    cardinal: BTreeMap<String, PluralRulesData<'static>>,
+    ordinal: BTreeMap<String, PluralRulesData<'static>>,
+    ranges: BTreeMap<String, PluralRanges>,
+}
+
+impl Model for JsonProvider {
+    ghost use Rattle.plural_base.specs.DocumentJson.{Document};
+    ghost use Rattle.plural_base.specs.Inner.JsonSteps.{range_rows_of, rows_of};
+
+    ghost Value = { Document };
+
+    ghost view = { λ p. record {
+      cardinal = rows_of p.cardinal.entries;
+      ordinal = rows_of p.ordinal.entries;
+      ranges = range_rows_of p.ranges.entries;
+    } };
+}
+
+impl JsonProvider {
+    ghost use Rattle.plural_base.specs.DocumentJson.{found, document_of_json, value_of_locale, AreRangesAt, IsReadAt};
+
+    /// The provider of a document: an object with an object from locales to rules, as
+    /// [`PluralRulesData::from_json`] reads them, under each of `cardinal` and `ordinal`, and one to
+    /// ranges, as [`PluralRanges::from_json`] reads them, under `ranges`, or null or nothing where there
+    /// are none. Other keys are not looked at.
+    ///
+    /// [`JsonError::Float`] where a float stands anywhere in the document, else [`JsonError::Shape`] where
+    /// it is no object; else the refusal of the first place: cardinal before ordinal before ranges, in
+    /// each first [`JsonError::Shape`] where it is neither null nor an object, then its locales in the
+    /// order of their bytes, each as [`PluralRulesData::from_json`] or [`PluralRanges::from_json`] refuses
+    /// it. It takes memory; want of it is [`JsonError::Memory`].
+    pub fn from_value(alloc: Global, value: &Value) -> Result<JsonProvider, JsonError>
+        ensures answers { Answers (λ provider. provider) result (document_of_json (view value.now)) }
+        // A locale has rules exactly where its key is there, and they are those of the texts under it.
+        ensures cardinal { IfOk result (λ provider. (locale : List ℕ) → IsReadAt (value_of_locale (codes "cardinal") locale (view value.now)) (found locale provider.cardinal)) }
+        ensures ordinal { IfOk result (λ provider. (locale : List ℕ) → IsReadAt (value_of_locale (codes "ordinal") locale (view value.now)) (found locale provider.ordinal)) }
+        // A locale has ranges exactly where its key is there, and they are those that the value under it stands for.
+        ensures ranges { IfOk result (λ provider. (locale : List ℕ) → AreRangesAt (value_of_locale (codes "ranges") locale (view value.now)) (found locale provider.ranges)) }
+        // Both are looked for before memory is taken.
+        ensures float { (result ≡ Err JsonError.Float) ↔ IsTrue (has_float (view value.now)) }
+        ensures shape { IsFalse (has_float (view value.now)) → as_object (view value.now) ≡ None → result ≡ Err JsonError.Shape }
+        ensures memory { (category : Option PluralCategory) → result ≢ Err (JsonError.Rule category RuleError.Memory) }
+    {
+        texts_give_one_answer();
+        if holds_float(value) {
+            return Err(JsonError::Float);
+        }
+        read_document(alloc, value)
+    }
+}
+
+impl PluralsProvider for JsonProvider {
+    ghost use Rattle.plural_base.specs.DocumentJson.{found};
+
+    ghost cardinal = { λ p locale. found locale p.cardinal };
+
+    ghost ordinal = { λ p locale. found locale p.ordinal };
+
+    ghost ranges = { λ p locale. found locale p.ranges };
+
+    fn load_cardinal(&self, locale: &str) -> Result<PluralRulesData<'_>, DataError> {
+        load(&self.cardinal, locale)
+    }
+
+    fn load_ordinal(&self, locale: &str) -> Result<PluralRulesData<'_>, DataError> {
+        load(&self.ordinal, locale)
+    }
+
+    fn load_ranges(&self, locale: &str) -> Result<PluralRanges, DataError> {
+        load_copied(&self.ranges, locale)
+    }
+}
+
+// The locale's rules of a map.
+fn load<'a>(
+    rows: &'a BTreeMap<String, PluralRulesData<'static>>,
+    locale: &str,
+) -> Result<PluralRulesData<'a>, DataError>
+    ensures { Loads (found locale.now (rows_of rows.now.entries)) result }
+{
+    match rows.get(locale) {
+        Some(rules) => Ok(rules.as_borrowed()),
+        None => Err(DataError::NotFound),
+    }
+}
+
+// The locale's ranges of a map.
+fn load_copied(
+    tables: &BTreeMap<String, PluralRanges>,
+    locale: &str,
+) -> Result<PluralRanges, DataError>
+    ensures { LoadsRanges (found locale.now (range_rows_of tables.now.entries)) result }
+{
+    match tables.get(locale) {
+        Some(ranges) => Ok(*ranges),
+        None => Err(DataError::NotFound),
+    }
+}
+
+// The provider of a document without floats.
+fn read_document(alloc: Global, value: &Value) -> Result<JsonProvider, JsonError>
+    ensures answers { Answers (λ provider. provider) result (document_meant (view value.now)) }
+    ensures float { result ≢ Err JsonError.Float }
+    ensures shape { as_object (view value.now) ≡ None → result ≡ Err JsonError.Shape }
+    ensures memory { (category : Option PluralCategory) → result ≢ Err (JsonError.Rule category RuleError.Memory) }
+{
+    if !value.is_object() {
+        return Err(JsonError::Shape);
+    }
+    Ok(JsonProvider {
+        cardinal: read_map(alloc, value.get("cardinal"))?,
+        ordinal: read_map(alloc, value.get("ordinal"))?,
+        ranges: read_map(alloc, value.get("ranges"))?,
+    })
+}

@@ -1,0 +1,84 @@
+//! Maps from locales to rules or ranges, as JSON has them.
+
+ghost use Rattle.std.specs.Prelude.{◌≡◌, ◌≢◌, Option, Err, OnOk, option_map, string_bytes};
+ghost use Rattle.std.specs.BTreeMap.{insert_entry};
+ghost use Rattle.std.specs.Cmp.Lexicographic.{slice_cmp};
+ghost use Rattle.std.specs.Ordering.{nat_cmp};
+ghost use Rattle.plural_base.specs.declared.category.PluralCategory.{PluralCategory};
+ghost use Rattle.plural_base.specs.DocumentJson.{map_meant, rows_meant};
+ghost use Rattle.plural_base.specs.Inner.JsonSteps.{rows_by};
+ghost use Rattle.plural_base.specs.Json.{Answers, Stands};
+ghost use Rattle.serde_json.specs.Data.{Data};
+ghost use Rattle.serde_json.specs.View.{view, members_view};
+
+use crate::json::error::JsonError;
+use plural_runtime::RuleError;
+use serde_json::{Map, Value};
+use std::alloc::{AllocError, Global};
+use std::collections::BTreeMap;
+
+// What a locale has in a document, which is read of a value without floats.
+pub(crate) trait FromJson: Drop {
+    // As what contracts see it.
+    ghost Seen: { Type 0 };
+
+    ghost seen: { Self → Seen };
+
+    // What a value stands for as one, or its refusal.
+    ghost meant: { Data → Stands Seen };
+
+    fn read(alloc: Global, value: &Value) -> Result<Self, JsonError>
+        ensures answers { Answers seen result (meant (view value.now)) }
+        ensures float { result ≢ Err JsonError.Float }
+        ensures memory { (category : Option PluralCategory) → result ≢ Err (JsonError.Rule category RuleError.Memory) };
+}
+
+// The map of a value that may be absent or null.
+pub(crate) fn read_map<T: FromJson>(
+    alloc: Global,
+    value: Option<&Value>,
+) -> Result<BTreeMap<String, T>, JsonError>
+    ensures answers { Answers (λ rows. rows_by T.seen rows.entries) result (map_meant T.meant (option_map (λ v. view v.now) value.entry)) }
+    ensures float { result ≢ Err JsonError.Float }
+    ensures memory { (category : Option PluralCategory) → result ≢ Err (JsonError.Rule category RuleError.Memory) }
+{
+    let Some(value) = value else {
+        return Ok(BTreeMap::new(alloc));
+    };
+    if value.is_null() {
+        return Ok(BTreeMap::new(alloc));
+    }
+    match value.as_object() {
+        Some(members) => read_rows(alloc, members),
+        None => Err(JsonError::Shape),
+    }
+}
+
+// What is read of each member, under its key.
+fn read_rows<T: FromJson>(
+    alloc: Global,
+    members: &Map<String, Value>,
+) -> Result<BTreeMap<String, T>, JsonError>
+    ensures answers { Answers (λ rows. rows_by T.seen rows.entries) result (rows_meant T.meant (members_view members.now.entries)) }
+    ensures float { result ≢ Err JsonError.Float }
+    ensures memory { (category : Option PluralCategory) → result ≢ Err (JsonError.Rule category RuleError.Memory) }
+{
+    let mut rows = BTreeMap::new(alloc);
+    for (locale, value) in members.iter() {
+        let row = T::read(alloc, value)?;
+        put(&mut rows, locale.clone()?, row)?;
+    }
+    Ok(rows)
+}
+
+// Puts what a locale has into a map.
+fn put<T: FromJson>(
+    rows: &mut BTreeMap<String, T>,
+    locale: String,
+    row: T,
+) -> Result<(), AllocError>
+    ensures { OnOk result (rows_by T.seen rows.new.entries ≡ insert_entry (slice_cmp nat_cmp) (rows_by T.seen rows.old.entries) (string_bytes locale) (T.seen row)) }
+{
+    drop(rows.insert(locale, row)?);
+    Ok(())
+}

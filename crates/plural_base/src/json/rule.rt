@@ -1,0 +1,81 @@
+//! A rule as JSON.
+
+ghost use Rattle.std.specs.Prelude.{◌≡◌, ◌≢◌, ◌↔◌, Option, Some, None, Err, IfOk, IfErr, IsTrue, IsFalse};
+ghost use Rattle.plural_base.specs.declared.category.PluralCategory.{PluralCategory as Category};
+ghost use Rattle.plural_base.specs.Inner.JsonSteps.{refusal_of};
+ghost use Rattle.plural_base.specs.Json.{Answers};
+ghost use Rattle.plural_base.specs.RulesJson.{rule_meant, rule_of_json, rule_json};
+ghost use Rattle.plural_base.specs.RuleTexts.{IsRuleOf};
+ghost use Rattle.serde_json.specs.Find.{as_str};
+ghost use Rattle.serde_json.specs.View.{view};
+ghost use Rattle.serde_json.specs.Written.{has_float};
+
+use crate::category::PluralCategory;
+use crate::json::error::JsonError;
+use crate::json::float::holds_float;
+use crate::rules::text::packed;
+use plural_runtime::{Rule, RuleError};
+use serde_json::Value;
+use std::alloc::Global;
+
+/// The rule of a JSON value, which is a text as CLDR writes rules, samples included (UTS 35 Part 3,
+/// Plural Rules Syntax).
+///
+/// [`JsonError::Float`] where a float stands anywhere in the value, else [`JsonError::Shape`] where it
+/// is no text, else [`JsonError::Rule`] without a category where the text gives no rule. It takes
+/// memory for the rule; want of it is [`JsonError::Memory`].
+pub fn rule_from_json(alloc: Global, value: &Value) -> Result<Rule<'static>, JsonError>
+    ensures answers { Answers (λ rule. rule) result (rule_of_json (view value.now)) }
+    ensures read { IfOk result (λ rule. IsRuleOf (as_str (view value.now)) (Some rule)) }
+    // Both are looked for before memory is taken.
+    ensures float { (result ≡ Err JsonError.Float) ↔ IsTrue (has_float (view value.now)) }
+    ensures shape { (result ≡ Err JsonError.Shape) ↔ (IsFalse (has_float (view value.now)) × (as_str (view value.now) ≡ None)) }
+    ensures memory { (category : Option Category) → result ≢ Err (JsonError.Rule category RuleError.Memory) }
+{
+    if holds_float(value) {
+        return Err(JsonError::Float);
+    }
+    read_rule(alloc, value, None)
+}
+
+/// The JSON value of a rule, its printed text. It takes memory for the text; the only error is
+/// [`JsonError::Memory`].
+pub fn rule_to_json(alloc: Global, rule: &Rule<'_>) -> Result<Value, JsonError>
+    ensures written { IfOk result (λ value. view value ≡ rule_json rule.now) }
+    ensures memory { IfErr result (λ error. error ≡ JsonError.Memory) }
+{
+    Ok(Value::String(rule.to_string(alloc)?))
+}
+
+// The rule of a value without floats; its refusal names the category.
+pub(crate) fn read_rule(
+    alloc: Global,
+    value: &Value,
+    category: Option<PluralCategory>,
+) -> Result<Rule<'static>, JsonError>
+    ensures answers { Answers (λ rule. rule) result (rule_meant category (view value.now)) }
+    ensures read { IfOk result (λ rule. IsRuleOf (as_str (view value.now)) (Some rule)) }
+    ensures float { result ≢ Err JsonError.Float }
+    ensures shape { (result ≡ Err JsonError.Shape) ↔ (as_str (view value.now) ≡ None) }
+    ensures memory { (c : Option Category) → result ≢ Err (JsonError.Rule c RuleError.Memory) }
+{
+    let Some(text) = value.as_str() else {
+        return Err(JsonError::Shape);
+    };
+    match packed(alloc, text) {
+        Ok(rule) => Ok(rule),
+        Err(fault) => Err(refusal(category, fault)),
+    }
+}
+
+// The refusal of a text; want of memory is no reason why it gives no rule.
+fn refusal(category: Option<PluralCategory>, fault: RuleError) -> JsonError
+    ensures value { result ≡ refusal_of category fault }
+    ensures float { result ≢ JsonError.Float }
+    ensures shape { result ≢ JsonError.Shape }
+{
+    match fault {
+        RuleError::Memory => JsonError::Memory,
+        RuleError::Parse(_) | RuleError::StartLimit => JsonError::Rule(category, fault),
+    }
+}

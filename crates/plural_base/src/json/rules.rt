@@ -1,0 +1,168 @@
+//! Rules as JSON.
+
+ghost use Rattle.std.specs.Prelude.{◌≡◌, ◌≢◌, ◌↔◌, Option, Some, None, Err, option_map, IfOk, IfErr, IsTrue, IsFalse};
+ghost use Rattle.std.specs.Option.{option_and_then};
+ghost use Rattle.plural_base.specs.declared.category.PluralCategory.{PluralCategory as Category};
+ghost use Rattle.plural_base.specs.RuleTexts.{AreRulesOf, IsRuleOf};
+ghost use Rattle.plural_base.specs.FiveRules.{rules_of, five};
+ghost use Rattle.plural_base.specs.Json.{Answers};
+ghost use Rattle.plural_base.specs.RulesJson.{member_meant, optional_rule_json, optional_meant, rules_meant, text_under, texts_in};
+ghost use Rattle.plural_base.specs.RulesJson as written;
+ghost use Rattle.serde_json.specs.Find.{as_str, as_object};
+ghost use Rattle.serde_json.specs.View.{view};
+ghost use Rattle.serde_json.specs.Written.{has_float};
+
+use crate::category::PluralCategory;
+use crate::category::raw::RawPluralCategory;
+use crate::json::error::JsonError;
+use crate::json::float::holds_float;
+use crate::json::rows::FromJson;
+use crate::json::rule::{read_rule, rule_to_json};
+use crate::rules::data::PluralRulesData;
+use plural_runtime::{Rule, RuleError};
+use serde_json::{Value, json};
+use std::alloc::{AllocError, Global};
+
+impl PluralRulesData<'static> {
+    ghost use Rattle.plural_base.specs.RulesJson.{rules_of_json};
+
+    /// The rules of a JSON value: an object with a rule's text under each of `zero`, `one`, `two`,
+    /// `few` and `many`, or null or nothing where there is no rule. Other keys, `other` among them, are
+    /// not looked at.
+    ///
+    /// [`JsonError::Float`] where a float stands anywhere in the value, else [`JsonError::Shape`] where it
+    /// is no object; else the first of the five, in this order, that is refused: by
+    /// [`JsonError::Shape`] where it is neither null nor a text, by [`JsonError::Rule`] with its category
+    /// where the text gives no rule. It takes memory for each rule; want of it is
+    /// [`JsonError::Memory`].
+    pub fn from_json(alloc: Global, value: &Value) -> Result<PluralRulesData<'static>, JsonError>
+        ensures answers { Answers rules_of result (rules_of_json (view value.now)) }
+        // The rules are those of the texts under the five keys.
+        ensures read { IfOk result (λ rules. AreRulesOf (texts_in (view value.now)) (rules_of rules)) }
+        // Both are looked for before memory is taken.
+        ensures float { (result ≡ Err JsonError.Float) ↔ IsTrue (has_float (view value.now)) }
+        ensures shape { IsFalse (has_float (view value.now)) → as_object (view value.now) ≡ None → result ≡ Err JsonError.Shape }
+        ensures memory { (category : Option Category) → result ≢ Err (JsonError.Rule category RuleError.Memory) }
+    {
+        if holds_float(value) {
+            return Err(JsonError::Float);
+        }
+        read_rules(alloc, value)
+    }
+}
+
+impl<'data> PluralRulesData<'data> {
+    ghost use Rattle.plural_base.specs.RulesJson.{rules_json};
+
+    /// The JSON value of the rules: an object with all five keys, and under each the rule's printed
+    /// text, or null. It takes memory; the only error is [`JsonError::Memory`].
+    pub fn to_json(&self, alloc: Global) -> Result<Value, JsonError>
+        ensures written { IfOk result (λ value. view value ≡ rules_json (rules_of self.now)) }
+        ensures memory { IfErr result (λ error. error ≡ JsonError.Memory) }
+    {
+        let zero = write_optional(alloc, &self.zero)?;
+        let one = write_optional(alloc, &self.one)?;
+        let two = write_optional(alloc, &self.two)?;
+        let few = write_optional(alloc, &self.few)?;
+        let many = write_optional(alloc, &self.many)?;
+        Ok(object_of(alloc, zero, one, two, few, many)?)
+    }
+}
+
+// Rules stand under a locale.
+impl FromJson for PluralRulesData<'static> {
+    ghost use Rattle.plural_base.specs.FiveRules.{FiveRules};
+
+    ghost Seen = { FiveRules };
+
+    ghost seen = { rules_of };
+
+    ghost meant = { rules_meant };
+
+    fn read(alloc: Global, value: &Value) -> Result<PluralRulesData<'static>, JsonError> {
+        read_rules(alloc, value)
+    }
+}
+
+// The five rules of a value without floats.
+fn read_rules(alloc: Global, value: &Value) -> Result<PluralRulesData<'static>, JsonError>
+    ensures answers { Answers rules_of result (rules_meant (view value.now)) }
+    ensures read { IfOk result (λ rules. AreRulesOf (texts_in (view value.now)) (rules_of rules)) }
+    ensures float { result ≢ Err JsonError.Float }
+    ensures shape { as_object (view value.now) ≡ None → result ≡ Err JsonError.Shape }
+    ensures memory { (category : Option Category) → result ≢ Err (JsonError.Rule category RuleError.Memory) }
+{
+    if !value.is_object() {
+        return Err(JsonError::Shape);
+    }
+    Ok(PluralRulesData {
+        zero: read_member(alloc, value, PluralCategory::Zero)?,
+        one: read_member(alloc, value, PluralCategory::One)?,
+        two: read_member(alloc, value, PluralCategory::Two)?,
+        few: read_member(alloc, value, PluralCategory::Few)?,
+        many: read_member(alloc, value, PluralCategory::Many)?,
+    })
+}
+
+// The rule under the name of a category, if there is one.
+fn read_member(
+    alloc: Global,
+    value: &Value,
+    category: PluralCategory,
+) -> Result<Option<Rule<'static>>, JsonError>
+    ensures answers { Answers (λ rule. rule) result (member_meant category (view value.now)) }
+    ensures read { IfOk result (λ rule. IsRuleOf (text_under category (view value.now)) rule) }
+    ensures float { result ≢ Err JsonError.Float }
+    ensures memory { (c : Option Category) → result ≢ Err (JsonError.Rule c RuleError.Memory) }
+{
+    read_optional(
+        alloc,
+        value.get(RawPluralCategory::from(category).as_str()),
+        category,
+    )
+}
+
+// The rule of a value that may be absent or null.
+fn read_optional(
+    alloc: Global,
+    value: Option<&Value>,
+    category: PluralCategory,
+) -> Result<Option<Rule<'static>>, JsonError>
+    ensures answers { Answers (λ rule. rule) result (optional_meant category (option_map (λ v. view v.now) value.entry)) }
+    ensures read { IfOk result (λ rule. IsRuleOf (option_and_then as_str (option_map (λ v. view v.now) value.entry)) rule) }
+    ensures float { result ≢ Err JsonError.Float }
+    ensures memory { (c : Option Category) → result ≢ Err (JsonError.Rule c RuleError.Memory) }
+{
+    let Some(value) = value else {
+        return Ok(None);
+    };
+    if value.is_null() {
+        return Ok(None);
+    }
+    Ok(Some(read_rule(alloc, value, Some(category))?))
+}
+
+// The value of a rule, null where there is none.
+fn write_optional(alloc: Global, rule: &Option<Rule<'_>>) -> Result<Value, JsonError>
+    ensures written { IfOk result (λ value. view value ≡ optional_rule_json rule.now) }
+    ensures memory { IfErr result (λ error. error ≡ JsonError.Memory) }
+{
+    match rule {
+        Some(rule) => rule_to_json(alloc, rule),
+        None => Ok(Value::Null),
+    }
+}
+
+// The object with these values under the five names.
+fn object_of(
+    alloc: Global,
+    zero: Value,
+    one: Value,
+    two: Value,
+    few: Value,
+    many: Value,
+) -> Result<Value, AllocError>
+    ensures { IfOk result (λ value. view value ≡ written.object_of (five (view zero) (view one) (view two) (view few) (view many))) }
+{
+    json!(in alloc; {"zero": zero, "one": one, "two": two, "few": few, "many": many})
+}

@@ -1,0 +1,121 @@
+//! Rules with the categories of ranges.
+
+ghost use Rattle.std.specs.Prelude.{◌≡◌};
+ghost use Rattle.plural_runtime.specs.PackedTruth.{packed_truth};
+ghost use Rattle.plural_base.specs.FiveRules.{first_category};
+ghost use Rattle.plural_base.specs.Providers.{of_type, MakesBoth, MakesWith};
+ghost use Rattle.plural_base.specs.Ranges.{resolved};
+
+use crate::category::PluralCategory;
+use crate::category::raw::RawPluralCategory;
+use crate::provider::options::PluralRulesOptions;
+use crate::provider::{DataError, PluralsProvider};
+use crate::ranges::PluralRanges;
+use crate::rules::PluralRules;
+use crate::rules::as_plural_rules::AsPluralRules;
+use plural_reference::PluralOperands;
+use std::marker::Model;
+
+/// Rules and the categories of ranges, which choose a range's category by those of its start and its end
+/// (UTS 35 Part 3, Plural Ranges). Nobody checks that the start of a range is below its end, or that
+/// both are positive.
+#[derive(Debug, Drop)]
+pub struct PluralRulesWithRanges<R> {
+    rules: R,
+    ranges: PluralRanges,
+}
+
+impl<R> Model for PluralRulesWithRanges<R> {
+    ghost use Rattle.plural_base.specs.Providers.{WithRanges};
+
+    ghost Value = { WithRanges R };
+
+    ghost view = { λ r. record { rules = r.rules; ranges = r.ranges } };
+}
+
+impl<'data, R: AsPluralRules<'data>> PluralRulesWithRanges<R> {
+    /// The rules.
+    pub fn rules(&self) -> &PluralRules<'data>
+        ensures { result.now ≡ R.rules self.now.rules }
+    {
+        self.rules.as_plural_rules()
+    }
+
+    /// The category of a range of numbers, by the operands of its start and its end. It takes no memory.
+    pub fn category_for_range(&self, start: PluralOperands, end: PluralOperands) -> PluralCategory
+        ensures { result ≡ resolved self.now.ranges
+            (first_category (packed_truth start) (R.rules self.now.rules))
+            (first_category (packed_truth end) (R.rules self.now.rules)) }
+    {
+        let rules = self.rules();
+        let start = rules.category_for(start);
+        let end = rules.category_for(end);
+        self.resolve_range(start, end)
+    }
+
+    /// The category of a range, by those of its start and its end: the pair's, where it has one, else the
+    /// end's.
+    pub fn resolve_range(&self, start: PluralCategory, end: PluralCategory) -> PluralCategory
+        ensures { result ≡ resolved self.now.ranges start end }
+    {
+        let found = self.ranges.get(RawPluralCategory::from(start), RawPluralCategory::from(end));
+        match found {
+            Some(category) => PluralCategory::from(category),
+            None => end,
+        }
+    }
+}
+
+impl<'data> PluralRulesWithRanges<PluralRules<'data>> {
+    /// The rules of a locale, of the type of the options, and its ranges; no type means cardinal. The
+    /// rules are lent by the provider. [`DataError::NotFound`] exactly where the provider has no such
+    /// rules or no ranges. It takes no memory.
+    pub fn try_new_unstable<P: PluralsProvider>(
+        provider: &'data P,
+        locale: &str,
+        options: PluralRulesOptions,
+    ) -> Result<PluralRulesWithRanges<PluralRules<'data>>, DataError>
+        ensures { MakesBoth (of_type options.rule_type (P.cardinal provider.now locale.now) (P.ordinal provider.now locale.now))
+            (P.ranges provider.now locale.now) result }
+    {
+        let rules = PluralRules::try_new_unstable(provider, locale, options)?;
+        PluralRulesWithRanges::try_new_with_rules_unstable(provider, locale, rules)
+    }
+
+    /// The same of the rules for cardinal numbers.
+    pub fn try_new_cardinal_unstable<P: PluralsProvider>(
+        provider: &'data P,
+        locale: &str,
+    ) -> Result<PluralRulesWithRanges<PluralRules<'data>>, DataError>
+        ensures { MakesBoth (P.cardinal provider.now locale.now) (P.ranges provider.now locale.now) result }
+    {
+        let rules = PluralRules::try_new_cardinal_unstable(provider, locale)?;
+        PluralRulesWithRanges::try_new_with_rules_unstable(provider, locale, rules)
+    }
+
+    /// The same of the rules for ordinal numbers.
+    pub fn try_new_ordinal_unstable<P: PluralsProvider>(
+        provider: &'data P,
+        locale: &str,
+    ) -> Result<PluralRulesWithRanges<PluralRules<'data>>, DataError>
+        ensures { MakesBoth (P.ordinal provider.now locale.now) (P.ranges provider.now locale.now) result }
+    {
+        let rules = PluralRules::try_new_ordinal_unstable(provider, locale)?;
+        PluralRulesWithRanges::try_new_with_rules_unstable(provider, locale, rules)
+    }
+}
+
+impl<R: Drop> PluralRulesWithRanges<R> {
+    /// These rules, and the ranges of a locale. Nobody checks that the rules are those of the locale.
+    /// [`DataError::NotFound`] exactly where the provider has no ranges. It takes no memory.
+    pub fn try_new_with_rules_unstable<P: PluralsProvider>(
+        provider: &P,
+        locale: &str,
+        rules: R,
+    ) -> Result<PluralRulesWithRanges<R>, DataError>
+        ensures { MakesWith rules (P.ranges provider.now locale.now) result }
+    {
+        let ranges = provider.load_ranges(locale)?;
+        Ok(PluralRulesWithRanges { rules, ranges })
+    }
+}

@@ -1,0 +1,107 @@
+//! Rules from texts.
+
+ghost use Rattle.std.specs.Prelude.{◌≡◌, ◌≢◌, ◌++◌, ◌⊎◌, Some, Ok, Err, codes, IfOk, IfErr};
+ghost use Rattle.std.specs.Option.{option_copied};
+ghost use Rattle.plural_runtime.specs.PluralRuntimeErrors.{rule_error_text};
+ghost use Rattle.plural_runtime.specs.RuleOfText.{TextGives, rule_of_text};
+ghost use Rattle.plural_base.specs.Categories.{name_of};
+ghost use Rattle.plural_base.specs.RuleTexts.{IsRuleOf, IsRefused, IsFirstRefused};
+
+use crate::category::PluralCategory;
+use crate::category::raw::RawPluralCategory;
+use crate::rules::data::PluralRulesData;
+use plural_reference::ParseError;
+use plural_runtime::laws::texts_give_one_answer;
+use plural_runtime::{Rule, RuleError};
+use std::alloc::Global;
+use std::error::Error;
+use std::fmt;
+
+/// Which of five texts gives no rule, and why.
+#[derive(Clone, Copy, Debug, PartialEq, Eq)]
+pub struct RulesTextError {
+    /// The category whose text it is.
+    pub category: PluralCategory,
+    /// Why it gives no rule; [`RuleError::Memory`] where memory ran out.
+    pub error: RuleError,
+}
+
+impl fmt::Display for RulesTextError {
+    ghost output = { λ e.
+        Some (codes "rule " ++ name_of e.category ++ codes ": " ++ rule_error_text e.error) };
+
+    fn fmt<W: fmt::Write>(&self, f: &mut fmt::Formatter<W>) -> fmt::Result {
+        let name = RawPluralCategory::from(self.category).as_str();
+        write!(f, "rule {}: {}", name, self.error)
+    }
+}
+
+impl Error for RulesTextError {}
+
+impl PluralRulesData<'static> {
+    ghost use Rattle.plural_base.specs.FiveRules.{rules_of};
+    ghost use Rattle.plural_base.specs.RuleTexts.{AreRulesOf, texts_of};
+
+    /// The rules of texts as CLDR writes them (UTS 35 Part 3, Plural Rules Syntax), samples included,
+    /// looked at in the order zero, one, two, few, many. It takes memory for each rule.
+    ///
+    /// The error names the first text that gives no rule; what stands behind it is not looked at. Its
+    /// cause is [`RuleError::Parse`] where the text has a fault, in its samples too;
+    /// [`RuleError::StartLimit`] where the packed rule would be too long; [`RuleError::Memory`] where
+    /// memory ran out.
+    pub fn from_texts(
+        alloc: Global,
+        zero: Option<&str>,
+        one: Option<&str>,
+        two: Option<&str>,
+        few: Option<&str>,
+        many: Option<&str>,
+    ) -> Result<PluralRulesData<'static>, RulesTextError>
+        ensures ok { let texts = texts_of zero.entry one.entry two.entry few.entry many.entry in
+            IfOk result (λ rules. AreRulesOf texts (rules_of rules)) }
+        ensures refused { let texts =
+            texts_of zero.entry one.entry two.entry few.entry many.entry in
+            IfErr result (λ e. IsFirstRefused texts e.category e.error) }
+        // The values of a text fit: this fault is one of trees made by hand.
+        ensures fits { IfErr result (λ e. e.error ≢ RuleError.Parse ParseError.ValueTooLarge) }
+    {
+        Ok(PluralRulesData {
+            zero: rule_of(alloc, zero, PluralCategory::Zero)?,
+            one: rule_of(alloc, one, PluralCategory::One)?,
+            two: rule_of(alloc, two, PluralCategory::Two)?,
+            few: rule_of(alloc, few, PluralCategory::Few)?,
+            many: rule_of(alloc, many, PluralCategory::Many)?,
+        })
+    }
+}
+
+// The rule of a category's text, if there is one.
+fn rule_of(
+    alloc: Global,
+    text: Option<&str>,
+    category: PluralCategory,
+) -> Result<Option<Rule<'static>>, RulesTextError>
+    ensures ok { IfOk result (λ rule. IsRuleOf (option_copied text.entry) rule) }
+    ensures refused { IfErr result (λ e.
+        (e.category ≡ category) × IsRefused (option_copied text.entry) e.error) }
+    ensures fits { IfErr result (λ e. e.error ≢ RuleError.Parse ParseError.ValueTooLarge) }
+{
+    let Some(text) = text else {
+        return Ok(None);
+    };
+    match packed(alloc, text) {
+        Ok(rule) => Ok(Some(rule)),
+        Err(error) => Err(RulesTextError { category, error }),
+    }
+}
+
+// The rule of a text.
+pub(crate) fn packed(alloc: Global, text: &str) -> Result<Rule<'static>, RuleError>
+    ensures told { (result ≡ rule_of_text text.now) ⊎ (result ≡ Err RuleError.Memory) }
+    ensures ok { IfOk result (λ rule. TextGives text.now (Ok rule)) }
+    ensures refused { IfErr result (λ e. TextGives text.now (Err e) ⊎ (e ≡ RuleError.Memory)) }
+    ensures fits { IfErr result (λ e. e ≢ RuleError.Parse ParseError.ValueTooLarge) }
+{
+    texts_give_one_answer();
+    Rule::from_str(alloc, text)
+}

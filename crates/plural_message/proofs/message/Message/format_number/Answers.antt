@@ -1,0 +1,31 @@
+use Rattle.std.proofs.Common.{◌≡◌, ℕ, ◌∙◌, ap}
+use Rattle.std.proofs.lemmas.Result.{IfOk-weaker}
+use Rattle.fixed_decimal.specs.Places.{Places}
+use Rattle.icu_plurals.specs.Operands.{AreCut, Operands}
+use Rattle.icu_plurals.specs.Elements.{IsKeptElement, Elements, element_at}
+use Rattle.icu_plurals.specs.Inner.ElementsViews.{lent_value}
+use Rattle.icu_plurals.specs.FiveRules.{FiveRules}
+use Rattle.icu_plurals.specs.PackedElements.{PackedValue}
+use Rattle.plural_message.proofs.message.Message.format_number.Goals as goal
+
+-- the element that is answered at the kept operands
+kept_element : (e elements : Elements PackedValue) (rules : FiveRules) (x : Places) (exponent : ℕ) (kept : Operands) (element : PackedValue)
+    → AreCut x exponent kept → element ≡ element_at e kept rules → e ≡ elements → IsKeptElement elements rules x exponent element
+kept_element e elements rules x exponent kept element are_cut is same = (kept, are_cut, is ∙ ap (λ l. element_at l kept rules) same)
+
+pub returns-clause-kept : goal.returns-clause-kept
+returns-clause-kept c =
+    let x = c.args.number.now in
+    let element = lent_value c.get.result in
+    let chosen = kept_element _ c.args.self.now c.args.rules.now x.significand.absolute x.exponent c.from-operands.result element
+    c.from-operands.ensures.0 c.get.ensures c.self.view_is in
+    IfOk-weaker c.fill.result _ _ (λ filled h. (element, chosen, h)) c.fill.ensures
+
+pub returns-clause-exact : goal.returns-clause-exact
+returns-clause-exact c =
+    let x = c.args.number.now in
+    let element = lent_value c.get.result in
+    let chosen = kept_element _ c.args.self.now c.args.rules.now x.significand.absolute x.exponent c.from-operands.result element
+    c.from-operands.ensures.0 c.get.ensures c.self.view_is in
+    let exact = c.kept_element_is_exact.ensures c.args.self.now c.args.rules.now x.significand.absolute x.exponent element c.from-operands.ensures.1 chosen in
+    IfOk-weaker c.fill.result _ _ (λ filled h. (element, exact, h)) c.fill.ensures

@@ -1,0 +1,86 @@
+//! What becomes of samples as they are read (UTS 35 Part 3, Samples).
+
+ghost use Rattle.std.specs.Prelude.{◌≡◌, ◌∷◌, ◌++◌, [], true, false, IfOk, OnOk, string_bytes};
+ghost use Rattle.std.specs.Fmt.{decimal};
+ghost use Rattle.plural_reference.specs.Inner.SampleReader.{IsStored};
+
+use crate::ast::SampleRange;
+use itoa::Buffer;
+use std::alloc::{AllocError, Global};
+
+// Room for the text of a sample: CLDR's have at most 12 bytes.
+const TEXT_ROOM: usize = 16;
+
+// Takes the texts and ranges of samples, and keeps them or leaves them out: then the texts and lists that it was given stay empty.
+pub(super) trait Sink {
+    ghost use Rattle.std.specs.Prelude.{Bool};
+
+    ghost keeps: { Bool };
+
+    // The text of a sample that begins.
+    fn begin(alloc: Global) -> Result<String, AllocError>
+        ensures { IfOk result (λ text. string_bytes text ≡ []) };
+
+    // Digits join the text.
+    fn push_number(text: &mut String, number: u32) -> Result<(), AllocError>
+        ensures { OnOk result (IsStored keeps (string_bytes text.new) (string_bytes text.old ++ decimal number)) };
+
+    // A point or the mark of an exponent joins the text.
+    fn push_mark(text: &mut String, mark: &str) -> Result<(), AllocError>
+        ensures { OnOk result (IsStored keeps (string_bytes text.new) (string_bytes text.old ++ mark.now)) };
+
+    // A range joins a list.
+    fn push_range(ranges: &mut Vec<SampleRange>, range: SampleRange) -> Result<(), AllocError>
+        ensures { OnOk result (IsStored keeps ranges.new.items (ranges.old.items ++ range ∷ [])) };
+}
+
+// Keeps the samples.
+pub(super) struct Kept;
+
+impl Sink for Kept {
+    ghost keeps = { true };
+
+    fn begin(alloc: Global) -> Result<String, AllocError> {
+        String::with_capacity(alloc, TEXT_ROOM)
+    }
+
+    fn push_number(text: &mut String, number: u32) -> Result<(), AllocError> {
+        let mut digits = Buffer::new();
+        text.push_str(digits.format(number))
+    }
+
+    fn push_mark(text: &mut String, mark: &str) -> Result<(), AllocError> {
+        text.push_str(mark)
+    }
+
+    fn push_range(ranges: &mut Vec<SampleRange>, range: SampleRange) -> Result<(), AllocError> {
+        Ok(ranges.push(range)?)
+    }
+}
+
+// Leaves the samples out, and takes no memory.
+pub(super) struct LeftOut;
+
+impl Sink for LeftOut {
+    ghost keeps = { false };
+
+    #[inline]
+    fn begin(alloc: Global) -> Result<String, AllocError> {
+        Ok(String::new(alloc))
+    }
+
+    #[inline]
+    fn push_number(_text: &mut String, _number: u32) -> Result<(), AllocError> {
+        Ok(())
+    }
+
+    #[inline]
+    fn push_mark(_text: &mut String, _mark: &str) -> Result<(), AllocError> {
+        Ok(())
+    }
+
+    #[inline]
+    fn push_range(_ranges: &mut Vec<SampleRange>, _range: SampleRange) -> Result<(), AllocError> {
+        Ok(())
+    }
+}

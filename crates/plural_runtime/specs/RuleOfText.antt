@@ -1,0 +1,39 @@
+-- What a text gives as a rule: the relations that its condition is packed to, or the reason why it gives none.
+--     TextGives text answer      the text gives this, by the grammar
+--     rule_of_text text      what the text gives, by a reader
+-- The two say the same (`laws::texts_give_one_answer`).
+use Rattle.std.specs.Prelude.{◌≡◌, ◌⊎◌, ◌↔◌, ℕ, List, Result, Ok, Err}
+use Rattle.plural_reference.specs.declared.ast.Condition.{Condition}
+use Rattle.plural_reference.specs.declared.error.ParseError.{ParseError}
+use Rattle.plural_reference.specs.Reading.{TextReads, TextFaulty}
+use Rattle.plural_reference.specs.Samples.{ReadsCondition, FaultyRule}
+use Rattle.plural_reference.specs.Inner.RuleReader.{condition_of_text}
+use Rattle.plural_runtime.specs.declared.error.RuleError.{RuleError}
+use Rattle.plural_runtime.specs.declared.error.RuleError.TheVariants.{Parse}
+use Rattle.plural_runtime.specs.PackedRelations.{PackedRelation}
+use Rattle.plural_runtime.specs.PackedTree.{packing}
+
+-- the relations of a rule, or why there is none
+abbrev pub RuleAnswer : Type 0
+RuleAnswer = Result (List PackedRelation) RuleError
+
+-- the text is read as a condition and this is what packing it answers, or the text has this fault
+abbrev pub TextGives : List ℕ → RuleAnswer → Type 0
+TextGives text answer =
+    ((condition : Condition) × TextReads ReadsCondition text condition × (answer ≡ packing condition))
+    ⊎ ((kind : ParseError) × TextFaulty FaultyRule text kind × (answer ≡ Err (Parse kind)))
+
+-- ---- The same as a function
+
+-- what packing answers of the condition that was read; else the fault
+abbrev pub packing_of : Result Condition ParseError → RuleAnswer
+packing_of (Ok condition) = packing condition
+packing_of (Err kind) = Err (Parse kind)
+
+-- what a text gives
+unfoldable pub rule_of_text : List ℕ → RuleAnswer
+rule_of_text text = packing_of (condition_of_text text)
+
+-- every text gives one answer, and no other: that of the function
+abbrev pub TextsGiveOneAnswer : Type 0
+TextsGiveOneAnswer = (text : List ℕ) (answer : RuleAnswer) → TextGives text answer ↔ (answer ≡ rule_of_text text)
