@@ -139,14 +139,18 @@ fn an_error_prints_its_text(rt: HostRuntime) -> Result<(), Fail> {
 }
 
 #[test]
-fn a_side_has_32767_places_at_most(rt: HostRuntime) -> Result<(), Fail> {
+fn a_side_has_32767_integer_places_at_most(rt: HostRuntime) -> Result<(), Fail> {
     let mut text = repeated(rt.alloc(), "9", 32767)?;
     let number = UnsignedDecimal::from_str(rt.alloc(), text.as_str())?;
     holds!(rt; number.magnitude_range() == (0, 32766));
     holds!(rt; number.digit_at(32766) == 9);
     text.push_str("c2")?;
     holds!(rt; CompactDecimal::from_str(rt.alloc(), text.as_str())?.exponent() == 2);
+    Ok(())
+}
 
+#[test]
+fn a_zero_in_front_is_a_place(rt: HostRuntime) -> Result<(), Fail> {
     let mut text = repeated(rt.alloc(), "0", 32768)?;
     let outcome = UnsignedDecimal::from_str(rt.alloc(), text.as_str()).err();
     holds!(rt; outcome == Some(DecimalError::Limit));
@@ -156,7 +160,11 @@ fn a_side_has_32767_places_at_most(rt: HostRuntime) -> Result<(), Fail> {
     text.push_str("x")?;
     let outcome = CompactDecimal::from_str(rt.alloc(), text.as_str()).err();
     holds!(rt; outcome == Some(DecimalError::Syntax));
+    Ok(())
+}
 
+#[test]
+fn a_side_has_32767_fraction_places_at_most(rt: HostRuntime) -> Result<(), Fail> {
     let mut text = String::new(rt.alloc());
     text.push_str(".")?;
     text.push_str(repeated(rt.alloc(), "5", 32767)?.as_str())?;
@@ -330,7 +338,7 @@ fn either<T: Drop>(
 }
 
 #[test]
-fn where_growth_is_refused_a_call_wants_memory_and_then_answers(
+fn where_growth_is_refused_a_text_wants_memory_and_then_answers(
     rt: HostRuntime,
 ) -> Result<(), Fail> {
     let alloc = rt.alloc();
@@ -343,17 +351,39 @@ fn where_growth_is_refused_a_call_wants_memory_and_then_answers(
     holds!(rt; number.multiply_pow10(-32767) == Ok(()));
     holds!(rt; number.magnitude_range() == (-32767, 0));
     holds!(rt; (number.digit_at(-1), number.digit_at(-4)) == (1, 4));
+    Ok(())
+}
 
+#[test]
+fn growth_of_a_signed_number_may_be_refused(rt: HostRuntime) -> Result<(), Fail> {
+    let alloc = rt.alloc();
     let number = either(
         Decimal::from_str(alloc, "-0.01000000000000000020"),
         Decimal::from_str(alloc, "-0.01000000000000000020"),
     )?;
     holds!(rt; is_written(&number.absolute, (-20, 0), "001000000000000000020"));
+    Ok(())
+}
+
+#[test]
+fn growth_of_a_compact_number_may_be_refused(rt: HostRuntime) -> Result<(), Fail> {
+    let alloc = rt.alloc();
     let number = either(
         CompactDecimal::from_str(alloc, "+50000000000000005c3"),
         CompactDecimal::from_str(alloc, "+50000000000000005c3"),
     )?;
     holds!(rt; is_written(&number.significand().absolute, (0, 16), "50000000000000005"));
+    for text in ["", "5.", "1c0256"] {
+        let outcome = CompactDecimal::from_str(alloc, text).err();
+        holds!(rt; outcome == Some(DecimalError::Syntax), text);
+    }
+    holds!(rt; CompactDecimal::from_str(alloc, "1c256").err() == Some(DecimalError::Limit));
+    Ok(())
+}
+
+#[test]
+fn growth_of_integers_may_be_refused(rt: HostRuntime) -> Result<(), Fail> {
+    let alloc = rt.alloc();
     let number = either(
         UnsignedDecimal::from_u128(alloc, 1000000000000000001),
         UnsignedDecimal::from_u128(alloc, 1000000000000000001),
@@ -364,12 +394,6 @@ fn where_growth_is_refused_a_call_wants_memory_and_then_answers(
         Decimal::from_i128(alloc, -50000000000000005),
     )?;
     holds!(rt; is_written(&number.absolute, (0, 16), "50000000000000005"));
-
-    for text in ["", "5.", "1c0256"] {
-        let outcome = CompactDecimal::from_str(alloc, text).err();
-        holds!(rt; outcome == Some(DecimalError::Syntax), text);
-    }
-    holds!(rt; CompactDecimal::from_str(alloc, "1c256").err() == Some(DecimalError::Limit));
     Ok(())
 }
 
