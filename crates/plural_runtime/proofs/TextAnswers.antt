@@ -3,7 +3,7 @@ use Rattle.std.proofs.Common.{◌≡◌, ℕ, List, refl, sym, ap, ◌∙◌, in
 use Rattle.std.specs.Prelude.{◌⊎◌, Result, Ok, Err}
 use Rattle.plural_reference.specs.declared.ast.Condition.{Condition}
 use Rattle.plural_reference.specs.declared.error.ParseError.{ParseError}
-use Rattle.plural_reference.specs.Reading.{TextFaulty, TextReads}
+use Rattle.plural_reference.specs.Lexer.{TextFaulty, TextReads}
 use Rattle.plural_reference.specs.Samples.{FaultyRule, ReadsCondition}
 use Rattle.plural_reference.specs.Inner.RuleReader.{condition_of_text}
 use Rattle.plural_reference.specs.ReadingLaws.{TextsAreRead}

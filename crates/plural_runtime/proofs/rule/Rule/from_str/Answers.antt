@@ -1,6 +1,7 @@
 use Rattle.std.proofs.Common.{◌≡◌, ◌∙◌, ap, subst, sym, inl, inr, Err}
 use Rattle.plural_reference.specs.declared.error.ParseError.TheVariants.{ValueTooLarge}
-use Rattle.plural_reference.specs.Reading.{IsAnswer, TextFaulty, TextReads}
+use Rattle.plural_reference.specs.Reading.{IsAnswer}
+use Rattle.plural_reference.specs.Lexer.{TextFaulty, TextReads}
 use Rattle.plural_reference.specs.Samples.{ReadsCondition, FaultyRule}
 use Rattle.plural_runtime.specs.PackedTree.{has_large_value}
 use Rattle.plural_runtime.proofs.FaultKinds.{never_too_large, packing_not_large}
