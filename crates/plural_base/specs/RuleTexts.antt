@@ -1,7 +1,6 @@
 -- Five rules and the texts that they come from. What one text gives is said by `IsPackedFrom` and `TextGives` of plural_runtime.
 --     AreRulesOf texts rules      each text gives its rule; where there is no text, there is no rule
 --     AreReadAs texts conditions      each text is read as a rule with its condition
---     AreReadFrom texts conditions rules      both
 --     IsFirstRefused texts category error      the category's text gives no rule for this reason, and those before it give some
 --     HaveEveryReading Read      rules of texts are those of every reading of these texts (`laws::rules_have_every_reading`)
 --     texts_of zero one two few many      the texts behind references
@@ -33,10 +32,6 @@ AreRulesOf = ArePaired (λ text rule. IsPackedFrom text (Ok rule))
 -- each of the texts is read as a rule with its condition
 abbrev pub AreReadAs : Five (Option (List ℕ)) → Five (Option Condition) → Type 0
 AreReadAs = ArePaired (TextReads ReadsCondition)
-
--- the rules are those of the texts, and these are read as the conditions
-abbrev pub AreReadFrom : Five (Option (List ℕ)) → Five (Option Condition) → FiveRules → Type 0
-AreReadFrom texts conditions rules = AreRulesOf texts rules × AreReadAs texts conditions
 
 -- the texts behind five references
 abbrev pub texts_of : {A : Type 0} → Option (Bor A) → Option (Bor A) → Option (Bor A) → Option (Bor A) → Option (Bor A)

@@ -14,19 +14,19 @@ use Rattle.plural_runtime.specs.declared.error.RuleError.TheVariants.{Parse}
 use Rattle.plural_runtime.specs.PackedRelations.{PackedRelation}
 use Rattle.plural_runtime.specs.PackedTree.{packing}
 
--- the relations of a rule, or why there is none
-abbrev pub RuleAnswer : Type 0
-RuleAnswer = Result (List PackedRelation) RuleError
-
 -- the text is read as a condition, and this is what packing it answers
-abbrev pub IsPackedFrom : List ℕ → RuleAnswer → Type 0
+abbrev pub IsPackedFrom : List ℕ → Result (List PackedRelation) RuleError → Type 0
 IsPackedFrom text answer = (condition : Condition) × TextReads ReadsCondition text condition × (answer ≡ packing condition)
 
 -- the same, or the text has this fault
-abbrev pub TextGives : List ℕ → RuleAnswer → Type 0
+abbrev pub TextGives : List ℕ → Result (List PackedRelation) RuleError → Type 0
 TextGives text answer = IsPackedFrom text answer ⊎ ((kind : ParseError) × TextFaulty FaultyRule text kind × (answer ≡ Err (Parse kind)))
 
 -- ---- The same as a function
+
+-- the relations of a rule, or why there is none
+abbrev pub RuleAnswer : Type 0
+RuleAnswer = Result (List PackedRelation) RuleError
 
 -- what packing answers of the condition that was read; else the fault
 abbrev pub packing_of : Result Condition ParseError → RuleAnswer
