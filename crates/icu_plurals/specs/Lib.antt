@@ -30,7 +30,6 @@ pub use Rattle.plural_reference.specs.Truth
 pub use Rattle.plural_reference.specs.Exactness
 -- packed rules
 pub use Rattle.plural_runtime.specs.PackedRelations
-pub use Rattle.plural_runtime.specs.RuleBytes
 pub use Rattle.plural_runtime.specs.PackedTruth
 pub use Rattle.plural_runtime.specs.PackedTree
 pub use Rattle.plural_runtime.specs.RuleOfText

@@ -19,17 +19,17 @@ starts_from place [] = []
 starts_from place (item ∷ items) = place ∷ starts_from (place + length item) items
 
 -- where each item starts in the data: the sum of the lengths before it
-abbrev pub starts : List (List ℕ) → List ℕ
-starts items = starts_from 0 items
+abbrev pub item_starts : List (List ℕ) → List ℕ
+item_starts items = starts_from 0 items
 
 -- no item is no byte; else the count, the starts of all items but the first, and the items without gaps
 abbrev pub list_bytes : List (List ℕ) → List ℕ
 list_bytes [] = []
-list_bytes (item ∷ items) = two_bytes (length (item ∷ items)) ++ (flat_map two_bytes (drop 1 (starts (item ∷ items))) ++ concat (item ∷ items))
+list_bytes (item ∷ items) = two_bytes (length (item ∷ items)) ++ (flat_map two_bytes (drop 1 (item_starts (item ∷ items))) ++ concat (item ∷ items))
 
 -- whether a start is above what two bytes hold
 abbrev pub has_high_start : List (List ℕ) → Bool
-has_high_start items = list_any (λ start. nat_lt 65535 start) (starts items)
+has_high_start items = list_any (λ start. nat_lt 65535 start) (item_starts items)
 
 -- the items can be packed: neither their count nor a start is above what two bytes hold
 pub record CanPack (items : List (List ℕ)) : Type 0 where
@@ -44,28 +44,28 @@ pub record ListBytes (items : List (List ℕ)) (bytes : List ℕ) : Type 0 where
 -- ---- What is wrong with bytes that are no list, in the order in which it is looked for.
 
 -- the number in the two bytes at a place, low byte first
-abbrev pub number_at : List ℕ → ℕ → ℕ
-number_at bytes place = slice_index bytes place + 256 * slice_index bytes (place + 1)
+abbrev pub two_byte_number : List ℕ → ℕ → ℕ
+two_byte_number bytes place = slice_index bytes place + 256 * slice_index bytes (place + 1)
 
 -- where item k starts in the data, as the bytes say
 abbrev pub start_at : List ℕ → ℕ → ℕ
 start_at bytes zero = 0
-start_at bytes (suc k) = number_at bytes (2 * suc k)
+start_at bytes (suc k) = two_byte_number bytes (2 * suc k)
 
 -- there is one byte, or a count of 2 or more and fewer bytes than the count and the starts take
 abbrev pub HasShortHeader : List ℕ → Type 0
-HasShortHeader bytes = (length bytes ≡ 1) ⊎ ((2 ≤ number_at bytes 0) × (length bytes < 2 * number_at bytes 0))
+HasShortHeader bytes = (length bytes ≡ 1) ⊎ ((2 ≤ two_byte_number bytes 0) × (length bytes < 2 * two_byte_number bytes 0))
 
 -- the count is there and is 0
 abbrev pub HasZeroCount : List ℕ → Type 0
-HasZeroCount bytes = (2 ≤ length bytes) × (number_at bytes 0 ≡ 0)
+HasZeroCount bytes = (2 ≤ length bytes) × (two_byte_number bytes 0 ≡ 0)
 
 -- the header is there, and some start lies below the one before it or above the length of the data
 pub record HasBadStart (bytes : List ℕ) : Type 0 where
-  pub header : 2 * number_at bytes 0 ≤ length bytes
+  pub header : 2 * two_byte_number bytes 0 ≤ length bytes
   pub item : ℕ
-  pub is_item : item + 1 < number_at bytes 0
-  pub is_bad : (start_at bytes (item + 1) < start_at bytes item) ⊎ (length bytes < 2 * number_at bytes 0 + start_at bytes (item + 1))
+  pub is_item : item + 1 < two_byte_number bytes 0
+  pub is_bad : (start_at bytes (item + 1) < start_at bytes item) ⊎ (length bytes < 2 * two_byte_number bytes 0 + start_at bytes (item + 1))
 
 -- bytes are refused with a fault
 abbrev pub HasFault : List ℕ → ListError → Type 0

@@ -2,7 +2,7 @@
 
 ghost use Rattle.std.specs.Prelude.{◌≡◌, ◌↔◌, ◌+◌, ◌<◌, ◌==◌, ℕ, List, length, slice_get, IfOk, Ok, Err, Some, option_map, unwrap_or};
 ghost use Rattle.std.specs.List.{concat};
-ghost use Rattle.packed_list.specs.ListBytes.{ListBytes, starts, HasFault};
+ghost use Rattle.packed_list.specs.ListBytes.{ListBytes, item_starts, HasFault};
 ghost use Rattle.packed_list.specs.Inner.ListReading.{IsList, items_in};
 
 use crate::error::ListError;
@@ -107,7 +107,7 @@ impl<'a> PackedList<'a> {
     /// Where the item at a place starts, counted from the first byte of the data; the first one starts at 0.
     #[inline]
     pub fn start(&self, index: usize) -> Option<usize>
-        ensures { result ≡ slice_get (starts self.now) index }
+        ensures { result ≡ slice_get (item_starts self.now) index }
     {
         if index >= self.len() {
             return None;
@@ -148,7 +148,7 @@ impl<'a> PackedList<'a> {
     #[inline]
     fn place(&self, index: usize) -> usize
         requires { index < length self.now }
-        ensures { slice_get (starts self.now) index ≡ Some result }
+        ensures { slice_get (item_starts self.now) index ≡ Some result }
     {
         if index == 0 {
             0
@@ -161,7 +161,7 @@ impl<'a> PackedList<'a> {
     #[inline]
     fn end(&self, index: usize) -> usize
         requires { index < length self.now }
-        ensures { result ≡ unwrap_or (slice_get (starts self.now) (index + 1)) (length (concat self.now)) }
+        ensures { result ≡ unwrap_or (slice_get (item_starts self.now) (index + 1)) (length (concat self.now)) }
     {
         self.end_in(index, self.len(), self.data())
     }
@@ -172,7 +172,7 @@ impl<'a> PackedList<'a> {
         requires index { index < length self.now }
         requires count { count ≡ length self.now }
         requires content { content.now ≡ concat self.now }
-        ensures { result ≡ unwrap_or (slice_get (starts self.now) (index + 1)) (length (concat self.now)) }
+        ensures { result ≡ unwrap_or (slice_get (item_starts self.now) (index + 1)) (length (concat self.now)) }
     {
         if index + 1 < count {
             self.place(index + 1)

@@ -8,14 +8,14 @@ use Rattle.plural_reference.specs.declared.error.ParseError.TheVariants.{ValueTo
 use Rattle.plural_reference.specs.Exactness.{exact_truth}
 use Rattle.plural_reference.specs.ExactnessLaws.{ConditionsAgree, IsKept}
 use Rattle.plural_reference.specs.Operands.{Operands}
-use Rattle.plural_reference.specs.Reading.{TextReads}
+use Rattle.plural_reference.specs.Lexer.{TextReads}
 use Rattle.plural_reference.specs.Samples.{ReadsCondition}
 use Rattle.plural_reference.specs.Truth.{groups_of}
 use Rattle.plural_runtime.specs.declared.error.RuleError.TheVariants.{Parse, StartLimit}
 use Rattle.plural_runtime.specs.PackedRelations.{PackedRelation}
 use Rattle.plural_runtime.specs.PackedTree.{packed, has_large_value, packing}
 use Rattle.plural_runtime.specs.PackedTruth.{packed_truth}
-use Rattle.plural_runtime.specs.RuleOfText.{TextGives, TextsGiveOneAnswer}
+use Rattle.plural_runtime.specs.RuleOfText.{IsPackedFrom, TextsGiveOneAnswer}
 use Rattle.plural_base.specs.FiveRules.{Five, FiveRules, Paired, passes, first_category, moduli_of_relation, moduli_of_rule, moduli_of}
 use Rattle.plural_base.specs.RuleTexts.{IsRuleOf, AreReadFrom}
 use Rattle.plural_base.proofs.Choice.{same_choice}
@@ -50,9 +50,9 @@ reads_filled text condition reads =
 
 -- the rule that a text gives is the packing of the condition that the text is read as
 packed_from : TextsGiveOneAnswer → (text : List ℕ) (condition : Condition) (rule : List PackedRelation)
-    → TextGives text (Ok rule) → TextReads ReadsCondition text condition → packing condition ≡ Ok rule
+    → IsPackedFrom text (Ok rule) → TextReads ReadsCondition text condition → packing condition ≡ Ok rule
 packed_from one_answer text condition rule gives reads =
-    (one_answer text (packing condition)).0 (inl (condition, reads, refl)) ∙ sym ((one_answer text (Ok rule)).0 gives)
+    (one_answer text (packing condition)).0 (inl (condition, reads, refl)) ∙ sym ((one_answer text (Ok rule)).0 (inl gives))
 
 -- a rule is true of the kept operands where the condition of its text is true of the exact ones
 rule_alike : ConditionsAgree → TextsGiveOneAnswer → (x : Places) (e : ℕ) (moduli : List ℕ) (cut exact : Operands)

@@ -12,7 +12,7 @@ use Rattle.plural_reference.specs.Operands.{AreCut, AreExact, Operands}
 use Rattle.plural_reference.specs.ExactnessLaws.{IsTwice}
 use Rattle.plural_reference.specs.Exactness.{exact_truth}
 use Rattle.plural_runtime.specs.PackedRelations.{PackedRelation}
-use Rattle.plural_runtime.specs.PackedTree.{packed, condition_of, packing}
+use Rattle.plural_runtime.specs.PackedTree.{packed, condition_of_groups, packing}
 use Rattle.plural_runtime.specs.PackedTruth.{packed_truth}
 use Rattle.plural_base.specs.declared.category.PluralCategory.{PluralCategory}
 use Rattle.plural_base.specs.declared.category.PluralCategory.TheVariants.{One, Other}
@@ -43,7 +43,7 @@ leaves m r = record {
 
 -- the condition of a relation alone
 abbrev pub alone : Relation → Condition
-alone relation = condition_of ((relation ∷ []) ∷ [])
+alone relation = condition_of_groups ((relation ∷ []) ∷ [])
 
 -- the condition packs to the rule; alone, for one, the condition chooses one for the exact number, and the rule other for what is kept
 pub record TellsApart (condition : Condition) (rule : List PackedRelation) (kept exact : Operands) : Type 0 where

@@ -1,10 +1,8 @@
 -- How a text is filled: without a `{}` it stays, else the first one is replaced and the rest filled.
-use Rattle.std.proofs.Common.{◌≡◌, ℕ, zero, suc, ◌<◌, List, [], ◌∷◌, ◌++◌, flat_map, length, take, drop, refl, ap, subst, sym, ◌∙◌, append_assoc, append-nil, arith, length-append, length-take, Some, None, true, false, ⊎_elim}
-use Rattle.std.specs.Borrow.{Bor}
+use Rattle.std.proofs.Common.{◌≡◌, ℕ, ◌<◌, List, [], ◌∷◌, ◌++◌, flat_map, length, take, drop, ap, subst, sym, ◌∙◌, append_assoc, append-nil, arith, length-append, length-take, Some, None, true, false, refl}
 use Rattle.std.specs.List.{AllByRecursion}
 use Rattle.std.specs.Str.Iter.{HasSubslice}
-use Rattle.std.specs.Str.Pattern.{FindsText, HasTextAt, LacksTextAt}
-use Rattle.std.specs.Str.Replace.{ReplacesMatches}
+use Rattle.std.specs.Str.Pattern.{FindsText, HasTextAt, LacksTextAt, SplitsAroundMatch}
 use Rattle.std.proofs.lemmas.List.{drop_at, take-append-drop}
 use Rattle.std.proofs.lemmas.Str.Pattern.{contains_text}
 use Rattle.plural_message.specs.Messages.{placeholder, joined, IsFilling}
@@ -48,9 +46,9 @@ pub filling-placeholder : (number before after rest : List ℕ) → ¬ (HasSubsl
 filling-placeholder number before after rest none filling =
     more number before after rest filling.pieces none filling.uncut filling.cut filling.filled_is
 
--- ---- What `replace` makes
+-- ---- What `split_once` cuts
 
--- the text is not found
+-- it is not in a text where it isn't found
 none_found : (text : List ℕ) → FindsText placeholder text None → ¬ (HasSubslice text placeholder)
 none_found text none h = let found : false ≡ true = (contains_text false placeholder text none).1 h in cc
 
@@ -68,20 +66,15 @@ none_before text i lacks h =
 cut_at : (text : List ℕ) (i j : ℕ) → HasTextAt placeholder text i j → text ≡ take i text ++ (placeholder ++ drop j text)
 cut_at text i j found = sym (take-append-drop i text) ∙ ap (λ l. take i text ++ l) found.split
 
--- Each match of the placeholder is replaced, and the rest stays.
-pub replaced : (number : List ℕ) (n : ℕ) (p : Bor (List ℕ)) (text out : List ℕ) → p.now ≡ placeholder
-    → ReplacesMatches (λ q. FindsText q.now) (λ q r. r.now ≡ q.now) number n p text out → IsFilling number text out
-replaced number zero p text out is h =
-    let none : FindsText placeholder text None = subst (λ q. FindsText q text None) is h.0 in
-    subst (λ l. IsFilling number text l) (sym h.1) (filling-plain number text (none_found text none))
-replaced number (suc n) p text out is h =
-    let i = h.0 in
-    let j = h.1 in
-    let rest = h.3 in
-    let found : FindsText placeholder text (Some (i, j)) = subst (λ q. FindsText q text (Some (i, j))) is h.4 in
-    let same : h.2.now ≡ placeholder = h.5 ∙ is in
-    let filled : IsFilling number (drop j text) rest =
-    ⊎_elim (λ on. replaced number n h.2 (drop j text) rest same on.1) (λ empty. absurd (omega (arith, found.1.ends, empty.0))) h.6 in
-    subst (λ l. IsFilling number l out) (sym (cut_at text i j found.1))
-    (subst (λ l. IsFilling number (take i text ++ (placeholder ++ drop j text)) l) (sym h.7)
-    (filling-placeholder number (take i text) (drop j text) rest (none_before text i found.0) filled))
+-- what isn't cut is filled by nothing
+pub uncut_filling : (number text : List ℕ) → FindsText placeholder text None → IsFilling number text text
+uncut_filling number text none = filling-plain number text (none_found text none)
+
+-- what is cut at the first placeholder is filled as what stands behind it
+pub cut_filling : (number text before after rest : List ℕ) → SplitsAroundMatch (FindsText placeholder) text before after → IsFilling number after rest
+    → IsFilling number text (before ++ (number ++ rest))
+cut_filling number text before after rest (i, j, found, front, back, _, _, _) filled =
+    let whole : text ≡ before ++ (placeholder ++ after) =
+    cut_at text i j found.1 ∙ (λ k. sym front k ++ (placeholder ++ sym back k)) in
+    let none = subst (λ l. ¬ (HasSubslice l placeholder)) (sym front) (none_before text i found.0) in
+    subst (λ l. IsFilling number l (before ++ (number ++ rest))) (sym whole) (filling-placeholder number before after rest none filled)

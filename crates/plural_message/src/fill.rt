@@ -9,5 +9,14 @@ use std::alloc::{AllocError, Global};
 pub(crate) fn fill(alloc: Global, text: &str, number: &str) -> Result<String, AllocError>
     ensures { IfOk result (λ filled. IsFilling number.now text.now (string_bytes filled)) }
 {
-    text.replace(alloc, "{}", number)
+    // Room for one number, all that most texts need: it is made once, and only more of them let the text grow again.
+    let mut filled = String::with_capacity(alloc, text.len() + number.len())?;
+    let mut rest = text;
+    while let Some((before, after)) = rest.split_once("{}") {
+        filled.push_str(before)?;
+        filled.push_str(number)?;
+        rest = after;
+    }
+    filled.push_str(rest)?;
+    Ok(filled)
 }

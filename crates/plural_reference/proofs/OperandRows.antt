@@ -9,12 +9,13 @@ use Rattle.fixed_decimal.specs.Digits.{AreDigits, value_of}
 use Rattle.fixed_decimal.specs.Places.{Places}
 use Rattle.plural_reference.specs.Operands.{Operands, of_whole, AreExact, AreCut, HasFraction}
 use Rattle.plural_reference.specs.OperandText.{IsWord, WritesCount, WritesFraction, WritesOperands}
-use Rattle.plural_reference.specs.Inner.OperandReader.{HasNo, WritesPointed}
+use Rattle.plural_reference.specs.Inner.OperandReader.{HasCount, WritesBehindPoint}
+use Rattle.std.specs.Char.{IsAsciiDigit}
 use Rattle.plural_reference.specs.Truth.{RelationMeaning, relation_truth}
 use Rattle.plural_reference.specs.Exactness.{exact_value, exact_relation_truth, IsWithinBound, AllDivide}
 use Rattle.plural_reference.specs.declared.ast.Operand.TheVariants.{N, I}
 use Rattle.plural_reference.specs.declared.ast.Operator.TheVariants.{Eq, NotEq}
-use Rattle.plural_reference.proofs.OperandTexts.{names_pointed}
+use Rattle.plural_reference.proofs.OperandTexts.{other_head, same_tail, no_exponent_of, unsigned_behind, named_unsigned}
 
 -- ---- helpers
 
@@ -176,13 +177,16 @@ named_5_10 = inr (codes "5.10", (codes "5", codes ".10", [], five, fraction, inl
 
 -- `1.+5`: a fraction takes no `+`
 no_plus_behind_the_point : (o : Operands) → WritesOperands (codes "1.+5") o → ⊥
-no_plus_behind_the_point o (inr (rest, h, e)) = let k : 49 ≡ 45 = ap (λ l. get_or l 0 0) e in omega (arith, k)
-no_plus_behind_the_point o (inl h) = pointed o (names_pointed (codes "1.+5") (codes "1") (codes "+5") o none refl h)
+no_plus_behind_the_point o h =
+    elim (unsigned_behind (codes "1.+5") 1 (codes ".+5") o one (named_unsigned (codes "1.+5") o h)) [
+      | inl p ↦ pointed o (subst (λ (l : List ℕ). WritesBehindPoint 1 l o) (sym (same_tail 46 46 (codes "+5") p.0 p.1)) p.2)
+      | inr p ↦ no_exponent_of (codes ".+5") (λ z. let s : 3 ≡ 0 = ap length z in omega (arith, s))
+        (λ more z. let b : 46 ≡ 101 = other_head 46 101 (codes "+5") more z in omega (arith, b)) o.c p.0
+    ]
   where
-    none : HasNo 46 (codes "1")
-    none zero i e = omega (arith, e)
-    none (suc k) i e = omega (arith, i)
+    one : HasCount (codes "1.+5") 1 (codes ".+5")
+    one = (codes "1", (1 ∷ [], named (1 ∷ []) (lit< tt) (lit< tt, tt) (lit< tt), refl, inl refl), refl, λ (h : IsAsciiDigit 46). omega (arith, h.0))
 
-    pointed : (o : Operands) → WritesPointed (codes "1") (codes "+5") o → ⊥
-    pointed o (w, ([], tail, word, f, x, e)) = let s : 0 < 0 = word.nonempty in omega (arith, s)
-    pointed o (w, (d ∷ ds, tail, word, f, x, e)) = let k : 43 ≡ 48 + d = ap (λ l. get_or l 0 0) e in omega (arith, k)
+    pointed : (o : Operands) → WritesBehindPoint 1 (codes "+5") o → ⊥
+    pointed o ([], tail, i, word, f, x, e) = let s : 0 < 0 = word.nonempty in omega (arith, s)
+    pointed o (d ∷ ds, tail, i, word, f, x, e) = let k : 43 ≡ 48 + d = ap (λ l. get_or l 0 0) e in omega (arith, k)

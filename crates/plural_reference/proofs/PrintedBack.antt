@@ -6,11 +6,10 @@ use Rattle.std.specs.Prelude.{IfSome}
 use Rattle.plural_reference.specs.declared.ast.Condition.{Condition}
 use Rattle.plural_reference.specs.declared.ast.Samples as samples
 use Rattle.plural_reference.specs.declared.token.Token.{Token}
-use Rattle.plural_reference.specs.Lexer.{AreTokensOf}
+use Rattle.plural_reference.specs.Lexer.{AreTokensOf, TextReads}
 use Rattle.plural_reference.specs.Parser.{ReadsUpTo}
 use Rattle.plural_reference.specs.PrintingLaws.{IsSpellable, SpellableConditionsPrintBack}
 use Rattle.plural_reference.specs.PrintingLaws.{ConditionsPrintBack, RuleHasSmallRuns, RulesPrintBack}
-use Rattle.plural_reference.specs.Reading.{TextReads}
 use Rattle.plural_reference.specs.Samples.{ReadsRule}
 use Rattle.plural_reference.specs.Inner.Scan.{tokens_of, tokens_from}
 use Rattle.plural_reference.specs.Serializer.{condition_text, samples_text, rule_text}

@@ -15,10 +15,9 @@ use Rattle.plural_reference.specs.declared.error.ParseError.TheVariants.{Expecte
 use Rattle.plural_reference.specs.declared.error.ParseError.TheVariants.{ExpectedOperand, ExpectedValue}
 use Rattle.plural_reference.specs.declared.token.Token.{Token}
 use Rattle.plural_reference.specs.declared.token.Token.TheVariants.{Operand, Operator, Number, Dot, DotDot, And, Junk, At}
-use Rattle.plural_reference.specs.Lexer.{AreTokensOf, broken}
+use Rattle.plural_reference.specs.Lexer.{AreTokensOf, broken, TextReads, TextFaulty}
 use Rattle.plural_reference.specs.Parser.{Reads, Faulty, after_and}
 use Rattle.std.specs.Fmt.{digits}
-use Rattle.plural_reference.specs.Reading.{TextReads, TextFaulty}
 use Rattle.plural_reference.specs.Serializer.{condition_text}
 use Rattle.plural_reference.specs.Inner.Scan.{tokens_of, tokens_from}
 use Rattle.plural_reference.specs.Inner.Reader.{run, begin}

@@ -12,9 +12,8 @@ use Rattle.plural_reference.specs.declared.ast.SampleList.{SampleList}
 use Rattle.plural_reference.specs.declared.ast.SampleRange.{SampleRange}
 use Rattle.plural_reference.specs.declared.error.ParseError.{ParseError}
 use Rattle.plural_reference.specs.declared.error.ParseError.TheVariants.{ExpectedValue, ExpectedSampleType}
-use Rattle.plural_reference.specs.Lexer.{ellipsis}
+use Rattle.plural_reference.specs.Lexer.{ellipsis, TextReads, TextFaulty}
 use Rattle.plural_reference.specs.Samples.{ReadsRule, FaultyRule}
-use Rattle.plural_reference.specs.Reading.{TextReads, TextFaulty}
 use Rattle.plural_reference.specs.Serializer.{rule_text}
 use Rattle.plural_reference.specs.Inner.Scan.{tokens_of, tokens_from}
 use Rattle.plural_reference.specs.Inner.Reader.{run}

@@ -3,7 +3,7 @@ use Rattle.std.proofs.Common.{◌≡◌, ℕ, List, Ok, Err, sym, ap, ◌∙◌,
 use Rattle.plural_reference.specs.declared.ast.Condition.{Condition}
 use Rattle.plural_reference.specs.declared.error.ParseError.{ParseError}
 use Rattle.plural_reference.specs.declared.token.Token.{Token}
-use Rattle.plural_reference.specs.Reading.{TextReads, TextFaulty}
+use Rattle.plural_reference.specs.Lexer.{TextReads, TextFaulty}
 use Rattle.plural_reference.specs.ReadingLaws.{TextsAreRead}
 use Rattle.plural_reference.specs.Samples.{ReadsCondition, FaultyRule}
 use Rattle.plural_reference.specs.Inner.Scan.{tokens_of}

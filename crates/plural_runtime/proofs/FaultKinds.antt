@@ -12,27 +12,33 @@ use Rattle.plural_reference.specs.Lexer.{first}
 use Rattle.plural_reference.specs.Parser.{Place, start, after_or, after_and, after_operand, after_modulo, after_modulus, before_value, operand_of, value_of, operand_fault, operator_fault, value_fault, fault}
 use Rattle.plural_reference.specs.Samples.{SamplePlace, after_at, before_sample, after_comma, after_mark, type_fault, sample_fault, fault_in_samples, FaultyRule}
 use Rattle.plural_runtime.specs.declared.error.RuleError.TheVariants.{Parse}
-use Rattle.plural_runtime.specs.RuleBytes.{relation_bytes}
+use Rattle.plural_runtime.specs.PackedRelations.{relation_bytes}
 use Rattle.plural_runtime.specs.PackedTree.{packed, has_large_value, packing}
 use Rattle.plural_runtime.proofs.PackedTrees.{packing-high, packing-ok}
 
+-- a test that names another fault never gives this one
 one_fault : (found : Bool) (kind : ParseError) → kind ≢ ValueTooLarge → (if found then None else Some kind) ≡ Some ValueTooLarge → ⊥
 one_fault true kind n h = cc
 one_fault false kind n h = n cc
 
-of_operand : (at_end : Option ParseError) (t : Option Token) → at_end ≢ Some ValueTooLarge → operand_fault at_end t ≡ Some ValueTooLarge → ⊥
+-- nor does a place where an operand is wanted
+of_operand : (at_end : Option ParseError) (t : Option Token) → at_end ≢ Some ValueTooLarge
+    → operand_fault at_end t ≡ Some ValueTooLarge → ⊥
 of_operand at_end None n h = n h
 of_operand at_end (Some At) n h = n h
 of_operand at_end (Some t) n h = one_fault (is_some (operand_of t)) ExpectedOperand (λ e. cc) h
 
+-- nor one where an operator is wanted
 of_operator : (t : Option Token) → operator_fault t ≡ Some ValueTooLarge → ⊥
 of_operator (Some (Operator o)) h = cc
 of_operator _ h = cc
 
+-- nor one where a value is wanted
 of_value : (t : Option Token) → value_fault t ≡ Some ValueTooLarge → ⊥
 of_value None h = cc
 of_value (Some t) h = one_fault (is_some (value_of t)) ExpectedValue (λ e. cc) h
 
+-- so no place in a condition gives it
 of_condition : (place : Place) (t : Option Token) → fault place t ≡ Some ValueTooLarge → ⊥
 of_condition start t h = of_operand None t (λ e. cc) h
 of_condition after_or t h = of_operand (Some ExpectedAndCondition) t (λ e. cc) h
@@ -43,17 +49,20 @@ of_condition after_modulo t h = of_value t h
 of_condition after_modulus t h = of_operator t h
 of_condition before_value t h = of_value t h
 
+-- nor does the place where the type of samples is wanted
 of_type : (t : Option Token) → type_fault t ≡ Some ValueTooLarge → ⊥
 of_type (Some Integer) h = cc
 of_type (Some Decimal) h = cc
 of_type _ h = cc
 
+-- nor one where a sample is wanted
 of_sample : (t : Option Token) → sample_fault t ≡ Some ValueTooLarge → ⊥
 of_sample (Some Dot) h = cc
 of_sample (Some E) h = cc
 of_sample (Some (Operand C)) h = cc
 of_sample t h = of_value t h
 
+-- so no place in samples gives it
 of_samples : (place : SamplePlace) (t : Option Token) → fault_in_samples place t ≡ Some ValueTooLarge → ⊥
 of_samples after_at t h = of_type t h
 of_samples before_sample t h = of_sample t h

@@ -12,16 +12,17 @@ use Rattle.plural_reference.specs.declared.ast.Operator.{Operator}
 use Rattle.plural_reference.specs.declared.ast.Operator.TheVariants.{Eq, NotEq}
 use Rattle.plural_reference.specs.declared.ast.Operand.{Operand}
 use Rattle.plural_reference.specs.declared.ast.Operand.TheVariants.{N, I, V, W, F, T, C, E}
-use Rattle.plural_runtime.specs.PackedRelations.{PackedRelation, FitsBytes}
-use Rattle.plural_runtime.specs.RuleBytes.{and_or_bit, operator_bit, operand_number, first_byte, range_bytes, relation_bytes, is_item_length, is_relation}
-use Rattle.plural_runtime.specs.Inner.RuleReading.{and_or_in, operator_in, operand_in, operand_numbered, operand_or_n, number_of, range_in, ranges_in, relation_in}
+use Rattle.plural_runtime.specs.PackedRelations.{PackedRelation, FitsBytes, and_or_bit, operator_bit, operand_number, first_byte, range_bytes, relation_bytes, is_item_length, is_relation}
+use Rattle.plural_runtime.specs.Inner.RuleReading.{and_or_in, operator_in, operand_in, operand_numbered, operand_or_n, four_byte_number, range_in, ranges_in, relation_in}
 
+-- the mark, the operator and the operand of a first byte are read of it again
 pub record KindAgain (and_or : AndOr) (operator : Operator) (operand : Operand) : Type 0 where
   pub mark : and_or_in (first_byte and_or operator operand) ≡ and_or
   pub sign : operator_in (first_byte and_or operator operand) ≡ operator
   pub is : operand_in (first_byte and_or operator operand) ≡ Some operand
   pub known : nat_le (first_byte and_or operator operand % 64) 7 ≡ true
 
+-- so they are for each mark, operator and operand
 pub kind_again : (and_or : AndOr) (operator : Operator) (operand : Operand) → KindAgain and_or operator operand
 kind_again And Eq N = record { mark = refl; sign = refl; is = refl; known = refl }
 kind_again And Eq I = record { mark = refl; sign = refl; is = refl; known = refl }
@@ -56,19 +57,24 @@ kind_again Or NotEq T = record { mark = refl; sign = refl; is = refl; known = re
 kind_again Or NotEq C = record { mark = refl; sign = refl; is = refl; known = refl }
 kind_again Or NotEq E = record { mark = refl; sign = refl; is = refl; known = refl }
 
-pub number_again : (n : ℕ) → n < 2 ^ 32 → number_of (n % 256) (n / 256 % 256) (n / 65536 % 256) (n / 16777216 % 256) ≡ n
+-- four bytes of a number below `2 ^ 32` are read as this number
+pub number_again : (n : ℕ) → n < 2 ^ 32 → four_byte_number (n % 256) (n / 256 % 256) (n / 65536 % 256) (n / 16777216 % 256) ≡ n
 number_again n h = omega arith
 
+-- the four bytes of a number, the low one first
 pub le_bytes : (n : ℕ) → to_le_bytes w32 n ≡ (n % 256) ∷ (n / 256 % 256) ∷ (n / 65536 % 256) ∷ (n / 16777216 % 256) ∷ []
 le_bytes n = refl
 
-pub ranges_again : (ranges : List (ℕ × ℕ)) → AllByRecursion (λ range. (range.0 < 2 ^ 32) × (range.1 < 2 ^ 32)) ranges → ranges_in (flat_map range_bytes ranges) ≡ ranges
+-- the bytes of ranges are read as these ranges
+pub ranges_again : (ranges : List (ℕ × ℕ)) → AllByRecursion (λ range. (range.0 < 2 ^ 32) × (range.1 < 2 ^ 32)) ranges
+    → ranges_in (flat_map range_bytes ranges) ≡ ranges
 ranges_again [] h = refl
 ranges_again (range ∷ ranges) h =
     let a = number_again range.0 h.0.0 in
     let b = number_again range.1 h.0.1 in
     rw (a, b, ranges_again ranges h.1) refl
 
+-- each range has eight bytes
 pub length-ranges : (ranges : List (ℕ × ℕ)) → length (flat_map range_bytes ranges) ≡ 8 * length ranges
 length-ranges [] = refl
 length-ranges (range ∷ ranges) = let h = length-ranges ranges in omega arith
@@ -82,7 +88,9 @@ relation_again relation h =
     let r = ranges_again relation.meaning.ranges h.ranges in
     rw (k.mark, k.sign, k.is, m, r) refl
 
-pub item_length : (bytes : List ℕ) (n : ℕ) → length bytes ≡ 8 * n → (nat_le 5 (suc (suc (suc (suc (suc (length bytes)))))) ≡ true) × (((suc (suc (suc (suc (suc (length bytes))))) - 5) % 8 == 0) ≡ true)
+-- the head and whole ranges pass the test of lengths
+pub item_length : (bytes : List ℕ) (n : ℕ) → length bytes ≡ 8 * n → (nat_le 5 (suc (suc (suc (suc (suc (length bytes)))))) ≡ true)
+    × (((suc (suc (suc (suc (suc (length bytes))))) - 5) % 8 == 0) ≡ true)
 item_length bytes n h = (le-leb 5 _ (omega arith), eq-eqb _ 0 (omega arith))
 
 -- the test of items passes what a relation is packed to
@@ -90,9 +98,11 @@ pub packed_is_relation : (relation : PackedRelation) → is_relation (relation_b
 unfolding relation_bytes
 packed_is_relation relation =
     let k = kind_again relation.and_or relation.meaning.operator relation.meaning.operand in
-    let l = item_length (flat_map range_bytes relation.meaning.ranges) (length relation.meaning.ranges) (length-ranges relation.meaning.ranges) in
+    let l = item_length (flat_map range_bytes relation.meaning.ranges) (length relation.meaning.ranges)
+    (length-ranges relation.meaning.ranges) in
     rw (l.0, l.1, k.known) refl
 
+-- the operand that a number up to 7 names has this number
 pub operand_is : (n : ℕ) → n ≤ 7 → operand_number (operand_or_n (operand_numbered n)) ≡ n
 operand_is zero h = refl
 operand_is (suc zero) h = refl
@@ -104,29 +114,34 @@ operand_is (suc (suc (suc (suc (suc (suc zero)))))) h = refl
 operand_is (suc (suc (suc (suc (suc (suc (suc zero))))))) h = refl
 operand_is (suc (suc (suc (suc (suc (suc (suc (suc n)))))))) h = absurd (omega arith)
 
+-- bits 0 to 5 are the number of the operand that they name
 pub operand_byte : (byte : ℕ) → byte % 64 ≤ 7 → operand_number (operand_or_n (operand_in byte)) ≡ byte % 64
 operand_byte byte h = operand_is (byte % 64) h
 
+-- bit 7 is that of the mark that it says
 pub and_or_byte : (byte : ℕ) → byte < 256 → and_or_bit (and_or_in byte) ≡ 128 * (byte / 128)
 and_or_byte byte h = elim (cases_lt byte 128) [
   | inl low ↦ let e = lt-ltb byte 128 low in rw e (omega arith)
   | inr high ↦ let e = le-ltb byte 128 high in rw e (omega arith)
 ]
 
+-- bit 6 is that of the operator that it says
 pub operator_byte : (byte : ℕ) → operator_bit (operator_in byte) ≡ 64 * ((byte % 128) / 64)
 operator_byte byte = elim (cases_lt (byte % 128) 64) [
   | inl low ↦ let e = lt-ltb (byte % 128) 64 low in rw e (omega arith)
   | inr high ↦ let e = le-ltb (byte % 128) 64 high in rw e (omega arith)
 ]
 
-pub four_bytes : (a b c d : ℕ) → a < 256 → b < 256 → c < 256 → d < 256 → to_le_bytes w32 (number_of a b c d) ≡ a ∷ b ∷ c ∷ d ∷ []
+-- four bytes are those of the number that they hold
+pub four_bytes : (a b c d : ℕ) → a < 256 → b < 256 → c < 256 → d < 256 → to_le_bytes w32 (four_byte_number a b c d) ≡ a ∷ b ∷ c ∷ d ∷ []
 four_bytes a b c d ha hb hc hd =
-    let e : number_of a b c d % 256 ≡ a = omega arith in
-    let f : number_of a b c d / 256 % 256 ≡ b = omega arith in
-    let g : number_of a b c d / 65536 % 256 ≡ c = omega arith in
-    let h : number_of a b c d / 16777216 % 256 ≡ d = omega arith in
+    let e : four_byte_number a b c d % 256 ≡ a = omega arith in
+    let f : four_byte_number a b c d / 256 % 256 ≡ b = omega arith in
+    let g : four_byte_number a b c d / 65536 % 256 ≡ c = omega arith in
+    let h : four_byte_number a b c d / 16777216 % 256 ≡ d = omega arith in
     rw (e, f, g, h) refl
 
+-- bytes of whole ranges are those of the ranges that they hold
 pub ranges_spelled : (bytes : List ℕ) → AreBytes bytes → length bytes % 8 ≡ 0 → flat_map range_bytes (ranges_in bytes) ≡ bytes
 ranges_spelled [] is h = refl
 ranges_spelled (a ∷ []) is h = absurd (omega arith)
@@ -141,7 +156,7 @@ ranges_spelled (a ∷ b ∷ c ∷ d ∷ e ∷ f ∷ g ∷ i ∷ bytes) is h =
     let y = four_bytes e f g i (is 4) (is 5) (is 6) (is 7) in
     let l : length bytes % 8 ≡ 0 = omega arith in
     let again = ranges_spelled bytes (λ k. is (suc (suc (suc (suc (suc (suc (suc (suc k))))))))) l in
-    ap (λ p. (p ++ to_le_bytes w32 (number_of e f g i)) ++ flat_map range_bytes (ranges_in bytes)) x
+    ap (λ p. (p ++ to_le_bytes w32 (four_byte_number e f g i)) ++ flat_map range_bytes (ranges_in bytes)) x
     ∙ ap (λ p. a ∷ b ∷ c ∷ d ∷ (p ++ flat_map range_bytes (ranges_in bytes))) y
     ∙ ap (λ p. a ∷ b ∷ c ∷ d ∷ e ∷ f ∷ g ∷ i ∷ p) again
 
@@ -158,9 +173,10 @@ range_spelled (a ∷ b ∷ c ∷ d ∷ e ∷ f ∷ g ∷ []) is h = absurd (omeg
 range_spelled (a ∷ b ∷ c ∷ d ∷ e ∷ f ∷ g ∷ i ∷ []) is h =
     let x = four_bytes a b c d (is 0) (is 1) (is 2) (is 3) in
     let y = four_bytes e f g i (is 4) (is 5) (is 6) (is 7) in
-    ap (λ p. p ++ to_le_bytes w32 (number_of e f g i)) x ∙ ap (λ p. a ∷ b ∷ c ∷ d ∷ p) y
+    ap (λ p. p ++ to_le_bytes w32 (four_byte_number e f g i)) x ∙ ap (λ p. a ∷ b ∷ c ∷ d ∷ p) y
 range_spelled (a ∷ b ∷ c ∷ d ∷ e ∷ f ∷ g ∷ i ∷ j ∷ bytes) is h = absurd (omega arith)
 
+-- the ends that bytes hold fit four bytes each
 pub ranges-fit : (bytes : List ℕ) → AreBytes bytes → AllByRecursion (λ range. (range.0 < 2 ^ 32) × (range.1 < 2 ^ 32)) (ranges_in bytes)
 ranges-fit [] is = tt
 ranges-fit (a ∷ []) is = tt
@@ -170,8 +186,10 @@ ranges-fit (a ∷ b ∷ c ∷ d ∷ []) is = tt
 ranges-fit (a ∷ b ∷ c ∷ d ∷ e ∷ []) is = tt
 ranges-fit (a ∷ b ∷ c ∷ d ∷ e ∷ f ∷ []) is = tt
 ranges-fit (a ∷ b ∷ c ∷ d ∷ e ∷ f ∷ g ∷ []) is = tt
-ranges-fit (a ∷ b ∷ c ∷ d ∷ e ∷ f ∷ g ∷ i ∷ bytes) is =
-    ((omega (arith, is 0, is 1, is 2, is 3), omega (arith, is 4, is 5, is 6, is 7)), ranges-fit bytes (λ k. is (suc (suc (suc (suc (suc (suc (suc (suc k))))))))))
+ranges-fit (a ∷ b ∷ c ∷ d ∷ e ∷ f ∷ g ∷ i ∷ bytes) is = (
+  (omega (arith, is 0, is 1, is 2, is 3), omega (arith, is 4, is 5, is 6, is 7)),
+  ranges-fit bytes (λ k. is (suc (suc (suc (suc (suc (suc (suc (suc k))))))))),
+)
 
 -- what the test of an item says
 pub record Passed (item : List ℕ) : Type 0 where
@@ -179,10 +197,13 @@ pub record Passed (item : List ℕ) : Type 0 where
   pub eights : (length item - 5) % 8 ≡ 0
   pub operand : get_or item 0 0 % 64 ≤ 7
 
+-- an item that passes the test is so long and names an operand
 pub passed_item : (item : List ℕ) → is_relation item ≡ true → Passed item
 passed_item item h =
-    let long = first_so (nat_le 5 (length item)) ((length item - 5) % 8 == 0) (first_so (is_item_length (length item)) (nat_le (get_or item 0 0 % 64) 7) h) in
-    let eights = second_so (nat_le 5 (length item)) ((length item - 5) % 8 == 0) (first_so (is_item_length (length item)) (nat_le (get_or item 0 0 % 64) 7) h) in
+    let long = first_so (nat_le 5 (length item)) ((length item - 5) % 8 == 0)
+    (first_so (is_item_length (length item)) (nat_le (get_or item 0 0 % 64) 7) h) in
+    let eights = second_so (nat_le 5 (length item)) ((length item - 5) % 8 == 0)
+    (first_so (is_item_length (length item)) (nat_le (get_or item 0 0 % 64) 7) h) in
     let low = second_so (is_item_length (length item)) (nat_le (get_or item 0 0 % 64) 7) h in
     record { five = leb-true _ _ long; eights = eqb-true _ _ eights; operand = leb-true _ _ low }
 
@@ -203,13 +224,15 @@ relation_spelled (a ∷ b ∷ c ∷ d ∷ e ∷ bytes) is h =
     let l : length bytes % 8 ≡ 0 = omega (arith, p.eights) in
     let r = ranges_spelled bytes (λ j. is (suc (suc (suc (suc (suc j)))))) l in
     let n = four_bytes b c d e (is 1) (is 2) (is 3) (is 4) in
-    ap (λ q. q ∷ (to_le_bytes w32 (number_of b c d e) ++ flat_map range_bytes (ranges_in bytes))) first
+    ap (λ q. q ∷ (to_le_bytes w32 (four_byte_number b c d e) ++ flat_map range_bytes (ranges_in bytes))) first
     ∙ ap (λ q. a ∷ (q ++ flat_map range_bytes (ranges_in bytes))) n
     ∙ ap (λ q. a ∷ b ∷ c ∷ d ∷ e ∷ q) r
 
+-- what is behind a place in bytes are bytes
 pub get-bytes : (bytes : List ℕ) (n i : ℕ) → AreBytes bytes → get_or (drop n bytes) i 0 < 256
 get-bytes bytes n i is = rw (get_or-drop n bytes i 0) (is (n + i))
 
+-- the numbers of the relation that an item holds fit four bytes each
 pub relation-fits : (item : List ℕ) → AreBytes item → FitsBytes (relation_in item)
 unfolding relation_in
 relation-fits item is = record {

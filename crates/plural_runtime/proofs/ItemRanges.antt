@@ -5,6 +5,7 @@ use Rattle.std.proofs.lemmas.Bool.{cases_eq, eq-eqb, ne_eqb}
 use Rattle.plural_runtime.specs.RuleKinds.{ends, range_or_value}
 use Rattle.plural_runtime.specs.Inner.RuleReading.{range_in, ranges_in}
 
+-- bytes hold a range for each eight of them
 pub length-ranges_in : (bytes : List ℕ) → length (ranges_in bytes) ≡ length bytes / 8
 length-ranges_in [] = refl
 length-ranges_in (a ∷ []) = refl
@@ -16,7 +17,9 @@ length-ranges_in (a ∷ b ∷ c ∷ d ∷ e ∷ f ∷ []) = refl
 length-ranges_in (a ∷ b ∷ c ∷ d ∷ e ∷ f ∷ g ∷ []) = refl
 length-ranges_in (a ∷ b ∷ c ∷ d ∷ e ∷ f ∷ g ∷ i ∷ bytes) = let h = length-ranges_in bytes in omega arith
 
-pub slice_get-ranges_in : (bytes : List ℕ) (k : ℕ) → k < length bytes / 8 → slice_get (ranges_in bytes) k ≡ Some (range_in (drop (8 * k) bytes))
+-- the range at a place is in the eight bytes there
+pub slice_get-ranges_in : (bytes : List ℕ) (k : ℕ) → k < length bytes / 8
+    → slice_get (ranges_in bytes) k ≡ Some (range_in (drop (8 * k) bytes))
 slice_get-ranges_in [] k h = absurd (omega arith)
 slice_get-ranges_in (a ∷ []) k h = absurd (omega arith)
 slice_get-ranges_in (a ∷ b ∷ []) k h = absurd (omega arith)

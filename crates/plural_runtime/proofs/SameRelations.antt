@@ -9,42 +9,48 @@ use Rattle.plural_reference.specs.declared.ast.Operator.{Operator}
 use Rattle.plural_reference.specs.declared.ast.Operator.TheVariants.{Eq, NotEq}
 use Rattle.plural_runtime.specs.declared.kinds.AndOr.{AndOr}
 use Rattle.plural_runtime.specs.declared.kinds.AndOr.TheVariants.{And, Or}
-use Rattle.plural_runtime.specs.PackedRelations.{PackedRelation}
-use Rattle.plural_runtime.specs.RuleBytes.{and_or_bit, operator_bit, operand_number, relation_numbers, is_same_relation}
+use Rattle.plural_runtime.specs.PackedRelations.{PackedRelation, and_or_bit, operator_bit, operand_number, relation_numbers, is_same_relation}
 use Rattle.plural_runtime.specs.Inner.RuleReading.{and_or_in, operator_in, operand_numbered, operand_or_n, ranges_in}
 use Rattle.plural_runtime.specs.Inner.RuleViews.{lent_relation}
 use Rattle.plural_runtime.specs.declared.first_byte.AndOrPolarityOperand.{AndOrPolarityOperand}
-use Rattle.plural_runtime.specs.declared.kinds.Polarity.{Polarity}
-use Rattle.plural_runtime.specs.declared.kinds.Polarity.TheVariants.{Positive, Negative}
-use Rattle.plural_runtime.specs.declared.kinds.Operand.{Operand as PackedOperand}
-use Rattle.plural_runtime.specs.declared.kinds.Operand.TheVariants as packed
 use Rattle.plural_runtime.specs.declared.relation.Relation.{Relation}
 use Rattle.plural_runtime.specs.RuleKinds.{operator_of, tree_operand_of, polarity_of, packed_operand_of}
+use Rattle.plural_runtime.proofs.KindsAgain.{packed_again, polarity_again}
 
 -- the relation of numbers
 abbrev pairs : List ℕ → List (ℕ × ℕ)
 pairs (a ∷ b ∷ ns) = (a, b) ∷ pairs ns
 pairs _ = []
 
+-- the relation that is made of numbers; another one where they are too few
 abbrev of_numbers : List ℕ → PackedRelation → PackedRelation
 of_numbers (mark ∷ operator ∷ operand ∷ modulus ∷ ends) other = record {
   and_or = and_or_in mark;
-  meaning = record { operand = operand_or_n (operand_numbered operand); modulus = modulus; operator = operator_in operator; ranges = pairs ends };
+  meaning = record {
+    operand = operand_or_n (operand_numbered operand);
+    modulus = modulus;
+    operator = operator_in operator;
+    ranges = pairs ends;
+  };
 }
 of_numbers _ other = other
 
+-- ranges come back from their ends
 pairs_again : (ranges : List (ℕ × ℕ)) → pairs (flat_map (λ range. range.0 ∷ range.1 ∷ []) ranges) ≡ ranges
 pairs_again [] = refl
 pairs_again (range ∷ ranges) = ap (λ rs. range ∷ rs) (pairs_again ranges)
 
+-- a mark comes back from its bit
 mark_again : (mark : AndOr) → and_or_in (and_or_bit mark) ≡ mark
 mark_again And = refl
 mark_again Or = refl
 
+-- an operator comes back from its bit
 operator_again : (operator : Operator) → operator_in (operator_bit operator) ≡ operator
 operator_again Eq = refl
 operator_again NotEq = refl
 
+-- an operand comes back from its number
 operand_again : (operand : Operand) → operand_or_n (operand_numbered (operand_number operand)) ≡ operand
 operand_again N = refl
 operand_again I = refl
@@ -55,10 +61,17 @@ operand_again T = refl
 operand_again C = refl
 operand_again E = refl
 
+-- a relation comes back from its numbers
 numbers_again : (relation other : PackedRelation) → of_numbers (relation_numbers relation) other ≡ relation
 numbers_again relation other =
-    rw (mark_again relation.and_or, operator_again relation.meaning.operator, operand_again relation.meaning.operand, pairs_again relation.meaning.ranges) refl
+    rw (
+      mark_again relation.and_or,
+      operator_again relation.meaning.operator,
+      operand_again relation.meaning.operand,
+      pairs_again relation.meaning.ranges,
+    ) refl
 
+-- so relations are equal exactly if their numbers are
 pub is_same_relation-Decides : (relation other : PackedRelation) → Decides (is_same_relation relation other) (relation ≡ other)
 is_same_relation-Decides relation other =
     let same = bytes_eq-Decides (relation_numbers relation) (relation_numbers other) in (
@@ -67,7 +80,8 @@ is_same_relation-Decides relation other =
     )
 
 -- lent relations are the same if their parts are
-pub lent_same : (a b : Relation) → a.kind ≡ b.kind → a.modulo ≡ b.modulo → ranges_in a.ranges.now ≡ ranges_in b.ranges.now → lent_relation a ≡ lent_relation b
+pub lent_same : (a b : Relation) → a.kind ≡ b.kind → a.modulo ≡ b.modulo → ranges_in a.ranges.now ≡ ranges_in b.ranges.now
+    → lent_relation a ≡ lent_relation b
 lent_same a b kind modulo ranges =
     ap (λ (k : AndOrPolarityOperand). relation_of k a.modulo (ranges_in a.ranges.now)) kind
     ∙ ap (λ m. relation_of b.kind m (ranges_in a.ranges.now)) modulo
@@ -76,27 +90,31 @@ lent_same a b kind modulo ranges =
     relation_of : AndOrPolarityOperand → ℕ → List (ℕ × ℕ) → PackedRelation
     relation_of kind modulo ranges = record {
       and_or = kind.and_or;
-      meaning = record { operand = tree_operand_of kind.operand; modulus = modulo; operator = operator_of kind.polarity; ranges = ranges };
+      meaning = record {
+        operand = tree_operand_of kind.operand;
+        modulus = modulo;
+        operator = operator_of kind.polarity;
+        ranges =
+            ranges;
+      };
     }
 
+-- the mark, the polarity and the operand of a relation
 kind_of : PackedRelation → AndOrPolarityOperand
-kind_of relation = record { and_or = relation.and_or; polarity = polarity_of relation.meaning.operator; operand = packed_operand_of relation.meaning.operand }
+kind_of relation = record {
+  and_or = relation.and_or;
+  polarity = polarity_of relation.meaning.operator;
+  operand =
+      packed_operand_of relation.meaning.operand;
+}
 
-polarity_again : (polarity : Polarity) → polarity_of (operator_of polarity) ≡ polarity
-polarity_again Positive = refl
-polarity_again Negative = refl
-
-packed_again : (operand : PackedOperand) → packed_operand_of (tree_operand_of operand) ≡ operand
-packed_again packed.N = refl
-packed_again packed.I = refl
-packed_again packed.V = refl
-packed_again packed.W = refl
-packed_again packed.F = refl
-packed_again packed.T = refl
-packed_again packed.C = refl
-packed_again packed.E = refl
-
-kind_again : (a : Relation) → record { and_or = a.kind.and_or; polarity = polarity_of (operator_of a.kind.polarity); operand = packed_operand_of (tree_operand_of a.kind.operand) } ≡ a.kind
+-- so the kind of a lent relation comes back from its meaning
+kind_again : (a : Relation) → record {
+  and_or = a.kind.and_or;
+  polarity = polarity_of (operator_of a.kind.polarity);
+  operand =
+      packed_operand_of (tree_operand_of a.kind.operand);
+} ≡ a.kind
 kind_again a = rw (polarity_again a.kind.polarity, packed_again a.kind.operand) refl
 
 -- and their kinds are then

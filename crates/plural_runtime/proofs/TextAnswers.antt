@@ -3,7 +3,7 @@ use Rattle.std.proofs.Common.{◌≡◌, ℕ, List, refl, sym, ap, ◌∙◌, in
 use Rattle.std.specs.Prelude.{◌⊎◌, Result, Ok, Err}
 use Rattle.plural_reference.specs.declared.ast.Condition.{Condition}
 use Rattle.plural_reference.specs.declared.error.ParseError.{ParseError}
-use Rattle.plural_reference.specs.Reading.{TextFaulty, TextReads}
+use Rattle.plural_reference.specs.Lexer.{TextFaulty, TextReads}
 use Rattle.plural_reference.specs.Samples.{FaultyRule, ReadsCondition}
 use Rattle.plural_reference.specs.Inner.RuleReader.{condition_of_text}
 use Rattle.plural_reference.specs.ReadingLaws.{TextsAreRead}
@@ -17,7 +17,8 @@ unfolding rule_of_text
 rule_of_text-is text = refl
 
 -- what the grammar gives is what the function gives
-given_is_told : TextsAreRead → (text : List ℕ) (answer : RuleAnswer) → TextGives text answer → answer ≡ packing_of (condition_of_text text)
+given_is_told : TextsAreRead → (text : List ℕ) (answer : RuleAnswer) → TextGives text answer
+    → answer ≡ packing_of (condition_of_text text)
 given_is_told law text answer (inl h) = h.2 ∙ ap packing_of (sym (((law text).0 h.0).0 h.1))
 given_is_told law text answer (inr h) = h.2 ∙ ap packing_of (sym (((law text).1 h.0).0 h.1))
 

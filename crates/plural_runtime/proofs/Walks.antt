@@ -40,39 +40,49 @@ abbrev pub needed_left : Operands → Bool → List PackedRelation → ℕ
 needed_left number holds [] = 0
 needed_left number holds (relation ∷ relations) =
     if ends_true relation.and_or holds then 0
-    else (needed_here number holds relation + needed_left number (holds_after relation.and_or holds (is_true_at number relation)) relations)
+    else (needed_here number holds relation + needed_left number
+    (holds_after relation.and_or holds (is_true_at number relation)) relations)
 
 -- the truth of groups, if the first one is true so far or not
 abbrev pub groups_truth : Operands → Bool → List (List PackedRelation) → Bool
 groups_truth number holds [] = holds
 groups_truth number holds (group ∷ groups) = (holds && group_truth number group) || list_any (group_truth number) groups
 
+-- the last relation of the rule, in the open group
 pub bool_nil : (h t : Bool) → (h && t) ≡ ((h && (t && true)) || false)
 bool_nil true true = refl
 bool_nil true false = refl
 bool_nil false t = refl
 
+-- a relation that goes on in a group
 pub bool_cons : (h t g a : Bool) → (((h && t) && g) || a) ≡ ((h && (t && g)) || a)
 bool_cons true t g a = refl
 bool_cons false t g a = refl
 
+-- the last relation of the rule, in a new group
 pub bool_one : (t : Bool) → t ≡ ((t && true) || false)
 bool_one true = refl
 bool_one false = refl
 
+-- one step of the walk decides as the groups do
 pub truth_step : (number : Operands) (mark : AndOr) (holds : Bool) (relation : PackedRelation) (gs : List (List PackedRelation)) →
-    (if ends_true mark holds then true else groups_truth number (holds_after mark holds (is_true_at number relation)) gs) ≡ groups_truth number holds (cut_before mark (at_front relation gs))
+    (if ends_true mark holds then true else groups_truth number (holds_after mark holds (is_true_at number relation)) gs)
+    ≡ groups_truth number holds (cut_before mark (at_front relation gs))
 truth_step number And holds relation [] = bool_nil holds (is_true_at number relation)
-truth_step number And holds relation (g ∷ gs) = bool_cons holds (is_true_at number relation) (group_truth number g) (list_any (group_truth number) gs)
+truth_step number And holds relation (g ∷ gs) =
+    bool_cons holds (is_true_at number relation) (group_truth number g) (list_any (group_truth number) gs)
 truth_step number Or true relation gs = refl
 truth_step number Or false relation [] = bool_one (is_true_at number relation)
 truth_step number Or false relation (g ∷ gs) = refl
 
-pub truth_left-groups : (number : Operands) (holds : Bool) (relations : List PackedRelation) → truth_left number holds relations ≡ groups_truth number holds (groups relations)
+-- what the walk tells of relations is what their groups tell
+pub truth_left-groups : (number : Operands) (holds : Bool) (relations : List PackedRelation)
+    → truth_left number holds relations ≡ groups_truth number holds (groups relations)
 truth_left-groups number true [] = refl
 truth_left-groups number false [] = refl
 truth_left-groups number holds (relation ∷ relations) =
-    ap (λ b. if ends_true relation.and_or holds then true else b) (truth_left-groups number (holds_after relation.and_or holds (is_true_at number relation)) relations)
+    ap (λ b. if ends_true relation.and_or holds then true else b)
+    (truth_left-groups number (holds_after relation.and_or holds (is_true_at number relation)) relations)
     ∙ truth_step number relation.and_or holds relation (groups relations)
 
 -- there is always a first group
@@ -81,11 +91,14 @@ pub record FirstGroup (relations : List PackedRelation) : Type 0 where
   pub others : List (List PackedRelation)
   pub is : groups relations ≡ first ∷ others
 
-pub front_group : (relation : PackedRelation) (mark : AndOr) (gs : List (List PackedRelation)) → (first : List PackedRelation) × (others : List (List PackedRelation)) × (cut_before mark (at_front relation gs) ≡ first ∷ others)
+-- with a relation at the front there is a first group
+pub front_group : (relation : PackedRelation) (mark : AndOr) (gs : List (List PackedRelation))
+    → (first : List PackedRelation) × (others : List (List PackedRelation)) × (cut_before mark (at_front relation gs) ≡ first ∷ others)
 front_group relation And [] = (relation ∷ [], [], refl)
 front_group relation And (g ∷ gs) = (relation ∷ g, gs, refl)
 front_group relation Or gs = ([], at_front relation gs, refl)
 
+-- relations always have a first group, maybe an empty one
 pub first_group : (relations : List PackedRelation) → FirstGroup relations
 first_group [] = record { first = []; others = []; is = refl }
 first_group (relation ∷ relations) =
@@ -93,7 +106,8 @@ first_group (relation ∷ relations) =
     record { first = f.0; others = f.1; is = f.2 }
 
 -- the walk from the first relation on tells the truth
-pub truth_left-is : (number : Operands) (relations : List PackedRelation) → truth_left number true relations ≡ packed_truth number relations
+pub truth_left-is : (number : Operands) (relations : List PackedRelation)
+    → truth_left number true relations ≡ packed_truth number relations
 unfolding packed_truth
 truth_left-is number relations =
     let f = first_group relations in
@@ -102,46 +116,67 @@ truth_left-is number relations =
 -- what groups need, if the first one is true so far or not
 abbrev pub groups_need : Operands → Bool → List (List PackedRelation) → ℕ
 groups_need number holds [] = 0
-groups_need number holds (group ∷ groups) = (if holds then needed_in_group number group else 0) + (if (holds && group_truth number group) then 0 else needed_in_groups number groups)
+groups_need number holds (group ∷ groups) =
+    (if holds then needed_in_group number group else 0) +
+    (if (holds && group_truth number group) then 0 else needed_in_groups number groups)
 
-pub nat_nil : (h t : Bool) (n : ℕ) → (if h then n else 0) + 0 ≡ (if h then (n + (if t then 0 else 0)) else 0) + (if (h && (t && true)) then 0 else 0)
+-- the last relation of the rule, in the open group: what is needed
+pub nat_nil : (h t : Bool) (n : ℕ)
+    → (if h then n else 0) + 0 ≡ (if h then (n + (if t then 0 else 0)) else 0) + (if (h && (t && true)) then 0 else 0)
 nat_nil true true n = omega arith
 nat_nil true false n = omega arith
 nat_nil false t n = refl
 
-pub nat_cons : (h t g : Bool) (n m s : ℕ) → (if h then n else 0) + ((if (h && t) then m else 0) + (if ((h && t) && g) then 0 else s)) ≡ (if h then (n + (if t then m else 0)) else 0) + (if (h && (t && g)) then 0 else s)
+-- a relation that goes on in a group: what is needed
+pub nat_cons : (h t g : Bool) (n m s : ℕ)
+    → (if h then n else 0) + ((if (h && t) then m else 0) + (if ((h && t) && g) then 0 else s))
+    ≡ (if h then (n + (if t then m else 0)) else 0) + (if (h && (t && g)) then 0 else s)
 nat_cons true true true n m s = omega arith
 nat_cons true true false n m s = omega arith
 nat_cons true false g n m s = omega arith
 nat_cons false t g n m s = omega arith
 
+-- the last relation of the rule, in a new group: what is needed
 pub nat_one : (t : Bool) (n : ℕ) → n + 0 ≡ 0 + ((n + (if t then 0 else 0)) + (if (t && true) then 0 else 0))
 nat_one true n = omega arith
 nat_one false n = omega arith
 
-pub nat_more : (t g : Bool) (n m s : ℕ) → n + ((if t then m else 0) + (if (t && g) then 0 else s)) ≡ 0 + ((n + (if t then m else 0)) + (if (t && g) then 0 else s))
+-- a relation that begins a new group: what is needed
+pub nat_more : (t g : Bool) (n m s : ℕ)
+    → n + ((if t then m else 0) + (if (t && g) then 0 else s)) ≡ 0 + ((n + (if t then m else 0)) + (if (t && g) then 0 else s))
 nat_more true true n m s = omega arith
 nat_more true false n m s = omega arith
 nat_more false g n m s = omega arith
 
+-- one step of the walk needs what the groups do
 pub need_step : (number : Operands) (mark : AndOr) (holds : Bool) (relation : PackedRelation) (gs : List (List PackedRelation)) →
-    (if ends_true mark holds then 0 else ((if is_looked_at mark holds then needed_of_relation number relation.meaning else 0) + groups_need number (holds_after mark holds (is_true_at number relation)) gs))
+    (if ends_true mark holds then 0 else
+    ((if is_looked_at mark holds then needed_of_relation number relation.meaning else 0) + groups_need number
+    (holds_after mark holds (is_true_at number relation)) gs))
     ≡ groups_need number holds (cut_before mark (at_front relation gs))
 need_step number And holds relation [] = nat_nil holds (is_true_at number relation) (needed_of_relation number relation.meaning)
-need_step number And holds relation (g ∷ gs) = nat_cons holds (is_true_at number relation) (group_truth number g) (needed_of_relation number relation.meaning) (needed_in_group number g) (needed_in_groups number gs)
+need_step number And holds relation (g ∷ gs) =
+    nat_cons holds (is_true_at number relation) (group_truth number g) (needed_of_relation number relation.meaning)
+    (needed_in_group number g) (needed_in_groups number gs)
 need_step number Or true relation gs = refl
 need_step number Or false relation [] = nat_one (is_true_at number relation) (needed_of_relation number relation.meaning)
-need_step number Or false relation (g ∷ gs) = nat_more (is_true_at number relation) (group_truth number g) (needed_of_relation number relation.meaning) (needed_in_group number g) (needed_in_groups number gs)
+need_step number Or false relation (g ∷ gs) =
+    nat_more (is_true_at number relation) (group_truth number g) (needed_of_relation number relation.meaning)
+    (needed_in_group number g) (needed_in_groups number gs)
 
-pub needed_left-groups : (number : Operands) (holds : Bool) (relations : List PackedRelation) → needed_left number holds relations ≡ groups_need number holds (groups relations)
+-- what the walk needs of relations is what their groups need
+pub needed_left-groups : (number : Operands) (holds : Bool) (relations : List PackedRelation)
+    → needed_left number holds relations ≡ groups_need number holds (groups relations)
 needed_left-groups number true [] = refl
 needed_left-groups number false [] = refl
 needed_left-groups number holds (relation ∷ relations) =
-    ap (λ n. if ends_true relation.and_or holds then 0 else (needed_here number holds relation + n)) (needed_left-groups number (holds_after relation.and_or holds (is_true_at number relation)) relations)
+    ap (λ n. if ends_true relation.and_or holds then 0 else (needed_here number holds relation + n))
+    (needed_left-groups number (holds_after relation.and_or holds (is_true_at number relation)) relations)
     ∙ need_step number relation.and_or holds relation (groups relations)
 
 -- the walk from the first relation on counts the needed ranges
-pub needed_left-is : (number : Operands) (relations : List PackedRelation) → needed_left number true relations ≡ needed_ranges number relations
+pub needed_left-is : (number : Operands) (relations : List PackedRelation)
+    → needed_left number true relations ≡ needed_ranges number relations
 unfolding needed_ranges
 needed_left-is number relations =
     let f = first_group relations in
@@ -156,19 +191,27 @@ is_read Or holds = not holds
 -- a relation that is read decides whether its group is true so far
 pub record WalkReads (number : Operands) (holds : Bool) (relation : PackedRelation) (others : List PackedRelation) : Type 0 where
   pub truth : truth_left number holds (relation ∷ others) ≡ truth_left number (is_true_at number relation) others
-  pub needed : needed_left number holds (relation ∷ others) ≡ needed_of_relation number relation.meaning + needed_left number (is_true_at number relation) others
+  pub needed : needed_left number holds (relation ∷ others)
+      ≡ needed_of_relation number relation.meaning + needed_left number (is_true_at number relation) others
 
-pub walk_reads : (number : Operands) (holds : Bool) (relation : PackedRelation) (others : List PackedRelation) → is_read relation.and_or holds ≡ true → WalkReads number holds relation others
-walk_reads number holds relation others h = record { truth = truth_by relation.and_or holds h; needed = needed_by relation.and_or holds h }
+-- so the walk goes on with the truth of the relation that it read
+pub walk_reads : (number : Operands) (holds : Bool) (relation : PackedRelation) (others : List PackedRelation)
+    → is_read relation.and_or holds ≡ true → WalkReads number holds relation others
+walk_reads number holds relation others h =
+    record { truth = truth_by relation.and_or holds h; needed = needed_by relation.and_or holds h }
   where
-    truth_by : (mark : AndOr) (holds : Bool) → is_read mark holds ≡ true → (if ends_true mark holds then true else truth_left number (holds_after mark holds (is_true_at number relation)) others) ≡ truth_left number (is_true_at number relation) others
+    truth_by : (mark : AndOr) (holds : Bool) → is_read mark holds ≡ true
+        → (if ends_true mark holds then true else truth_left number (holds_after mark holds (is_true_at number relation)) others)
+        ≡ truth_left number (is_true_at number relation) others
     truth_by And true h = refl
     truth_by And false h = cc
     truth_by Or true h = cc
     truth_by Or false h = refl
 
     needed_by : (mark : AndOr) (holds : Bool) → is_read mark holds ≡ true →
-        (if ends_true mark holds then 0 else ((if is_looked_at mark holds then needed_of_relation number relation.meaning else 0) + needed_left number (holds_after mark holds (is_true_at number relation)) others))
+        (if ends_true mark holds then 0 else
+        ((if is_looked_at mark holds then needed_of_relation number relation.meaning else 0) + needed_left number
+        (holds_after mark holds (is_true_at number relation)) others))
         ≡ needed_of_relation number relation.meaning + needed_left number (is_true_at number relation) others
     needed_by And true h = refl
     needed_by And false h = cc
@@ -180,10 +223,15 @@ pub record WalkSkips (number : Operands) (relation : PackedRelation) (others : L
   pub truth : truth_left number false (relation ∷ others) ≡ truth_left number false others
   pub needed : needed_left number false (relation ∷ others) ≡ needed_left number false others
 
-pub walk_skips : (number : Operands) (relation : PackedRelation) (others : List PackedRelation) → relation.and_or ≡ And → WalkSkips number relation others
+-- so the walk goes on without it
+pub walk_skips : (number : Operands) (relation : PackedRelation) (others : List PackedRelation) → relation.and_or ≡ And
+    → WalkSkips number relation others
 walk_skips number relation others h = record {
-  truth = ap (λ mark. if ends_true mark false then true else truth_left number (holds_after mark false (is_true_at number relation)) others) h;
-  needed = ap (λ mark. if ends_true mark false then 0 else ((if is_looked_at mark false then needed_of_relation number relation.meaning else 0) + needed_left number (holds_after mark false (is_true_at number relation)) others)) h ∙ omega arith;
+  truth = ap (λ mark. if ends_true mark false then true else truth_left number
+      (holds_after mark false (is_true_at number relation)) others) h;
+  needed = ap (λ mark. if ends_true mark false then 0 else
+      ((if is_looked_at mark false then needed_of_relation number relation.meaning else 0) + needed_left number
+      (holds_after mark false (is_true_at number relation)) others)) h ∙ omega arith;
 }
 
 -- a true group ends at Or
@@ -191,8 +239,13 @@ pub record WalkEnds (number : Operands) (relation : PackedRelation) (others : Li
   pub truth : truth_left number true (relation ∷ others) ≡ true
   pub needed : needed_left number true (relation ∷ others) ≡ 0
 
-pub walk_ends : (number : Operands) (relation : PackedRelation) (others : List PackedRelation) → relation.and_or ≡ Or → WalkEnds number relation others
+-- so the walk is done, and nothing more is needed
+pub walk_ends : (number : Operands) (relation : PackedRelation) (others : List PackedRelation) → relation.and_or ≡ Or
+    → WalkEnds number relation others
 walk_ends number relation others h = record {
-  truth = ap (λ mark. if ends_true mark true then true else truth_left number (holds_after mark true (is_true_at number relation)) others) h;
-  needed = ap (λ mark. if ends_true mark true then 0 else ((if is_looked_at mark true then needed_of_relation number relation.meaning else 0) + needed_left number (holds_after mark true (is_true_at number relation)) others)) h;
+  truth = ap (λ mark. if ends_true mark true then true else truth_left number
+      (holds_after mark true (is_true_at number relation)) others) h;
+  needed = ap (λ mark. if ends_true mark true then 0 else
+      ((if is_looked_at mark true then needed_of_relation number relation.meaning else 0) + needed_left number
+      (holds_after mark true (is_true_at number relation)) others)) h;
 }

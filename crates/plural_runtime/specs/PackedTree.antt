@@ -13,12 +13,11 @@ use Rattle.plural_reference.specs.declared.ast.RangeListItem.TheVariants as item
 use Rattle.plural_reference.specs.Truth.{meaning_of, groups_of, RelationMeaning}
 use Rattle.plural_runtime.specs.declared.kinds.AndOr.{AndOr}
 use Rattle.plural_runtime.specs.declared.kinds.AndOr.TheVariants.{And, Or}
-use Rattle.plural_runtime.specs.PackedRelations.{PackedRelation, groups}
+use Rattle.plural_runtime.specs.PackedRelations.{PackedRelation, groups, relation_bytes}
 use Rattle.packed_list.specs.ListBytes.{has_high_start}
 use Rattle.plural_reference.specs.declared.error.ParseError.TheVariants.{ValueTooLarge}
 use Rattle.plural_runtime.specs.declared.error.RuleError.{RuleError}
 use Rattle.plural_runtime.specs.declared.error.RuleError.TheVariants.{Parse, StartLimit, Memory}
-use Rattle.plural_runtime.specs.RuleBytes.{relation_bytes}
 
 -- ---- Packing
 
@@ -80,8 +79,8 @@ abbrev pub unpacked_relation : PackedRelation → Relation
 unpacked_relation relation = unpacked_meaning relation.meaning
 
 -- the condition of groups
-abbrev pub condition_of : List (List Relation) → Condition
-condition_of groups = record { 0 = map (λ group. record { 0 = group }) groups }
+abbrev pub condition_of_groups : List (List Relation) → Condition
+condition_of_groups groups = record { 0 = map (λ group. record { 0 = group }) groups }
 
 -- the groups as and-conditions, none for no relation
 abbrev pub unpacked_groups : List PackedRelation → List (List Relation)
@@ -90,7 +89,7 @@ unpacked_groups (relation ∷ relations) = map (map unpacked_relation) (groups (
 
 -- the tree of relations
 unfoldable pub unpacked : List PackedRelation → Condition
-unpacked relations = condition_of (unpacked_groups relations)
+unpacked relations = condition_of_groups (unpacked_groups relations)
 
 -- ---- Where a rule and its tree are true alike
 

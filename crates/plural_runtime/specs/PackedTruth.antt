@@ -50,5 +50,5 @@ unfoldable pub needed_ranges : Operands → List PackedRelation → ℕ
 needed_ranges number relations = sum_by (λ at. if list_any (group_truth number) at.0 then 0 else needed_of_group number at.1) (with_earlier (groups relations))
 
 -- all ranges of a rule
-abbrev pub all_ranges : List PackedRelation → ℕ
-all_ranges relations = sum_by (λ relation. length relation.meaning.ranges) relations
+abbrev pub range_count : List PackedRelation → ℕ
+range_count relations = sum_by (λ relation. length relation.meaning.ranges) relations

@@ -11,7 +11,7 @@ use Rattle.plural_runtime.specs.declared.range.RangeOrValue.TheVariants.{Range, 
 use Rattle.plural_runtime.specs.PackedRelations.{PackedRelation}
 use Rattle.plural_runtime.specs.RuleKinds.{range_or_value}
 use Rattle.plural_reference.specs.declared.ast.Rule.{Rule as TreeRule}
-use Rattle.plural_reference.specs.Reading.{TextReads}
+use Rattle.plural_reference.specs.Lexer.{TextReads}
 use Rattle.plural_reference.specs.Samples.{ReadsRule}
 use Rattle.plural_runtime.specs.PackedTree.{unpacked, packing}
 
@@ -24,8 +24,8 @@ abbrev pub modulus_text : ℕ → List ℕ
 modulus_text modulus = if modulus == 0 then [] else (codes " % " ++ decimal modulus)
 
 -- the operator, with a space on each side
-abbrev pub sign_text : Operator → List ℕ
-sign_text operator = codes " " ++ operator_text operator ++ codes " "
+abbrev pub operator_shown : Operator → List ℕ
+operator_shown operator = codes " " ++ operator_text operator ++ codes " "
 
 abbrev pub range_shown : RangeOrValue → List ℕ
 range_shown (Range start end) = decimal start ++ (codes ".." ++ decimal end)
@@ -35,7 +35,7 @@ abbrev pub ranges_shown : List (ℕ × ℕ) → List ℕ
 ranges_shown ranges = joined (codes ", ") (λ range. range_shown (range_or_value range)) ranges
 
 abbrev pub relation_shown : RelationMeaning → List ℕ
-relation_shown relation = (operand_text relation.operand ++ modulus_text relation.modulus) ++ (sign_text relation.operator ++ ranges_shown relation.ranges)
+relation_shown relation = (operand_text relation.operand ++ modulus_text relation.modulus) ++ (operator_shown relation.operator ++ ranges_shown relation.ranges)
 
 -- the relations behind the first one
 abbrev pub others_shown : List PackedRelation → List ℕ

@@ -5,7 +5,7 @@ ghost use Rattle.std.specs.Fmt.{DisplaysOnOk};
 ghost use Rattle.plural_reference.specs.Serializer.{operand_text};
 ghost use Rattle.plural_runtime.specs.PackedRelations.{PackedRelation};
 ghost use Rattle.plural_runtime.specs.RuleKinds.{operator_of, tree_operand_of};
-ghost use Rattle.plural_runtime.specs.RuleText.{mark_text, modulus_text, range_shown, ranges_shown, relation_shown, relations_shown, sign_text};
+ghost use Rattle.plural_runtime.specs.RuleText.{mark_text, modulus_text, range_shown, ranges_shown, relation_shown, relations_shown, operator_shown};
 ghost use Rattle.plural_runtime.specs.Inner.RuleViews.{lent_relation};
 
 use crate::kinds::{AndOr, Operand, Polarity};
@@ -98,7 +98,7 @@ fn write_modulus<W: fmt::Write>(modulo: u32, f: &mut fmt::Formatter<W>) -> fmt::
 // Prints the operator and the ranges of a relation.
 fn write_list<W: fmt::Write>(relation: &Relation<'_>, f: &mut fmt::Formatter<W>) -> fmt::Result
     ensures { let meaning = (lent_relation relation.now).meaning in
-        DisplaysOnOk W.write_str_gives f.old result (Some (sign_text meaning.operator ++ ranges_shown meaning.ranges)) f.new }
+        DisplaysOnOk W.write_str_gives f.old result (Some (operator_shown meaning.operator ++ ranges_shown meaning.ranges)) f.new }
 {
     write_sign(relation.polarity(), f)?;
     write_ranges(relation, f)
@@ -106,7 +106,7 @@ fn write_list<W: fmt::Write>(relation: &Relation<'_>, f: &mut fmt::Formatter<W>)
 
 // Prints the operator of a polarity, with a space on each side.
 fn write_sign<W: fmt::Write>(polarity: Polarity, f: &mut fmt::Formatter<W>) -> fmt::Result
-    ensures { DisplaysOnOk W.write_str_gives f.old result (Some (sign_text (operator_of polarity))) f.new }
+    ensures { DisplaysOnOk W.write_str_gives f.old result (Some (operator_shown (operator_of polarity))) f.new }
 {
     f.write_str(" ")?;
     f.write_str(polarity.as_str())?;

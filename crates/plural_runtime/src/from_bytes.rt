@@ -2,8 +2,7 @@
 
 ghost use Rattle.std.specs.Prelude.{◌≡◌, ◌↔◌, ◌≤◌, List, ℕ, length, IfOk, MatchResult, Ok, Err, Some, None};
 ghost use Rattle.packed_list.specs.ListBytes.{ListBytes, HasFault};
-ghost use Rattle.plural_runtime.specs.PackedRelations.{PackedRelation};
-ghost use Rattle.plural_runtime.specs.RuleBytes.{RuleBytes, item_fault, first_fault};
+ghost use Rattle.plural_runtime.specs.PackedRelations.{PackedRelation, RuleBytes, relation_fault, first_relation_fault};
 
 use crate::error::RuleBytesError;
 use crate::first_byte::operand_of;
@@ -23,7 +22,7 @@ impl<'data> Rule<'data> {
         ensures accepted { (relations : List PackedRelation) → RuleBytes relations bytes.now → result ≡ Ok relations }
         ensures list_fault { (fault : ListError) → (result ≡ Err (RuleBytesError.List fault)) ↔ HasFault bytes.now fault }
         ensures item_fault { (items : List (List ℕ)) → ListBytes items bytes.now
-            → MatchResult result (λ _. first_fault 0 items ≡ None) (λ fault. first_fault 0 items ≡ Some fault) }
+            → MatchResult result (λ _. first_relation_fault 0 items ≡ None) (λ fault. first_relation_fault 0 items ≡ Some fault) }
     {
         read_again();
         item_bytes();
@@ -41,7 +40,7 @@ impl<'data> Rule<'data> {
 // What is wrong with the first bad item.
 fn first_fault_of(list: &PackedList<'_>) -> Option<RuleBytesError>
     requires { length list.now ≤ 65535 }
-    ensures { result ≡ first_fault 0 list.now }
+    ensures { result ≡ first_relation_fault 0 list.now }
 {
     for (place, item) in list.iter().enumerate() {
         let fault = fault_of(place, item);
@@ -54,7 +53,7 @@ fn first_fault_of(list: &PackedList<'_>) -> Option<RuleBytesError>
 
 // What is wrong with the item at a place.
 fn fault_of(place: usize, item: &[u8]) -> Option<RuleBytesError>
-    ensures { result ≡ item_fault place item.now }
+    ensures { result ≡ relation_fault place item.now }
 {
     if item.len() < HEAD_LENGTH || (item.len() - HEAD_LENGTH) % RANGE_LENGTH != 0 {
         Some(RuleBytesError::ItemLength(place))

@@ -3,11 +3,10 @@
 ghost use Rattle.std.specs.Prelude.{◌≡◌, ◌↔◌, ◌⊎◌, ◌≤◌, ℕ, List, IsTrue};
 ghost use Rattle.plural_reference.specs.Operands.{Operands};
 ghost use Rattle.plural_reference.specs.Truth.{tree_truth};
-ghost use Rattle.plural_runtime.specs.PackedRelations.{PackedRelation};
-ghost use Rattle.plural_runtime.specs.RuleBytes.{RuleBytes};
+ghost use Rattle.plural_runtime.specs.PackedRelations.{PackedRelation, RuleBytes};
 ghost use Rattle.plural_runtime.specs.Inner.RuleReading.{relations_in};
 ghost use Rattle.plural_runtime.specs.PackedTree.{packed, unpacked, has_no_negated_n};
-ghost use Rattle.plural_runtime.specs.PackedTruth.{packed_truth, needed_ranges, all_ranges};
+ghost use Rattle.plural_runtime.specs.PackedTruth.{packed_truth, needed_ranges, range_count};
 ghost use Rattle.plural_runtime.specs.RuleOfText.{TextsGiveOneAnswer};
 ghost use Rattle.plural_runtime.specs.RuleText.{PrintedRulesPackAgain};
 
@@ -39,7 +38,7 @@ pub fn packs_again()
 
 /// No more ranges are needed than there are.
 pub fn at_most_all()
-    ensures { (number : Operands) (relations : List PackedRelation) → needed_ranges number relations ≤ all_ranges relations }
+    ensures { (number : Operands) (relations : List PackedRelation) → needed_ranges number relations ≤ range_count relations }
 {}
 
 /// A rule is true exactly where its tree is, if the fraction is zero or no relation tests `n` with `!=`.

@@ -3,9 +3,9 @@
 ghost use Rattle.std.specs.Prelude.{◌≡◌, ◌≤◌, ◌+◌, ◌<◌, min, length, option_map, IsTrue};
 ghost use Rattle.std.specs.Fn.{iterate};
 ghost use Rattle.plural_reference.specs.Truth.{holds_value, is_in_ranges, operand_value, range_holds, remainder};
-ghost use Rattle.plural_runtime.specs.RuleBytes.{is_relation, is_whole, range_length};
+ghost use Rattle.plural_runtime.specs.PackedRelations.{is_relation, is_whole, range_length};
 ghost use Rattle.plural_runtime.specs.Inner.RuleReading.{relation_in, range_in, ranges_in};
-ghost use Rattle.plural_runtime.specs.PackedTruth.{packed_truth, is_true_at, needed_ranges, all_ranges, needed_of_relation, needed_of_list};
+ghost use Rattle.plural_runtime.specs.PackedTruth.{packed_truth, is_true_at, needed_ranges, range_count, needed_of_relation, needed_of_list};
 
 use crate::item::{RANGE_LENGTH, and_or_at, modulo_at, operand_at, polarity_at, ranges_at};
 use crate::kinds::{AndOr, Polarity};
@@ -33,7 +33,7 @@ pub fn test_rule(rule: &Rule<'_>, operands: &PluralOperands) -> bool
 pub fn test_rule_counted(rule: &Rule<'_>, operands: &PluralOperands, steps: &mut Steps) -> bool
     ensures answer { result ≡ packed_truth operands.now rule.now }
     ensures count { steps.new ≡ min (steps.old + needed_ranges operands.now rule.now) 18446744073709551615 }
-    ensures at_most { steps.new ≤ steps.old + all_ranges rule.now }
+    ensures at_most { steps.new ≤ steps.old + range_count rule.now }
 {
     // Read for the proof: that the count so far is one of 64 bits.
     let _before = steps.count();

@@ -1,6 +1,6 @@
 -- A reader of list bytes, for the view of a list, for bytes that are known to be one, and for laws. Not a definition of the subject.
 use Rattle.std.specs.Prelude.{ℕ, suc, ◌+◌, ◌-◌, ◌*◌, ◌<◌, ◌≤◌, List, [], ◌∷◌, length, drop, slice_index, slice_range}
-use Rattle.packed_list.specs.ListBytes.{ListBytes, number_at, start_at}
+use Rattle.packed_list.specs.ListBytes.{ListBytes, two_byte_number, start_at}
 
 -- each number of a list is a byte
 abbrev pub AreBytes : List ℕ → Type 0
@@ -21,7 +21,7 @@ unfoldable pub items_in : List ℕ → List (List ℕ)
 items_in [] = []
 items_in (byte ∷ bytes) =
     let all = byte ∷ bytes in
-    let count = number_at all 0 in
+    let count = two_byte_number all 0 in
     pieces_from 0 (numbers (count - 1) (drop 2 all)) (drop (2 * count) all)
 
 -- the bytes are those of the items that they hold
@@ -30,4 +30,4 @@ IsList bytes = ListBytes (items_in bytes) bytes
 
 -- no start is bad
 abbrev pub HasGoodStarts : List ℕ → Type 0
-HasGoodStarts bytes = (k : ℕ) → k + 1 < number_at bytes 0 → (start_at bytes k ≤ start_at bytes (k + 1)) × (2 * number_at bytes 0 + start_at bytes (k + 1) ≤ length bytes)
+HasGoodStarts bytes = (k : ℕ) → k + 1 < two_byte_number bytes 0 → (start_at bytes k ≤ start_at bytes (k + 1)) × (2 * two_byte_number bytes 0 + start_at bytes (k + 1) ≤ length bytes)

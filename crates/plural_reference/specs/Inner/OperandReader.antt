@@ -1,11 +1,10 @@
 -- Not a definition of the subject: the digits of a number from a power of ten down, of which a private contract speaks.
-use Rattle.std.specs.Prelude.{ℕ, zero, suc, ℤ, pos, ◌-ℤ◌, List, [], ◌∷◌, ◌++◌, ◌≡◌, ◌≢◌, ◌<◌, length, slice_index, Result, Ok, Err}
+use Rattle.std.specs.Prelude.{ℕ, zero, suc, ℤ, pos, ◌-ℤ◌, List, [], ◌∷◌, ◌++◌, ◌≡◌, ◌==◌, if◌then◌else◌, length, Option, Some, None}
+use Rattle.std.specs.Char.{IsAsciiDigit}
 use Rattle.fixed_decimal.specs.Places.{Places, digit_at}
 use Rattle.fixed_decimal.specs.Digits.{value_of, text_of}
 use Rattle.plural_reference.specs.Operands.{Operands, HasFraction}
 use Rattle.plural_reference.specs.OperandText.{IsWord, WritesCount, WritesExponent}
-use Rattle.plural_reference.specs.declared.operands.error.OperandsError.{OperandsError}
-use Rattle.plural_reference.specs.declared.operands.error.OperandsError.TheVariants.{Invalid}
 
 abbrev pub digits_from : Places → ℤ → ℕ → List ℕ
 digits_from x top zero = []
@@ -13,38 +12,37 @@ digits_from x top (suc n) = digits_from x top n ++ digit_at x (top -ℤ pos n) �
 
 -- ---- Not a definition of the subject: the parts of a text of operands, of which private contracts speak.
 
--- the answer is what the text writes, or Invalid where it writes nothing
-abbrev pub Answers : {A : Type 0} → (A → Type 0) → Result A OperandsError → Type 0
-Answers Writes (Ok a) = Writes a
-Answers {A} Writes (Err e) = (e ≡ Invalid) × ((a : A) → ¬ (Writes a))
+-- the answer is what the text writes, or none where it writes nothing
+abbrev pub Answers : {A : Type 0} → (A → Type 0) → Option A → Type 0
+Answers Writes (Some a) = Writes a
+Answers {A} Writes None = (a : A) → ¬ (Writes a)
 
--- digits alone
-abbrev pub WritesDigits : List ℕ → ℕ → Type 0
-WritesDigits text n = (ds : List ℕ) × IsWord ds × (value_of ds ≡ n) × (text ≡ text_of ds)
+-- what stands behind a sign, or the whole text where it hasn't that sign
+abbrev pub without_sign : ℕ → List ℕ → List ℕ
+without_sign sign [] = []
+without_sign sign (b ∷ bytes) = if b == sign then bytes else (b ∷ bytes)
 
-abbrev pub HasNo : ℕ → List ℕ → Type 0
-HasNo byte text = (i : ℕ) → i < length text → slice_index text i ≢ byte
+-- no digit begins the text
+abbrev pub BeginsWithNoDigit : List ℕ → Type 0
+BeginsWithNoDigit [] = Unit {0}
+BeginsWithNoDigit (b ∷ bytes) = ¬ (IsAsciiDigit b)
 
--- what stands before the first `e`, and what the rest says of the exponent
-abbrev pub EndsInExponent : List ℕ → List ℕ → ℕ → Type 0
-EndsInExponent text front c = (rest : List ℕ) × HasNo 101 front × WritesExponent rest c × (text ≡ front ++ rest)
+-- all digits at the front, of a value that 64 bits hold, and the rest
+pub record HasWord (text ds rest : List ℕ) : Type 0 where
+  pub word : IsWord ds
+  pub spelled : text ≡ text_of ds ++ rest
+  pub whole : BeginsWithNoDigit rest
 
--- a count and perhaps an exponent
-abbrev pub WritesWhole : List ℕ → Operands → Type 0
-WritesWhole text o =
-    (whole : List ℕ)
-    × WritesCount whole o.i
-    × HasFraction o 0 0
-    × ((rest : List ℕ) × WritesExponent rest o.c × (text ≡ whole ++ rest))
+-- the same perhaps behind a `+`, and the number that the digits write
+abbrev pub HasCount : List ℕ → ℕ → List ℕ → Type 0
+HasCount text n rest = (front : List ℕ) × WritesCount front n × (text ≡ front ++ rest) × BeginsWithNoDigit rest
 
--- a count, and behind the point digits and perhaps an exponent
-abbrev pub WritesPointed : List ℕ → List ℕ → Operands → Type 0
-WritesPointed whole text o =
-    WritesCount whole o.i
-    × (
+-- behind an integer and its point: digits and perhaps an exponent
+abbrev pub WritesBehindPoint : ℕ → List ℕ → Operands → Type 0
+WritesBehindPoint i text o =
     (ds rest : List ℕ)
+    × (o.i ≡ i)
     × IsWord ds
     × HasFraction o (length ds) (value_of ds)
     × WritesExponent rest o.c
     × (text ≡ text_of ds ++ rest)
-    )

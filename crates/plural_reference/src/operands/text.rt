@@ -1,9 +1,9 @@
 //! The operands that texts name.
 
-ghost use Rattle.std.specs.Prelude.{◌≡◌, IfOk, IfErr, ℕ, List};
-ghost use Rattle.plural_reference.specs.OperandText.{WritesCount, WritesUnsignedOperands, ReadsOperands};
-ghost use Rattle.plural_reference.specs.Inner.OperandReader.{Answers, WritesDigits, EndsInExponent, WritesWhole, WritesPointed};
-ghost use Rattle.plural_reference.specs.declared.operands.error.OperandsError.TheVariants.{Invalid};
+ghost use Rattle.std.specs.Prelude.{◌≡◌, ◌+◌, ◌*◌, ◌^◌, ◌<◌, ◌≤◌, ℕ, List, length, IfSome, IfNone};
+ghost use Rattle.fixed_decimal.specs.Digits.{value_of};
+ghost use Rattle.plural_reference.specs.OperandText.{WritesCount, WritesExponent, WritesUnsignedOperands, ReadsOperands};
+ghost use Rattle.plural_reference.specs.Inner.OperandReader.{Answers, HasCount, HasWord, WritesBehindPoint, without_sign};
 
 use crate::operands::{OperandsError, PluralOperands};
 use std::str::FromStr;
@@ -20,71 +20,110 @@ impl FromStr for PluralOperands {
     ghost from_str_gives = { ReadsOperands };
 
     fn from_str(text: &str) -> Result<PluralOperands, OperandsError> {
+        let text = text.as_bytes();
         if text.is_empty() {
             return Err(OperandsError::Empty);
         }
-        match text.strip_prefix('-') {
-            Some(rest) => read_unsigned(rest),
-            None => read_unsigned(text),
+        match read_unsigned(behind_sign(b'-', text)) {
+            Some(operands) => Ok(operands),
+            None => Err(OperandsError::Invalid),
         }
     }
 }
 
-// A text without `-`: the first point parts the integer from the fraction.
-fn read_unsigned(text: &str) -> Result<PluralOperands, OperandsError>
+// What a text without `-` names.
+fn read_unsigned(text: &[u8]) -> Option<PluralOperands>
     ensures { Answers (WritesUnsignedOperands text.now) result }
 {
-    match text.split_once('.') {
-        Some((whole, rest)) => read_pointed(whole, rest),
-        None => read_whole(text),
+    let (i, rest) = read_count(text)?;
+    match rest {
+        [b'.', rest @ ..] => read_fraction(i, rest),
+        _ => Some(PluralOperands::from_parts(i, 0, 0, read_exponent(rest)?)),
     }
 }
 
-// An integer, and what stands behind its point.
-fn read_pointed(whole: &str, rest: &str) -> Result<PluralOperands, OperandsError>
-    ensures { Answers (WritesPointed whole.now rest.now) result }
+// The same, behind an integer and its point.
+#[inline]
+fn read_fraction(i: u64, text: &[u8]) -> Option<PluralOperands>
+    ensures { Answers (WritesBehindPoint i text.now) result }
 {
-    let i = read_count(whole)?;
-    let (fraction, c) = split_exponent(rest)?;
-    let f = read_digits(fraction)?;
-    Ok(PluralOperands::from_parts(i, fraction.len(), f, c))
+    let (f, v, rest) = read_digits(text)?;
+    Some(PluralOperands::from_parts(i, v, f, read_exponent(rest)?))
 }
 
-// An integer and perhaps an exponent.
-fn read_whole(text: &str) -> Result<PluralOperands, OperandsError>
-    ensures { Answers (WritesWhole text.now) result }
+// Nothing, for 0, or `e` and a count.
+#[inline]
+fn read_exponent(text: &[u8]) -> Option<usize>
+    ensures { Answers (WritesExponent text.now) result }
 {
-    let (whole, c) = split_exponent(text)?;
-    let i = read_count(whole)?;
-    Ok(PluralOperands::from_parts(i, 0, 0, c))
-}
-
-// What stands before the first `e`, and the count behind it; the whole text and 0 where there is none.
-fn split_exponent(text: &str) -> Result<(&str, usize), OperandsError>
-    ensures found { IfOk result (λ parts. EndsInExponent text.now parts.0.now parts.1) }
-    ensures none { IfErr result (λ e.
-        (e ≡ Invalid) × ((front : List ℕ) (c : ℕ) → ¬ (EndsInExponent text.now front c))) }
-{
-    let Some((front, count)) = text.split_once('e') else {
-        return Ok((text, 0));
-    };
-    let exponent = read_count(count)?;
-    Ok((front, exponent as usize))
-}
-
-// Digits without a sign.
-fn read_digits(text: &str) -> Result<u64, OperandsError>
-    ensures { Answers (WritesDigits text.now) result }
-{
-    if text.starts_with('+') {
-        return Err(OperandsError::Invalid);
+    match text {
+        [] => Some(0),
+        [b'e', rest @ ..] => read_last_count(rest),
+        _ => None,
     }
-    read_count(text)
 }
 
-// Digits, perhaps behind a `+`.
-fn read_count(text: &str) -> Result<u64, OperandsError>
+// A count, behind which the text ends.
+fn read_last_count(text: &[u8]) -> Option<usize>
     ensures { Answers (WritesCount text.now) result }
 {
-    Ok(text.parse::<u64>()?)
+    let (count, rest) = read_count(text)?;
+    if rest.is_empty() {
+        Some(count as usize)
+    } else {
+        None
+    }
+}
+
+// The count at the front, digits perhaps behind a `+`, and the rest.
+#[inline]
+fn read_count(text: &[u8]) -> Option<(u64, &[u8])>
+    ensures found { IfSome result (λ r. HasCount text.now r.0 r.1.now) }
+    ensures none { IfNone result ((n : ℕ) (rest : List ℕ) → ¬ (HasCount text.now n rest)) }
+{
+    let (number, _, rest) = read_digits(behind_sign(b'+', text))?;
+    Some((number, rest))
+}
+
+// What stands behind a sign, or the whole text where it hasn't that sign.
+#[inline]
+fn behind_sign(sign: u8, text: &[u8]) -> &[u8]
+    ensures { result.now ≡ without_sign sign text.now }
+{
+    match text {
+        [first, rest @ ..] if *first == sign => rest,
+        _ => text,
+    }
+}
+
+// The number that all digits at the front write, how many they are, and the rest.
+#[inline]
+fn read_digits(text: &[u8]) -> Option<(u64, usize, &[u8])>
+    ensures found { IfSome result (λ r.
+        (ds : List ℕ) × HasWord text.now ds r.2.now × (r.0 ≡ value_of ds) × (r.1 ≡ length ds)) }
+    ensures none { IfNone result ((ds rest : List ℕ) → ¬ (HasWord text.now ds rest)) }
+{
+    let mut number = 0;
+    let mut rest = text;
+    while let [digit, after @ ..] = rest {
+        if !digit.is_ascii_digit() {
+            break;
+        }
+        number = with_digit(number, *digit - b'0')?;
+        rest = after;
+    }
+    let count = text.len() - rest.len();
+    if count == 0 {
+        return None;
+    }
+    Some((number, count, rest))
+}
+
+// A number with one more digit, where 64 bits hold it.
+#[inline]
+fn with_digit(number: u64, digit: u8) -> Option<u64>
+    ensures some { IfSome result (λ n. n ≡ number * 10 + digit) }
+    ensures none { IfNone result (2 ^ 64 ≤ number * 10 + digit) }
+{
+    number.checked_mul(10)?.checked_add(u64::from(digit))
 }

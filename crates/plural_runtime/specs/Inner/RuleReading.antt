@@ -7,8 +7,7 @@ use Rattle.plural_reference.specs.declared.ast.Operator.{Operator}
 use Rattle.plural_reference.specs.declared.ast.Operator.TheVariants.{Eq, NotEq}
 use Rattle.plural_runtime.specs.declared.kinds.AndOr.{AndOr}
 use Rattle.plural_runtime.specs.declared.kinds.AndOr.TheVariants.{And, Or}
-use Rattle.plural_runtime.specs.PackedRelations.{PackedRelation}
-use Rattle.plural_runtime.specs.RuleBytes.{head_length, RuleBytes}
+use Rattle.plural_runtime.specs.PackedRelations.{PackedRelation, head_length, RuleBytes}
 
 -- what bit 7 of a byte says
 abbrev pub and_or_in : ℕ → AndOr
@@ -32,19 +31,19 @@ operand_or_n None = N
 operand_or_n (Some operand) = operand
 
 -- four bytes as a number, low byte first
-abbrev pub number_of : ℕ → ℕ → ℕ → ℕ → ℕ
-number_of a b c d = a + 256 * (b + 256 * (c + 256 * d))
+abbrev pub four_byte_number : ℕ → ℕ → ℕ → ℕ → ℕ
+four_byte_number a b c d = a + 256 * (b + 256 * (c + 256 * d))
 
 -- both ends of a range in eight bytes
 abbrev pub range_in : List ℕ → ℕ × ℕ
 range_in bytes = (
-  number_of (slice_index bytes 0) (slice_index bytes 1) (slice_index bytes 2) (slice_index bytes 3),
-  number_of (slice_index bytes 4) (slice_index bytes 5) (slice_index bytes 6) (slice_index bytes 7),
+  four_byte_number (slice_index bytes 0) (slice_index bytes 1) (slice_index bytes 2) (slice_index bytes 3),
+  four_byte_number (slice_index bytes 4) (slice_index bytes 5) (slice_index bytes 6) (slice_index bytes 7),
 )
 
 -- the ranges in eight bytes each
 abbrev pub ranges_in : List ℕ → List (ℕ × ℕ)
-ranges_in (a ∷ b ∷ c ∷ d ∷ e ∷ f ∷ g ∷ h ∷ bytes) = (number_of a b c d, number_of e f g h) ∷ ranges_in bytes
+ranges_in (a ∷ b ∷ c ∷ d ∷ e ∷ f ∷ g ∷ h ∷ bytes) = (four_byte_number a b c d, four_byte_number e f g h) ∷ ranges_in bytes
 ranges_in _ = []
 
 -- the relation that an item of a rule holds
@@ -53,7 +52,7 @@ relation_in bytes = record {
   and_or = and_or_in (slice_index bytes 0);
   meaning = record {
     operand = operand_or_n (operand_in (slice_index bytes 0));
-    modulus = number_of (slice_index bytes 1) (slice_index bytes 2) (slice_index bytes 3) (slice_index bytes 4);
+    modulus = four_byte_number (slice_index bytes 1) (slice_index bytes 2) (slice_index bytes 3) (slice_index bytes 4);
     operator = operator_in (slice_index bytes 0);
     ranges = ranges_in (drop head_length bytes);
   };

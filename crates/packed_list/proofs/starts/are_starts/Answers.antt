@@ -3,7 +3,8 @@ use Rattle.std.proofs.lemmas.Bool.{cases_lt}
 use Rattle.packed_list.specs.ListBytes.{start_at}
 use Rattle.packed_list.proofs.ListPlaces.{start_at-positive}
 use Rattle.packed_list.proofs.starts.are_starts.Goals as goal
-use Rattle.packed_list.proofs.starts.are_starts.Goals.{then-start-before-via-then-start-before, then-start-before-via-else-start-before+then-bytes-count}
+use Rattle.packed_list.proofs.starts.are_starts.Goals.{then-start-before-via-then-start-before}
+use Rattle.packed_list.proofs.starts.are_starts.Goals.{then-start-before-via-else-start-before+then-bytes-count}
 
 pub loop-index-init : goal.loop-index-init
 loop-index-init c = record {
@@ -18,14 +19,16 @@ returns-then-start-before-clause-bad c =
     let one : (i - 1) + 1 ≡ i = omega (arith, c.loop-index.auto.index) in
     let last = c.loop-index.invariant.last (i - 1) one in
     let here : start_at bytes ((i - 1) + 1) ≡ c.number-start.result =
-    ap (start_at bytes) one ∙ start_at-positive bytes i (λ z. omega (arith, c.loop-index.auto.index)) ∙ sym c.number-start.ensures.value in
+    ap (start_at bytes) one ∙ start_at-positive bytes i (λ z. omega (arith, c.loop-index.auto.index))
+    ∙ sym c.number-start.ensures.value in
     λ _. record {
       header = omega (arith, c.requires.count, c.requires.header);
       item = i - 1;
       is_item = omega (arith, one, c.loop-index-test.true, c.requires.count);
       is_bad = elim c.then-start-before.branch [
         | then-start-before-via-then-start-before w ↦ inl (omega (arith, here, last, w.if-start-before.true))
-        | then-start-before-via-else-start-before+then-bytes-count w ↦ inr (omega (arith, here, c.requires.count, c.requires.header, w.if-bytes-count.true))
+        | then-start-before-via-else-start-before+then-bytes-count w ↦ inr
+            (omega (arith, here, c.requires.count, c.requires.header, w.if-bytes-count.true))
       ];
     }
 

@@ -6,5 +6,6 @@ use Rattle.packed_list.proofs.starts.are_starts.Given as goal
 abbrev pub invariant-loop-index : goal.invariant-loop-index
 invariant-loop-index l = record {
   last : (k : ℕ) → k + 1 ≡ l.index → l.before ≡ start_at l.bytes k;
-  good : (k : ℕ) → k + 1 < l.index → (start_at l.bytes k ≤ start_at l.bytes (k + 1)) × (2 * l.count + start_at l.bytes (k + 1) ≤ length l.bytes);
+  good : (k : ℕ) → k + 1 < l.index → (start_at l.bytes k ≤ start_at l.bytes (k + 1))
+      × (2 * l.count + start_at l.bytes (k + 1) ≤ length l.bytes);
 }

@@ -4,7 +4,8 @@ use Rattle.packed_list.proofs.writer.push_items.Given as goal
 
 -- What is written and the items that are left are all items.
 abbrev pub invariant-loop-item : goal.invariant-loop-item
-invariant-loop-item g l = l.bytes.items ++ concat (g.I.ByteItems.items l.left) ≡ l.fn.bytes.items ++ concat (g.I.ByteItems.items l.fn.items)
+invariant-loop-item g l = l.bytes.items ++ concat (g.I.ByteItems.items l.left)
+    ≡ l.fn.bytes.items ++ concat (g.I.ByteItems.items l.fn.items)
 
 abbrev pub decreases-loop-item : goal.decreases-loop-item
 decreases-loop-item g l = length (g.I.ByteItems.items l.left)

@@ -9,7 +9,8 @@ abbrev pub invariant-loop-item : goal.invariant-loop-item
 invariant-loop-item g l = record {
   room : vec_len l.bytes + 2 * length (g.I.ByteItems.items l.left) ≤ vec_capacity l.bytes;
   left : list_any (λ start. nat_lt 65535 start) (starts_from l.start (g.I.ByteItems.items l.left)) ≡ false;
-  written : l.bytes.items ++ flat_map two_bytes (starts_from l.start (g.I.ByteItems.items l.left)) ≡ l.fn.bytes.items ++ flat_map two_bytes (starts_from l.place (g.I.ByteItems.items l.fn.items));
+  written : l.bytes.items ++ flat_map two_bytes (starts_from l.start (g.I.ByteItems.items l.left))
+      ≡ l.fn.bytes.items ++ flat_map two_bytes (starts_from l.place (g.I.ByteItems.items l.fn.items));
 }
 
 abbrev pub decreases-loop-item : goal.decreases-loop-item

@@ -9,7 +9,8 @@ abbrev pub invariant-loop-item : goal.invariant-loop-item
 invariant-loop-item g l = record {
   count : l.count + length (g.I.ByteItems.items l.left) ≡ length (g.I.ByteItems.items l.fn.items);
   few : l.count ≤ 65535;
-  left : list_any (λ start. nat_lt 65535 start) (starts_from l.start (g.I.ByteItems.items l.left)) ≡ has_high_start (g.I.ByteItems.items l.fn.items);
+  left : list_any (λ start. nat_lt 65535 start) (starts_from l.start (g.I.ByteItems.items l.left))
+      ≡ has_high_start (g.I.ByteItems.items l.fn.items);
   total : l.start + length (concat (g.I.ByteItems.items l.left)) ≡ length (concat (g.I.ByteItems.items l.fn.items));
   place : l.start < 2 ^ 63 + 131072;
 }

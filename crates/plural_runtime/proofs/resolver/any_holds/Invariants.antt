@@ -11,7 +11,8 @@ invariant-loop-others g l = record {
   whole : IsTrue (length l.rest % 8 == 0);
   some : 8 ≤ length l.rest;
   left : is_in_ranges (ranges_in l.rest) l.value ≡ is_in_ranges (ranges_in l.ranges) l.value;
-  count : iterate g.C.Counter.after_one (needed_from l.value (ranges_in l.rest)) l.counter ≡ iterate g.C.Counter.after_one (needed_from l.value (ranges_in l.ranges)) l.fn.counter;
+  count : iterate g.C.Counter.after_one (needed_from l.value (ranges_in l.rest)) l.counter
+      ≡ iterate g.C.Counter.after_one (needed_from l.value (ranges_in l.ranges)) l.fn.counter;
 }
 
 abbrev pub decreases-loop-others : goal.decreases-loop-others

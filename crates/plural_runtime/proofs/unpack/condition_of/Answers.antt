@@ -16,7 +16,8 @@ loop-item-init c =
     let rule = c.args.rule.now in
     let left = c.into_iter-item-iterator.result in
     let all = c.into_iter-item-iterator.ensures.into_iter_gives ∙ c.iter-item-items.ensures in
-    ap (λ (done : List AndCondition). glued (map (λ (c : AndCondition). c.0) done) c.new-group.result.items left) c.new-groups.ensures.items
+    ap (λ (done : List AndCondition). glued
+    (map (λ (c : AndCondition). c.0) done) c.new-group.result.items left) c.new-groups.ensures.items
     ∙ ap (λ group. glued [] group left) c.new-group.ensures.items ∙ ap (glued [] []) all
     ∙ glued-all rule (omega (arith, eqb-false _ _ (sym c.if-is_empty.ensures)))
 

@@ -23,7 +23,13 @@ loop-range-preserved c =
     let items = c.loop-range.items.items in
     let others = map item_of c.next.new.self in
     record {
-      room = omega (arith, c.push_reserved.ensures.len, c.push_reserved.ensures.capacity, ap length c.in-Some.ensures.steps, c.loop-range.invariant.room);
+      room = omega (
+        arith,
+        c.push_reserved.ensures.len,
+        c.push_reserved.ensures.capacity,
+        ap length c.in-Some.ensures.steps,
+        c.loop-range.invariant.room,
+      );
       made = ap (λ made. made ++ others) c.push_reserved.ensures.items ∙ append_assoc items (c.from.result ∷ []) others
           ∙ ap (λ item. items ++ item ∷ others) c.from.ensures ∙ ap (λ left. items ++ map item_of left) (sym c.in-Some.ensures.steps)
           ∙ c.loop-range.invariant.made;

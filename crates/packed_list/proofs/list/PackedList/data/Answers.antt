@@ -12,4 +12,5 @@ pub returns : goal.returns
 returns c =
     let bytes = c.self.inside.bytes.now in
     let h = lies_in _ _ c.self.view_is c.self.invariant in
-    c.part.ensures ∙ ap (λ n. take (length bytes - n) (drop n bytes)) (ap (λ n. 2 * n) c.len.ensures) ∙ take_rest bytes (2 * length c.args.self.now) ∙ h.content
+    c.part.ensures ∙ ap (λ n. take (length bytes - n) (drop n bytes)) (ap (λ n. 2 * n) c.len.ensures)
+    ∙ take_rest bytes (2 * length c.args.self.now) ∙ h.content

@@ -5,7 +5,8 @@ use Rattle.packed_list.proofs.ListPlaces.{item_is}
 use Rattle.packed_list.proofs.list.PackedList.get.Goals as goal
 
 pub part-requires-clause-order : goal.part-requires-clause-order
-part-requires-clause-order c = (item_is c.args.self.now c.args.index c.place.result c.end.result (omega arith) c.place.ensures c.end.ensures).below
+part-requires-clause-order c =
+    (item_is c.args.self.now c.args.index c.place.result c.end.result (omega arith) c.place.ensures c.end.ensures).below
 
 pub part-requires-clause-within : goal.part-requires-clause-within
 part-requires-clause-within c =

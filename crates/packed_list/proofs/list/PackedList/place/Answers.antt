@@ -10,4 +10,5 @@ number-requires c =
 pub returns-else-index-eq0 : goal.returns-else-index-eq0
 returns-else-index-eq0 c =
     let h = lies_in _ _ c.self.view_is c.self.invariant in
-    h.start c.args.index c.requires ∙ ap Some (start_at-positive c.self.inside.bytes.now c.args.index c.if-index-eq0.false ∙ sym c.number.ensures.value)
+    h.start c.args.index c.requires
+    ∙ ap Some (start_at-positive c.self.inside.bytes.now c.args.index c.if-index-eq0.false ∙ sym c.number.ensures.value)

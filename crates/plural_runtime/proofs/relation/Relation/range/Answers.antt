@@ -16,4 +16,5 @@ returns-then-index-len c =
     ap Some c.range_at.ensures ∙ sym (ap (option_map range_or_value) inside)
 
 pub returns-else-index-len : goal.returns-else-index-len
-returns-else-index-len c = sym (ap (option_map range_or_value) (slice_get_past (ranges_in c.args.self.now.ranges.now) c.args.index (omega (arith, c.len.ensures))))
+returns-else-index-len c = sym
+    (ap (option_map range_or_value) (slice_get_past (ranges_in c.args.self.now.ranges.now) c.args.index (omega (arith, c.len.ensures))))

@@ -13,4 +13,5 @@ returns-clause-equal c =
     )
 
 pub returns-clause-same : goal.returns-clause-same
-returns-clause-same c = same_from_decides _ _ (returns-clause-equal c) (is_same_relation-Decides (lent_relation c.args.self.now) (lent_relation c.args.other.now))
+returns-clause-same c = same_from_decides _ _ (returns-clause-equal c)
+    (is_same_relation-Decides (lent_relation c.args.self.now) (lent_relation c.args.other.now))

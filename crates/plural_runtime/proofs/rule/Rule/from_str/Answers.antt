@@ -1,6 +1,7 @@
-use Rattle.std.proofs.Common.{◌≡◌, ◌∙◌, ap, refl, subst, sym, inl, inr, Err}
+use Rattle.std.proofs.Common.{◌≡◌, ◌∙◌, ap, subst, sym, inl, inr, Err}
 use Rattle.plural_reference.specs.declared.error.ParseError.TheVariants.{ValueTooLarge}
-use Rattle.plural_reference.specs.Reading.{IsAnswer, TextFaulty, TextReads}
+use Rattle.plural_reference.specs.Reading.{IsAnswer}
+use Rattle.plural_reference.specs.Lexer.{TextFaulty, TextReads}
 use Rattle.plural_reference.specs.Samples.{ReadsCondition, FaultyRule}
 use Rattle.plural_runtime.specs.PackedTree.{has_large_value}
 use Rattle.plural_runtime.proofs.FaultKinds.{never_too_large, packing_not_large}
@@ -37,7 +38,8 @@ returns-in-Ok-clause-fits c = λ h.
     let law = c.one_list_of_tokens.ensures text in
     let tokens = law.0 in
     let reads : ReadsCondition tokens condition =
-    subst (λ r. IsAnswer (ReadsCondition tokens) (FaultyRule tokens) r) c.in-Ok.is (c.parse_without_samples.ensures.only tokens law.1) in
+    subst (λ r. IsAnswer (ReadsCondition tokens) (FaultyRule tokens) r) c.in-Ok.is
+    (c.parse_without_samples.ensures.only tokens law.1) in
     let rule = reads.0 in
     let spellable = c.conditions_of_texts_are_spellable.ensures text rule.condition (tokens, law.1, (reads.1.0, reads.1.1)) in
     let small = ap has_large_value (sym reads.2) ∙ spellable_is_small rule.condition spellable in

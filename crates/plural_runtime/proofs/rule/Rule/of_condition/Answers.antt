@@ -2,7 +2,7 @@ use Rattle.std.proofs.Common.{◌≡◌, ◌∙◌, List, ℕ, ap, sym, subst, i
 use Rattle.std.specs.Prelude.{Ok}
 use Rattle.packed_list.specs.ListBytes.{ListBytes}
 use Rattle.plural_runtime.specs.PackedTree.{packed}
-use Rattle.plural_runtime.specs.RuleBytes.{RuleBytes}
+use Rattle.plural_runtime.specs.PackedRelations.{RuleBytes}
 use Rattle.plural_runtime.proofs.PackedTrees.{packing-large, packing-high, packing-ok, small_tree}
 use Rattle.plural_runtime.proofs.rule.Rule.of_condition.Goals as goal
 
@@ -10,7 +10,8 @@ pub returns-then-has_large_value-clause-packs : goal.returns-then-has_large_valu
 returns-then-has_large_value-clause-packs c = inl (sym (packing-large c.args.condition.now (sym c.if-has_large_value.ensures)))
 
 pub returns-in_default-clause-packs : goal.returns-in_default-clause-packs
-returns-in_default-clause-packs c = inl (sym (packing-high c.args.condition.now (sym c.if-has_large_value.ensures) c.in_default.ensures.high))
+returns-in_default-clause-packs c =
+    inl (sym (packing-high c.args.condition.now (sym c.if-has_large_value.ensures) c.in_default.ensures.high))
 
 pub owned-requires : goal.owned-requires
 owned-requires c =
