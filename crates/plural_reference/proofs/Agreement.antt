@@ -8,14 +8,14 @@ use Rattle.std.proofs.Math.Nat.{mod-mod_of_dvd, add-mod_right}
 use Rattle.std.specs.Int.{◌∣◌}
 use Rattle.fixed_decimal.specs.Digits.{value_of, AreDigits}
 use Rattle.fixed_decimal.specs.Places.{Places, IsWritten}
-use Rattle.plural_reference.specs.Operands.{Operands, IsCutAt, IsExactAt, cut_whole}
+use Rattle.plural_reference.specs.Operands.{Operands, IsKeptAt, IsExactAt, kept_whole}
 use Rattle.plural_reference.specs.Truth.{RelationMeaning, range_holds, is_in_ranges, holds_value, operand_value, remainder, under}
 use Rattle.plural_reference.specs.Truth.{relation_truth}
 use Rattle.plural_reference.specs.Exactness.{whole_of, exact_value, exact_relation_truth, IsBoundedAt, AllDivide, IsAdmitted, IsListed}
 use Rattle.plural_reference.specs.declared.ast.Operand.{Operand}
 use Rattle.plural_reference.specs.declared.ast.Operand.TheVariants.{N, I, V, W, F, T as TOperand, C, E}
 use Rattle.plural_reference.proofs.Numbers.{value_of-below, value_of-drop, power_above}
-use Rattle.plural_reference.proofs.Fractions.{SameFraction, same_fraction, exact_whole, exact_fraction, cut_fraction, zero_fraction}
+use Rattle.plural_reference.proofs.Fractions.{SameFraction, same_fraction, exact_whole, exact_fraction, kept_fraction, zero_fraction}
 
 -- ---- ranges that end below a value don't hold it
 
@@ -47,13 +47,13 @@ kept_remainder n m d =
     ∙ mod-mod_of_dvd m n d
 
 -- At most 18 integer digits are kept as they are.
-pub cut_whole-short : (ds : List ℕ) → length ds ≤ 18 → cut_whole ds ≡ value_of ds
-cut_whole-short ds h
+pub kept_whole-short : (ds : List ℕ) → length ds ≤ 18 → kept_whole ds ≡ value_of ds
+kept_whole-short ds h
     = cond-true (leb (length ds) 18) (value_of ds) (value_of (drop (length ds - 18) ds) + 10 ^ 18) (le-leb (length ds) 18 h)
 
 -- Of more the remainder by 10 ^ 18 is kept, and 10 ^ 18 besides.
-pub cut_whole-long : (ds : List ℕ) → AreDigits ds → 18 < length ds → cut_whole ds ≡ value_of ds % 10 ^ 18 + 10 ^ 18
-cut_whole-long ds h long =
+pub kept_whole-long : (ds : List ℕ) → AreDigits ds → 18 < length ds → kept_whole ds ≡ value_of ds % 10 ^ 18 + 10 ^ 18
+kept_whole-long ds h long =
     cond-false (leb (length ds) 18) (value_of ds) (value_of (drop (length ds - 18) ds) + 10 ^ 18) (lt-leb (length ds) 18 long)
     ∙ ap (λ n. n + 10 ^ 18) (value_of-drop ds 18 h (omega arith))
 
@@ -71,22 +71,22 @@ remainder_agrees ranges (suc m) n long below d =
 whole_agrees : (ds moduli : List ℕ) (modulus : ℕ) (ranges : List (ℕ × ℕ)) → AreDigits ds
     → (length ds ≤ 18) ⊎ ((10 ^ 18 ≤ value_of ds) × AllDivide moduli (10 ^ 18))
     → (0 < modulus → Contains moduli modulus) → AllByRecursion (λ range. range.1 < 10 ^ 18) ranges
-    → is_in_ranges ranges (remainder modulus (cut_whole ds)) ≡ is_in_ranges ranges (remainder modulus (value_of ds))
+    → is_in_ranges ranges (remainder modulus (kept_whole ds)) ≡ is_in_ranges ranges (remainder modulus (value_of ds))
 whole_agrees ds moduli modulus ranges digits (inl short) listed below
-    = ap (λ n. is_in_ranges ranges (remainder modulus n)) (cut_whole-short ds short)
+    = ap (λ n. is_in_ranges ranges (remainder modulus n)) (kept_whole-short ds short)
 whole_agrees ds moduli modulus ranges digits (inr long) listed below =
     elim (cases_lt 18 (length ds)) [
-      | inl many ↦ ap (λ n. is_in_ranges ranges (remainder modulus n)) (cut_whole-long ds digits many)
+      | inl many ↦ ap (λ n. is_in_ranges ranges (remainder modulus n)) (kept_whole-long ds digits many)
           ∙ remainder_agrees ranges modulus (value_of ds) long.0 below (λ p. long.1 modulus (listed p) p)
-      | inr few ↦ ap (λ n. is_in_ranges ranges (remainder modulus n)) (cut_whole-short ds few)
+      | inr few ↦ ap (λ n. is_in_ranges ranges (remainder modulus n)) (kept_whole-short ds few)
     ]
 
 -- So i is in the same ranges, kept and exact.
-integer_agrees : (y : Places) (e : ℕ) (moduli : List ℕ) (cut exact : Operands) (modulus : ℕ) (ranges : List (ℕ × ℕ))
-    → IsWritten y → IsBoundedAt y moduli → IsCutAt y e cut → IsExactAt y e exact
+integer_agrees : (y : Places) (e : ℕ) (moduli : List ℕ) (kept exact : Operands) (modulus : ℕ) (ranges : List (ℕ × ℕ))
+    → IsWritten y → IsBoundedAt y moduli → IsKeptAt y e kept → IsExactAt y e exact
     → (0 < modulus → Contains moduli modulus) → AllByRecursion (λ range. range.1 < 10 ^ 18) ranges
-    → is_in_ranges ranges (remainder modulus cut.i) ≡ is_in_ranges ranges (remainder modulus exact.i)
-integer_agrees y e moduli cut exact modulus ranges h bound c x listed below =
+    → is_in_ranges ranges (remainder modulus kept.i) ≡ is_in_ranges ranges (remainder modulus exact.i)
+integer_agrees y e moduli kept exact modulus ranges h bound c x listed below =
     ap (λ n. is_in_ranges ranges (remainder modulus n)) c.i
     ∙ whole_agrees y.whole moduli modulus ranges h.whole bound.whole listed below
     ∙ sym (ap (λ n. is_in_ranges ranges (remainder modulus n)) (exact_whole y e exact h x))
@@ -148,23 +148,23 @@ holds-cond ranges true f a c e = e
 holds-cond ranges false f a c e = refl
 
 -- So n is in the same ranges, kept and exact.
-number_agrees : (y : Places) (e : ℕ) (moduli : List ℕ) (cut exact : Operands) (modulus : ℕ) (ranges : List (ℕ × ℕ))
-    → IsWritten y → IsBoundedAt y moduli → IsCutAt y e cut → IsExactAt y e exact
+number_agrees : (y : Places) (e : ℕ) (moduli : List ℕ) (kept exact : Operands) (modulus : ℕ) (ranges : List (ℕ × ℕ))
+    → IsWritten y → IsBoundedAt y moduli → IsKeptAt y e kept → IsExactAt y e exact
     → (0 < modulus → Contains moduli modulus) → AllByRecursion (λ range. range.1 < 10 ^ 18) ranges
-    → holds_value ranges (option_map (remainder modulus) (operand_value N cut)) ≡ holds_value ranges (exact_value N modulus exact)
-number_agrees y e moduli cut exact modulus ranges h bound c x listed below =
-    let i : is_in_ranges ranges (remainder modulus cut.i) ≡ is_in_ranges ranges (remainder modulus exact.i)
-    = integer_agrees y e moduli cut exact modulus ranges h bound c x listed below in
-    let s : SameFraction cut exact = same_fraction y e cut exact h bound.fraction c x in
-    let z : (cut.w ≡ 0) ↔ (value_of y.fraction ≡ 0)
-    = zero_fraction cut _ _ (cut_fraction y e cut bound.fraction c) (value_of-below y.fraction h.fraction) in
+    → holds_value ranges (option_map (remainder modulus) (operand_value N kept)) ≡ holds_value ranges (exact_value N modulus exact)
+number_agrees y e moduli kept exact modulus ranges h bound c x listed below =
+    let i : is_in_ranges ranges (remainder modulus kept.i) ≡ is_in_ranges ranges (remainder modulus exact.i)
+    = integer_agrees y e moduli kept exact modulus ranges h bound c x listed below in
+    let s : SameFraction kept exact = same_fraction y e kept exact h bound.fraction c x in
+    let z : (kept.w ≡ 0) ↔ (value_of y.fraction ≡ 0)
+    = zero_fraction kept _ _ (kept_fraction y e kept bound.fraction c) (value_of-below y.fraction h.fraction) in
     let f : exact.f ≡ value_of y.fraction = (exact_fraction y e exact h x).f in
     let v : exact.v ≡ length y.fraction = (exact_fraction y e exact h x).v in
     let small : exact.f < 10 ^ exact.v
     = subst (λ (n : ℕ). exact.f < 10 ^ n) (sym v)
     (subst (λ (n : ℕ). n < 10 ^ length y.fraction) (sym f) (value_of-below y.fraction h.fraction)) in
-    ap (λ o. holds_value ranges (option_map (remainder modulus) o)) (value-n cut (value_of y.fraction) z)
-    ∙ holds-cond ranges (eqb (value_of y.fraction) 0) (remainder modulus) cut.i (remainder modulus exact.i) i
+    ap (λ o. holds_value ranges (option_map (remainder modulus) o)) (value-n kept (value_of y.fraction) z)
+    ∙ holds-cond ranges (eqb (value_of y.fraction) 0) (remainder modulus) kept.i (remainder modulus exact.i) i
     ∙ ap (λ n. holds_value ranges (cond (eqb n 0) (Some (remainder modulus exact.i)) None)) (sym f)
     ∙ sym (ap (holds_value ranges) (exact_value-n modulus exact small))
 
@@ -174,30 +174,30 @@ same_value : (ranges : List (ℕ × ℕ)) (modulus a b : ℕ) → a ≡ b
 same_value ranges modulus a b e = ap (λ n. is_in_ranges ranges (remainder modulus n)) e
 
 -- Each operand's value, by its modulus, is in the same ranges.
-values_agree : (y : Places) (e : ℕ) (moduli : List ℕ) (cut exact : Operands) → IsWritten y → IsBoundedAt y moduli
-    → IsCutAt y e cut → IsExactAt y e exact → (operand : Operand) (modulus : ℕ) (ranges : List (ℕ × ℕ))
+values_agree : (y : Places) (e : ℕ) (moduli : List ℕ) (kept exact : Operands) → IsWritten y → IsBoundedAt y moduli
+    → IsKeptAt y e kept → IsExactAt y e exact → (operand : Operand) (modulus : ℕ) (ranges : List (ℕ × ℕ))
     → IsListed operand modulus moduli → AllByRecursion (λ range. range.1 < 10 ^ 18) ranges
-    → holds_value ranges (option_map (remainder modulus) (operand_value operand cut))
+    → holds_value ranges (option_map (remainder modulus) (operand_value operand kept))
     ≡ holds_value ranges (exact_value operand modulus exact)
-values_agree y e moduli cut exact h bound c x N modulus ranges listed below
-    = number_agrees y e moduli cut exact modulus ranges h bound c x listed below
-values_agree y e moduli cut exact h bound c x I modulus ranges listed below
-    = integer_agrees y e moduli cut exact modulus ranges h bound c x listed below
-values_agree y e moduli cut exact h bound c x V modulus ranges listed below
-    = same_value ranges modulus cut.v exact.v (same_fraction y e cut exact h bound.fraction c x).v
-values_agree y e moduli cut exact h bound c x W modulus ranges listed below
-    = same_value ranges modulus cut.w exact.w (same_fraction y e cut exact h bound.fraction c x).w
-values_agree y e moduli cut exact h bound c x F modulus ranges listed below
-    = same_value ranges modulus cut.f exact.f (same_fraction y e cut exact h bound.fraction c x).f
-values_agree y e moduli cut exact h bound c x TOperand modulus ranges listed below
-    = same_value ranges modulus cut.t exact.t (same_fraction y e cut exact h bound.fraction c x).t
-values_agree y e moduli cut exact h bound c x C modulus ranges listed below = same_value ranges modulus cut.c exact.c (c.c ∙ sym x.c)
-values_agree y e moduli cut exact h bound c x E modulus ranges listed below = same_value ranges modulus cut.c exact.c (c.c ∙ sym x.c)
+values_agree y e moduli kept exact h bound c x N modulus ranges listed below
+    = number_agrees y e moduli kept exact modulus ranges h bound c x listed below
+values_agree y e moduli kept exact h bound c x I modulus ranges listed below
+    = integer_agrees y e moduli kept exact modulus ranges h bound c x listed below
+values_agree y e moduli kept exact h bound c x V modulus ranges listed below
+    = same_value ranges modulus kept.v exact.v (same_fraction y e kept exact h bound.fraction c x).v
+values_agree y e moduli kept exact h bound c x W modulus ranges listed below
+    = same_value ranges modulus kept.w exact.w (same_fraction y e kept exact h bound.fraction c x).w
+values_agree y e moduli kept exact h bound c x F modulus ranges listed below
+    = same_value ranges modulus kept.f exact.f (same_fraction y e kept exact h bound.fraction c x).f
+values_agree y e moduli kept exact h bound c x TOperand modulus ranges listed below
+    = same_value ranges modulus kept.t exact.t (same_fraction y e kept exact h bound.fraction c x).t
+values_agree y e moduli kept exact h bound c x C modulus ranges listed below = same_value ranges modulus kept.c exact.c (c.c ∙ sym x.c)
+values_agree y e moduli kept exact h bound c x E modulus ranges listed below = same_value ranges modulus kept.c exact.c (c.c ∙ sym x.c)
 
 -- So a relation is true of the kept operands exactly if it is of the exact ones.
-pub relation_agrees : (y : Places) (e : ℕ) (moduli : List ℕ) (cut exact : Operands) → IsWritten y
-    → IsBoundedAt y moduli → IsCutAt y e cut → IsExactAt y e exact → (relation : RelationMeaning)
-    → IsAdmitted moduli relation → relation_truth cut relation ≡ exact_relation_truth exact relation
-relation_agrees y e moduli cut exact h bound c x relation k =
+pub relation_agrees : (y : Places) (e : ℕ) (moduli : List ℕ) (kept exact : Operands) → IsWritten y
+    → IsBoundedAt y moduli → IsKeptAt y e kept → IsExactAt y e exact → (relation : RelationMeaning)
+    → IsAdmitted moduli relation → relation_truth kept relation ≡ exact_relation_truth exact relation
+relation_agrees y e moduli kept exact h bound c x relation k =
     ap (under relation.operator)
-    (values_agree y e moduli cut exact h bound c x relation.operand relation.modulus relation.ranges k.listed k.ends)
+    (values_agree y e moduli kept exact h bound c x relation.operand relation.modulus relation.ranges k.listed k.ends)

@@ -14,7 +14,7 @@ use Rattle.std.proofs.Math.ListN.{get_or-eq_default, get_or-append}
 use Rattle.std.specs.Int.{◌∣◌}
 use Rattle.fixed_decimal.specs.Digits.{value_of}
 use Rattle.fixed_decimal.specs.Places.{Places, digit_at, digits_from, shift_right}
-use Rattle.plural_reference.specs.Operands.{Operands, HasFraction, cut_whole}
+use Rattle.plural_reference.specs.Operands.{Operands, HasFraction, kept_whole}
 use Rattle.plural_reference.proofs.Numbers.{power_above}
 
 -- What at most 18 digits write is below 10 ^ 18.
@@ -155,7 +155,7 @@ first_from e x n h =
 
 -- At most 18 integer digits are kept as they are.
 pub short_whole : (e : ℕ) (x : Places) (m i : ℕ) → m ≡ length (shift_right e x).whole → m ≤ 18
-    → i ≡ value_of (digits_from x (length (shift_right e x).whole - m) m) → i ≡ cut_whole (shift_right e x).whole
+    → i ≡ value_of (digits_from x (length (shift_right e x).whole - m) m) → i ≡ kept_whole (shift_right e x).whole
 short_whole e x m i k h v =
     let w : List ℕ = (shift_right e x).whole in
     let z : length w - m ≡ 0 = omega arith in
@@ -164,17 +164,17 @@ short_whole e x m i k h v =
 
 -- Of more the last 18 are, with 10 ^ 18 besides.
 pub long_whole : (e : ℕ) (x : Places) (m i : ℕ) → m ≡ 18 → 18 < length (shift_right e x).whole
-    → i ≡ value_of (digits_from x (length (shift_right e x).whole - m) m) + 10 ^ 18 → i ≡ cut_whole (shift_right e x).whole
+    → i ≡ value_of (digits_from x (length (shift_right e x).whole - m) m) + 10 ^ 18 → i ≡ kept_whole (shift_right e x).whole
 long_whole e x m i k h v =
     let w : List ℕ = (shift_right e x).whole in
     v ∙ ap (λ ds. value_of ds + 10 ^ 18) (last_from e x m (omega arith) ∙ ap (λ j. drop (length w - j) w) k)
     ∙ sym (ap (λ b. cond b (value_of w) (value_of (drop (length w - 18) w) + 10 ^ 18)) (lt-leb (length w) 18 h))
 
 -- Of the fraction the first 18 digits are kept, or all where there are fewer.
-pub cut_fraction_of : (e : ℕ) (x : Places) (n f : ℕ) → n ≡ min (length (shift_right e x).fraction) 18
+pub kept_fraction_of : (e : ℕ) (x : Places) (n f : ℕ) → n ≡ min (length (shift_right e x).fraction) 18
     → f ≡ value_of (digits_from x (length (shift_right e x).whole) n)
     → (n ≡ length (take 18 (shift_right e x).fraction)) × (f ≡ value_of (take 18 (shift_right e x).fraction))
-cut_fraction_of e x n f k v =
+kept_fraction_of e x n f k v =
     let fs : List ℕ = (shift_right e x).fraction in
     let l : length (take 18 fs) ≡ min 18 (length fs) = length-take 18 fs in (
       omega arith,

@@ -7,7 +7,7 @@ use Rattle.std.proofs.Math.Nat.{mod-eq_of_lt}
 use Rattle.std.specs.Int.{◌∣◌}
 use Rattle.fixed_decimal.specs.Digits.{value_of, AreDigits}
 use Rattle.fixed_decimal.specs.Places.{Places, IsWritten, one_right, shift_right}
-use Rattle.plural_reference.specs.Operands.{Operands, HasFraction, IsCutAt, IsExactAt}
+use Rattle.plural_reference.specs.Operands.{Operands, HasFraction, IsKeptAt, IsExactAt}
 use Rattle.plural_reference.proofs.Numbers.{value_of-append-div, value_of-append-mod, AreDigits-append, AreDigits-drop}
 
 -- ---- the shift keeps a written number
@@ -87,11 +87,11 @@ exact_fraction y e o h k
     = subst (λ (n : ℕ). HasFraction o (length y.fraction) n) (value_of-append-mod y.whole y.fraction h.fraction) k.fraction
 
 -- So are the kept ones of at most 18 fraction digits.
-pub cut_fraction : (y : Places) (e : ℕ) (o : Operands) → length y.fraction ≤ 18 → IsCutAt y e o
+pub kept_fraction : (y : Places) (e : ℕ) (o : Operands) → length y.fraction ≤ 18 → IsKeptAt y e o
     → HasFraction o (length y.fraction) (value_of y.fraction)
-cut_fraction y e o h k = subst (λ (ds : List ℕ). HasFraction o (length ds) (value_of ds)) (take_all 18 y.fraction h) k.fraction
+kept_fraction y e o h k = subst (λ (ds : List ℕ). HasFraction o (length ds) (value_of ds)) (take_all 18 y.fraction h) k.fraction
 
 -- Then both are the same.
-pub same_fraction : (y : Places) (e : ℕ) (a b : Operands) → IsWritten y → length y.fraction ≤ 18 → IsCutAt y e a
+pub same_fraction : (y : Places) (e : ℕ) (a b : Operands) → IsWritten y → length y.fraction ≤ 18 → IsKeptAt y e a
     → IsExactAt y e b → SameFraction a b
-same_fraction y e a b h short c x = one_fraction a b _ _ (cut_fraction y e a short c) (exact_fraction y e b h x)
+same_fraction y e a b h short c x = one_fraction a b _ _ (kept_fraction y e a short c) (exact_fraction y e b h x)

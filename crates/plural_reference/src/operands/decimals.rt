@@ -2,7 +2,7 @@
 
 ghost use Rattle.std.specs.Prelude.{◌≡◌};
 ghost use Rattle.fixed_decimal.specs.Places.{IsWritten};
-ghost use Rattle.plural_reference.specs.Operands.{AreCut};
+ghost use Rattle.plural_reference.specs.Operands.{AreKept};
 
 use crate::operands::PluralOperands;
 use crate::operands::kept::{KEPT_LIMIT, KEPT_PLACES, power_of_ten};
@@ -18,7 +18,7 @@ impl PluralOperands {
         significand: &UnsignedDecimal,
         exponent: u8,
     ) -> PluralOperands
-        ensures cut { AreCut significand.now exponent result }
+        ensures kept { AreKept significand.now exponent result }
         ensures written { IsWritten significand.now }
     {
         let (whole, fraction) = significand.places_after(exponent);
@@ -38,7 +38,7 @@ impl PluralOperands {
 
 /// As [`PluralOperands::from_significand_and_exponent`] with the exponent 0.
 impl From<&UnsignedDecimal> for PluralOperands {
-    ghost from_gives = { λ x o. AreCut x.now 0 o × IsWritten x.now };
+    ghost from_gives = { λ x o. AreKept x.now 0 o × IsWritten x.now };
 
     #[inline]
     fn from(number: &UnsignedDecimal) -> PluralOperands {
@@ -48,7 +48,7 @@ impl From<&UnsignedDecimal> for PluralOperands {
 
 /// Those of the digits: the sign has no effect.
 impl From<&Decimal> for PluralOperands {
-    ghost from_gives = { λ x o. AreCut x.now.absolute 0 o × IsWritten x.now.absolute };
+    ghost from_gives = { λ x o. AreKept x.now.absolute 0 o × IsWritten x.now.absolute };
 
     #[inline]
     fn from(number: &Decimal) -> PluralOperands {
@@ -59,7 +59,7 @@ impl From<&Decimal> for PluralOperands {
 /// As [`PluralOperands::from_significand_and_exponent`] of the two parts: the sign has no effect.
 impl From<&CompactDecimal> for PluralOperands {
     ghost from_gives = { λ x o.
-        AreCut x.now.significand.absolute x.now.exponent o × IsWritten x.now.significand.absolute };
+        AreKept x.now.significand.absolute x.now.exponent o × IsWritten x.now.significand.absolute };
 
     #[inline]
     fn from(number: &CompactDecimal) -> PluralOperands {

@@ -1,8 +1,8 @@
 use Rattle.std.proofs.Common.{◌≡◌, ◌+◌, ◌-◌, ◌*◌, ◌^◌, ◌<◌, length, arith, ◌∙◌, ap}
 use Rattle.fixed_decimal.specs.Digits.{value_of}
 use Rattle.fixed_decimal.specs.Places.{shift_right, digits_from}
-use Rattle.plural_reference.specs.Operands.{cut_whole}
-use Rattle.plural_reference.proofs.Conversion.{below_limit, short_whole, long_whole, cut_fraction_of, same_fraction_of}
+use Rattle.plural_reference.specs.Operands.{kept_whole}
+use Rattle.plural_reference.proofs.Conversion.{below_limit, short_whole, long_whole, kept_fraction_of, same_fraction_of}
 use Rattle.plural_reference.proofs.operands.PluralOperands.from_significand_and_exponent.Goals as goal
 use Rattle.plural_reference.proofs.operands.PluralOperands.from_significand_and_exponent.Goals.{then-whole-le-KEPT_PLACES}
 use Rattle.plural_reference.proofs.operands.PluralOperands.from_significand_and_exponent.Goals.{else-whole-le-KEPT_PLACES}
@@ -29,7 +29,7 @@ from_scaled_parts-requires-clause-below c =
 
 -- The integer part is that of the kept digits.
 whole_is : (c : goal.After-from_scaled_parts)
-    → c.if-whole-le-KEPT_PLACES.i ≡ cut_whole (shift_right c.args.exponent c.args.significand.now).whole
+    → c.if-whole-le-KEPT_PLACES.i ≡ kept_whole (shift_right c.args.exponent c.args.significand.now).whole
 whole_is c =
     let x = c.args.significand.now in
     let whole = c.places_after-whole.ensures.whole in
@@ -46,10 +46,10 @@ whole_is c =
           (omega arith) (omega arith) (w.i-is ∙ ap (λ n. n + 10 ^ 18) read)
     ]
 
-pub returns-clause-cut : goal.returns-clause-cut
-returns-clause-cut c =
+pub returns-clause-kept : goal.returns-clause-kept
+returns-clause-kept c =
     let fraction
-    = cut_fraction_of c.args.exponent c.args.significand.now c.min-v.result
+    = kept_fraction_of c.args.exponent c.args.significand.now c.min-v.result
     (c.number_from-number.result.0 * 10 ^ c.number_from-number.result.1) (omega arith)
     (c.number_from-number.ensures.value
     ∙ ap (λ n. value_of (digits_from c.args.significand.now n c.min-v.result)) c.places_after-whole.ensures.whole) in
