@@ -4,7 +4,7 @@ ghost use Rattle.std.specs.Prelude.{◌≡◌, ◌≤◌, ◌<◌, length, slice
 ghost use Rattle.fixed_decimal.specs.Digits.{AreDigits, value_of};
 ghost use Rattle.fixed_decimal.specs.Inner.TextParts.{AreDigitBytes, IsDigitByte};
 
-// So many places there may be on a side.
+// The most places on one side of the point.
 pub(crate) const MOST_PLACES: u16 = 32767;
 
 // The end of the run of digits from an index on.

@@ -7,7 +7,7 @@ ghost use Rattle.fixed_decimal.specs.Inner.TextParts.{AllDigitBytes, AreZeroByte
 use smallvec::SmallVec;
 use std::alloc::{AllocError, Global};
 
-// So many digits are kept in the number itself, and take no memory.
+// The most digits that are kept in the number itself, and take no memory.
 pub(crate) const INLINE_DIGITS: usize = 16;
 
 // How many zeros stand before the first other digit. The zero in place of no integer digits is one of

@@ -2,7 +2,7 @@
 
 ghost use Rattle.std.specs.Prelude.{◌≡◌, ◌^◌, ◌≤◌};
 
-/// So many places of a decimal are kept on each side of the point.
+/// The most places of a decimal that are kept on each side of the point.
 pub const KEPT_PLACES: usize = 18;
 
 /// 10 to the power 18: a longer integer part is kept by its last 18 digits, with this added.
