@@ -1,5 +1,6 @@
 -- The decimal text of a whole number has its digits, without leading zeros.
-use Rattle.std.proofs.Common.{◌≡◌, ℕ, zero, suc, ◌+◌, ◌-◌, ◌*◌, ◌/◌, ◌%◌, ◌^◌, ◌<◌, ◌≤◌, inl, inr, List, [], ◌∷◌, ◌++◌, sym, ◌∙◌, ap, length, arith, get_or, length-append}
+use Rattle.std.proofs.Common.{◌≡◌, ℕ, zero, suc, ◌+◌, ◌-◌, ◌*◌, ◌/◌, ◌%◌, ◌^◌, ◌<◌, ◌≤◌, inl, inr, List, [], ◌∷◌, ◌++◌, sym, ◌∙◌, ap}
+use Rattle.std.proofs.Common.{length, arith, get_or, length-append}
 use Rattle.std.specs.Fmt.{decimal}
 use Rattle.std.proofs.lemmas.Fmt.{decimal_by_steps_wide}
 use Rattle.std.proofs.lemmas.Bool.{cases_lt}
@@ -12,6 +13,7 @@ use Rattle.fixed_decimal.specs.Inner.TextParts.{IsDigitByte, AllDigitBytes, digi
 use Rattle.fixed_decimal.proofs.Points.{digits_back, or_zero-same, length-digits_in}
 use Rattle.fixed_decimal.proofs.Values.{value_of-append}
 
+-- A text of digits alone that writes a number without leading zeros.
 record IsText (n : ℕ) (text : List ℕ) : Type 0 where
   digits : AllDigitBytes text
   some : 0 < length text
@@ -19,6 +21,7 @@ record IsText (n : ℕ) (text : List ℕ) : Type 0 where
   zero_first : get_or text 0 0 ≡ 48 → n ≡ 0
   zero_text : n ≡ 0 → text ≡ 48 ∷ []
 
+-- A number below ten is written by one digit.
 one_digit : (n : ℕ) → n < 10 → IsText n ((48 + n) ∷ [])
 one_digit n h =
     let d : 48 + n - 48 ≡ n = omega arith in
@@ -34,13 +37,15 @@ one_digit n h =
     all zero inside = (omega arith, omega arith)
     all (suc k) inside = absurd (omega arith)
 
+-- The text of the tenth part and the last digit write the number.
 more_digits : (n : ℕ) (text : List ℕ) → 10 ≤ n → IsText (n / 10) text → IsText n (text ++ ((48 + n % 10) ∷ []))
 more_digits n text h t =
     let last : n % 10 < 10 = mod_below n 10 (omega arith) in
     let d : 48 + n % 10 - 48 ≡ n % 10 = omega arith in
     let l : length (text ++ ((48 + n % 10) ∷ [])) ≡ length text + 1 = length-append text ((48 + n % 10) ∷ []) ∙ omega arith in
     let some : 0 < length text = t.some in
-    let parts : digits_in (text ++ ((48 + n % 10) ∷ [])) ≡ digits_in text ++ (n % 10 ∷ []) = map-append _ text ((48 + n % 10) ∷ []) ∙ ap (λ k. digits_in text ++ (k ∷ [])) d in
+    let parts : digits_in (text ++ ((48 + n % 10) ∷ [])) ≡ digits_in text ++ (n % 10 ∷ [])
+    = map-append _ text ((48 + n % 10) ∷ []) ∙ ap (λ k. digits_in text ++ (k ∷ [])) d in
     let v : value_of (digits_in text) ≡ n / 10 = t.value in
     let whole : n / 10 * 10 + n % 10 ≡ n = div-add-mod' n 10 in
     record {
@@ -56,12 +61,15 @@ more_digits n text h t =
       zero_text = λ e. absurd (omega arith);
     }
 
+-- So std writes each number of up to 64 digits.
 text_of_number : (n : ℕ) → n < 10 ^ 64 → IsText n (decimal n)
 text_of_number n h = decimal_by_steps_wide IsText one_digit more_digits n h
 
+-- Its text is digits alone.
 pub decimal_bytes : (n : ℕ) → n < 10 ^ 64 → AllDigitBytes (decimal n)
 decimal_bytes n h = (text_of_number n h).digits
 
+-- The digits of such a text are the number's numeral.
 numeral : (n : ℕ) (text : List ℕ) → IsText n text → IsNumeral (or_zero (digits_in text)) n
 numeral n text t =
     let some : 0 < length text = t.some in
@@ -81,5 +89,6 @@ numeral n text t =
         let first : c ≡ 48 = (let z : c - 48 ≡ 0 = e in omega arith) in
         ap digits_in (t.zero_text (t.zero_first first))
 
+-- The digits of a number's decimal text are its numeral.
 pub decimal_numeral : (n : ℕ) → n < 10 ^ 64 → IsNumeral (or_zero (digits_in (decimal n))) n
 decimal_numeral n h = numeral n (decimal n) (text_of_number n h)

@@ -1,5 +1,6 @@
 -- Worked texts and a worked shift, by the definitions.
-use Rattle.std.proofs.Common.{◌≡◌, ℕ, zero, suc, ◌+◌, ◌<◌, ◌≤◌, inr, [], ◌∷◌, refl, ap, length, length-append, ◌∙◌, codes, arith, negsuc, lit<}
+use Rattle.std.proofs.Common.{◌≡◌, ℕ, zero, suc, ◌+◌, ◌<◌, ◌≤◌, inr, [], ◌∷◌, refl, ap, length, length-append, ◌∙◌, codes, arith, negsuc}
+use Rattle.std.proofs.Common.{lit<}
 use Rattle.fixed_decimal.specs.Places.{Places, shift}
 use Rattle.fixed_decimal.specs.Written.{CompactNumber, WritesUnsigned, WritesCompact}
 use Rattle.fixed_decimal.specs.Inner.TextParts.{HasPointAt}
@@ -30,5 +31,6 @@ four_exponent_digits x (front, rest, decimal, exponent, form) =
     no_letter_before (codes "1c0256") front rest x.significand decimal form 1 (omega arith) refl
 
 -- 12345 by -2 is 123.45
-two_to_the_left : shift (negsuc 1) (record { whole = 1 ∷ 2 ∷ 3 ∷ 4 ∷ 5 ∷ []; fraction = [] }) ≡ record { whole = 1 ∷ 2 ∷ 3 ∷ []; fraction = 4 ∷ 5 ∷ [] }
+two_to_the_left : shift (negsuc 1) (record { whole = 1 ∷ 2 ∷ 3 ∷ 4 ∷ 5 ∷ []; fraction = [] })
+    ≡ record { whole = 1 ∷ 2 ∷ 3 ∷ []; fraction = 4 ∷ 5 ∷ [] }
 two_to_the_left = refl

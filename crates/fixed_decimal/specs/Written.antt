@@ -44,7 +44,7 @@ abbrev pub most_exponent_digits : ℕ
 most_exponent_digits = 3
 
 -- `c` and one to three digits
-pub record WritesExponent (text : List ℕ) (exponent : ℕ) (ds : List ℕ) : Type 0 where
+pub record WritesCompactExponent (text : List ℕ) (exponent : ℕ) (ds : List ℕ) : Type 0 where
   pub digits : AreDigits ds
   pub least : 1 ≤ length ds
   pub most : length ds ≤ most_exponent_digits
@@ -53,7 +53,7 @@ pub record WritesExponent (text : List ℕ) (exponent : ℕ) (ds : List ℕ) : T
 
 -- nothing, for 0, or a written exponent
 abbrev pub HasExponent : List ℕ → ℕ → Type 0
-HasExponent text exponent = ((text ≡ []) × (exponent ≡ 0)) ⊎ ((ds : List ℕ) × WritesExponent text exponent ds)
+HasExponent text exponent = ((text ≡ []) × (exponent ≡ 0)) ⊎ ((ds : List ℕ) × WritesCompactExponent text exponent ds)
 
 -- a decimal, then its exponent
 abbrev pub WritesCompact : List ℕ → CompactNumber → Type 0

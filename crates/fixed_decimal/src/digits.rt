@@ -1,9 +1,10 @@
-//! Runs of digits in a text, and how long they may be.
+//! Runs of digits: in a text, how long they may be, and the number that a few of them write.
 
-ghost use Rattle.std.specs.Prelude.{◌≤◌, ◌<◌, length, slice_index};
+ghost use Rattle.std.specs.Prelude.{◌≡◌, ◌≤◌, ◌<◌, length, slice_index};
+ghost use Rattle.fixed_decimal.specs.Digits.{AreDigits, value_of};
 ghost use Rattle.fixed_decimal.specs.Inner.TextParts.{AreDigitBytes, IsDigitByte};
 
-// So many places there may be on a side.
+// The most places on one side of the point.
 pub(crate) const MOST_PLACES: u16 = 32767;
 
 // The end of the run of digits from an index on.
@@ -19,4 +20,18 @@ pub(crate) fn run_end(text: &[u8], from: usize) -> usize
         at += 1;
     }
     at
+}
+
+// The number that at most 18 digits write.
+#[inline]
+pub(crate) fn number_of_digits(digits: &[u8]) -> u64
+    requires digits { AreDigits digits.now }
+    requires few { length digits.now ≤ 18 }
+    ensures { result ≡ value_of digits.now }
+{
+    let mut number = 0;
+    for digit in digits {
+        number = number * 10 + u64::from(*digit);
+    }
+    number
 }

@@ -8,7 +8,7 @@ ghost use Rattle.fixed_decimal.specs.declared.decimal.Decimal.{Decimal as Signed
 
 use crate::digits::run_end;
 
-// So many digits an exponent may have.
+// The most digits of an exponent.
 const MOST_DIGITS: usize = 3;
 
 // The text before the exponent, and the exponent: 0 where none is written.

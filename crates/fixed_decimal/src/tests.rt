@@ -45,6 +45,18 @@ fn a_text_gives_its_sign_and_all_its_digits(rt: HostRuntime) -> Result<(), Fail>
             (0, 29),
             "100000000000000000000000000007",
         ),
+        (
+            "-12345678.90123456",
+            Sign::Negative,
+            (-8, 7),
+            "1234567890123456",
+        ),
+        (
+            "+12345678.901234567",
+            Sign::Positive,
+            (-9, 7),
+            "12345678901234567",
+        ),
     ];
     for (text, sign, range, digits) in rows {
         let number = Decimal::from_str(rt.alloc(), text)?;
@@ -264,6 +276,44 @@ fn a_digit_from_a_place_on_is_found(rt: HostRuntime) -> Result<(), Fail> {
     Ok(())
 }
 
+#[test]
+fn a_run_of_digits_is_a_number(rt: HostRuntime) -> Result<(), Fail> {
+    let rows = [
+        ("12.340", 0, 2, (12, 0)),
+        ("12.340", 1, 2, (23, 0)),
+        ("12.340", 2, 3, (34, 1)),
+        ("1200", 0, 4, (12, 2)),
+        ("1200", 2, 2, (0, 0)),
+        ("0.0050", 0, 5, (5, 1)),
+        ("0.0050", 3, 0, (0, 0)),
+        ("5", 0, 7, (5, 6)),
+        ("5", 1, 18, (0, 0)),
+        ("0.000", 0, 4, (0, 0)),
+        ("98765432109876543210", 2, 18, (76543210987654321, 1)),
+    ];
+    for (text, place, count, number) in rows {
+        let decimal = UnsignedDecimal::from_str(rt.alloc(), text)?;
+        holds!(rt; decimal.number_from(place, count.min(18)) == number, text);
+    }
+    Ok(())
+}
+
+#[test]
+fn an_exponent_moves_places_to_the_left_of_the_point(rt: HostRuntime) -> Result<(), Fail> {
+    let rows = [
+        ("12.340", 0, (2, 3)),
+        ("12.340", 2, (4, 1)),
+        ("12.340", 3, (5, 0)),
+        ("12.340", 4, (6, 0)),
+        ("0", 255, (256, 0)),
+    ];
+    for (text, exponent, places) in rows {
+        let decimal = UnsignedDecimal::from_str(rt.alloc(), text)?;
+        holds!(rt; decimal.places_after(exponent) == places, text);
+    }
+    Ok(())
+}
+
 // The answer of two equal calls of which one may be refused its growth.
 fn either<T: Drop>(
     first: Result<T, DecimalError>,
@@ -285,35 +335,35 @@ fn where_growth_is_refused_a_call_wants_memory_and_then_answers(
 ) -> Result<(), Fail> {
     let alloc = rt.alloc();
     let mut number = either(
-        UnsignedDecimal::from_str(alloc, "12.30"),
-        UnsignedDecimal::from_str(alloc, "12.30"),
+        UnsignedDecimal::from_str(alloc, "12.34567890123456789"),
+        UnsignedDecimal::from_str(alloc, "12.34567890123456789"),
     )?;
-    holds!(rt; is_written(&number, (-2, 1), "1230"));
+    holds!(rt; is_written(&number, (-17, 1), "1234567890123456789"));
     holds!(rt; number.multiply_pow10(32765) == Ok(()));
     holds!(rt; number.multiply_pow10(-32767) == Ok(()));
     holds!(rt; number.magnitude_range() == (-32767, 0));
-    holds!(rt; (number.digit_at(-1), number.digit_at(-4)) == (1, 0));
+    holds!(rt; (number.digit_at(-1), number.digit_at(-4)) == (1, 4));
 
     let number = either(
-        Decimal::from_str(alloc, "-0.050"),
-        Decimal::from_str(alloc, "-0.050"),
+        Decimal::from_str(alloc, "-0.01000000000000000020"),
+        Decimal::from_str(alloc, "-0.01000000000000000020"),
     )?;
-    holds!(rt; is_written(&number.absolute, (-3, 0), "0050"));
+    holds!(rt; is_written(&number.absolute, (-20, 0), "001000000000000000020"));
     let number = either(
-        CompactDecimal::from_str(alloc, "+5c3"),
-        CompactDecimal::from_str(alloc, "+5c3"),
+        CompactDecimal::from_str(alloc, "+50000000000000005c3"),
+        CompactDecimal::from_str(alloc, "+50000000000000005c3"),
     )?;
-    holds!(rt; is_written(&number.significand().absolute, (0, 0), "5"));
+    holds!(rt; is_written(&number.significand().absolute, (0, 16), "50000000000000005"));
     let number = either(
-        UnsignedDecimal::from_u128(alloc, 1000000),
-        UnsignedDecimal::from_u128(alloc, 1000000),
+        UnsignedDecimal::from_u128(alloc, 1000000000000000001),
+        UnsignedDecimal::from_u128(alloc, 1000000000000000001),
     )?;
-    holds!(rt; is_written(&number, (0, 6), "1000000"));
+    holds!(rt; is_written(&number, (0, 18), "1000000000000000001"));
     let number = either(
-        Decimal::from_i128(alloc, -50),
-        Decimal::from_i128(alloc, -50),
+        Decimal::from_i128(alloc, -50000000000000005),
+        Decimal::from_i128(alloc, -50000000000000005),
     )?;
-    holds!(rt; is_written(&number.absolute, (0, 1), "50"));
+    holds!(rt; is_written(&number.absolute, (0, 16), "50000000000000005"));
 
     for text in ["", "5.", "1c0256"] {
         let outcome = CompactDecimal::from_str(alloc, text).err();

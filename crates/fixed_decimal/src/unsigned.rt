@@ -1,16 +1,17 @@
 //! Decimals without a sign.
 
-ghost use Rattle.std.specs.Prelude.{◌≡◌, ◌+◌, ◌-◌, ◌≤◌, ◌++◌, ◌↔◌, pos, neg_ℤ, [], length, slice_index, IfOk, IfErr, OnOk, OnErr, IsTrue};
-ghost use Rattle.fixed_decimal.specs.Digits.{IsNumeral};
+ghost use Rattle.std.specs.Prelude.{◌≡◌, ◌+◌, ◌-◌, ◌*◌, ◌^◌, ◌<◌, ◌≤◌, ◌++◌, ◌↔◌, pos, neg_ℤ, [], length, slice_index, IfOk, IfErr, OnOk, OnErr, IsTrue};
+ghost use Rattle.fixed_decimal.specs.Digits.{IsNumeral, value_of};
 ghost use Rattle.fixed_decimal.specs.Written.{WritesUnsigned};
-ghost use Rattle.fixed_decimal.specs.Inner.TextParts.{AllDigitBytes, HasPointWithin, number_of, number_at};
-ghost use Rattle.fixed_decimal.specs.Places.{Places, IsWritten, IsWithinLimit, IsOverLimit, shift, shift_left, shift_right, digit_at, HasDigitFrom};
+ghost use Rattle.fixed_decimal.specs.Inner.TextParts.{AllDigitBytes, HasPointWithin, places_of_sides, places_around};
+ghost use Rattle.fixed_decimal.specs.Places.{Places, IsWritten, IsWithinLimit, IsOverLimit, shift, shift_left, shift_right, digit_at, digits_from, HasDigitFrom};
 
 use crate::DecimalError;
-use crate::digits::MOST_PLACES;
+use crate::digits::{MOST_PLACES, number_of_digits};
 use crate::point::point_within;
-use crate::span::{digits_between, end_before_zeros, zeros_before};
+use crate::span::{INLINE_DIGITS, digits_between, end_before_zeros, zeros_before};
 use itoa::Buffer;
+use smallvec::SmallVec;
 use std::alloc::{AllocError, Global};
 use std::marker::Model;
 
@@ -21,7 +22,7 @@ pub struct UnsignedDecimal {
     whole_places: u16,
     fraction_places: u16,
     leading_zeros: u16,
-    span: Vec<u8>,
+    span: SmallVec<u8, INLINE_DIGITS>,
 }
 
 impl Model for UnsignedDecimal {
@@ -73,12 +74,11 @@ impl UnsignedDecimal {
         requires fraction { AllDigitBytes fraction.now }
         requires whole_within { length whole.now ≤ MOST_PLACES }
         requires fraction_within { length fraction.now ≤ MOST_PLACES }
-        ensures { IfOk result (λ x. x ≡ number_of whole.now fraction.now) }
+        ensures { IfOk result (λ x. x ≡ places_of_sides whole.now fraction.now) }
     {
         let whole_places = whole.len().max(1);
-        let count = whole_places + fraction.len();
-        let from = zeros_before(whole, fraction, count);
-        let end = end_before_zeros(whole, fraction, from, count);
+        let from = zeros_before(whole, fraction);
+        let end = end_before_zeros(whole, fraction, from);
         Ok(UnsignedDecimal {
             whole_places: whole_places as u16,
             fraction_places: fraction.len() as u16,
@@ -94,7 +94,7 @@ impl UnsignedDecimal {
         point: usize,
     ) -> Result<UnsignedDecimal, AllocError>
         requires { HasPointWithin text.now point }
-        ensures { IfOk result (λ x. x ≡ number_at text.now point) }
+        ensures { IfOk result (λ x. x ≡ places_around text.now point) }
     {
         let (whole, rest) = text.split_at(point);
         let fraction = &rest[rest.len().min(1)..];
@@ -127,7 +127,11 @@ impl UnsignedDecimal {
         if index < leading {
             return 0;
         }
-        self.span.get(index - leading).copied().unwrap_or(0)
+        self.span
+            .as_slice()
+            .get(index - leading)
+            .copied()
+            .unwrap_or(0)
     }
 
     /// The lowest and the highest power of ten that has a written place: minus the count of
@@ -142,6 +146,44 @@ impl UnsignedDecimal {
         (
             -(self.fraction_places as i16),
             (self.whole_places - 1) as i16,
+        )
+    }
+
+    /// How many integer places and how many fraction places are written once the point has moved to the
+    /// right by so many places, as a compact exponent moves it.
+    #[inline]
+    pub fn places_after(&self, exponent: u8) -> (usize, usize)
+        ensures whole { result.0 ≡ length (shift_right exponent self.now).whole }
+        ensures fraction { result.1 ≡ length (shift_right exponent self.now).fraction }
+        ensures written { IsWritten self.now }
+    {
+        (
+            self.whole_places as usize + exponent as usize,
+            (self.fraction_places as usize).saturating_sub(exponent as usize),
+        )
+    }
+
+    /// The number that up to 18 digits write, from a place on: the first number of the answer, times
+    /// ten to the power of the second. Places count from the first integer digit at 0, and past the
+    /// last written place each digit is 0. The zeros behind the kept digits aren't read but counted,
+    /// and both numbers are 0 where no kept digit stands.
+    #[inline]
+    pub fn number_from(&self, place: usize, count: usize) -> (u64, usize)
+        requires few { count ≤ 18 }
+        ensures value { result.0 * 10 ^ result.1 ≡ value_of (digits_from self.now place count) }
+        ensures zeros { result.1 ≤ count }
+        ensures below { result.0 * 10 ^ result.1 < 10 ^ count }
+    {
+        let leading = self.leading_zeros as usize;
+        let start = place.saturating_sub(leading);
+        if start >= self.span.len() {
+            return (0, 0);
+        }
+        let end = (place + count).saturating_sub(leading);
+        let stop = end.min(self.span.len());
+        (
+            number_of_digits(&self.span.as_slice()[start..stop]),
+            end - stop,
         )
     }
 

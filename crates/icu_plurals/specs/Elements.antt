@@ -5,7 +5,7 @@
 --     of_category e c      the value of a category, or other's
 --     element_at e op rules      the value at operands: the explicit one, else that of the category that the rules choose, else other's
 use Rattle.std.specs.Prelude.{ℕ, ◌==◌, ◌&&◌, List, [], ◌∷◌, Bool, Option, Some, None, option_map, unwrap_or, if◌then◌else◌, ◌≡◌}
-use Rattle.plural_reference.specs.Operands.{Operands, AreCut, AreExact}
+use Rattle.plural_reference.specs.Operands.{Operands, AreKept, AreExact}
 use Rattle.plural_runtime.specs.PackedTruth.{packed_truth}
 use Rattle.plural_base.specs.FiveRules.{FiveRules, first_category, Five, moduli_of}
 use Rattle.plural_base.specs.declared.category.PluralCategory.{PluralCategory}
@@ -93,7 +93,7 @@ IsExactElement e rules number exponent value =
 -- The value is that of the operands that are kept of the number.
 abbrev pub IsKeptElement : {T : Type 0} → Elements T → FiveRules → Places → ℕ → T → Type 0
 IsKeptElement e rules number exponent value =
-    (kept : Operands) × AreCut number exponent kept × (value ≡ element_at e kept rules)
+    (kept : Operands) × AreKept number exponent kept × (value ≡ element_at e kept rules)
 
 -- ---- The law
 

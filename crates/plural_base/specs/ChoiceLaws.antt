@@ -8,7 +8,7 @@ use Rattle.plural_reference.specs.declared.ast.Relation.{Relation}
 use Rattle.plural_reference.specs.declared.ast.Operand.TheVariants.{I}
 use Rattle.plural_reference.specs.declared.ast.Operator.TheVariants.{Eq}
 use Rattle.plural_reference.specs.declared.ast.RangeListItem.TheVariants as items
-use Rattle.plural_reference.specs.Operands.{AreCut, AreExact, Operands}
+use Rattle.plural_reference.specs.Operands.{AreKept, AreExact, Operands}
 use Rattle.plural_reference.specs.ExactnessLaws.{IsTwice}
 use Rattle.plural_reference.specs.Exactness.{exact_truth}
 use Rattle.plural_runtime.specs.PackedRelations.{PackedRelation}
@@ -56,6 +56,6 @@ pub record TellsApart (condition : Condition) (rule : List PackedRelation) (kept
 abbrev pub BoundIsWidestForChoice : Type 0
 BoundIsWidestForChoice =
     (m : ℕ) (x : Places) (kept exact : Operands) → 0 < m → m < 2 ^ 32 → ¬ (m ∣ 10 ^ 18)
-    → IsTwice x → AreCut x 0 kept → AreExact x 0 exact
+    → IsTwice x → AreKept x 0 kept → AreExact x 0 exact
     → let condition = alone (leaves m (2 * 10 ^ 18 % m)) in
     TellsApart condition (packed condition) kept exact

@@ -4,7 +4,7 @@
 use Rattle.std.specs.Prelude.{◌≡◌, ℕ, List, Option}
 use Rattle.fixed_decimal.specs.Places.{Places}
 use Rattle.plural_reference.specs.declared.ast.Condition.{Condition}
-use Rattle.plural_reference.specs.Operands.{AreCut, AreExact, Operands}
+use Rattle.plural_reference.specs.Operands.{AreKept, AreExact, Operands}
 use Rattle.plural_reference.specs.Exactness.{IsWithinBound, exact_truth}
 use Rattle.plural_runtime.specs.PackedTruth.{packed_truth}
 use Rattle.plural_base.specs.declared.category.PluralCategory.{PluralCategory}
@@ -25,4 +25,4 @@ IsExactChoice rules number exponent category =
 -- The category is the first whose rule is there and true of the operands that are kept of the number, else other.
 abbrev pub IsKeptChoice : FiveRules → Places → ℕ → PluralCategory → Type 0
 IsKeptChoice rules number exponent category =
-    (kept : Operands) × AreCut number exponent kept × (category ≡ first_category (packed_truth kept) rules)
+    (kept : Operands) × AreKept number exponent kept × (category ≡ first_category (packed_truth kept) rules)

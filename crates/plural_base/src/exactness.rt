@@ -1,6 +1,6 @@
 //! When the category of a decimal is exact.
 
-ghost use Rattle.std.specs.Prelude.{◌≡◌, ◌↔◌, ◌^◌, ◌≤◌, Some, pos, ◌-ℤ◌, length, IsTrue};
+ghost use Rattle.std.specs.Prelude.{◌≡◌, ◌↔◌, ◌^◌, ◌≤◌, Some, pos, ◌-ℤ◌, IsTrue};
 ghost use Rattle.std.specs.List.{list_all};
 ghost use Rattle.fixed_decimal.specs.Digits.{value_of};
 ghost use Rattle.fixed_decimal.specs.Places.{IsWritten, shift_right};
@@ -12,13 +12,8 @@ ghost use Rattle.plural_base.specs.FiveRules.{moduli_of, moduli_of_rule, moduli_
 use crate::rules::PluralRules;
 use fixed_decimal::{CompactDecimal, Decimal, UnsignedDecimal};
 use plural_reference::laws::exactness::bound_before_the_shift;
+use plural_reference::{KEPT_LIMIT, KEPT_PLACES};
 use plural_runtime::{Operand, Relation, Rule};
-
-// So many places are kept of a decimal on each side of the point.
-const KEPT: usize = 18;
-
-// What is dropped of an integer part is a multiple of this, 10 to the power 18.
-const TEN_TO_18: u64 = 1_000_000_000_000_000_000;
 
 impl<'data> PluralRules<'data> {
     /// Whether the rules choose this number's category as the number itself does, and not only as
@@ -46,11 +41,11 @@ impl<'data> PluralRules<'data> {
     fn is_within_bound(&self, digits: &UnsignedDecimal, exponent: u8) -> bool
         ensures { IsTrue result ↔ IsWithinBound digits.now exponent (moduli_of self.now) }
     {
-        let (whole, fraction) = places_after(digits, exponent);
-        if fraction > KEPT {
+        let (whole, fraction) = digits.places_after(exponent);
+        if fraction > KEPT_PLACES {
             return false;
         }
-        if whole <= KEPT {
+        if whole <= KEPT_PLACES {
             return true;
         }
         is_long_after(digits, exponent) && self.all_moduli_divide()
@@ -69,19 +64,6 @@ impl<'data> PluralRules<'data> {
     }
 }
 
-// How many integer places and fraction places digits have once the point has moved by the exponent.
-fn places_after(digits: &UnsignedDecimal, exponent: u8) -> (usize, usize)
-    ensures whole { result.0 ≡ length (shift_right exponent digits.now).whole }
-    ensures fraction { result.1 ≡ length (shift_right exponent digits.now).fraction }
-    ensures written { IsWritten digits.now }
-{
-    bound_before_the_shift();
-    let (lowest, highest) = digits.magnitude_range();
-    let whole = highest.unsigned_abs() as usize + 1 + exponent as usize;
-    let fraction = (lowest.unsigned_abs() as usize).saturating_sub(exponent as usize);
-    (whole, fraction)
-}
-
 // Whether the integer part is at least 10 to the power 18 once the point has moved.
 fn is_long_after(digits: &UnsignedDecimal, exponent: u8) -> bool
     requires { IsWritten digits.now }
@@ -95,7 +77,7 @@ fn is_long_after(digits: &UnsignedDecimal, exponent: u8) -> bool
 fn first_place_above(exponent: u8) -> i16
     ensures { result ≡ pos 18 -ℤ pos exponent }
 {
-    18 - i16::from(exponent)
+    KEPT_PLACES as i16 - i16::from(exponent)
 }
 
 // Whether each modulus on n and i in a rule, if it is there, divides 10 to the power 18.
@@ -136,5 +118,5 @@ fn relation_divides(relation: Relation<'_>) -> bool
 fn divides_ten_to_18(modulus: u32) -> bool
     ensures { result ≡ divides_ten_to_18 modulus }
 {
-    modulus == 0 || TEN_TO_18 % u64::from(modulus) == 0
+    modulus == 0 || KEPT_LIMIT % u64::from(modulus) == 0
 }

@@ -14,13 +14,13 @@ use Rattle.std.proofs.Math.Nat.{dvd-mul_left, dvd-add_iff_right, pow-le-pow_righ
 use Rattle.std.specs.Int.{◌∣◌}
 use Rattle.fixed_decimal.specs.Digits.{value_of, AreDigits}
 use Rattle.fixed_decimal.specs.Places.{Places, IsWritten, digit_at, shift_right}
-use Rattle.plural_reference.specs.Operands.{cut_whole}
+use Rattle.plural_reference.specs.Operands.{kept_whole}
 use Rattle.plural_reference.specs.Truth.{is_in_ranges, holds_value, range_holds, remainder}
 use Rattle.plural_reference.specs.Exactness.{whole_of, parts}
 use Rattle.plural_reference.specs.ExactnessLaws.{HoldsWholeNumbers, ShiftedPlaces, LongValue, IsTwice, BoundIsWidest}
 use Rattle.plural_reference.proofs.Numbers.{value_of-below, power_above}
 use Rattle.plural_reference.proofs.Fractions.{exact_whole, IsWritten-shift_right}
-use Rattle.plural_reference.proofs.Agreement.{cut_whole-long, remainder-some}
+use Rattle.plural_reference.proofs.Agreement.{kept_whole-long, remainder-some}
 use Rattle.plural_reference.proofs.Conversion.{length-whole, length-fraction, digit_at_index, same_digits}
 
 -- ---- whole numbers
@@ -155,8 +155,8 @@ long_twice x h =
     ]
 
 -- what is kept of 2 * 10 ^ 18 is 10 ^ 18
-cut_twice : (x : Places) → IsTwice x → cut_whole x.whole ≡ 10 ^ 18
-cut_twice x h = cut_whole-long x.whole h.0.digits (long_twice x h) ∙ ap (λ n. n % 10 ^ 18 + 10 ^ 18) h.0.value
+kept_twice : (x : Places) → IsTwice x → kept_whole x.whole ≡ 10 ^ 18
+kept_twice x h = kept_whole-long x.whole h.0.digits (long_twice x h) ∙ ap (λ n. n % 10 ^ 18 + 10 ^ 18) h.0.value
 
 -- the digits of 2 * 10 ^ 18 are digits, and there are some
 written_twice : (x : Places) → IsTwice x → IsWritten x
@@ -184,13 +184,13 @@ only_it a k h =
 
 -- a modulus that doesn't divide 10 ^ 18 tells the exact 2 * 10 ^ 18 from what is kept of it
 pub bound_is_widest : BoundIsWidest
-bound_is_widest m x cut exact some other twice c y =
+bound_is_widest m x kept exact some other twice c y =
     let r : ℕ = 2 * 10 ^ 18 % m in
     let e : remainder m exact.i ≡ r =
     ap (remainder m) (exact_whole x 0 exact (written_twice x twice) y ∙ twice.0.value)
     ∙ remainder-some m (2 * 10 ^ 18) some in
-    let k : remainder m cut.i ≡ 10 ^ 18 % m = ap (remainder m) (c.i ∙ cut_twice x twice) ∙ remainder-some m (10 ^ 18) some in (
+    let k : remainder m kept.i ≡ 10 ^ 18 % m = ap (remainder m) (c.i ∙ kept_twice x twice) ∙ remainder-some m (10 ^ 18) some in (
       in_it r (remainder m exact.i) e,
-      false_from_ne_true (is_in_ranges ((r, r) ∷ []) (remainder m cut.i))
-          (λ h. other (double_leaves (10 ^ 18) m (sym k ∙ only_it r (remainder m cut.i) h))),
+      false_from_ne_true (is_in_ranges ((r, r) ∷ []) (remainder m kept.i))
+          (λ h. other (double_leaves (10 ^ 18) m (sym k ∙ only_it r (remainder m kept.i) h))),
     )

@@ -35,18 +35,18 @@ groups_agree_by p q K (group ∷ groups) h k = some_agree p q K (group ∷ group
 
 -- within the bound a relation is true of the kept operands exactly if it is true of the exact ones
 pub relations_agree : RelationsAgree
-relations_agree x e moduli cut exact relation h k =
-    relation_agrees (shift_right e x) e moduli cut exact (IsWritten-shift_right e x h.written) h.within h.are_cut h.are_exact relation k
+relations_agree x e moduli kept exact relation h k =
+    relation_agrees (shift_right e x) e moduli kept exact (IsWritten-shift_right e x h.written) h.within h.are_kept h.are_exact relation k
 
 -- so are groups of relations
 pub groups_agree : GroupsAgree
-groups_agree x e moduli cut exact groups h k =
-    groups_agree_by (relation_truth cut) (exact_relation_truth exact) (IsAdmitted moduli) groups
-    (λ relation a. relations_agree x e moduli cut exact relation h a) k
+groups_agree x e moduli kept exact groups h k =
+    groups_agree_by (relation_truth kept) (exact_relation_truth exact) (IsAdmitted moduli) groups
+    (λ relation a. relations_agree x e moduli kept exact relation h a) k
 
 -- so is a condition
 pub conditions_agree : ConditionsAgree
-conditions_agree x e moduli cut exact condition h k =
-    groups_agree_by (λ r. relation_truth cut (meaning_of r)) (λ r. exact_relation_truth exact (meaning_of r))
+conditions_agree x e moduli kept exact condition h k =
+    groups_agree_by (λ r. relation_truth kept (meaning_of r)) (λ r. exact_relation_truth exact (meaning_of r))
     (λ r. IsAdmitted moduli (meaning_of r)) (groups_of condition)
-    (λ r a. relations_agree x e moduli cut exact (meaning_of r) h a) k
+    (λ r a. relations_agree x e moduli kept exact (meaning_of r) h a) k

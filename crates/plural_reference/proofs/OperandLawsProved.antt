@@ -10,11 +10,11 @@ use Rattle.std.proofs.Math.Nat.{add-mod_right, mod-mod, dvd-mul_left}
 use Rattle.std.specs.Int.{◌∣◌}
 use Rattle.fixed_decimal.specs.Digits.{value_of}
 use Rattle.fixed_decimal.specs.Places.{Places, IsWritten, shift_right}
-use Rattle.plural_reference.specs.Operands.{Operands, of_whole, of_wide, HasFraction, IsCutAt, IsExactAt, all_digits_value, cut_whole}
-use Rattle.plural_reference.specs.OperandLaws.{SameBelowLimit, CongruentFromLimit, NothingIsCut, OneCut, OneExact, TellTheNumber}
+use Rattle.plural_reference.specs.Operands.{Operands, of_whole, of_wide, HasFraction, IsKeptAt, IsExactAt, all_digits_value, kept_whole}
+use Rattle.plural_reference.specs.OperandLaws.{SameBelowLimit, CongruentFromLimit, AllIsKept, OneKept, OneExact, TellTheNumber}
 use Rattle.plural_reference.proofs.Numbers.{value_of-append-div, value_of-append-mod}
-use Rattle.plural_reference.proofs.Fractions.{SameFraction, one_fraction, exact_whole, exact_fraction, cut_fraction, IsWritten-shift_right}
-use Rattle.plural_reference.proofs.Agreement.{cut_whole-short}
+use Rattle.plural_reference.proofs.Fractions.{SameFraction, one_fraction, exact_whole, exact_fraction, kept_fraction, IsWritten-shift_right}
+use Rattle.plural_reference.proofs.Agreement.{kept_whole-short}
 use Rattle.plural_reference.proofs.Conversion.{one_zero_less, quotient, no_fewer}
 
 -- a whole number below 10 ^ 18 has the same operands at 64 and at 128 bits
@@ -31,15 +31,15 @@ congruent_from_limit n h =
 
 -- digits of at most 18 places on each side have the same kept and exact operands
 short_at : (y : Places) (e : ℕ) (o : Operands) → IsWritten y → length y.whole ≤ 18 → length y.fraction ≤ 18
-    → IsCutAt y e o ↔ IsExactAt y e o
+    → IsKeptAt y e o ↔ IsExactAt y e o
 short_at y e o h i f =
-    let c : cut_whole y.whole ≡ value_of y.whole = cut_whole-short y.whole i in
+    let c : kept_whole y.whole ≡ value_of y.whole = kept_whole-short y.whole i in
     let t : take 18 y.fraction ≡ y.fraction = take_all 18 y.fraction f in (
       λ k. record {
         i = k.i ∙ c ∙ sym (value_of-append-div y.whole y.fraction h.fraction);
         fraction =
             subst (λ (n : ℕ). HasFraction o (length y.fraction) n)
-            (sym (value_of-append-mod y.whole y.fraction h.fraction)) (cut_fraction y e o f k);
+            (sym (value_of-append-mod y.whole y.fraction h.fraction)) (kept_fraction y e o f k);
         c = k.c;
       },
       λ k. record {
@@ -50,8 +50,8 @@ short_at y e o h i f =
     )
 
 -- so has a number whose digits are so few after the shift by its exponent
-pub nothing_is_cut : NothingIsCut
-nothing_is_cut x e o h i f = short_at (shift_right e x) e o (IsWritten-shift_right e x h) i f
+pub all_is_kept : AllIsKept
+all_is_kept x e o h i f = short_at (shift_right e x) e o (IsWritten-shift_right e x h) i f
 
 -- ---- one list of operands
 
@@ -118,13 +118,13 @@ made i shown written c =
     )
 
 -- a number has kept operands, and no others
-pub one_cut : OneCut
-one_cut x e =
+pub one_kept : OneKept
+one_kept x e =
     let y : Places = shift_right e x in
-    let m : (o : Operands) × (o.i ≡ cut_whole y.whole)
+    let m : (o : Operands) × (o.i ≡ kept_whole y.whole)
     × HasFraction o (length (take 18 y.fraction)) (value_of (take 18 y.fraction)) × (o.c ≡ e)
-    = made (cut_whole y.whole) (length (take 18 y.fraction)) (value_of (take 18 y.fraction)) e in
-    let k : IsCutAt y e m.0 = record { i = m.1; fraction = m.2; c = m.3 } in
+    = made (kept_whole y.whole) (length (take 18 y.fraction)) (value_of (take 18 y.fraction)) e in
+    let k : IsKeptAt y e m.0 = record { i = m.1; fraction = m.2; c = m.3 } in
     (m.0, k, λ b h. one_record b m.0 (h.i ∙ sym k.i) (one_fraction b m.0 _ _ h.fraction k.fraction) (h.c ∙ sym k.c))
 
 -- a number has exact operands, and no others

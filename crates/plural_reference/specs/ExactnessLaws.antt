@@ -4,7 +4,7 @@ use Rattle.std.specs.Int.{◌∣◌}
 use Rattle.std.specs.List.{AllByRecursion}
 use Rattle.fixed_decimal.specs.Digits.{IsNumeral, value_of}
 use Rattle.fixed_decimal.specs.Places.{Places, IsWritten, HasDigitFrom, shift_right}
-use Rattle.plural_reference.specs.Operands.{Operands, kept_limit, AreCut, AreExact}
+use Rattle.plural_reference.specs.Operands.{Operands, kept_limit, AreKept, AreExact}
 use Rattle.plural_reference.specs.Truth.{RelationMeaning, holds_value, is_in_ranges, is_true_of, relation_truth, remainder, meaning_of, groups_of}
 use Rattle.plural_reference.specs.Exactness.{exact_value, exact_relation_truth, exact_truth, parts, IsWithinBound, IsAdmitted}
 use Rattle.plural_reference.specs.declared.ast.Condition.{Condition}
@@ -17,7 +17,7 @@ use Rattle.plural_reference.specs.declared.ast.Operator.TheVariants.{Eq}
 pub record IsKept (x : Places) (e : ℕ) (moduli : List ℕ) (kept exact : Operands) : Type 0 where
   pub written : IsWritten x
   pub within : IsWithinBound x e moduli
-  pub are_cut : AreCut x e kept
+  pub are_kept : AreKept x e kept
   pub are_exact : AreExact x e exact
 
 -- a relation is true of the kept operands exactly if it is true of the exact ones
@@ -77,5 +77,5 @@ left_of_twice m = let r = 2 * kept_limit % m in record { operand = I; modulus = 
 abbrev pub BoundIsWidest : Type 0
 BoundIsWidest =
     (m : ℕ) (x : Places) (kept exact : Operands) → 0 < m → ¬ (m ∣ kept_limit)
-    → IsTwice x → AreCut x 0 kept → AreExact x 0 exact
+    → IsTwice x → AreKept x 0 kept → AreExact x 0 exact
     → (exact_relation_truth exact (left_of_twice m) ≡ true) × (relation_truth kept (left_of_twice m) ≡ false)

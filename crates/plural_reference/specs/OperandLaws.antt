@@ -1,7 +1,7 @@
 -- What holds of the operands of every number.
 use Rattle.std.specs.Prelude.{◌≡◌, ℕ, ◌%◌, ◌<◌, ◌≤◌, ◌↔◌, List, length}
 use Rattle.fixed_decimal.specs.Places.{Places, IsWritten, shift_right}
-use Rattle.plural_reference.specs.Operands.{Operands, kept_places, kept_limit, of_whole, of_wide, AreCut, AreExact, all_digits_value}
+use Rattle.plural_reference.specs.Operands.{Operands, kept_places, kept_limit, of_whole, of_wide, AreKept, AreExact, all_digits_value}
 use Rattle.plural_reference.specs.OperandText.{WritesOperands}
 use Rattle.plural_reference.specs.Exactness.{parts}
 use Rattle.plural_reference.specs.ReadingLaws.{ThereIsOne}
@@ -18,15 +18,15 @@ CongruentFromLimit = (n : ℕ) → kept_limit ≤ n →
     × ((of_wide n).i % kept_limit ≡ (of_whole n).i % kept_limit)
 
 -- with at most 18 places on each side the kept operands are the exact ones
-abbrev pub NothingIsCut : Type 0
-NothingIsCut = (x : Places) (e : ℕ) (o : Operands) → IsWritten x →
+abbrev pub AllIsKept : Type 0
+AllIsKept = (x : Places) (e : ℕ) (o : Operands) → IsWritten x →
     length (shift_right e x).whole ≤ kept_places
     → length (shift_right e x).fraction ≤ kept_places
-    → AreCut x e o ↔ AreExact x e o
+    → AreKept x e o ↔ AreExact x e o
 
 -- a number has one list of kept operands, and one of exact ones
-abbrev pub OneCut : Type 0
-OneCut = (x : Places) (e : ℕ) → ThereIsOne (AreCut x e)
+abbrev pub OneKept : Type 0
+OneKept = (x : Places) (e : ℕ) → ThereIsOne (AreKept x e)
 
 abbrev pub OneExact : Type 0
 OneExact = (x : Places) (e : ℕ) → ThereIsOne (AreExact x e)

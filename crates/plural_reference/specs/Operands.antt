@@ -36,7 +36,7 @@ of_wide n = of_whole (if nat_lt n kept_limit then n else n % kept_limit + kept_l
 -- ---- Which operands a written number has (UTS 35 Part 3, Plural Operand Meanings). The number is given by its digits x and its
 -- compact exponent e: the point goes e places to the right before the digits count.
 --     AreExact x e o      the exact operands, whatever the number's length
---     AreCut x e o      the kept operands: the last 18 integer digits and the first 18 fraction digits count
+--     AreKept x e o      the kept operands: the last 18 integer digits and the first 18 fraction digits count
 
 -- The fraction digits that are shown are so many, and write this number. w is the least count of them with the number
 -- divisible by 10 ^ (shown - w), and t is what that division gives.
@@ -65,15 +65,15 @@ AreExact x e o = IsExactAt (shift_right e x) e o
 -- ---- Kept operands
 
 -- the number that at most 18 digits write; of more, what the last 18 write, and 10 ^ 18 besides
-abbrev pub cut_whole : List ℕ → ℕ
-cut_whole ds =
+abbrev pub kept_whole : List ℕ → ℕ
+kept_whole ds =
     if nat_le (length ds) kept_places then value_of ds else value_of (drop (length ds - kept_places) ds) + kept_limit
 
 -- of the digits as they stand, and an exponent
-pub record IsCutAt (y : Places) (e : ℕ) (o : Operands) : Type 0 where
-  pub i : o.i ≡ cut_whole y.whole
+pub record IsKeptAt (y : Places) (e : ℕ) (o : Operands) : Type 0 where
+  pub i : o.i ≡ kept_whole y.whole
   pub fraction : HasFraction o (length (take kept_places y.fraction)) (value_of (take kept_places y.fraction))
   pub c : o.c ≡ e
 
-abbrev pub AreCut : Places → ℕ → Operands → Type 0
-AreCut x e o = IsCutAt (shift_right e x) e o
+abbrev pub AreKept : Places → ℕ → Operands → Type 0
+AreKept x e o = IsKeptAt (shift_right e x) e o

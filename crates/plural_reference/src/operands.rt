@@ -7,9 +7,11 @@ mod decimals;
 mod error;
 mod fraction;
 mod integers;
+mod kept;
 mod text;
 
 pub use error::OperandsError;
+pub use kept::{KEPT_LIMIT, KEPT_PLACES};
 use std::marker::Model;
 
 /// The operands of a number (UTS 35 Part 3, Plural Operand Meanings): `i`, its integer part; `v` and

@@ -1,16 +1,9 @@
--- Not a definition of the subject: the digits of a number from a power of ten down, of which a private contract speaks.
-use Rattle.std.specs.Prelude.{ℕ, zero, suc, ℤ, pos, ◌-ℤ◌, List, [], ◌∷◌, ◌++◌, ◌≡◌, ◌==◌, if◌then◌else◌, length, Option, Some, None}
+-- Not a definition of the subject: the parts of a text of operands, of which private contracts speak.
+use Rattle.std.specs.Prelude.{ℕ, List, [], ◌∷◌, ◌++◌, ◌≡◌, ◌==◌, if◌then◌else◌, length, Option, Some, None}
 use Rattle.std.specs.Char.{IsAsciiDigit}
-use Rattle.fixed_decimal.specs.Places.{Places, digit_at}
 use Rattle.fixed_decimal.specs.Digits.{value_of, text_of}
 use Rattle.plural_reference.specs.Operands.{Operands, HasFraction}
 use Rattle.plural_reference.specs.OperandText.{IsWord, WritesCount, WritesExponent}
-
-abbrev pub digits_from : Places → ℤ → ℕ → List ℕ
-digits_from x top zero = []
-digits_from x top (suc n) = digits_from x top n ++ digit_at x (top -ℤ pos n) ∷ []
-
--- ---- Not a definition of the subject: the parts of a text of operands, of which private contracts speak.
 
 -- the answer is what the text writes, or none where it writes nothing
 abbrev pub Answers : {A : Type 0} → (A → Type 0) → Option A → Type 0

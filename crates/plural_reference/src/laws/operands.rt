@@ -2,7 +2,7 @@
 
 ghost use Rattle.std.specs.Prelude.{◌≡◌, nat_abs};
 ghost use Rattle.plural_reference.specs.Operands.{of_whole, of_wide};
-ghost use Rattle.plural_reference.specs.OperandLaws.{SameBelowLimit, CongruentFromLimit, NothingIsCut, OneCut, OneExact, OneNamed, TellTheNumber};
+ghost use Rattle.plural_reference.specs.OperandLaws.{SameBelowLimit, CongruentFromLimit, AllIsKept, OneKept, OneExact, OneNamed, TellTheNumber};
 
 use crate::operands::PluralOperands;
 
@@ -33,12 +33,12 @@ pub fn wide_signed_as_absolute(number: i128) -> (PluralOperands, PluralOperands)
 
 /// With at most 18 places on each side of the point the kept operands are the exact ones.
 pub fn short_numbers_are_exact()
-    ensures { NothingIsCut }
+    ensures { AllIsKept }
 {}
 
 /// A number has one list of kept operands, and one of exact ones.
 pub fn one_list_of_operands()
-    ensures cut { OneCut }
+    ensures kept { OneKept }
     ensures exact { OneExact }
 {}
 

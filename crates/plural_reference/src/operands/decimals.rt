@@ -1,17 +1,12 @@
 //! The operands of decimals.
 
-ghost use Rattle.std.specs.Prelude.{◌≡◌, ◌^◌, ◌<◌, ◌≤◌, ◌≤ℤ◌, pos, neg_ℤ};
-ghost use Rattle.fixed_decimal.specs.Digits.{value_of};
+ghost use Rattle.std.specs.Prelude.{◌≡◌};
 ghost use Rattle.fixed_decimal.specs.Places.{IsWritten};
-ghost use Rattle.plural_reference.specs.Operands.{AreCut};
-ghost use Rattle.plural_reference.specs.Inner.OperandReader.{digits_from};
+ghost use Rattle.plural_reference.specs.Operands.{AreKept};
 
 use crate::operands::PluralOperands;
-use crate::operands::integers::LIMIT;
+use crate::operands::kept::{KEPT_LIMIT, KEPT_PLACES, power_of_ten};
 use fixed_decimal::{CompactDecimal, Decimal, UnsignedDecimal};
-
-// So many places are kept on each side of the point.
-const KEPT: usize = 18;
 
 impl PluralOperands {
     /// The operands of a number times a power of ten, which is their compact exponent.
@@ -23,25 +18,27 @@ impl PluralOperands {
         significand: &UnsignedDecimal,
         exponent: u8,
     ) -> PluralOperands
-        ensures cut { AreCut significand.now exponent result }
+        ensures kept { AreKept significand.now exponent result }
         ensures written { IsWritten significand.now }
     {
-        let (lowest, highest) = significand.magnitude_range();
-        let whole = highest.unsigned_abs() as usize + 1 + exponent as usize;
-        let fraction = (lowest.unsigned_abs() as usize).saturating_sub(exponent as usize);
-        let shift = exponent as i16;
-        let kept = whole.min(KEPT);
-        let last = number_at(significand, kept as i16 - 1 - shift, kept);
-        let i = if whole <= KEPT { last } else { last + LIMIT };
-        let v = fraction.min(KEPT);
-        let f = number_at(significand, -1 - shift, v);
-        PluralOperands::from_parts(i, v, f, exponent as usize)
+        let (whole, fraction) = significand.places_after(exponent);
+        let kept = whole.min(KEPT_PLACES);
+        let (last, zeros) = significand.number_from(whole - kept, kept);
+        let last = last * power_of_ten(zeros);
+        let i = if whole <= KEPT_PLACES {
+            last
+        } else {
+            last + KEPT_LIMIT
+        };
+        let v = fraction.min(KEPT_PLACES);
+        let (number, zeros) = significand.number_from(whole, v);
+        PluralOperands::from_scaled_parts(i, v, number, zeros, exponent as usize)
     }
 }
 
 /// As [`PluralOperands::from_significand_and_exponent`] with the exponent 0.
 impl From<&UnsignedDecimal> for PluralOperands {
-    ghost from_gives = { λ x o. AreCut x.now 0 o × IsWritten x.now };
+    ghost from_gives = { λ x o. AreKept x.now 0 o × IsWritten x.now };
 
     #[inline]
     fn from(number: &UnsignedDecimal) -> PluralOperands {
@@ -51,7 +48,7 @@ impl From<&UnsignedDecimal> for PluralOperands {
 
 /// Those of the digits: the sign has no effect.
 impl From<&Decimal> for PluralOperands {
-    ghost from_gives = { λ x o. AreCut x.now.absolute 0 o × IsWritten x.now.absolute };
+    ghost from_gives = { λ x o. AreKept x.now.absolute 0 o × IsWritten x.now.absolute };
 
     #[inline]
     fn from(number: &Decimal) -> PluralOperands {
@@ -62,7 +59,7 @@ impl From<&Decimal> for PluralOperands {
 /// As [`PluralOperands::from_significand_and_exponent`] of the two parts: the sign has no effect.
 impl From<&CompactDecimal> for PluralOperands {
     ghost from_gives = { λ x o.
-        AreCut x.now.significand.absolute x.now.exponent o × IsWritten x.now.significand.absolute };
+        AreKept x.now.significand.absolute x.now.exponent o × IsWritten x.now.significand.absolute };
 
     #[inline]
     fn from(number: &CompactDecimal) -> PluralOperands {
@@ -71,19 +68,4 @@ impl From<&CompactDecimal> for PluralOperands {
             number.exponent(),
         )
     }
-}
-
-// The number that so many digits write, from a power of ten down. The lowest of them is one of the
-// first 18 behind the point, moved by at most 255 places: it lies above `10^-300`.
-fn number_at(significand: &UnsignedDecimal, top: i16, count: usize) -> u64
-    requires few { count ≤ 18 }
-    requires high { neg_ℤ (pos 300) ≤ℤ top }
-    ensures value { result ≡ value_of (digits_from significand.now top count) }
-    ensures below { result < 10 ^ 18 }
-{
-    let mut number = 0u64;
-    for index in 0..count {
-        number = number * 10 + significand.digit_at(top - index as i16) as u64;
-    }
-    number
 }

@@ -1,10 +1,11 @@
 //! The operands of a fraction.
 
-ghost use Rattle.std.specs.Prelude.{◌≡◌, ℕ, ◌-◌, ◌/◌, ◌^◌, ◌≤◌};
+ghost use Rattle.std.specs.Prelude.{◌≡◌, ℕ, ◌-◌, ◌*◌, ◌/◌, ◌^◌, ◌<◌, ◌≤◌};
 ghost use Rattle.std.specs.Int.{◌∣◌};
 ghost use Rattle.plural_reference.specs.Operands.{HasFraction};
 
 use crate::operands::PluralOperands;
+use crate::operands::kept::power_of_ten;
 
 impl PluralOperands {
     // Those of an integer part, so many fraction digits and the number that they write, and an exponent.
@@ -13,32 +14,53 @@ impl PluralOperands {
         ensures fraction { HasFraction result shown written }
         ensures exponent { result.c ≡ c }
     {
-        let (w, t) = without_zeros(shown, written);
+        PluralOperands::from_scaled_parts(i, shown, written, 0, c)
+    }
+
+    // The same of digits that end in so many zeros: they write the number times 10 to the power of the
+    // zeros.
+    pub(crate) fn from_scaled_parts(
+        i: u64,
+        shown: usize,
+        number: u64,
+        zeros: usize,
+        c: usize,
+    ) -> PluralOperands
+        requires few { zeros ≤ 18 }
+        requires inside { zeros ≤ shown }
+        requires below { number * 10 ^ zeros < 2 ^ 64 }
+        ensures integer { result.i ≡ i }
+        ensures fraction { HasFraction result shown (number * 10 ^ zeros) }
+        ensures exponent { result.c ≡ c }
+    {
+        let (w, t) = without_zeros(shown, number, zeros);
         PluralOperands {
             i,
             v: shown,
             w,
-            f: written,
+            f: number * power_of_ten(zeros),
             t,
             c,
         }
     }
 }
 
-// The fraction without its trailing zeros: how many digits are left, and what they write.
-fn without_zeros(shown: usize, written: u64) -> (usize, u64)
-    ensures divides { 10 ^ (shown - result.0) ∣ written }
-    ensures least { (k : ℕ) → 10 ^ (shown - k) ∣ written → result.0 ≤ k }
-    ensures number { result.1 ≡ written / 10 ^ (shown - result.0) }
+// The fraction that a number and so many zeros behind it write, without its trailing zeros: how many
+// digits are left, and what they write.
+fn without_zeros(shown: usize, number: u64, zeros: usize) -> (usize, u64)
+    requires { zeros ≤ shown }
+    ensures divides { 10 ^ (shown - result.0) ∣ number * 10 ^ zeros }
+    ensures least { (k : ℕ) → 10 ^ (shown - k) ∣ number * 10 ^ zeros → result.0 ≤ k }
+    ensures number { result.1 ≡ number * 10 ^ zeros / 10 ^ (shown - result.0) }
 {
-    if written == 0 {
+    if number == 0 {
         return (0, 0);
     }
-    let mut left = shown;
-    let mut number = written;
-    while left > 0 && number % 10 == 0 {
+    let mut left = shown - zeros;
+    let mut rest = number;
+    while left > 0 && rest % 10 == 0 {
         left -= 1;
-        number /= 10;
+        rest /= 10;
     }
-    (left, number)
+    (left, rest)
 }

@@ -4,9 +4,7 @@ ghost use Rattle.std.specs.Prelude.{◌≡◌, nat_abs};
 ghost use Rattle.plural_reference.specs.Operands.{of_whole, of_wide};
 
 use crate::operands::PluralOperands;
-
-// From here on the last 18 digits of a number are kept, with this added.
-pub(crate) const LIMIT: u64 = 1_000_000_000_000_000_000;
+use crate::operands::kept::KEPT_LIMIT;
 
 /// `i` is the number.
 impl From<u8> for PluralOperands {
@@ -71,10 +69,10 @@ impl From<u128> for PluralOperands {
 
     #[inline]
     fn from(number: u128) -> PluralOperands {
-        let i = if number < LIMIT as u128 {
+        let i = if number < KEPT_LIMIT as u128 {
             number as u64
         } else {
-            (number % LIMIT as u128) as u64 + LIMIT
+            (number % KEPT_LIMIT as u128) as u64 + KEPT_LIMIT
         };
         PluralOperands::from(i)
     }

@@ -14,15 +14,19 @@ pub returns-in_err-point-clause-syntax : goal.returns-in_err-point-clause-syntax
 returns-in_err-point-clause-syntax c =
     let text = c.args.text.now in
     let s = c.split_sign-sign in
-    carried c.point_within.result c.from_residual.result c.in_err-point.field-0.0 Syntax c.in_err-point.was (same_error c) c.point_within.ensures.syntax
-    (none_signed text s.result.0 s.result.1.now s.ensures.form s.ensures.only) (none_unsigned text s.result.0 s.result.1.now s.ensures.form s.ensures.only)
+    carried c.point_within.result c.from_residual.result c.in_err-point.field-0.0 Syntax c.in_err-point.was
+    (same_error c) c.point_within.ensures.syntax
+    (none_signed text s.result.0 s.result.1.now s.ensures.form s.ensures.only)
+    (none_unsigned text s.result.0 s.result.1.now s.ensures.form s.ensures.only)
 
 pub returns-in_err-point-clause-limit : goal.returns-in_err-point-clause-limit
 returns-in_err-point-clause-limit c =
     let text = c.args.text.now in
     let s = c.split_sign-sign in
-    carried c.point_within.result c.from_residual.result c.in_err-point.field-0.0 Limit c.in_err-point.was (same_error c) c.point_within.ensures.limit
-    (over_signed text s.result.0 s.result.1.now s.ensures.form s.ensures.only) (over_unsigned text s.result.0 s.result.1.now s.ensures.form s.ensures.only)
+    carried c.point_within.result c.from_residual.result c.in_err-point.field-0.0 Limit c.in_err-point.was
+    (same_error c) c.point_within.ensures.limit
+    (over_signed text s.result.0 s.result.1.now s.ensures.form s.ensures.only)
+    (over_unsigned text s.result.0 s.result.1.now s.ensures.form s.ensures.only)
 
 pub returns-clause-syntax : goal.returns-clause-syntax
 returns-clause-syntax c =

@@ -16,6 +16,8 @@ returns-in-99 c e =
     let parts : text ≡ 99 ∷ drop 1 text = first_and_rest text 99 (omega arith) first in
     let rest : take (length text - 1) (drop 1 text) ≡ drop 1 text = take_rest text 1 in
     let few = c.value_of_few.ensures e in (
-      λ some. subst (λ (t : List ℕ). HasExponent t e) (sym parts) (exponent_from (drop 1 text) e (subst (λ (t : List ℕ). WritesUpToThree t e) rest (few.0 some))),
-      λ h. few.1 (subst (λ (t : List ℕ). WritesUpToThree t e) (sym rest) (exponent_to (drop 1 text) e (subst (λ (t : List ℕ). HasExponent t e) parts h))),
+      λ some. subst (λ (t : List ℕ). HasExponent t e) (sym parts)
+          (exponent_from (drop 1 text) e (subst (λ (t : List ℕ). WritesUpToThree t e) rest (few.0 some))),
+      λ h. few.1 (subst (λ (t : List ℕ). WritesUpToThree t e) (sym rest)
+          (exponent_to (drop 1 text) e (subst (λ (t : List ℕ). HasExponent t e) parts h))),
     )

@@ -1,6 +1,6 @@
-use Rattle.std.proofs.Common.{◌≡◌, ◌+◌, max, length, arith, subst, sym}
+use Rattle.std.proofs.Common.{◌≡◌, ◌+◌, max, length, arith, sym}
 use Rattle.fixed_decimal.specs.Places.{or_zero}
-use Rattle.fixed_decimal.specs.Inner.TextParts.{digits_in, written_digits, AreZeros}
+use Rattle.fixed_decimal.specs.Inner.TextParts.{digits_in, written_digits}
 use Rattle.fixed_decimal.specs.declared.unsigned.UnsignedDecimal.TheInside.{Inside}
 use Rattle.fixed_decimal.proofs.Points.{length-digits_in}
 use Rattle.fixed_decimal.proofs.Making.{spans, places_of_all, written_are_digits, length-written, length-whole_digits}
@@ -11,7 +11,8 @@ invariant_of-result c =
     let whole = c.args.whole.now in
     let fraction = c.args.fraction.now in
     let l : length (written_digits whole fraction) ≡ max (length whole) 1 + length fraction = length-written whole fraction in
-    spans _ (written_digits whole fraction) c.end_before_zeros-end.result (omega arith) (omega arith) (omega arith) c.in_ok-digits_between.ensures
+    spans _ (written_digits whole fraction) c.end_before_zeros-end.result (omega arith) (omega arith)
+    (omega arith) c.in_ok-digits_between.ensures
     (omega arith) (omega arith) (omega arith) (written_are_digits whole fraction c.requires.whole c.requires.fraction)
     (λ h. c.zeros_before-from.ensures.other (omega arith)) c.end_before_zeros-end.ensures.other
 
@@ -21,7 +22,6 @@ returns c =
     let fraction = c.args.fraction.now in
     let w : length (or_zero (digits_in whole)) ≡ max (length whole) 1 = length-whole_digits whole in
     let l : length (written_digits whole fraction) ≡ max (length whole) 1 + length fraction = length-written whole fraction in
-    let count : c.max-whole_places.result + length fraction ≡ length (written_digits whole fraction) = omega arith in
     let made : Inside
     = record {
       whole_places = c.max-whole_places.result;
@@ -29,5 +29,6 @@ returns c =
       leading_zeros = c.zeros_before-from.result;
       span = c.in_ok-digits_between.field-0;
     } in
-    places_of_all made (or_zero (digits_in whole)) (digits_in fraction) c.end_before_zeros-end.result (omega arith) (sym (length-digits_in fraction)) (omega arith) (omega arith) c.in_ok-digits_between.ensures
-    c.zeros_before-from.ensures.zeros (subst (λ n. AreZeros (written_digits whole fraction) c.end_before_zeros-end.result n) count c.end_before_zeros-end.ensures.zeros)
+    places_of_all made (or_zero (digits_in whole)) (digits_in fraction) c.end_before_zeros-end.result (omega arith)
+    (sym (length-digits_in fraction)) (omega arith) (omega arith) c.in_ok-digits_between.ensures
+    c.zeros_before-from.ensures.zeros c.end_before_zeros-end.ensures.zeros

@@ -15,15 +15,23 @@ returns-then-magnitude-lt0 c =
     let some : 0 < length c.self.inside.span.items = grind arith in
     let negative : int_lt c.args.magnitude (pos 0) ≡ true = grind (arith, to_z-of_z) in
     let power : c.unsigned_abs-power.result ≡ nat_abs c.args.magnitude = grind (arith, to_z-of_z) in
-    let told : (c.self.inside.leading_zeros < c.self.inside.whole_places + nat_abs c.args.magnitude) ↔ HasDigitFrom c.args.self.now c.args.magnitude
-    = from_below c.self.inside c.args.self.now c.args.magnitude c.self.invariant c.self.view_is some negative in
-    (λ t. told.0 (grind arith), λ p. let l : c.self.inside.leading_zeros < c.self.inside.whole_places + nat_abs c.args.magnitude = told.1 p in grind arith)
+    let told : (c.self.inside.leading_zeros
+    < c.self.inside.whole_places + nat_abs c.args.magnitude) ↔ HasDigitFrom c.args.self.now c.args.magnitude
+    = from_below c.self.inside c.args.self.now c.args.magnitude c.self.invariant c.self.view_is some negative in (
+      λ t. told.0 (grind arith),
+      λ p. let l : c.self.inside.leading_zeros
+          < c.self.inside.whole_places + nat_abs c.args.magnitude = told.1 p in grind arith,
+    )
 
 pub returns-else-magnitude-lt0 : goal.returns-else-magnitude-lt0
 returns-else-magnitude-lt0 c =
     let some : 0 < length c.self.inside.span.items = grind arith in
     let above : int_lt c.args.magnitude (pos 0) ≡ false = grind (arith, to_z-of_z) in
     let power : c.unsigned_abs-power.result ≡ nat_abs c.args.magnitude = grind (arith, to_z-of_z) in
-    let told : (c.self.inside.leading_zeros + nat_abs c.args.magnitude < c.self.inside.whole_places) ↔ HasDigitFrom c.args.self.now c.args.magnitude
-    = from_above c.self.inside c.args.self.now c.args.magnitude c.self.invariant c.self.view_is some above in
-    (λ t. told.0 (grind arith), λ p. let l : c.self.inside.leading_zeros + nat_abs c.args.magnitude < c.self.inside.whole_places = told.1 p in grind arith)
+    let told : (c.self.inside.leading_zeros + nat_abs c.args.magnitude
+    < c.self.inside.whole_places) ↔ HasDigitFrom c.args.self.now c.args.magnitude
+    = from_above c.self.inside c.args.self.now c.args.magnitude c.self.invariant c.self.view_is some above in (
+      λ t. told.0 (grind arith),
+      λ p. let l : c.self.inside.leading_zeros + nat_abs c.args.magnitude
+          < c.self.inside.whole_places = told.1 p in grind arith,
+    )

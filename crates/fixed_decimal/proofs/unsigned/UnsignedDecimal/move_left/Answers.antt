@@ -5,7 +5,8 @@ use Rattle.fixed_decimal.proofs.unsigned.UnsignedDecimal.move_left.Goals as goal
 
 pub returns-then-by-self-clause-limit : goal.returns-then-by-self-clause-limit
 returns-then-by-self-clause-limit c =
-    subst (λ (x : Places). IsOverLimit (shift_left c.args.by x)) c.self.view_is (left_over c.self.inside c.args.by c.self.invariant c.if-by-self.true)
+    subst (λ (x : Places). IsOverLimit (shift_left c.args.by x)) c.self.view_is
+    (left_over c.self.inside c.args.by c.self.invariant c.if-by-self.true)
 
 pub returns-then-by-self-2-clause-shifted : goal.returns-then-by-self-2-clause-shifted
 returns-then-by-self-2-clause-shifted c =
@@ -13,7 +14,8 @@ returns-then-by-self-2-clause-shifted c =
 
 pub returns-then-by-self-2-clause-within : goal.returns-then-by-self-2-clause-within
 returns-then-by-self-2-clause-within c o =
-    left_within c.self.inside c.args.by c.self.invariant c.if-by-self.false (subst (λ (x : Places). IsOverLimit (shift_left c.args.by x)) (sym c.self.view_is) o)
+    left_within c.self.inside c.args.by c.self.invariant c.if-by-self.false
+    (subst (λ (x : Places). IsOverLimit (shift_left c.args.by x)) (sym c.self.view_is) o)
 
 pub returns-else-by-self-2-clause-shifted : goal.returns-else-by-self-2-clause-shifted
 returns-else-by-self-2-clause-shifted c =
@@ -21,4 +23,5 @@ returns-else-by-self-2-clause-shifted c =
 
 pub returns-else-by-self-2-clause-within : goal.returns-else-by-self-2-clause-within
 returns-else-by-self-2-clause-within c o =
-    left_within c.self.inside c.args.by c.self.invariant c.if-by-self.false (subst (λ (x : Places). IsOverLimit (shift_left c.args.by x)) (sym c.self.view_is) o)
+    left_within c.self.inside c.args.by c.self.invariant c.if-by-self.false
+    (subst (λ (x : Places). IsOverLimit (shift_left c.args.by x)) (sym c.self.view_is) o)

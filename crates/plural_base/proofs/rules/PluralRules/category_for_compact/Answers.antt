@@ -10,7 +10,7 @@ returns-clause-exact c = λ texts conditions exact given read within are_exact.
     let exponent = c.args.number.now.exponent in
     let rules = c.args.self.now in
     let kept : IsKept digits exponent (moduli_of rules) c.from-operands.result exact =
-    record { written = c.from-operands.ensures.1; within = within; are_cut = c.from-operands.ensures.0; are_exact = are_exact } in
+    record { written = c.from-operands.ensures.1; within = within; are_kept = c.from-operands.ensures.0; are_exact = are_exact } in
     c.category_for.ensures.first
     ∙ first_category-exact c.kept_operands_agree.ensures.conditions c.texts_give_one_answer.ensures digits exponent c.from-operands.result
     exact

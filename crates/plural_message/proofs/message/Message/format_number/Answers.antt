@@ -1,7 +1,7 @@
 use Rattle.std.proofs.Common.{◌≡◌, ℕ, ◌∙◌, ap}
 use Rattle.std.proofs.lemmas.Result.{IfOk-weaker}
 use Rattle.fixed_decimal.specs.Places.{Places}
-use Rattle.icu_plurals.specs.Operands.{AreCut, Operands}
+use Rattle.icu_plurals.specs.Operands.{AreKept, Operands}
 use Rattle.icu_plurals.specs.Elements.{IsKeptElement, Elements, element_at}
 use Rattle.icu_plurals.specs.Inner.ElementsViews.{lent_value}
 use Rattle.icu_plurals.specs.FiveRules.{FiveRules}
@@ -10,8 +10,8 @@ use Rattle.plural_message.proofs.message.Message.format_number.Goals as goal
 
 -- the element that is answered at the kept operands
 kept_element : (e elements : Elements PackedValue) (rules : FiveRules) (x : Places) (exponent : ℕ) (kept : Operands) (element : PackedValue)
-    → AreCut x exponent kept → element ≡ element_at e kept rules → e ≡ elements → IsKeptElement elements rules x exponent element
-kept_element e elements rules x exponent kept element are_cut is same = (kept, are_cut, is ∙ ap (λ l. element_at l kept rules) same)
+    → AreKept x exponent kept → element ≡ element_at e kept rules → e ≡ elements → IsKeptElement elements rules x exponent element
+kept_element e elements rules x exponent kept element are_kept is same = (kept, are_kept, is ∙ ap (λ l. element_at l kept rules) same)
 
 pub returns-clause-kept : goal.returns-clause-kept
 returns-clause-kept c =
