@@ -99,19 +99,19 @@ pub record ElementsBytes (packed : PackedElements) (bytes : List ℕ) : Type 0 w
 -- ---- the values by key
 
 -- the value of a key: that of the first item that has it
-abbrev pub value_at : ℕ → List PackedItem → Option PackedValue
-value_at key items = option_map (λ item. item.value) (find (λ item. item.key == key) items)
+abbrev pub value_of_key : ℕ → List PackedItem → Option PackedValue
+value_of_key key items = option_map (λ item. item.value) (find (λ item. item.key == key) items)
 
 abbrev pub elements_of : PackedElements → Elements PackedValue
 elements_of packed = record {
   other = packed.default;
-  zero = value_at zero_key (items_of packed);
-  one = value_at one_key (items_of packed);
-  two = value_at two_key (items_of packed);
-  few = value_at few_key (items_of packed);
-  many = value_at many_key (items_of packed);
-  explicit_zero = value_at explicit_zero_key (items_of packed);
-  explicit_one = value_at explicit_one_key (items_of packed);
+  zero = value_of_key zero_key (items_of packed);
+  one = value_of_key one_key (items_of packed);
+  two = value_of_key two_key (items_of packed);
+  few = value_of_key few_key (items_of packed);
+  many = value_of_key many_key (items_of packed);
+  explicit_zero = value_of_key explicit_zero_key (items_of packed);
+  explicit_one = value_of_key explicit_one_key (items_of packed);
 }
 
 -- ---- what elements are packed as
