@@ -7,7 +7,7 @@ use Rattle.std.proofs.Math.Nat.{dvd-mul_right}
 use Rattle.std.specs.Int.{◌∣◌}
 use Rattle.fixed_decimal.specs.Digits.{AreDigits, value_of}
 use Rattle.fixed_decimal.specs.Places.{Places}
-use Rattle.plural_reference.specs.Operands.{Operands, of_whole, AreExact, AreCut, HasFraction}
+use Rattle.plural_reference.specs.Operands.{Operands, of_whole, AreExact, AreKept, HasFraction}
 use Rattle.plural_reference.specs.OperandText.{IsWord, WritesCount, WritesFraction, WritesOperands}
 use Rattle.plural_reference.specs.Inner.OperandReader.{HasCount, WritesBehindPoint}
 use Rattle.std.specs.Char.{IsAsciiDigit}
@@ -60,8 +60,8 @@ no_fraction n = record { v = refl; f = refl; w_divides = dvd_of_mod-eq-zero 1 re
 abbrev at_21 : Places
 at_21 = whole (1 ∷ replicate 28 0 ++ 2 ∷ 1 ∷ [])
 
-cut_21 : AreCut at_21 0 (of_whole (10 ^ 18 + 21))
-cut_21 = record { i = refl; fraction = no_fraction _; c = refl }
+kept_21 : AreKept at_21 0 (of_whole (10 ^ 18 + 21))
+kept_21 = record { i = refl; fraction = no_fraction _; c = refl }
 
 exact_21 : AreExact at_21 0 (of_whole (10 ^ 30 + 21))
 exact_21 = record { i = refl; fraction = no_fraction _; c = refl }
