@@ -3,8 +3,7 @@ use Rattle.std.proofs.Common.{◌≡◌, ℕ, List, [], ◌∷◌, Bool, true, f
 use Rattle.std.specs.Prelude.{◌==◌, find, option_map, if◌then◌else◌}
 use Rattle.std.specs.Option.{option_or}
 use Rattle.icu_plurals.specs.Elements.{Elements, only_other}
-use Rattle.icu_plurals.specs.PackedElements.{PackedValue, PackedItem, elements_of, value_of_key, zero_key, one_key, two_key}
-use Rattle.icu_plurals.specs.PackedElements.{few_key, many_key, explicit_zero_key, explicit_one_key}
+use Rattle.icu_plurals.specs.PackedElements.{PackedValue, PackedItem, elements_of, value_of_key}
 use Rattle.icu_plurals.specs.Inner.ElementsReading.{with_item}
 
 -- the values by key, and those of items, one after the other
@@ -16,13 +15,13 @@ with_items e (item ∷ items) = with_items (with_item e item) items
 abbrev or_first : Elements PackedValue → List PackedItem → Elements PackedValue
 or_first e items = record {
   other = e.other;
-  zero = option_or e.zero (value_of_key zero_key items);
-  one = option_or e.one (value_of_key one_key items);
-  two = option_or e.two (value_of_key two_key items);
-  few = option_or e.few (value_of_key few_key items);
-  many = option_or e.many (value_of_key many_key items);
-  explicit_zero = option_or e.explicit_zero (value_of_key explicit_zero_key items);
-  explicit_one = option_or e.explicit_one (value_of_key explicit_one_key items);
+  zero = option_or e.zero (value_of_key 0 items);
+  one = option_or e.one (value_of_key 1 items);
+  two = option_or e.two (value_of_key 2 items);
+  few = option_or e.few (value_of_key 3 items);
+  many = option_or e.many (value_of_key 4 items);
+  explicit_zero = option_or e.explicit_zero (value_of_key 5 items);
+  explicit_one = option_or e.explicit_one (value_of_key 6 items);
 }
 
 -- a value that is put where there is none is the first item's, if this has the key
@@ -38,13 +37,13 @@ or_first-cons : (e : Elements PackedValue) (item : PackedItem) (items : List Pac
     → or_first (with_item e item) items ≡ or_first e (item ∷ items)
 or_first-cons e item items = λ k. record {
   other = e.other;
-  zero = put-find (item.key == zero_key) zero_key e.zero item items k;
-  one = put-find (item.key == one_key) one_key e.one item items k;
-  two = put-find (item.key == two_key) two_key e.two item items k;
-  few = put-find (item.key == few_key) few_key e.few item items k;
-  many = put-find (item.key == many_key) many_key e.many item items k;
-  explicit_zero = put-find (item.key == explicit_zero_key) explicit_zero_key e.explicit_zero item items k;
-  explicit_one = put-find (item.key == explicit_one_key) explicit_one_key e.explicit_one item items k;
+  zero = put-find (item.key == 0) 0 e.zero item items k;
+  one = put-find (item.key == 1) 1 e.one item items k;
+  two = put-find (item.key == 2) 2 e.two item items k;
+  few = put-find (item.key == 3) 3 e.few item items k;
+  many = put-find (item.key == 4) 4 e.many item items k;
+  explicit_zero = put-find (item.key == 5) 5 e.explicit_zero item items k;
+  explicit_one = put-find (item.key == 6) 6 e.explicit_one item items k;
 }
 
 -- nothing more is a value as it was

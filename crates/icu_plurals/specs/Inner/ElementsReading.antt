@@ -12,7 +12,7 @@ use Rattle.icu_plurals.specs.declared.packed.error.ElementsBytesError.{ElementsB
 use Rattle.icu_plurals.specs.declared.packed.error.ElementsBytesError.TheVariants as errors
 use Rattle.icu_plurals.specs.Elements.{Elements}
 use Rattle.icu_plurals.specs.ElementsFaults.{ElementsParts, IsShort, HasPadding, first_element_fault}
-use Rattle.icu_plurals.specs.PackedElements.{PackedValue, PackedItem, PackedElements, IsPackedItem, CanPackItems, ElementsBytes, items_of, item_bytes, zero_key, one_key, two_key, few_key, many_key, explicit_zero_key, explicit_one_key}
+use Rattle.icu_plurals.specs.PackedElements.{PackedValue, PackedItem, PackedElements, IsPackedItem, CanPackItems, ElementsBytes, items_of, item_bytes}
 
 -- the item that bytes hold
 abbrev pub read_item : List ℕ → PackedItem
@@ -82,11 +82,11 @@ pub record AreShown (parts : ElementsParts) (packed : PackedElements) : Type 0 w
 
 -- the key of a category's value: other's is the default
 abbrev pub category_key : PluralCategory → Option ℕ
-category_key Zero = Some zero_key
-category_key One = Some one_key
-category_key Two = Some two_key
-category_key Few = Some few_key
-category_key Many = Some many_key
+category_key Zero = Some 0
+category_key One = Some 1
+category_key Two = Some 2
+category_key Few = Some 3
+category_key Many = Some 4
 category_key Other = None
 
 -- ---- One walk over items.
@@ -99,13 +99,13 @@ first_value key value item = if item.key == key then option_or value (Some item.
 abbrev pub with_item : Elements PackedValue → PackedItem → Elements PackedValue
 with_item e item = record {
   other = e.other;
-  zero = first_value zero_key e.zero item;
-  one = first_value one_key e.one item;
-  two = first_value two_key e.two item;
-  few = first_value few_key e.few item;
-  many = first_value many_key e.many item;
-  explicit_zero = first_value explicit_zero_key e.explicit_zero item;
-  explicit_one = first_value explicit_one_key e.explicit_one item;
+  zero = first_value 0 e.zero item;
+  one = first_value 1 e.one item;
+  two = first_value 2 e.two item;
+  few = first_value 3 e.few item;
+  many = first_value 4 e.many item;
+  explicit_zero = first_value 5 e.explicit_zero item;
+  explicit_one = first_value 6 e.explicit_one item;
 }
 
 -- ---- The bytes of a default and of items.
