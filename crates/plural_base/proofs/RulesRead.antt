@@ -12,8 +12,7 @@ use Rattle.plural_base.specs.declared.category.PluralCategory.TheVariants.{Zero,
 use Rattle.plural_base.specs.declared.json.error.JsonError.{JsonError}
 use Rattle.plural_base.specs.declared.json.error.JsonError.TheVariants.{Shape}
 use Rattle.plural_base.specs.DocumentJson.{Rows, Document, found, rows_meant, map_meant, all_maps, document_meant, value_of_locale}
-use Rattle.plural_base.specs.DocumentJson.{IsReadAt}
-use Rattle.plural_base.specs.DocumentJson.{AreRangesAt}
+use Rattle.plural_base.specs.DocumentJson.{IsReadAt, AreRangesAt}
 use Rattle.plural_base.specs.declared.ranges.PluralRanges.{PluralRanges}
 use Rattle.plural_base.specs.FiveRules.{Five, FiveRules, Paired}
 use Rattle.plural_base.specs.RangesJson.{ranges_meant}
