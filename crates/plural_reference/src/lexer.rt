@@ -62,7 +62,7 @@ impl<'l> Iterator for Lexer<'l> {
 
 // The token that the byte begins, and the bytes behind it.
 #[inline]
-#[tactic(auto, using(crate::proofs::Alone::i_alone, crate::proofs::Alone::point_alone), unfolding(crate::specs::Inner::Scan::tokens_from))]
+#[tactic(auto, using(crate::proofs::tokens::Alone::i_alone, crate::proofs::tokens::Alone::point_alone), unfolding(crate::specs::Inner::Scan::tokens_from))]
 fn token_at(first: u8, rest: &[u8]) -> (Token, &[u8])
     requires { first ≢ blank }
     ensures { tokens_of (first ∷ rest.now) ≡ result.0 ∷ tokens_of result.1.now }

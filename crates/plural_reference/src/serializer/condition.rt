@@ -1,5 +1,5 @@
 //! The printed texts of a condition's parts.
-#![tactic(auto, using(crate::proofs::Writes::one_call, crate::proofs::Writes::then_writes))]
+#![tactic(auto, using(crate::proofs::printing::Writes::one_call, crate::proofs::printing::Writes::then_writes))]
 
 use super::part::{Part, serialize_joined, serialize_prefixed};
 use crate::ast;
