@@ -34,10 +34,6 @@ pub gives_when_read : (text : List ℕ) (condition : Condition) (answer : RuleAn
 gives_when_read text condition answer reads (inl is) = inl (inl (condition, reads, is))
 gives_when_read text condition answer reads (inr memory) = inr memory
 
--- a text with a fault gives this fault
-pub gives_when_faulty : (text : List ℕ) (kind : ParseError) → TextFaulty FaultyRule text kind → TextGives text (Err (Parse kind))
-gives_when_faulty text kind faulty = inr (kind, faulty, refl)
-
 -- both say the same
 pub texts_give_one_answer : TextsAreRead → TextsGiveOneAnswer
 texts_give_one_answer law text answer = (
