@@ -3,11 +3,11 @@ use Rattle.std.proofs.Common.{◌≡◌, ℕ, List, refl, sym, ap, ◌∙◌, in
 use Rattle.std.specs.Prelude.{◌⊎◌, Result, Ok, Err}
 use Rattle.plural_reference.specs.declared.ast.Condition.{Condition}
 use Rattle.plural_reference.specs.declared.error.ParseError.{ParseError}
-use Rattle.plural_reference.specs.Lexer.{TextFaulty, TextReads}
-use Rattle.plural_reference.specs.Samples.{FaultyRule, ReadsCondition}
+use Rattle.plural_reference.specs.Lexer.{TextReads}
+use Rattle.plural_reference.specs.Samples.{ReadsCondition}
 use Rattle.plural_reference.specs.Inner.RuleReader.{condition_of_text}
 use Rattle.plural_reference.specs.ReadingLaws.{TextsAreRead}
-use Rattle.plural_runtime.specs.declared.error.RuleError.TheVariants.{Memory, Parse}
+use Rattle.plural_runtime.specs.declared.error.RuleError.TheVariants.{Memory}
 use Rattle.plural_runtime.specs.PackedTree.{Packs}
 use Rattle.plural_runtime.specs.RuleOfText.{RuleAnswer, TextGives, TextsGiveOneAnswer, packing_of, rule_of_text}
 
