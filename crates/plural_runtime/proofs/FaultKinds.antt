@@ -5,12 +5,15 @@ use Rattle.packed_list.specs.ListBytes.{has_high_start}
 use Rattle.plural_reference.specs.declared.ast.Condition.{Condition}
 use Rattle.plural_reference.specs.declared.ast.Operand.TheVariants.{C}
 use Rattle.plural_reference.specs.declared.error.ParseError.{ParseError}
-use Rattle.plural_reference.specs.declared.error.ParseError.TheVariants.{ExpectedAndCondition, ExpectedRelation, ExpectedOperand, ExpectedValue, ValueTooLarge}
+use Rattle.plural_reference.specs.declared.error.ParseError.TheVariants.{ExpectedAndCondition, ExpectedRelation, ExpectedOperand}
+use Rattle.plural_reference.specs.declared.error.ParseError.TheVariants.{ExpectedValue, ValueTooLarge}
 use Rattle.plural_reference.specs.declared.token.Token.{Token}
 use Rattle.plural_reference.specs.declared.token.Token.TheVariants.{Operator, Operand, Dot, At, Decimal, Integer, Ellipsis, E, Modulo}
 use Rattle.plural_reference.specs.Lexer.{first}
-use Rattle.plural_reference.specs.Parser.{Place, start, after_or, after_and, after_operand, after_modulo, after_modulus, before_value, operand_of, value_of, operand_fault, operator_fault, value_fault, fault}
-use Rattle.plural_reference.specs.Samples.{SamplePlace, after_at, before_sample, after_comma, after_mark, type_fault, sample_fault, fault_in_samples, FaultyRule}
+use Rattle.plural_reference.specs.Parser.{Place, start, after_or, after_and, after_operand, after_modulo, after_modulus}
+use Rattle.plural_reference.specs.Parser.{before_value, operand_of, value_of, operand_fault, operator_fault, value_fault, fault}
+use Rattle.plural_reference.specs.Samples.{SamplePlace, after_at, before_sample, after_comma, after_mark, type_fault, sample_fault}
+use Rattle.plural_reference.specs.Samples.{fault_in_samples, FaultyRule}
 use Rattle.plural_runtime.specs.declared.error.RuleError.TheVariants.{Parse}
 use Rattle.plural_runtime.specs.PackedRelations.{relation_bytes}
 use Rattle.plural_runtime.specs.PackedTree.{packed, has_large_value, packing}

@@ -1,5 +1,6 @@
 -- The bytes of one relation.
-use Rattle.std.proofs.Common.{◌≡◌, ℕ, zero, suc, ◌+◌, ◌-◌, ◌*◌, ◌/◌, ◌%◌, ◌<◌, ◌≤◌, ◌^◌, List, [], ◌∷◌, ◌++◌, length, drop, get_or, refl, ap, ◌∙◌, arith, true, Some, inl, inr, get_or-drop, eq-eqb}
+use Rattle.std.proofs.Common.{◌≡◌, ℕ, zero, suc, ◌+◌, ◌-◌, ◌*◌, ◌/◌, ◌%◌, ◌<◌, ◌≤◌, ◌^◌, List, [], ◌∷◌, ◌++◌, length, drop, get_or}
+use Rattle.std.proofs.Common.{refl, ap, ◌∙◌, arith, true, Some, inl, inr, get_or-drop, eq-eqb}
 use Rattle.std.specs.Prelude.{flat_map, ◌==◌, nat_le}
 use Rattle.std.specs.List.{AllByRecursion}
 use Rattle.std.specs.Int.{w32, to_le_bytes}
@@ -12,8 +13,10 @@ use Rattle.plural_reference.specs.declared.ast.Operator.{Operator}
 use Rattle.plural_reference.specs.declared.ast.Operator.TheVariants.{Eq, NotEq}
 use Rattle.plural_reference.specs.declared.ast.Operand.{Operand}
 use Rattle.plural_reference.specs.declared.ast.Operand.TheVariants.{N, I, V, W, F, T, C, E}
-use Rattle.plural_runtime.specs.PackedRelations.{PackedRelation, FitsBytes, and_or_bit, operator_bit, operand_number, first_byte, range_bytes, relation_bytes, is_item_length, is_relation}
-use Rattle.plural_runtime.specs.Inner.RuleReading.{and_or_in, operator_in, operand_in, operand_numbered, operand_or_n, four_byte_number, range_in, ranges_in, relation_in}
+use Rattle.plural_runtime.specs.PackedRelations.{PackedRelation, FitsBytes, and_or_bit, operator_bit, operand_number, first_byte}
+use Rattle.plural_runtime.specs.PackedRelations.{range_bytes, relation_bytes, is_item_length, is_relation}
+use Rattle.plural_runtime.specs.Inner.RuleReading.{and_or_in, operator_in, operand_in, operand_numbered, operand_or_n}
+use Rattle.plural_runtime.specs.Inner.RuleReading.{four_byte_number, range_in, ranges_in, relation_in}
 
 -- the mark, the operator and the operand of a first byte are read of it again
 pub record KindAgain (and_or : AndOr) (operator : Operator) (operand : Operand) : Type 0 where

@@ -1,5 +1,6 @@
 -- What packing a tree answers.
-use Rattle.std.proofs.Common.{◌≡◌, ℕ, ◌+◌, ◌-◌, ◌*◌, ◌<◌, ◌≤◌, ◌^◌, List, [], ◌∷◌, ◌++◌, length, map, refl, ap, ◌∙◌, arith, Bool, true, false, Some, None}
+use Rattle.std.proofs.Common.{◌≡◌, ℕ, ◌+◌, ◌-◌, ◌*◌, ◌<◌, ◌≤◌, ◌^◌, List, [], ◌∷◌, ◌++◌, length, map, refl, ap, ◌∙◌, arith, Bool}
+use Rattle.std.proofs.Common.{true, false, Some, None}
 use Rattle.std.specs.Prelude.{◌||◌, nat_lt, Option, Ok, Err, flat_map}
 use Rattle.std.specs.List.{list_any, AllByRecursion}
 use Rattle.std.proofs.lemmas.Bool.{lt-ltb, ltb-false}
@@ -16,7 +17,8 @@ use Rattle.plural_runtime.specs.declared.kinds.AndOr.{AndOr}
 use Rattle.plural_runtime.specs.declared.kinds.AndOr.TheVariants.{And, Or}
 use Rattle.plural_runtime.specs.declared.error.RuleError.TheVariants.{Parse, StartLimit}
 use Rattle.plural_runtime.specs.PackedRelations.{PackedRelation, FitsBytes, relation_bytes}
-use Rattle.plural_runtime.specs.PackedTree.{packed, packed_groups, packed_and_condition, packed_relation, has_large_value, is_large, is_large_item, is_large_modulus, is_large_relation, packing}
+use Rattle.plural_runtime.specs.PackedTree.{packed, packed_groups, packed_and_condition, packed_relation, has_large_value, is_large}
+use Rattle.plural_runtime.specs.PackedTree.{is_large_item, is_large_modulus, is_large_relation, packing}
 
 -- ---- the three answers
 

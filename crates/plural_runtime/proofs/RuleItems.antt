@@ -1,5 +1,6 @@
 -- The items of a rule, and what is wrong with the first bad one.
-use Rattle.std.proofs.Common.{◌≡◌, ℕ, zero, suc, ◌+◌, ◌%◌, ◌<◌, List, [], ◌∷◌, length, drop, get_or, map, refl, sym, ap, ◌∙◌, subst, Bool, true, false, Some, None, inl, inr, ◌⊎◌}
+use Rattle.std.proofs.Common.{◌≡◌, ℕ, zero, suc, ◌+◌, ◌%◌, ◌<◌, List, [], ◌∷◌, length, drop, get_or, map, refl, sym, ap, ◌∙◌, subst}
+use Rattle.std.proofs.Common.{Bool, true, false, Some, None, inl, inr, ◌⊎◌}
 use Rattle.std.specs.Prelude.{Option, nat_le, nat_lt, if◌then◌else◌, not, slice_get, is_some}
 use Rattle.std.proofs.lemmas.Option.{slice_get-get_or}
 use Rattle.std.specs.List.{AllByRecursion, list_all}
@@ -9,7 +10,8 @@ use Rattle.std.proofs.lemmas.Bool.{le-ltb, le-leb, leb-true, ltb-false}
 use Rattle.packed_list.specs.declared.error.ListError.{ListError}
 use Rattle.packed_list.specs.Inner.ListReading.{AreBytes, items_in, IsList}
 use Rattle.packed_list.specs.ListBytes.{ListBytes}
-use Rattle.plural_runtime.specs.PackedRelations.{PackedRelation, FitsBytes, relation_bytes, RuleBytes, is_item_length, is_relation, relation_fault, or_else, first_relation_fault}
+use Rattle.plural_runtime.specs.PackedRelations.{PackedRelation, FitsBytes, relation_bytes, RuleBytes, is_item_length, is_relation}
+use Rattle.plural_runtime.specs.PackedRelations.{relation_fault, or_else, first_relation_fault}
 use Rattle.plural_runtime.specs.Inner.RuleReading.{relation_in, relations_in, IsRule}
 use Rattle.plural_runtime.specs.declared.error.RuleBytesError.{RuleBytesError}
 use Rattle.plural_runtime.specs.declared.error.RuleBytesError.TheVariants as errors
