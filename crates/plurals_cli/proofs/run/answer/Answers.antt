@@ -1,4 +1,4 @@
-use Rattle.std.proofs.Common.{Ok, sym, subst, refl, ap}
+use Rattle.std.proofs.Common.{Ok, sym, subst, ap}
 use Rattle.plurals_cli.specs.Answer.{AnswersQuery}
 use Rattle.plurals_cli.specs.Inner.CallAnswers.{GivesAfterReading, IsOfDocument}
 use Rattle.plurals_cli.specs.Inner.PrivateViews.{query_view}

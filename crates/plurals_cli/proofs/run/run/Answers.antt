@@ -2,14 +2,14 @@ use Rattle.std.proofs.Common.{ℕ, List, Bor, map, Ok, Err, refl, sym, ◌∙◌
 use Rattle.std.proofs.lemmas.Result.{err_from_is_err_and}
 use Rattle.std.specs.Prelude.{⊤}
 use Rattle.std.specs.Cow.{cow_str_bytes}
-use Rattle.plurals_cli.specs.Answer.{AnswersQuery, AnswersWords, IsNotRead, IsRead}
+use Rattle.plurals_cli.specs.Answer.{AnswersQuery, AnswersWords}
 use Rattle.plurals_cli.specs.Commands.{command_of}
 use Rattle.plurals_cli.specs.Inner.PrivateViews.{query_view}
 use Rattle.plurals_cli.specs.Queries.{Asks}
 use Rattle.plurals_cli.proofs.Faults.{fault_of_first, handed_on}
 use Rattle.plurals_cli.proofs.Inputs.{some_input}
 use Rattle.plurals_cli.proofs.Questions.{needs, settled}
-use Rattle.plurals_cli.proofs.Readings.{faultless, implied, kept, not_blamed, not_written, without_reading}
+use Rattle.plurals_cli.proofs.Readings.{faultless, implied, not_blamed, not_written, without_reading}
 use Rattle.plurals_cli.proofs.run.run.Goals as goal
 
 pub returns-in_err-query-clause-answers : goal.returns-in_err-query-clause-answers
