@@ -5,7 +5,6 @@ use Rattle.std.proofs.lemmas.Bool.{le-ltb, lt-ltb}
 use Rattle.std.proofs.lemmas.List.{append-nil, length-append}
 use Rattle.std.specs.Io.KnownBytes.{Consumes, IsAtEnd}
 use Rattle.plurals_cli.specs.Answer.{IsInput}
-use Rattle.icu_plurals.specs.RuleTexts.{TextReader}
 use Rattle.plurals_cli.specs.Input.{document_in, document_of, most_bytes}
 use Rattle.plurals_cli.specs.declared.error.RunError.TheVariants.{TooLong}
 
@@ -39,12 +38,12 @@ second_arm : {A : Type 0} (b : Bool) (x y : A) → b ≡ false → cond b x y �
 second_arm b x y h = rw h refl
 
 -- the document of an input that isn't too long is that of its bytes
-pub within : (texts : TextReader) (input : List ℕ) → length input ≤ most_bytes → document_in texts input ≡ document_of texts input
-within texts input h = second_arm _ _ _ (le-ltb most_bytes (length input) h)
+pub within : (input : List ℕ) → length input ≤ most_bytes → document_in input ≡ document_of input
+within input h = second_arm _ _ _ (le-ltb most_bytes (length input) h)
 
 -- an input that is too long has no document
-pub beyond : (texts : TextReader) (input : List ℕ) → most_bytes < length input → document_in texts input ≡ Err TooLong
-beyond texts input h = first_arm _ _ _ (lt-ltb most_bytes (length input) h)
+pub beyond : (input : List ℕ) → most_bytes < length input → document_in input ≡ Err TooLong
+beyond input h = first_arm _ _ _ (lt-ltb most_bytes (length input) h)
 
 -- one more is more
 pub long_by_one : (n m : ℕ) → m ≡ n + 1 → n < m

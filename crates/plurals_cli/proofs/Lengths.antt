@@ -5,7 +5,6 @@ use Rattle.serde_json.specs.Find.{get}
 use Rattle.icu_plurals.specs.declared.JsonError.{JsonError}
 use Rattle.icu_plurals.specs.declared.PluralRuleType.{PluralRuleType}
 use Rattle.icu_plurals.specs.DocumentJson.{document_of_json, found}
-use Rattle.icu_plurals.specs.RuleTexts.{TextReader}
 use Rattle.plurals_cli.specs.Answer.{AnswersFrom, AnswersLookup}
 use Rattle.plurals_cli.specs.Input.{WholeDocument, document_of, document_with, json_of, or_bad}
 use Rattle.plurals_cli.specs.Input.{elements_at_key, elements_for, ranged_for, rows_for, rules_for, ruled_with}
@@ -37,11 +36,11 @@ stands_not_long (Ok x) h = cc
 stands_not_long (Err e) h = cc
 
 -- the bytes of a document aren't too long
-document_not_long : (texts : TextReader) (bytes : List ℕ) → document_of texts bytes ≡ Err TooLong → ⊥
-document_not_long texts bytes =
-    steps_not_long (or_fault Json (json_of bytes)) (document_with texts) (value_not_long (json_of bytes))
-    (λ value. steps_not_long (or_bad (document_of_json texts value)) (λ maps. Ok (record { value = value; maps = maps }))
-    (stands_not_long (document_of_json texts value)) (λ maps h. cc))
+document_not_long : (bytes : List ℕ) → document_of bytes ≡ Err TooLong → ⊥
+document_not_long bytes =
+    steps_not_long (or_fault Json (json_of bytes)) document_with (value_not_long (json_of bytes))
+    (λ value. steps_not_long (or_bad (document_of_json value)) (λ maps. Ok (record { value = value; maps = maps }))
+    (stands_not_long (document_of_json value)) (λ maps h. cc))
 
 -- nor are the rules of a locale
 rules_not_long : (type : PluralRuleType) (locale : List ℕ) (document : WholeDocument)
@@ -88,9 +87,9 @@ lookup_not_long (number_message locale type x word) document =
     from_not_long (IsMessageLine x word) (elements_for type locale document) (elements_not_long type locale document)
 
 -- nor do the bytes of one
-pub text_not_long : (texts : TextReader) (lookup : Lookup) (bytes : List ℕ)
-    → After (AnswersLookup lookup) (document_of texts bytes) (Err TooLong) → ⊥
-text_not_long texts lookup bytes = by_document (document_of texts bytes) (document_not_long texts bytes)
+pub text_not_long : (lookup : Lookup) (bytes : List ℕ)
+    → After (AnswersLookup lookup) (document_of bytes) (Err TooLong) → ⊥
+text_not_long lookup bytes = by_document (document_of bytes) (document_not_long bytes)
   where
     by_document : (document : Result WholeDocument RunError) → (document ≡ Err TooLong → ⊥)
         → After (AnswersLookup lookup) document (Err TooLong) → ⊥

@@ -2,7 +2,6 @@
 use Rattle.std.proofs.Common.{◌≡◌, ◌≤◌, ℕ, List, length, Option, Some, None, Result, Ok, Err, refl, sym, subst}
 use Rattle.std.specs.Prelude.{⊤}
 use Rattle.std.specs.Io.KnownBytes.{IsAtEnd, Keeps}
-use Rattle.icu_plurals.specs.RuleTexts.{TextReader}
 use Rattle.plurals_cli.specs.Answer.{IsAnswered, IsInput, IsNotRead, IsRead}
 use Rattle.plurals_cli.specs.Inner.CallAnswers.{GivesAfterReading, GivesFault, GivesText, Text}
 use Rattle.plurals_cli.specs.Inner.InputBytes.{GivesInput}
@@ -48,36 +47,36 @@ implied P Q f (Err Memory) h = tt
 -- ---- The input isn't there
 
 -- an input that is too long, or can't be read, is the answer's fault
-of_input : (texts : TextReader) (Next : WholeDocument → Result (List ℕ) RunError → Type 0) (left : Option (List ℕ)) (e : RunError)
-    → GivesInput left (Err e) → (input : List ℕ) × IsInput left input × GivesAfterReading (After Next (document_in texts input)) (Err e)
-of_input texts Next left Usage h = absurd h
-of_input texts Next left (Condition k) h = absurd h
-of_input texts Next left (Number k) h = absurd h
-of_input texts Next left Read h = let i = some_input left in (i.0, i.1, tt)
-of_input texts Next left TooLong h =
-    (h.0, h.1, subst (λ (document : Result WholeDocument RunError). After Next document (Err TooLong)) (sym (beyond texts h.0 h.2)) refl)
-of_input texts Next left Json h = absurd h
-of_input texts Next left (Document k) h = absurd h
-of_input texts Next left Locale h = absurd h
-of_input texts Next left Write h = absurd h
-of_input texts Next left Memory h = let i = some_input left in (i.0, i.1, tt)
+of_input : (Next : WholeDocument → Result (List ℕ) RunError → Type 0) (left : Option (List ℕ)) (e : RunError)
+    → GivesInput left (Err e) → (input : List ℕ) × IsInput left input × GivesAfterReading (After Next (document_in input)) (Err e)
+of_input Next left Usage h = absurd h
+of_input Next left (Condition k) h = absurd h
+of_input Next left (Number k) h = absurd h
+of_input Next left Read h = let i = some_input left in (i.0, i.1, tt)
+of_input Next left TooLong h =
+    (h.0, h.1, subst (λ (document : Result WholeDocument RunError). After Next document (Err TooLong)) (sym (beyond h.0 h.2)) refl)
+of_input Next left Json h = absurd h
+of_input Next left (Document k) h = absurd h
+of_input Next left Locale h = absurd h
+of_input Next left Write h = absurd h
+of_input Next left Memory h = let i = some_input left in (i.0, i.1, tt)
 
 -- what `?` hands on is such a fault
-pub no_input : (texts : TextReader) (Next : WholeDocument → Result (List ℕ) RunError → Type 0) (left : Option (List ℕ)) (e : RunError)
+pub no_input : (Next : WholeDocument → Result (List ℕ) RunError → Type 0) (left : Option (List ℕ)) (e : RunError)
     (r : Result Text RunError) → r ≡ Err e → GivesInput left (Err e)
-    → (input : List ℕ) × IsInput left input × GivesAfterReading (After Next (document_in texts input)) r
-no_input texts Next left e r is h = rw is (of_input texts Next left e h)
+    → (input : List ℕ) × IsInput left input × GivesAfterReading (After Next (document_in input)) r
+no_input Next left e r is h = rw is (of_input Next left e h)
 
 -- ---- The input was read to its end
 
 -- the answer of the bytes is that of the input
-pub of_all : (texts : TextReader) (Next : WholeDocument → Result (List ℕ) RunError → Type 0) (input bytes : List ℕ)
+pub of_all : (Next : WholeDocument → Result (List ℕ) RunError → Type 0) (input bytes : List ℕ)
     → length input ≤ most_bytes → bytes ≡ input → (r : Result Text RunError)
-    → GivesText (After Next (document_of texts bytes)) r → GivesAfterReading (After Next (document_in texts input)) r
-of_all texts Next input bytes short same r h =
-    let all = subst (λ (read : List ℕ). GivesText (After Next (document_of texts read)) r) same h in
-    subst (λ (document : Result WholeDocument RunError). GivesAfterReading (After Next document) r) (sym (within texts input short))
-    (without_reading (After Next (document_of texts input)) r all)
+    → GivesText (After Next (document_of bytes)) r → GivesAfterReading (After Next (document_in input)) r
+of_all Next input bytes short same r h =
+    let all = subst (λ (read : List ℕ). GivesText (After Next (document_of read)) r) same h in
+    subst (λ (document : Result WholeDocument RunError). GivesAfterReading (After Next document) r) (sym (within input short))
+    (without_reading (After Next (document_of input)) r all)
 
 -- where no answer says that the input is too long, it was read as a call is to
 pub to_the_end : (IsAnswer : Result (List ℕ) RunError → Type 0) (old new : Option (List ℕ)) → (IsAnswer (Err TooLong) → ⊥) → IsAtEnd new

@@ -1,10 +1,9 @@
 -- What the program answers to the words of its command line and its input, and what it reads and writes.
---     AnswersQuery texts query input answer      the answer to what is asked
---     AnswersWords texts words input answer      the answer to the words and the input
+--     AnswersQuery query input answer      the answer to what is asked
+--     AnswersWords words input answer      the answer to the words and the input
 use Rattle.std.specs.Prelude.{◌≡◌, ℕ, ◌+◌, List, [], ◌∷◌, ◌++◌, Bool, Option, Some, None, Result, Ok, Err, ⊤, codes, if◌then◌else◌, length}
 use Rattle.std.specs.Io.KnownBytes.{Appends, Consumes, IsAtEnd, Keeps}
 use Rattle.icu_plurals.specs.Operands.{of_whole}
-use Rattle.icu_plurals.specs.RuleTexts.{TextReader}
 use Rattle.icu_plurals.specs.Truth.{tree_truth}
 use Rattle.plurals_cli.specs.Input.{WholeDocument, document_in, elements_for, most_bytes, ranged_for, rules_for}
 use Rattle.plurals_cli.specs.Lines.{AreRuleLines, IsCategoryLine, IsElementLine, IsMessageLine, IsRangeLine}
@@ -35,14 +34,13 @@ AnswersLookup (number_element locale type x) document = AnswersFrom (IsElementLi
 AnswersLookup (number_message locale type x word) document = AnswersFrom (IsMessageLine x word) (elements_for type locale document)
 
 -- The answer to what is asked: a truth value needs no input, and a fault of the input comes before those of what is looked up.
--- `texts` is what every text gives as a rule.
-abbrev pub AnswersQuery : TextReader → Query → List ℕ → Result (List ℕ) RunError → Type 0
-AnswersQuery texts (truth condition n) input answer = answer ≡ Ok (truth_line (tree_truth (of_whole n) condition))
-AnswersQuery texts (of_document lookup) input answer = After (AnswersLookup lookup) (document_in texts input) answer
+abbrev pub AnswersQuery : Query → List ℕ → Result (List ℕ) RunError → Type 0
+AnswersQuery (truth condition n) input answer = answer ≡ Ok (truth_line (tree_truth (of_whole n) condition))
+AnswersQuery (of_document lookup) input answer = After (AnswersLookup lookup) (document_in input) answer
 
 -- the answer to the words and the input: a text, or the first fault
-abbrev pub AnswersWords : TextReader → List (List ℕ) → List ℕ → Result (List ℕ) RunError → Type 0
-AnswersWords texts words input = Then (Asks words) (λ query. AnswersQuery texts query input)
+abbrev pub AnswersWords : List (List ℕ) → List ℕ → Result (List ℕ) RunError → Type 0
+AnswersWords words input = Then (Asks words) (λ query. AnswersQuery query input)
 
 -- ---- What is read and written
 

@@ -13,7 +13,6 @@ use Rattle.icu_plurals.specs.ElementsJson.{packed_of_json}
 use Rattle.icu_plurals.specs.FiveRules.{FiveRules}
 use Rattle.icu_plurals.specs.PackedElements.{PackedElements}
 use Rattle.icu_plurals.specs.Providers.{WithRanges}
-use Rattle.icu_plurals.specs.RuleTexts.{TextReader}
 use Rattle.plurals_cli.specs.Steps.{◌>>=◌, or_fault}
 use Rattle.plurals_cli.specs.declared.error.RunError.{RunError}
 use Rattle.plurals_cli.specs.declared.error.RunError.TheVariants.{TooLong, Json, Document as BadDocument, Locale}
@@ -35,22 +34,22 @@ abbrev pub json_of : List ℕ → Option Data
 json_of bytes = if is_utf8 bytes then read bytes else None
 
 -- the document with this value
-abbrev pub document_with : TextReader → Data → Result WholeDocument RunError
-document_with texts value = do
-  maps ← or_bad (document_of_json texts value)
+abbrev pub document_with : Data → Result WholeDocument RunError
+document_with value = do
+  maps ← or_bad (document_of_json value)
   Ok (record { value = value; maps = maps })
 
 -- the document of the bytes
-abbrev pub document_of : TextReader → List ℕ → Result WholeDocument RunError
-document_of texts bytes = or_fault Json (json_of bytes) >>= document_with texts
+abbrev pub document_of : List ℕ → Result WholeDocument RunError
+document_of bytes = or_fault Json (json_of bytes) >>= document_with
 
 -- so many bytes an input may have
 abbrev pub most_bytes : ℕ
 most_bytes = 4194304
 
 -- the document of an input, whose length comes first
-abbrev pub document_in : TextReader → List ℕ → Result WholeDocument RunError
-document_in texts input = if nat_lt most_bytes (length input) then Err TooLong else document_of texts input
+abbrev pub document_in : List ℕ → Result WholeDocument RunError
+document_in input = if nat_lt most_bytes (length input) then Err TooLong else document_of input
 
 -- ---- What it has for a locale
 

@@ -1,6 +1,5 @@
 //! The text that answers what is asked.
 
-ghost use Rattle.icu_plurals.specs.RuleTexts.{TextReader, TellsTexts};
 ghost use Rattle.plurals_cli.specs.Answer.{AnswersLookup};
 ghost use Rattle.plurals_cli.specs.Input.{document_of};
 ghost use Rattle.plurals_cli.specs.Inner.CallAnswers.{GivesText};
@@ -24,8 +23,7 @@ pub(crate) fn text_in(
     bytes: &[u8],
     lookup: &Lookup<'_>,
 ) -> Result<CowStr<'static>, RunError>
-    ensures { (texts : TextReader) → TellsTexts texts
-        → GivesText (After (AnswersLookup (lookup_view lookup.now)) (document_of texts bytes.now)) result }
+    ensures { GivesText (After (AnswersLookup (lookup_view lookup.now)) (document_of bytes.now)) result }
 {
     let document = document_of(alloc, bytes)?;
     text_of(alloc, &document, lookup)

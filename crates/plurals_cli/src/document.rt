@@ -3,7 +3,6 @@
 ghost use Rattle.serde_json.specs.View.{view};
 ghost use Rattle.icu_plurals.specs.DocumentJson.{document_of_json};
 ghost use Rattle.icu_plurals.specs.FiveRules.{rules_of as data_of};
-ghost use Rattle.icu_plurals.specs.RuleTexts.{TextReader, TellsTexts};
 ghost use Rattle.plurals_cli.specs.Input.{document_of, json_of, or_bad, ranged_for, rules_for};
 ghost use Rattle.plurals_cli.specs.Inner.CallAnswers.{GivesValue};
 ghost use Rattle.plurals_cli.specs.Inner.PrivateViews.{document_view};
@@ -28,8 +27,7 @@ pub(crate) struct Document {
 
 // The document that the bytes write.
 pub(crate) fn document_of(alloc: Global, bytes: &[u8]) -> Result<Document, RunError>
-    ensures { (texts : TextReader) → TellsTexts texts
-        → GivesValue document_view (document_of texts bytes.now) result }
+    ensures { GivesValue document_view (document_of bytes.now) result }
 {
     let value = value_of(alloc, bytes)?;
     let maps = maps_of(alloc, &value)?;
@@ -54,8 +52,7 @@ fn value_of(alloc: Global, bytes: &[u8]) -> Result<Value, RunError>
 
 // The maps that a JSON value stands for.
 fn maps_of(alloc: Global, value: &Value) -> Result<JsonProvider, RunError>
-    ensures { (texts : TextReader) → TellsTexts texts
-        → GivesValue (λ maps. maps) (or_bad (document_of_json texts (view value.now))) result }
+    ensures { GivesValue (λ maps. maps) (or_bad (document_of_json (view value.now))) result }
 {
     match JsonProvider::from_value(alloc, value) {
         Ok(maps) => Ok(maps),

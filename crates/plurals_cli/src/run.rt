@@ -1,7 +1,6 @@
 //! Answers the words of a command line.
 
 ghost use Rattle.std.specs.Prelude.{◌≡◌, List, ℕ, map};
-ghost use Rattle.icu_plurals.specs.RuleTexts.{TextReader, TellsTexts};
 ghost use Rattle.plurals_cli.specs.Answer.{AnswersQuery, AnswersWords, IsAnswered, IsInput, IsNotRead, IsRead};
 ghost use Rattle.plurals_cli.specs.Inner.CallAnswers.{GivesAfterReading, IsOfDocument};
 ghost use Rattle.plurals_cli.specs.Inner.PrivateViews.{lookup_view, query_view};
@@ -12,7 +11,6 @@ use crate::error::RunError;
 use crate::input::read_input;
 use crate::query::{Lookup, Query, query_of};
 use crate::test_command::truth_line;
-use icu_plurals::laws::texts_give_one_answer;
 use std::alloc::Global;
 use std::borrow::CowStr;
 use std::io::{Read, Write};
@@ -44,8 +42,8 @@ pub fn run<R: Read, W: Write>(
     writer: &mut W,
 ) -> Result<(), RunError>
     // The answer is that of some input, which is what the reader had left, where that is known.
-    ensures answers { (texts : TextReader) → TellsTexts texts → (input : List ℕ) × IsInput (R.remaining reader.old) input
-        × IsAnswered (AnswersWords texts (map (λ w. w.now) words.now) input) (W.contents writer.old) (W.contents writer.new) result }
+    ensures answers { (input : List ℕ) × IsInput (R.remaining reader.old) input
+        × IsAnswered (AnswersWords (map (λ w. w.now) words.now) input) (W.contents writer.old) (W.contents writer.new) result }
     ensures reads { NeedsInput (map (λ w. w.now) words.now) → IsRead (R.remaining reader.old) (R.remaining reader.new) result }
     ensures reads_nothing { ¬ (NeedsInput (map (λ w. w.now) words.now)) → (reader.new ≡ reader.old) × IsNotRead result }
 {
@@ -63,8 +61,8 @@ fn answer<R: Read>(
     query: &Query<'_>,
     reader: &mut R,
 ) -> Result<CowStr<'static>, RunError>
-    ensures answers { (texts : TextReader) → TellsTexts texts → (input : List ℕ) × IsInput (R.remaining reader.old) input
-        × GivesAfterReading (AnswersQuery texts (query_view query.now) input) result }
+    ensures answers { (input : List ℕ) × IsInput (R.remaining reader.old) input
+        × GivesAfterReading (AnswersQuery (query_view query.now) input) result }
     ensures reads { IsOfDocument (query_view query.now) → IsRead (R.remaining reader.old) (R.remaining reader.new) result }
     ensures reads_nothing { ¬ (IsOfDocument (query_view query.now)) → (reader.new ≡ reader.old) × IsNotRead result }
 {
@@ -80,12 +78,10 @@ fn looked_up<R: Read>(
     lookup: &Lookup<'_>,
     reader: &mut R,
 ) -> Result<CowStr<'static>, RunError>
-    ensures answers { (texts : TextReader) → TellsTexts texts → (input : List ℕ) × IsInput (R.remaining reader.old) input
-        × GivesAfterReading (AnswersQuery texts (of_document (lookup_view lookup.now)) input) result }
+    ensures answers { (input : List ℕ) × IsInput (R.remaining reader.old) input
+        × GivesAfterReading (AnswersQuery (of_document (lookup_view lookup.now)) input) result }
     ensures reads { IsRead (R.remaining reader.old) (R.remaining reader.new) result }
 {
-    // What a fault of the input tells of reading is told by any texts.
-    texts_give_one_answer();
     let input = read_input(alloc, reader)?;
     text_in(alloc, input.as_slice(), lookup)
 }

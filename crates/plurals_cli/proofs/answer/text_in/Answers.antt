@@ -7,12 +7,12 @@ use Rattle.plurals_cli.proofs.Faults.{handed_on, value_answer, value_fault}
 use Rattle.plurals_cli.proofs.answer.text_in.Goals as goal
 
 pub returns-in_err-document : goal.returns-in_err-document
-returns-in_err-document c = λ texts tells.
-    value_fault cow_str_bytes (AnswersLookup (lookup_view c.args.lookup.now)) (document_of texts c.args.bytes.now)
+returns-in_err-document c =
+    value_fault cow_str_bytes (AnswersLookup (lookup_view c.args.lookup.now)) (document_of c.args.bytes.now)
     c.in_err-document.field-0.0 c.from_residual.result
-    (handed_on _ _ (err_from_is_err_and c.from_residual.result c.from_residual.ensures.1)) (c.in_err-document.ensures texts tells)
+    (handed_on _ _ (err_from_is_err_and c.from_residual.result c.from_residual.ensures.1)) c.in_err-document.ensures
 
 pub returns : goal.returns
-returns c = λ texts tells.
-    value_answer cow_str_bytes (AnswersLookup (lookup_view c.args.lookup.now)) (document_of texts c.args.bytes.now)
-    (document_view c.in_ok-document.document) c.text_of.result (c.in_ok-document.ensures texts tells) c.text_of.ensures
+returns c =
+    value_answer cow_str_bytes (AnswersLookup (lookup_view c.args.lookup.now)) (document_of c.args.bytes.now)
+    (document_view c.in_ok-document.document) c.text_of.result c.in_ok-document.ensures c.text_of.ensures

@@ -10,22 +10,22 @@ use Rattle.plurals_cli.proofs.Faults.{after, handed_on, of_second, refused_first
 use Rattle.plurals_cli.proofs.document.document_of.Goals as goal
 
 pub returns-in_err-value : goal.returns-in_err-value
-returns-in_err-value c = λ texts tells.
-    refused_first document_view (or_fault Json (json_of c.args.bytes.now)) (document_with texts)
+returns-in_err-value c =
+    refused_first document_view (or_fault Json (json_of c.args.bytes.now)) document_with
     c.in_err-value.field-0.0 c.from_residual.result
     (handed_on _ _ (err_from_is_err_and c.from_residual.result c.from_residual.ensures.1)) c.in_err-value.ensures
 
 pub returns-in_err-maps : goal.returns-in_err-maps
-returns-in_err-maps c = λ texts tells.
+returns-in_err-maps c =
     let value = view c.in_ok-value.value in
-    of_second document_view (or_fault Json (json_of c.args.bytes.now)) value (document_with texts)
+    of_second document_view (or_fault Json (json_of c.args.bytes.now)) value document_with
     c.from_residual-in_err-maps.result c.in_ok-value.ensures
-    (refused_first document_view (or_bad (document_of_json texts value)) (λ maps. Ok (record { value = value; maps = maps }))
+    (refused_first document_view (or_bad (document_of_json value)) (λ maps. Ok (record { value = value; maps = maps }))
     c.in_err-maps.field-0.0 c.from_residual-in_err-maps.result
     (handed_on _ _ (err_from_is_err_and c.from_residual-in_err-maps.result c.from_residual-in_err-maps.ensures.1))
-    (c.in_err-maps.ensures texts tells))
+    c.in_err-maps.ensures)
 
 pub returns : goal.returns
-returns c = λ texts tells.
-    after (or_fault Json (json_of c.args.bytes.now)) (view c.in_ok-value.value) (document_with texts) _ c.in_ok-value.ensures
-    (rw (c.in_ok-maps.ensures texts tells) refl)
+returns c =
+    after (or_fault Json (json_of c.args.bytes.now)) (view c.in_ok-value.value) document_with _ c.in_ok-value.ensures
+    (rw c.in_ok-maps.ensures refl)

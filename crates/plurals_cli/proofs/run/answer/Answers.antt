@@ -7,7 +7,7 @@ use Rattle.plurals_cli.proofs.Inputs.{some_input}
 use Rattle.plurals_cli.proofs.run.answer.Goals as goal
 
 pub returns-in-Test-clause-answers : goal.returns-in-Test-clause-answers
-returns-in-Test-clause-answers g c = λ texts tells.
+returns-in-Test-clause-answers g c =
     let input = some_input (g.R.Read.remaining c.args.reader.now) in (
       input.0,
       input.1,
@@ -18,11 +18,11 @@ pub returns-in-Test-clause-reads : goal.returns-in-Test-clause-reads
 returns-in-Test-clause-reads g c = λ needs. absurd (subst (λ (q : CodeQuery). IsOfDocument (query_view q)) c.in-Test.is needs)
 
 pub returns-in-Document-clause-answers : goal.returns-in-Document-clause-answers
-returns-in-Document-clause-answers g c = λ texts tells.
-    let a = c.looked_up.ensures.answers texts tells in (
+returns-in-Document-clause-answers g c =
+    let a = c.looked_up.ensures.answers in (
       a.0,
       a.1,
-      subst (λ (q : CodeQuery). GivesAfterReading (AnswersQuery texts (query_view q) a.0) c.looked_up.result) (sym c.in-Document.is) a.2,
+      subst (λ (q : CodeQuery). GivesAfterReading (AnswersQuery (query_view q) a.0) c.looked_up.result) (sym c.in-Document.is) a.2,
     )
 
 pub returns-in-Document-clause-reads_nothing : goal.returns-in-Document-clause-reads_nothing

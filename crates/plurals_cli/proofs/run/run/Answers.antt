@@ -13,17 +13,17 @@ use Rattle.plurals_cli.proofs.Readings.{faultless, implied, not_blamed, not_writ
 use Rattle.plurals_cli.proofs.run.run.Goals as goal
 
 pub returns-in_err-query-clause-answers : goal.returns-in_err-query-clause-answers
-returns-in_err-query-clause-answers g c = λ texts tells.
+returns-in_err-query-clause-answers g c =
     let words = map (λ (w : Bor (List ℕ)). w.now) c.args.words.now in
     let input = some_input (g.R.Read.remaining c.args.reader.now) in
     let e = c.in_err-query.field-0.0 in
-    let IsAnswer = AnswersWords texts words input.0 in (
+    let IsAnswer = AnswersWords words input.0 in (
       input.0,
       input.1,
       not_written IsAnswer (g.W.Write.contents c.args.writer.now) e c.from_residual.result
           (handed_on _ _ (err_from_is_err_and c.from_residual.result c.from_residual.ensures.1))
           (without_reading IsAnswer (Err e)
-          (fault_of_first (Asks words) (λ query. AnswersQuery texts query input.0) e c.in_err-query.ensures)),
+          (fault_of_first (Asks words) (λ query. AnswersQuery query input.0) e c.in_err-query.ensures)),
     )
 
 pub returns-in_err-query-clause-reads : goal.returns-in_err-query-clause-reads
@@ -42,16 +42,16 @@ returns-in_err-query-clause-reads_nothing g c = λ none.
     )
 
 pub returns-in_err-text-clause-answers : goal.returns-in_err-text-clause-answers
-returns-in_err-text-clause-answers g c = λ texts tells.
+returns-in_err-text-clause-answers g c =
     let words = map (λ (w : Bor (List ℕ)). w.now) c.args.words.now in
     let query = query_view c.in_ok-query.query in
     let e = c.in_err-text.field-0.0 in
-    let a = c.in_err-text.ensures.answers texts tells in (
+    let a = c.in_err-text.ensures.answers in (
       a.0,
       a.1,
-      not_written (AnswersWords texts words a.0) (g.W.Write.contents c.args.writer.now) e c.from_residual-in_err-text.result
+      not_written (AnswersWords words a.0) (g.W.Write.contents c.args.writer.now) e c.from_residual-in_err-text.result
           (handed_on _ _ (err_from_is_err_and c.from_residual-in_err-text.result c.from_residual-in_err-text.ensures.1))
-          (implied (AnswersQuery texts query a.0) (AnswersWords texts words a.0)
+          (implied (AnswersQuery query a.0) (AnswersWords words a.0)
           (λ answer h. (Ok query, c.in_ok-query.ensures.0, h)) (Err e) a.2),
     )
 
@@ -71,9 +71,9 @@ returns-in_err-text-clause-reads_nothing g c = λ none.
     )
 
 pub returns-in-Ok-clause-answers : goal.returns-in-Ok-clause-answers
-returns-in-Ok-clause-answers g c = λ texts tells.
+returns-in-Ok-clause-answers g c =
     let query = query_view c.in_ok-query.query in
-    let a = c.in_ok-text.ensures.answers texts tells in (
+    let a = c.in_ok-text.ensures.answers in (
       a.0,
       a.1,
       (
@@ -81,7 +81,7 @@ returns-in-Ok-clause-answers g c = λ texts tells.
         (
           Ok query,
           c.in_ok-query.ensures.0,
-          subst (λ (text : List ℕ). AnswersQuery texts query a.0 (Ok text)) (sym (c.as_bytes.ensures.value ∙ c.as_str.ensures.value)) a.2,
+          subst (λ (text : List ℕ). AnswersQuery query a.0 (Ok text)) (sym (c.as_bytes.ensures.value ∙ c.as_str.ensures.value)) a.2,
         ),
         search rules,
       ),
@@ -98,8 +98,8 @@ returns-in-Ok-clause-reads_nothing g c = λ none.
     c.in_ok-text.ensures.reads_nothing (settled (command_of words) (query_view c.in_ok-query.query) c.in_ok-query.ensures.1 none)
 
 pub returns-clause-answers : goal.returns-clause-answers
-returns-clause-answers g c = λ texts tells.
-    let a = c.in_ok-text.ensures.answers texts tells in (
+returns-clause-answers g c =
+    let a = c.in_ok-text.ensures.answers in (
       a.0,
       a.1,
       (cow_str_bytes c.in_ok-text.text, (Ok (query_view c.in_ok-query.query), c.in_ok-query.ensures.0, a.2)),
