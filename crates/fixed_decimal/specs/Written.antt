@@ -1,4 +1,8 @@
--- A compact decimal: a decimal, and the power of ten that its text names.
+-- Texts and the numbers that they write. A text is a list of bytes.
+--     WritesUnsigned text x      digits, digits `.` digits, or `.` digits; with no digit before the point, the
+--                                integer digit is 0
+--     WritesDecimal text x      an unsigned decimal, behind a sign or not
+--     WritesCompact text x      a decimal, then nothing, or `c` and one to three digits
 use Rattle.std.specs.Prelude.{ℕ, ◌≡◌, ◌<◌, ◌≤◌, ◌⊎◌, List, [], ◌∷◌, ◌++◌, length, codes}
 use Rattle.fixed_decimal.specs.declared.decimal.Decimal.{Decimal}
 use Rattle.fixed_decimal.specs.Digits.{AreDigits, value_of, text_of}
@@ -11,11 +15,7 @@ pub record CompactNumber : Type 0 where
   pub significand : Decimal
   pub exponent : ℕ
 
--- ---- Texts and the numbers that they write. A text is a list of bytes.
---     WritesUnsigned text x      digits, digits `.` digits, or `.` digits; with no digit before the point, the
---                                integer digit is 0
---     WritesDecimal text x      an unsigned decimal, behind a sign or not
---     WritesCompact text x      a decimal, then nothing, or `c` and one to three digits
+-- ---- Texts
 
 -- the three ways in which the digits may stand
 abbrev pub StandsAs : List ℕ → Places → Type 0

@@ -1,35 +1,42 @@
 -- Bytes have at most one fault, and none if they are those of packed elements.
-use Rattle.std.proofs.Common.{◌≡◌, ℕ, ◌+◌, ◌/◌, ◌<◌, List, [], ◌∷◌, ◌++◌, length, drop, get_or, refl, sym, ap, ◌∙◌, subst, arith, Bool, true, false, Some, None, inl, inr, ◌⊎◌}
-use Rattle.std.specs.Prelude.{Option, Result, Ok, Err, nat_lt, if◌then◌else◌, IsTrue, MatchResult, ⊤, slice_get, is_some}
+use Rattle.std.proofs.Common.{◌≡◌, ℕ, ◌+◌, ◌/◌, ◌<◌, List, [], ◌∷◌, ◌++◌, length, refl, sym, ap, ◌∙◌, subst}
+use Rattle.std.proofs.Common.{arith, Bool, true, false, Some, None, inl, inr, ◌⊎◌}
+use Rattle.std.specs.Prelude.{Option, Result, Ok, Err, nat_lt, if◌then◌else◌, IsTrue, MatchResult, ⊤, is_some}
 use Rattle.std.specs.Option.{option_or}
 use Rattle.std.specs.Str.{is_utf8}
-use Rattle.std.proofs.lemmas.List.{length-append, drop_more}
-use Rattle.std.proofs.lemmas.Option.{slice_get-get_or}
+use Rattle.std.proofs.lemmas.List.{length-append}
 use Rattle.packed_list.specs.ListBytes.{ListBytes}
 use Rattle.icu_plurals.specs.declared.packed.error.ElementsBytesError.{ElementsBytesError}
-use Rattle.icu_plurals.specs.declared.packed.error.ElementsBytesError.TheVariants.{Empty, Short, Padding, DefaultText, List as InList, ItemEmpty, Key, ItemText}
-use Rattle.icu_plurals.specs.ElementsFaults.{ElementsParts, PartsWith, ArePartsOf, IsShort, HasPadding, HasItemsFault, HasRestFault, HasPartsFault, HasElementsFault, item_fault, first_fault}
+use Rattle.icu_plurals.specs.declared.packed.error.ElementsBytesError.TheVariants.{Empty, Short, Padding, DefaultText}
+use Rattle.icu_plurals.specs.declared.packed.error.ElementsBytesError.TheVariants.{List as InList, ItemEmpty, Key, ItemText}
+use Rattle.icu_plurals.specs.ElementsFaults.{ElementsParts, PartsWith, ArePartsOf, IsShort, HasPadding, HasItemsFault}
+use Rattle.icu_plurals.specs.ElementsFaults.{HasRestFault, HasPartsFault, HasElementsFault, element_fault, first_element_fault}
 use Rattle.icu_plurals.specs.Inner.ElementsReading.{HasPlaceFault, AreGoodItems, IsGoodRest, AreGoodParts}
 use Rattle.icu_plurals.proofs.ElementsAgain.{one_parts}
 
 -- ---- faults of the first byte and of the length
 
+-- bytes that are made of parts have a first byte
 parts_not_empty : (first : ℕ) (text : List ℕ) (rest : Option (List ℕ)) (bytes : List ℕ) → PartsWith first text rest bytes → bytes ≡ [] → ⊥
 parts_not_empty first text None bytes h e = cc
 parts_not_empty first text (Some rest) bytes h e = cc
 
+-- a first byte without bit 7 says of no length that it follows
 single_not_short : (first : ℕ) (text : List ℕ) → first < 128 → IsShort (first ∷ text) → ⊥
 single_not_short first [] h s = omega (arith, h, s)
 single_not_short first (len ∷ text) h s = omega (arith, h, s.0)
 
-parts_not_short : (first : ℕ) (text : List ℕ) (rest : Option (List ℕ)) (bytes : List ℕ) → PartsWith first text rest bytes → IsShort bytes → ⊥
+-- bytes that are made of parts have all the bytes that they say
+parts_not_short : (first : ℕ) (text : List ℕ) (rest : Option (List ℕ)) (bytes : List ℕ) → PartsWith first text rest bytes
+    → IsShort bytes → ⊥
 parts_not_short first text None bytes h s = single_not_short first text h.0 (subst IsShort h.1 s)
 parts_not_short first text (Some rest) bytes h s =
     let short : IsShort (first ∷ length text ∷ (text ++ rest)) = subst IsShort h.1 s in
     omega (arith, short.1, length-append text rest)
 
 -- bytes with such a fault have no parts
-pub place_fault-no_parts : (bytes : List ℕ) (fault : ElementsBytesError) (parts : ElementsParts) → HasPlaceFault bytes fault → ArePartsOf parts bytes → ⊥
+pub place_fault-no_parts : (bytes : List ℕ) (fault : ElementsBytesError) (parts : ElementsParts) → HasPlaceFault bytes fault
+    → ArePartsOf parts bytes → ⊥
 place_fault-no_parts bytes Empty parts h are = parts_not_empty parts.first parts.text parts.rest bytes are h
 place_fault-no_parts bytes Short parts h are = parts_not_short parts.first parts.text parts.rest bytes are h
 place_fault-no_parts bytes Padding parts h are = h
@@ -39,6 +46,7 @@ place_fault-no_parts bytes (ItemEmpty place) parts h are = h
 place_fault-no_parts bytes (Key place) parts h are = h
 place_fault-no_parts bytes (ItemText place) parts h are = h
 
+-- a fault of the first byte or of the length is one of the bytes
 pub place_fault_is : (bytes : List ℕ) (fault : ElementsBytesError) → HasPlaceFault bytes fault → HasElementsFault bytes fault
 place_fault_is bytes Empty h = h
 place_fault_is bytes Short h = h
@@ -54,7 +62,8 @@ empty_or_short : (bytes : List ℕ) → bytes ≡ [] → IsShort bytes → ⊥
 empty_or_short bytes e s = subst IsShort e s
 
 -- bytes with such a fault have no other
-pub place_fault_only : (bytes : List ℕ) (fault other : ElementsBytesError) → HasPlaceFault bytes fault → HasElementsFault bytes other → fault ≡ other
+pub place_fault_only : (bytes : List ℕ) (fault other : ElementsBytesError) → HasPlaceFault bytes fault
+    → HasElementsFault bytes other → fault ≡ other
 place_fault_only bytes Empty Empty h g = refl
 place_fault_only bytes Empty Short h g = absurd (empty_or_short bytes h g)
 place_fault_only bytes Short Empty h g = absurd (empty_or_short bytes g h)
@@ -81,22 +90,29 @@ IsItemFault (Key place) = ⊤
 IsItemFault (ItemText place) = ⊤
 IsItemFault fault = ⊥
 
-of_tests : (place : ℕ) (high text : Bool) (fault : ElementsBytesError) → (if high then Some (Key place) else (if text then None else Some (ItemText place))) ≡ Some fault → IsItemFault fault
+-- what the tests of a key and of a text find is a fault of an item
+of_tests : (place : ℕ) (high text : Bool) (fault : ElementsBytesError)
+    → (if high then Some (Key place) else (if text then None else Some (ItemText place))) ≡ Some fault → IsItemFault fault
 of_tests place true text fault h = let e : Key place ≡ fault = cc in subst IsItemFault e tt
 of_tests place false true fault h = cc
 of_tests place false false fault h = let e : ItemText place ≡ fault = cc in subst IsItemFault e tt
 
-of_item : (place : ℕ) (item : List ℕ) (fault : ElementsBytesError) → item_fault place item ≡ Some fault → IsItemFault fault
+-- what is found in an item is a fault of an item
+of_item : (place : ℕ) (item : List ℕ) (fault : ElementsBytesError) → element_fault place item ≡ Some fault → IsItemFault fault
 of_item place [] fault h = let e : ItemEmpty place ≡ fault = cc in subst IsItemFault e tt
 of_item place (byte ∷ text) fault h = of_tests place (nat_lt 6 (byte / 16)) (is_utf8 text) fault h
 
-either : (first other : Option ElementsBytesError) (fault : ElementsBytesError) → option_or first other ≡ Some fault → (first ≡ Some fault) ⊎ (other ≡ Some fault)
+-- the first of two faults is one of them
+either : (first other : Option ElementsBytesError) (fault : ElementsBytesError) → option_or first other ≡ Some fault
+    → (first ≡ Some fault) ⊎ (other ≡ Some fault)
 either None other fault h = inr h
 either (Some f) other fault h = inl h
 
-pub of_items : (place : ℕ) (items : List (List ℕ)) (fault : ElementsBytesError) → first_fault place items ≡ Some fault → IsItemFault fault
+-- what is found in the first bad item of a list is a fault of an item
+pub of_items : (place : ℕ) (items : List (List ℕ)) (fault : ElementsBytesError)
+    → first_element_fault place items ≡ Some fault → IsItemFault fault
 of_items place [] fault h = cc
-of_items place (item ∷ items) fault h = elim (either (item_fault place item) (first_fault (place + 1) items) fault h) [
+of_items place (item ∷ items) fault h = elim (either (element_fault place item) (first_element_fault (place + 1) items) fault h) [
   | inl here ↦ of_item place item fault here
   | inr later ↦ of_items (place + 1) items fault later
 ]
@@ -104,7 +120,8 @@ of_items place (item ∷ items) fault h = elim (either (item_fault place item) (
 -- ---- faults of parts
 
 -- what is wrong with the items is wrong with parts that are good before them
-pub items_fault_is : (parts : ElementsParts) (rest : List ℕ) (fault : ElementsBytesError) → parts.rest ≡ Some rest → ¬ (HasPadding parts.first) → IsTrue (is_utf8 parts.text)
+pub items_fault_is : (parts : ElementsParts) (rest : List ℕ) (fault : ElementsBytesError) → parts.rest ≡ Some rest
+    → ¬ (HasPadding parts.first) → IsTrue (is_utf8 parts.text)
     → HasItemsFault rest fault → HasPartsFault parts fault
 items_fault_is parts rest Padding e low text h = absurd (of_items 0 h.0 Padding h.2)
 items_fault_is parts rest DefaultText e low text h = absurd (of_items 0 h.0 DefaultText h.2)
@@ -116,7 +133,8 @@ items_fault_is parts rest (Key place) e low text h = (low, text, subst (λ all. 
 items_fault_is parts rest (ItemText place) e low text h = (low, text, subst (λ all. HasRestFault all (ItemText place)) (sym e) h)
 
 -- and what is wrong with such parts is wrong with what is left
-pub rest_fault : (parts : ElementsParts) (fault : ElementsBytesError) → ¬ (HasPadding parts.first) → IsTrue (is_utf8 parts.text) → HasPartsFault parts fault → HasRestFault parts.rest fault
+pub rest_fault : (parts : ElementsParts) (fault : ElementsBytesError) → ¬ (HasPadding parts.first)
+    → IsTrue (is_utf8 parts.text) → HasPartsFault parts fault → HasRestFault parts.rest fault
 rest_fault parts Padding low text h = absurd (low h)
 rest_fault parts DefaultText low text h = cc
 rest_fault parts Empty low text h = h.2
@@ -127,7 +145,8 @@ rest_fault parts (Key place) low text h = h.2
 rest_fault parts (ItemText place) low text h = h.2
 
 -- padding is looked for first
-pub padding_only : (parts : ElementsParts) (fault : ElementsBytesError) → HasPadding parts.first → HasPartsFault parts fault → Padding ≡ fault
+pub padding_only : (parts : ElementsParts) (fault : ElementsBytesError) → HasPadding parts.first → HasPartsFault parts fault
+    → Padding ≡ fault
 padding_only parts Padding high h = refl
 padding_only parts DefaultText high h = absurd (h.0 high)
 padding_only parts Empty high h = absurd (h.0 high)
@@ -138,7 +157,8 @@ padding_only parts (Key place) high h = absurd (h.0 high)
 padding_only parts (ItemText place) high h = absurd (h.0 high)
 
 -- then the text
-pub text_only : (parts : ElementsParts) (fault : ElementsBytesError) → ¬ (HasPadding parts.first) → is_utf8 parts.text ≡ false → HasPartsFault parts fault → DefaultText ≡ fault
+pub text_only : (parts : ElementsParts) (fault : ElementsBytesError) → ¬ (HasPadding parts.first)
+    → is_utf8 parts.text ≡ false → HasPartsFault parts fault → DefaultText ≡ fault
 text_only parts Padding low text h = absurd (low h)
 text_only parts DefaultText low text h = refl
 text_only parts Empty low text h = let t : is_utf8 parts.text ≡ true = h.1 in cc
@@ -153,16 +173,19 @@ no_rest_fault : (rest : Option (List ℕ)) (fault : ElementsBytesError) → rest
 no_rest_fault None fault e h = h
 no_rest_fault (Some rest) fault e h = cc
 
+-- what is left behind the default is never told to be no byte at all
 rest_not_empty : (rest : Option (List ℕ)) → HasRestFault rest Empty → ⊥
 rest_not_empty None h = h
 rest_not_empty (Some rest) h = of_items 0 h.0 Empty h.2
 
+-- what is left behind the default is never told to be a short default
 rest_not_short : (rest : Option (List ℕ)) → HasRestFault rest Short → ⊥
 rest_not_short None h = h
 rest_not_short (Some rest) h = of_items 0 h.0 Short h.2
 
 -- what is wrong with parts is wrong with the bytes
-pub parts_fault_is : (bytes : List ℕ) (parts : ElementsParts) (fault : ElementsBytesError) → ArePartsOf parts bytes → HasPartsFault parts fault → HasElementsFault bytes fault
+pub parts_fault_is : (bytes : List ℕ) (parts : ElementsParts) (fault : ElementsBytesError) → ArePartsOf parts bytes
+    → HasPartsFault parts fault → HasElementsFault bytes fault
 parts_fault_is bytes parts Empty are h = absurd (rest_not_empty parts.rest h.2)
 parts_fault_is bytes parts Short are h = absurd (rest_not_short parts.rest h.2)
 parts_fault_is bytes parts Padding are h = (parts, are, h)
@@ -173,35 +196,53 @@ parts_fault_is bytes parts (Key place) are h = (parts, are, h)
 parts_fault_is bytes parts (ItemText place) are h = (parts, are, h)
 
 -- and the other way
-pub fault_of_parts : (bytes : List ℕ) (parts : ElementsParts) (fault : ElementsBytesError) → ArePartsOf parts bytes → HasElementsFault bytes fault → HasPartsFault parts fault
+pub fault_of_parts : (bytes : List ℕ) (parts : ElementsParts) (fault : ElementsBytesError) → ArePartsOf parts bytes
+    → HasElementsFault bytes fault → HasPartsFault parts fault
 fault_of_parts bytes parts Empty are h = absurd (place_fault-no_parts bytes Empty parts h are)
 fault_of_parts bytes parts Short are h = absurd (place_fault-no_parts bytes Short parts h are)
-fault_of_parts bytes parts Padding are h = subst (λ (all : ElementsParts). HasPartsFault all Padding) (one_parts h.0 parts bytes h.1 are) h.2
-fault_of_parts bytes parts DefaultText are h = subst (λ (all : ElementsParts). HasPartsFault all DefaultText) (one_parts h.0 parts bytes h.1 are) h.2
-fault_of_parts bytes parts (InList fault) are h = subst (λ (all : ElementsParts). HasPartsFault all (InList fault)) (one_parts h.0 parts bytes h.1 are) h.2
-fault_of_parts bytes parts (ItemEmpty place) are h = subst (λ (all : ElementsParts). HasPartsFault all (ItemEmpty place)) (one_parts h.0 parts bytes h.1 are) h.2
-fault_of_parts bytes parts (Key place) are h = subst (λ (all : ElementsParts). HasPartsFault all (Key place)) (one_parts h.0 parts bytes h.1 are) h.2
-fault_of_parts bytes parts (ItemText place) are h = subst (λ (all : ElementsParts). HasPartsFault all (ItemText place)) (one_parts h.0 parts bytes h.1 are) h.2
+fault_of_parts bytes parts Padding are h =
+    subst (λ (all : ElementsParts). HasPartsFault all Padding) (one_parts h.0 parts bytes h.1 are) h.2
+fault_of_parts bytes parts DefaultText are h =
+    subst (λ (all : ElementsParts). HasPartsFault all DefaultText) (one_parts h.0 parts bytes h.1 are) h.2
+fault_of_parts bytes parts (InList fault) are h =
+    subst (λ (all : ElementsParts). HasPartsFault all (InList fault)) (one_parts h.0 parts bytes h.1 are) h.2
+fault_of_parts bytes parts (ItemEmpty place) are h =
+    subst (λ (all : ElementsParts). HasPartsFault all (ItemEmpty place)) (one_parts h.0 parts bytes h.1 are) h.2
+fault_of_parts bytes parts (Key place) are h =
+    subst (λ (all : ElementsParts). HasPartsFault all (Key place)) (one_parts h.0 parts bytes h.1 are) h.2
+fault_of_parts bytes parts (ItemText place) are h =
+    subst (λ (all : ElementsParts). HasPartsFault all (ItemText place)) (one_parts h.0 parts bytes h.1 are) h.2
 
 -- ---- one item more was looked at
 
-pub first_fault_step : (items : List (List ℕ)) (k : ℕ) (item : List ℕ) (fault : Option ElementsBytesError) → k < length items → Some item ≡ slice_get items k → fault ≡ item_fault k item → first_fault k (drop k items) ≡ option_or fault (first_fault (k + 1) (drop (k + 1) items))
-first_fault_step items k item fault h e f =
-    let g = slice_get-get_or items k [] h in
-    let i : get_or items k [] ≡ item = cc in
-    ap (first_fault k) (drop_more items k [] h) ∙ ap (λ p. option_or (item_fault k p) (first_fault (k + 1) (drop (k + 1) items))) i
-    ∙ ap (λ p. option_or p (first_fault (k + 1) (drop (k + 1) items))) (sym f)
-
-pub option_or_some : (fault other : Option ElementsBytesError) → is_some fault ≡ true → option_or fault other ≡ fault
+-- a fault that is there is the first of two
+option_or_some : (fault other : Option ElementsBytesError) → is_some fault ≡ true → option_or fault other ≡ fault
 option_or_some None other h = cc
 option_or_some (Some fault) other h = refl
 
-pub option_or_none : (fault other : Option ElementsBytesError) → is_some fault ≡ false → option_or fault other ≡ other
+-- where the first of two is none, the other is the first
+option_or_none : (fault other : Option ElementsBytesError) → is_some fault ≡ false → option_or fault other ≡ other
 option_or_none None other h = refl
 option_or_none (Some fault) other h = cc
 
+-- the fault of the first item that is left is the first fault of all that are
+pub found_here : (k : ℕ) (left : List (List ℕ)) (item : List ℕ) (behind : List (List ℕ)) (fault : Option ElementsBytesError)
+    → left ≡ item ∷ behind → fault ≡ element_fault k item → is_some fault ≡ true → first_element_fault k left ≡ fault
+found_here k left item behind fault first told some =
+    ap (first_element_fault k) first ∙ ap (λ f. option_or f (first_element_fault (k + 1) behind)) (sym told)
+    ∙ option_or_some fault (first_element_fault (k + 1) behind) some
+
+-- behind an item without a fault the first fault of all that are left is found
+pub found_behind : (k : ℕ) (left : List (List ℕ)) (item : List ℕ) (behind : List (List ℕ)) (fault : Option ElementsBytesError)
+    → left ≡ item ∷ behind → fault ≡ element_fault k item → is_some fault ≡ false
+    → first_element_fault k left ≡ first_element_fault (k + 1) behind
+found_behind k left item behind fault first told none =
+    ap (first_element_fault k) first ∙ ap (λ f. option_or f (first_element_fault (k + 1) behind)) (sym told)
+    ∙ option_or_none fault (first_element_fault (k + 1) behind) none
+
 -- the fault of the first bad item is one of the list
-pub first_fault_is : (rest : List ℕ) (items : List (List ℕ)) (fault : ElementsBytesError) → ListBytes items rest → first_fault 0 items ≡ Some fault → HasItemsFault rest fault
+pub first_fault_is : (rest : List ℕ) (items : List (List ℕ)) (fault : ElementsBytesError) → ListBytes items rest
+    → first_element_fault 0 items ≡ Some fault → HasItemsFault rest fault
 first_fault_is rest items (InList fault) list h = absurd (of_items 0 items (InList fault) h)
 first_fault_is rest items Empty list h = (items, list, h)
 first_fault_is rest items Short list h = (items, list, h)
@@ -213,10 +254,14 @@ first_fault_is rest items (ItemText place) list h = (items, list, h)
 
 -- ---- what is answered of parts whose default is good
 
+-- good items are all that is asked of what is left
 good_rest : (parts : ElementsParts) (rest : List ℕ) → parts.rest ≡ Some rest → AreGoodItems rest → IsGoodRest parts.rest
 good_rest parts rest e good = subst IsGoodRest (sym e) good
 
-pub parts_answer : {T : Type 0} (parts : ElementsParts) (rest : List ℕ) (answer : Result T ElementsBytesError) → parts.rest ≡ Some rest → ¬ (HasPadding parts.first) → IsTrue (is_utf8 parts.text)
-    → MatchResult answer (λ _. AreGoodItems rest) (λ fault. HasItemsFault rest fault) → MatchResult answer (λ _. AreGoodParts parts) (λ fault. HasPartsFault parts fault)
+-- an answer on the items answers for parts whose default is good
+pub parts_answer : {T : Type 0} (parts : ElementsParts) (rest : List ℕ) (answer : Result T ElementsBytesError)
+    → parts.rest ≡ Some rest → ¬ (HasPadding parts.first) → IsTrue (is_utf8 parts.text)
+    → MatchResult answer (λ _. AreGoodItems rest) (λ fault. HasItemsFault rest fault)
+    → MatchResult answer (λ _. AreGoodParts parts) (λ fault. HasPartsFault parts fault)
 parts_answer parts rest (Ok value) e low text h = (low, text, good_rest parts rest e h)
 parts_answer parts rest (Err fault) e low text h = items_fault_is parts rest fault e low text h

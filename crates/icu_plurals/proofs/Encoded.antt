@@ -1,5 +1,6 @@
 -- The bytes that are written are those that elements are packed as.
-use Rattle.std.proofs.Common.{◌≡◌, ◌↔◌, ℕ, ◌<◌, ◌≤◌, List, [], ◌∷◌, length, Bool, true, false, cond, Option, Some, None, refl, sym, ap, subst, ◌∙◌, arith, append-nil}
+use Rattle.std.proofs.Common.{◌≡◌, ◌↔◌, ℕ, ◌<◌, ◌≤◌, List, [], ◌∷◌, length, Bool, true, false, cond, Option, Some, None}
+use Rattle.std.proofs.Common.{refl, sym, ap, subst, ◌∙◌, arith, append-nil}
 use Rattle.std.specs.Prelude.{IsTrue, map, nat_lt, unwrap_or}
 use Rattle.std.specs.List.{AllByRecursion}
 use Rattle.std.proofs.lemmas.Bool.{lt-ltb, le-ltb, ltb-true, ltb-false}
@@ -7,7 +8,9 @@ use Rattle.packed_list.specs.ListBytes.{CanPack, has_high_start}
 use Rattle.plural_base.specs.declared.elements_pack_error.ElementsPackError.TheVariants.{DefaultLimit, StartLimit}
 use Rattle.icu_plurals.specs.declared.encode.items.Item.{Item}
 use Rattle.icu_plurals.specs.Elements.{Elements, element_at}
-use Rattle.icu_plurals.specs.PackedElements.{AnswersAs, fault_beside, pack_fault, PackedValue, PackedItem, IsPackedValue, IsPackedItem, CanPackItems, ElementsBytes, bytes_with, elements_of, item_bytes, none_if_empty, packed_items, packed_of}
+use Rattle.icu_plurals.specs.PackedElements.{AnswersAs, fault_beside, pack_fault, PackedValue, PackedItem, IsPackedValue}
+use Rattle.icu_plurals.specs.PackedElements.{IsPackedItem, CanPackItems, ElementsBytes, bytes_with, elements_of, item_bytes}
+use Rattle.icu_plurals.specs.PackedElements.{none_if_empty, packed_items, packed_of}
 use Rattle.icu_plurals.specs.Inner.ElementsReading.{bytes_with_items}
 use Rattle.icu_plurals.specs.Inner.ElementsViews.{lent_bytes}
 use Rattle.icu_plurals.proofs.ElementsAgain.{PackedItems}
@@ -23,47 +26,62 @@ as_many (x ∷ lent) (item ∷ items) h = let rest : lent_bytes lent ≡ map ite
 
 -- ---- the first of two faults, by their tests
 
+-- the first fault is told exactly where its test is true
 first_fault : (long high : Bool) → (cond long (Some DefaultLimit) (cond high (Some StartLimit) None) ≡ Some DefaultLimit) ↔ (long ≡ true)
 first_fault true high = ((λ h. refl), (λ h. refl))
 first_fault false true = ((λ h. absurd cc), (λ h. cc))
 first_fault false false = ((λ h. absurd cc), (λ h. cc))
 
-second_fault : (long high : Bool) → (cond long (Some DefaultLimit) (cond high (Some StartLimit) None) ≡ Some StartLimit) ↔ ((long ≡ false) × (high ≡ true))
+-- the second fault is told exactly where its test is true and the first one's isn't
+second_fault : (long high : Bool)
+    → (cond long (Some DefaultLimit) (cond high (Some StartLimit) None) ≡ Some StartLimit) ↔ ((long ≡ false) × (high ≡ true))
 second_fault true high = ((λ h. absurd cc), (λ h. absurd (let e : true ≡ false = h.0 in cc)))
 second_fault false true = ((λ h. (refl, refl)), (λ h. refl))
 second_fault false false = ((λ h. absurd cc), (λ h. absurd (let e : false ≡ true = h.1 in cc)))
 
 -- a default is too long where there are items beside it
-long_beside : (default : PackedValue) (items : List PackedItem) → (fault_beside default (none_if_empty items) ≡ Some DefaultLimit) ↔ ((0 < length items) × (255 < length default.text))
+long_beside : (default : PackedValue) (items : List PackedItem)
+    → (fault_beside default (none_if_empty items) ≡ Some DefaultLimit) ↔ ((0 < length items) × (255 < length default.text))
 long_beside default [] = ((λ h. absurd cc), (λ h. absurd (omega (arith, h.0))))
 long_beside default (item ∷ items) =
     let told = first_fault (nat_lt 255 (length default.text)) (has_high_start (map item_bytes (item ∷ items))) in
     ((λ h. (omega arith, ltb-true 255 (length default.text) (told.0 h))), (λ h. told.1 (lt-ltb 255 (length default.text) h.1)))
 
+-- a start is too high where the default isn't too long
 high_beside : (default : PackedValue) (items : List PackedItem)
-    → (fault_beside default (none_if_empty items) ≡ Some StartLimit) ↔ ((length default.text ≤ 255) × IsTrue (has_high_start (map item_bytes items)))
+    → (fault_beside default (none_if_empty items) ≡ Some StartLimit) ↔
+    ((length default.text ≤ 255) × IsTrue (has_high_start (map item_bytes items)))
 high_beside default [] = ((λ h. absurd cc), (λ h. absurd (let e : false ≡ true = h.1 in cc)))
 high_beside default (item ∷ items) =
-    let told = second_fault (nat_lt 255 (length default.text)) (has_high_start (map item_bytes (item ∷ items))) in
-    ((λ h. let both = told.0 h in (ltb-false 255 (length default.text) both.0, both.1)), (λ h. told.1 (le-ltb 255 (length default.text) h.0, h.1)))
+    let told = second_fault (nat_lt 255 (length default.text)) (has_high_start (map item_bytes (item ∷ items))) in (
+      (λ h. let both = told.0 h in (ltb-false 255 (length default.text) both.0, both.1)),
+      (λ h. told.1 (le-ltb 255 (length default.text) h.0, h.1)),
+    )
 
 -- ---- the bytes
 
-can_pack_items : (default : PackedValue) (items : List PackedItem) → (0 < length items → length default.text ≤ 255) → CanPack (map item_bytes items) → CanPackItems default (none_if_empty items)
+-- a short default and a list that can be packed can stand side by side
+can_pack_items : (default : PackedValue) (items : List PackedItem) → (0 < length items → length default.text ≤ 255)
+    → CanPack (map item_bytes items) → CanPackItems default (none_if_empty items)
 can_pack_items default [] short can = tt
 can_pack_items default (item ∷ items) short can = record { length = short (omega arith); list = can }
 
-spelled_with : (default : PackedValue) (items : List PackedItem) → bytes_with_items default (map item_bytes items) ≡ bytes_with default (none_if_empty items)
+-- without items the default alone is written, else its length and the list too
+spelled_with : (default : PackedValue) (items : List PackedItem)
+    → bytes_with_items default (map item_bytes items) ≡ bytes_with default (none_if_empty items)
 spelled_with default [] = ap (λ text. default.metadata ∷ text) (append-nil default.text)
 spelled_with default (item ∷ items) = refl
 
+-- each item is one also where the list of none is left out
 all_items : (items : List PackedItem) → AllByRecursion IsPackedItem items → AllByRecursion IsPackedItem (unwrap_or (none_if_empty items) [])
 all_items [] are = tt
 all_items (item ∷ items) are = are
 
 -- what is written are the bytes of what elements are packed as
-pub encoded : (e : Elements PackedValue) (lent : List Item) (bytes : List ℕ) → lent_bytes lent ≡ map item_bytes (packed_items e) → AllByRecursion IsPackedItem (packed_items e)
-    → IsPackedValue e.other → (0 < length lent → length e.other.text ≤ 255) → CanPack (lent_bytes lent) → bytes ≡ bytes_with_items e.other (lent_bytes lent)
+pub encoded : (e : Elements PackedValue) (lent : List Item) (bytes : List ℕ)
+    → lent_bytes lent ≡ map item_bytes (packed_items e) → AllByRecursion IsPackedItem (packed_items e)
+    → IsPackedValue e.other → (0 < length lent → length e.other.text ≤ 255) → CanPack (lent_bytes lent)
+    → bytes ≡ bytes_with_items e.other (lent_bytes lent)
     → ElementsBytes (packed_of e) bytes
 encoded e lent bytes same are valid short can spelled =
     let count = as_many lent (packed_items e) same in record {
@@ -80,15 +98,20 @@ answers_as again e bytes h = λ packed are op rules.
     ap (λ p. element_at (elements_of p) op rules) same ∙ answers_again e op rules
 
 -- the refusals, as they are told of the default and the items that are lent
-pub default_refused : (e : Elements PackedValue) (default : PackedValue) (lent : List Item) → default ≡ e.other → lent_bytes lent ≡ map item_bytes (packed_items e)
+pub default_refused : (e : Elements PackedValue) (default : PackedValue) (lent : List Item) → default ≡ e.other
+    → lent_bytes lent ≡ map item_bytes (packed_items e)
     → ((0 < length lent) × (255 < length default.text)) ↔ (pack_fault (packed_of e) ≡ Some DefaultLimit)
 default_refused e default lent other same =
     let count = as_many lent (packed_items e) same in
     let text = ap (λ (value : PackedValue). length value.text) other in
-    let beside = long_beside e.other (packed_items e) in
-    ((λ h. beside.1 (omega (arith, h.0), omega (arith, h.1))), (λ h. let told = beside.0 h in (omega (arith, told.0), omega (arith, told.1))))
+    let beside = long_beside e.other (packed_items e) in (
+      (λ h. beside.1 (omega (arith, h.0), omega (arith, h.1))),
+      (λ h. let told = beside.0 h in (omega (arith, told.0), omega (arith, told.1))),
+    )
 
-pub start_refused : (e : Elements PackedValue) (default : PackedValue) (lent : List Item) → default ≡ e.other → lent_bytes lent ≡ map item_bytes (packed_items e)
+-- a start that is too high is told exactly where the elements have that fault
+pub start_refused : (e : Elements PackedValue) (default : PackedValue) (lent : List Item) → default ≡ e.other
+    → lent_bytes lent ≡ map item_bytes (packed_items e)
     → ((length default.text ≤ 255) × IsTrue (has_high_start (lent_bytes lent))) ↔ (pack_fault (packed_of e) ≡ Some StartLimit)
 start_refused e default lent other same =
     let beside = high_beside e.other (packed_items e) in
@@ -96,6 +119,7 @@ start_refused e default lent other same =
     let high = ap has_high_start same in
     ((λ h. beside.1 (omega (arith, h.0), sym high ∙ h.1)), (λ h. let told = beside.0 h in (omega (arith, told.0), high ∙ told.1)))
 
+-- what can stand beside a default has no fault
 fault_free : (default : PackedValue) (items : Option (List PackedItem)) → CanPackItems default items → fault_beside default items ≡ None
 fault_free default None can = refl
 fault_free default (Some items) can = rw (le-ltb 255 (length default.text) can.length, can.list.starts) refl

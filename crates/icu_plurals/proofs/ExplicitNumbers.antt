@@ -20,6 +20,7 @@ equals operand n = record { operand = operand; modulus = 0; operator = Eq; range
 equal_from_ends : (n a : ℕ) → ((nat_le n a && nat_le a n) || false) ≡ (a == n)
 equal_from_ends n a = grind (arith, nat_tests)
 
+-- numbers that one relation tells alike are both n, or neither is
 same_test : (n a b : ℕ) → ((nat_le n a && nat_le a n) || false) ≡ ((nat_le n b && nat_le b n) || false) → (a == n) ≡ (b == n)
 same_test n a b e = sym (equal_from_ends n a) ∙ e ∙ equal_from_ends n b
 
@@ -31,6 +32,7 @@ module _ (agree : RelationsAgree) (x : Places) (e : ℕ) (moduli : List ℕ) (ke
       let admitted : IsAdmitted moduli (equals operand n) = record { listed = listed; ends = (small, tt) } in
       agree x e moduli kept exact (equals operand n) is admitted
 
+  -- the kept operands are exactly a small n where the exact ones are
   is_exactly-exact : (n : ℕ) → n < kept_limit → is_exactly n kept ≡ is_exactly n exact
   is_exactly-exact n small =
       let none : 0 < kept_limit = omega (arith, small) in

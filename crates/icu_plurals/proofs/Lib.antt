@@ -6,5 +6,6 @@ pub mod ElementsOneFault
 pub mod WorkedElements
 pub mod PackedAgain
 pub mod CheckedElements
+pub mod OneWalk
 pub mod Encoded
 pub mod WorkedPacking

@@ -10,25 +10,30 @@ use Rattle.plural_base.specs.declared.category.PluralCategory.TheVariants.{Zero,
 use Rattle.plural_base.specs.FiveRules.{FiveRules, first_category}
 use Rattle.plural_runtime.specs.PackedTruth.{packed_truth}
 use Rattle.icu_plurals.specs.Elements.{Elements, of_category, element_at, explicit_at, unless_equal}
-use Rattle.icu_plurals.specs.PackedElements.{PackedValue, PackedItem, elements_of, is_same_value, item_at, none_if_empty, packed_items, packed_of, value_at, without_repeats}
+use Rattle.icu_plurals.specs.PackedElements.{PackedValue, PackedItem, elements_of, is_same_value, item_at, none_if_empty}
+use Rattle.icu_plurals.specs.PackedElements.{packed_items, packed_of, value_of_key, without_repeats}
 
 -- ---- the value of a key among items
 
 -- an item of another key is passed over
-skip : (key other : ℕ) (value : Option PackedValue) (items : List PackedItem) → (other == key) ≡ false → value_at key (item_at other value ++ items) ≡ value_at key items
+skip : (key other : ℕ) (value : Option PackedValue) (items : List PackedItem) → (other == key) ≡ false
+    → value_of_key key (item_at other value ++ items) ≡ value_of_key key items
 skip key other None items h = refl
 skip key other (Some v) items h = rw h refl
 
-skip_last : (key other : ℕ) (value : Option PackedValue) → (other == key) ≡ false → value_at key (item_at other value) ≡ None
+-- where the only item has another key, there is no value of this one
+skip_last : (key other : ℕ) (value : Option PackedValue) → (other == key) ≡ false → value_of_key key (item_at other value) ≡ None
 skip_last key other None h = refl
 skip_last key other (Some v) h = rw h refl
 
 -- the first item of the key answers
-take_it : (key : ℕ) (value : Option PackedValue) (items : List PackedItem) → (key == key) ≡ true → value_at key items ≡ None → value_at key (item_at key value ++ items) ≡ value
+take_it : (key : ℕ) (value : Option PackedValue) (items : List PackedItem) → (key == key) ≡ true → value_of_key key items ≡ None
+    → value_of_key key (item_at key value ++ items) ≡ value
 take_it key None items h none = none
 take_it key (Some v) items h none = rw h refl
 
-take_last : (key : ℕ) (value : Option PackedValue) → (key == key) ≡ true → value_at key (item_at key value) ≡ value
+-- the only item answers for its key
+take_last : (key : ℕ) (value : Option PackedValue) → (key == key) ≡ true → value_of_key key (item_at key value) ≡ value
 take_last key None h = refl
 take_last key (Some v) h = rw h refl
 
@@ -44,31 +49,36 @@ behind3 v3 v4 v5 v6 = item_at 3 v3 ++ behind4 v4 v5 v6
 abbrev behind2 : Option PackedValue → Option PackedValue → Option PackedValue → Option PackedValue → Option PackedValue → List PackedItem
 behind2 v2 v3 v4 v5 v6 = item_at 2 v2 ++ behind3 v3 v4 v5 v6
 
-abbrev behind1 : Option PackedValue → Option PackedValue → Option PackedValue → Option PackedValue → Option PackedValue → Option PackedValue → List PackedItem
+abbrev behind1 : Option PackedValue → Option PackedValue → Option PackedValue → Option PackedValue → Option PackedValue
+    → Option PackedValue → List PackedItem
 behind1 v1 v2 v3 v4 v5 v6 = item_at 1 v1 ++ behind2 v2 v3 v4 v5 v6
 
 -- the seven items in the order of their keys
-abbrev seven : Option PackedValue → Option PackedValue → Option PackedValue → Option PackedValue → Option PackedValue → Option PackedValue → Option PackedValue → List PackedItem
+abbrev seven : Option PackedValue → Option PackedValue → Option PackedValue → Option PackedValue → Option PackedValue
+    → Option PackedValue → Option PackedValue → List PackedItem
 seven v0 v1 v2 v3 v4 v5 v6 = item_at 0 v0 ++ behind1 v1 v2 v3 v4 v5 v6
 
 record AreAt (v0 v1 v2 v3 v4 v5 v6 : Option PackedValue) (items : List PackedItem) : Type 0 where
-  pub at0 : value_at 0 items ≡ v0
-  pub at1 : value_at 1 items ≡ v1
-  pub at2 : value_at 2 items ≡ v2
-  pub at3 : value_at 3 items ≡ v3
-  pub at4 : value_at 4 items ≡ v4
-  pub at5 : value_at 5 items ≡ v5
-  pub at6 : value_at 6 items ≡ v6
+  pub at0 : value_of_key 0 items ≡ v0
+  pub at1 : value_of_key 1 items ≡ v1
+  pub at2 : value_of_key 2 items ≡ v2
+  pub at3 : value_of_key 3 items ≡ v3
+  pub at4 : value_of_key 4 items ≡ v4
+  pub at5 : value_of_key 5 items ≡ v5
+  pub at6 : value_of_key 6 items ≡ v6
 
+-- among the seven items each key has its own value
 are_at : (v0 v1 v2 v3 v4 v5 v6 : Option PackedValue) → AreAt v0 v1 v2 v3 v4 v5 v6 (seven v0 v1 v2 v3 v4 v5 v6)
 are_at v0 v1 v2 v3 v4 v5 v6 = record {
   at0 =
       take_it 0 v0 _ refl
-      (skip 0 1 v1 (behind2 v2 v3 v4 v5 v6) refl ∙ skip 0 2 v2 (behind3 v3 v4 v5 v6) refl ∙ skip 0 3 v3 (behind4 v4 v5 v6) refl ∙ skip 0 4 v4 (behind5 v5 v6) refl ∙ skip 0 5 v5 (item_at 6 v6) refl ∙ skip_last 0 6 v6 refl);
+      (skip 0 1 v1 (behind2 v2 v3 v4 v5 v6) refl ∙ skip 0 2 v2 (behind3 v3 v4 v5 v6) refl ∙ skip 0 3 v3 (behind4 v4 v5 v6) refl
+      ∙ skip 0 4 v4 (behind5 v5 v6) refl ∙ skip 0 5 v5 (item_at 6 v6) refl ∙ skip_last 0 6 v6 refl);
   at1 =
       skip 1 0 v0 (behind1 v1 v2 v3 v4 v5 v6) refl
       ∙ take_it 1 v1 _ refl
-      (skip 1 2 v2 (behind3 v3 v4 v5 v6) refl ∙ skip 1 3 v3 (behind4 v4 v5 v6) refl ∙ skip 1 4 v4 (behind5 v5 v6) refl ∙ skip 1 5 v5 (item_at 6 v6) refl ∙ skip_last 1 6 v6 refl);
+      (skip 1 2 v2 (behind3 v3 v4 v5 v6) refl ∙ skip 1 3 v3 (behind4 v4 v5 v6) refl ∙ skip 1 4 v4 (behind5 v5 v6) refl
+      ∙ skip 1 5 v5 (item_at 6 v6) refl ∙ skip_last 1 6 v6 refl);
   at2 =
       skip 2 0 v0 (behind1 v1 v2 v3 v4 v5 v6) refl ∙ skip 2 1 v1 (behind2 v2 v3 v4 v5 v6) refl
       ∙ take_it 2 v2 _ refl
@@ -90,6 +100,7 @@ are_at v0 v1 v2 v3 v4 v5 v6 = record {
 
 -- ---- the elements again
 
+-- whether there is no list or an empty one, there are the same items
 items_again : (items : List PackedItem) → unwrap_or (none_if_empty items) [] ≡ items
 items_again [] = refl
 items_again (item ∷ items) = refl
@@ -103,10 +114,12 @@ packed_again e =
 
 -- ---- the answers again
 
+-- two tests pass together only where each does
 both_true : (a b : Bool) → (a && b) ≡ true → (a ≡ true) × (b ≡ true)
 both_true true b h = (refl, h)
 both_true false b h = cc
 
+-- values that are found to be the same are equal
 is_same : (value other : PackedValue) → is_same_value value other ≡ true → value ≡ other
 is_same value other h =
     let both = both_true (value.metadata == other.metadata) (bytes_eq value.text other.text) h in
@@ -114,15 +127,18 @@ is_same value other h =
     let text : value.text ≡ other.text = (bytes_eq-Decides value.text other.text).0 both.1 in
     rw (metadata, text) refl
 
+-- a value that is left out only where it equals other's is answered all the same
 kept_by : (same : Bool) (value other : PackedValue) → (same ≡ true → value ≡ other) → unwrap_or (cond same None (Some value)) other ≡ value
 kept_by true value other h = sym (h refl)
 kept_by false value other h = refl
 
 -- a value that is left out equals other's
-kept_or_other : (other : PackedValue) (value : Option PackedValue) → unwrap_or (unless_equal is_same_value other value) other ≡ unwrap_or value other
+kept_or_other : (other : PackedValue) (value : Option PackedValue)
+    → unwrap_or (unless_equal is_same_value other value) other ≡ unwrap_or value other
 kept_or_other other None = refl
 kept_or_other other (Some v) = kept_by (is_same_value v other) v other (is_same v other)
 
+-- every category has its value, whether it was left out for other's or not
 category_again : (e : Elements PackedValue) (category : PluralCategory) → of_category (without_repeats e) category ≡ of_category e category
 category_again e Zero = kept_or_other e.other e.zero
 category_again e One = kept_or_other e.other e.one
@@ -132,6 +148,8 @@ category_again e Many = kept_or_other e.other e.many
 category_again e Other = refl
 
 -- what elements are packed as answers every number as they do
-pub answers_again : (e : Elements PackedValue) (op : Operands) (rules : FiveRules) → element_at (elements_of (packed_of e)) op rules ≡ element_at e op rules
+pub answers_again : (e : Elements PackedValue) (op : Operands) (rules : FiveRules)
+    → element_at (elements_of (packed_of e)) op rules ≡ element_at e op rules
 answers_again e op rules =
-    ap (λ values. element_at values op rules) (packed_again e) ∙ ap (unwrap_or (explicit_at e op)) (category_again e (first_category (packed_truth op) rules))
+    ap (λ values. element_at values op rules) (packed_again e)
+    ∙ ap (unwrap_or (explicit_at e op)) (category_again e (first_category (packed_truth op) rules))

@@ -4,8 +4,8 @@ use Rattle.packed_list.specs.Inner.ListReading.{items_in}
 use Rattle.icu_plurals.specs.declared.packed.error.ElementsBytesError.TheVariants as errors
 use Rattle.icu_plurals.specs.Elements.{Elements, only_other}
 use Rattle.icu_plurals.specs.PackedElements.{PackedValue, PackedItem, PackedElements, elements_bytes, elements_of, packed_of}
-use Rattle.icu_plurals.specs.ElementsFaults.{first_fault}
-use Rattle.icu_plurals.specs.Inner.ElementsReading.{elements_in}
+use Rattle.icu_plurals.specs.ElementsFaults.{first_element_fault}
+use Rattle.icu_plurals.specs.Inner.ElementsReading.{read_elements}
 
 -- a text without metadata
 abbrev plain : List ℕ → PackedValue
@@ -19,13 +19,16 @@ item key text = record { key = key; value = plain text }
 abbrev abc : PackedElements
 abc = record { default = plain (codes "abc"); items = None }
 
+-- metadata 0, then the three letters
 abc_bytes : elements_bytes abc ≡ 0 ∷ 97 ∷ 98 ∷ 99 ∷ []
 abc_bytes = refl
 
-abc_read : elements_in (0 ∷ 97 ∷ 98 ∷ 99 ∷ []) ≡ abc
-unfolding elements_in
+-- these bytes are read as the default alone
+abc_read : read_elements (0 ∷ 97 ∷ 98 ∷ 99 ∷ []) ≡ abc
+unfolding read_elements
 abc_read = refl
 
+-- and other's value alone is packed as this default
 abc_packed : packed_of (only_other (plain (codes "abc"))) ≡ abc
 abc_packed = refl
 
@@ -34,11 +37,13 @@ abc_packed = refl
 abbrev abc_defg : PackedElements
 abc_defg = record { default = plain (codes "abc"); items = Some (item 1 (codes "defg") ∷ []) }
 
+-- bit 7, the length 3, the letters, then a list of one item: its count, its key and its text
 abc_defg_bytes : elements_bytes abc_defg ≡ 128 ∷ 3 ∷ 97 ∷ 98 ∷ 99 ∷ 1 ∷ 0 ∷ 16 ∷ 100 ∷ 101 ∷ 102 ∷ 103 ∷ []
 abc_defg_bytes = refl
 
-abc_defg_read : elements_in (128 ∷ 3 ∷ 97 ∷ 98 ∷ 99 ∷ 1 ∷ 0 ∷ 16 ∷ 100 ∷ 101 ∷ 102 ∷ 103 ∷ []) ≡ abc_defg
-unfolding elements_in items_in
+-- these bytes are read as the default and the item
+abc_defg_read : read_elements (128 ∷ 3 ∷ 97 ∷ 98 ∷ 99 ∷ 1 ∷ 0 ∷ 16 ∷ 100 ∷ 101 ∷ 102 ∷ 103 ∷ []) ≡ abc_defg
+unfolding read_elements items_in
 abc_defg_read = refl
 
 -- ---- other "items", one "item", explicit one "items"
@@ -47,9 +52,12 @@ abbrev items : Elements PackedValue
 items = record (only_other (plain (codes "items"))) { one = Some (plain (codes "item")); explicit_one = Some (plain (codes "items")) }
 
 -- an explicit value that equals other's is packed
-items_bytes : elements_bytes (packed_of items) ≡ 128 ∷ 5 ∷ 105 ∷ 116 ∷ 101 ∷ 109 ∷ 115 ∷ 2 ∷ 0 ∷ 5 ∷ 0 ∷ 16 ∷ 105 ∷ 116 ∷ 101 ∷ 109 ∷ 96 ∷ 105 ∷ 116 ∷ 101 ∷ 109 ∷ 115 ∷ []
+items_bytes : elements_bytes
+    (packed_of items) ≡ 128 ∷ 5 ∷ 105 ∷ 116 ∷ 101 ∷ 109 ∷ 115 ∷ 2 ∷ 0 ∷ 5 ∷ 0 ∷ 16 ∷ 105 ∷ 116 ∷ 101 ∷ 109 ∷ 96 ∷ 105 ∷ 116 ∷ 101
+    ∷ 109 ∷ 115 ∷ []
 items_bytes = refl
 
+-- the values are found again by their keys
 items_again : elements_of (packed_of items) ≡ items
 items_again = refl
 
@@ -57,7 +65,10 @@ items_again = refl
 equal_bytes : elements_bytes (packed_of (record (only_other (plain (codes "a"))) { one = Some (plain (codes "a")) })) ≡ 0 ∷ 97 ∷ []
 equal_bytes = refl
 
-metadata_bytes : elements_bytes (packed_of (record (only_other (plain (codes "a"))) { one = Some (record { metadata = 3; text = codes "a" }) })) ≡ 128 ∷ 1 ∷ 97 ∷ 1 ∷ 0 ∷ 19 ∷ 97 ∷ []
+-- metadata 3 beside the same text makes an item
+metadata_bytes : elements_bytes
+    (packed_of (record (only_other (plain (codes "a"))) { one = Some (record { metadata = 3; text = codes "a" }) })) ≡ 128 ∷ 1
+    ∷ 97 ∷ 1 ∷ 0 ∷ 19 ∷ 97 ∷ []
 metadata_bytes = refl
 
 -- ---- one twice
@@ -65,30 +76,37 @@ metadata_bytes = refl
 abbrev one_twice : PackedElements
 one_twice = record { default = plain (codes "a"); items = Some (item 1 (codes "b") ∷ item 1 (codes "c") ∷ []) }
 
-one_twice_read : elements_in (128 ∷ 1 ∷ 97 ∷ 2 ∷ 0 ∷ 2 ∷ 0 ∷ 16 ∷ 98 ∷ 16 ∷ 99 ∷ []) ≡ one_twice
-unfolding elements_in items_in
+-- two items of one key may stand in bytes
+one_twice_read : read_elements (128 ∷ 1 ∷ 97 ∷ 2 ∷ 0 ∷ 2 ∷ 0 ∷ 16 ∷ 98 ∷ 16 ∷ 99 ∷ []) ≡ one_twice
+unfolding read_elements items_in
 one_twice_read = refl
 
+-- the first of them answers
 one_twice_values : elements_of one_twice ≡ record (only_other (plain (codes "a"))) { one = Some (plain (codes "b")) }
 one_twice_values = refl
 
+-- and alone is packed again
 one_twice_again : elements_bytes (packed_of (elements_of one_twice)) ≡ 128 ∷ 1 ∷ 97 ∷ 1 ∷ 0 ∷ 16 ∷ 98 ∷ []
 one_twice_again = refl
 
 -- ---- no items, and a list without items
 
-nothing_read : elements_in (0 ∷ []) ≡ record { default = plain []; items = None }
-unfolding elements_in
+-- a single 0 is an empty default without a list
+nothing_read : read_elements (0 ∷ []) ≡ record { default = plain []; items = None }
+unfolding read_elements
 nothing_read = refl
 
-no_items_read : elements_in (128 ∷ 0 ∷ []) ≡ record { default = plain []; items = Some [] }
-unfolding elements_in items_in
+-- bit 7 and the length 0 are an empty default beside an empty list
+no_items_read : read_elements (128 ∷ 0 ∷ []) ≡ record { default = plain []; items = Some [] }
+unfolding read_elements items_in
 no_items_read = refl
 
 -- ---- refusals
 
-empty_item : first_fault 0 ([] ∷ []) ≡ Some (errors.ItemEmpty 0)
+-- an item needs its first byte
+empty_item : first_element_fault 0 ([] ∷ []) ≡ Some (errors.ItemEmpty 0)
 empty_item = refl
 
-seventh_key : first_fault 0 ((112 ∷ 255 ∷ []) ∷ []) ≡ Some (errors.Key 0)
+-- a key above the last one is told before a text that is no UTF-8
+seventh_key : first_element_fault 0 ((112 ∷ 255 ∷ []) ∷ []) ≡ Some (errors.Key 0)
 seventh_key = refl

@@ -15,16 +15,23 @@ plain text = record { metadata = 0; text = text }
 abbrev items : Elements PackedValue
 items = record (only_other (plain (codes "items"))) { one = Some (plain (codes "item")); explicit_one = Some (plain (codes "items")) }
 
-items_bytes : elements_bytes (packed_of items) ≡ 128 ∷ 5 ∷ 105 ∷ 116 ∷ 101 ∷ 109 ∷ 115 ∷ 2 ∷ 0 ∷ 5 ∷ 0 ∷ 16 ∷ 105 ∷ 116 ∷ 101 ∷ 109 ∷ 96 ∷ 105 ∷ 116 ∷ 101 ∷ 109 ∷ 115 ∷ []
+-- the category's item comes before the explicit one, which is packed though it equals other's
+items_bytes : elements_bytes
+    (packed_of items) ≡ 128 ∷ 5 ∷ 105 ∷ 116 ∷ 101 ∷ 109 ∷ 115 ∷ 2 ∷ 0 ∷ 5 ∷ 0 ∷ 16 ∷ 105 ∷ 116 ∷ 101 ∷ 109 ∷ 96 ∷ 105 ∷ 116 ∷ 101
+    ∷ 109 ∷ 115 ∷ []
 items_bytes = refl
 
 -- a value that equals other's is left out, an explicit one isn't; metadata tell values apart
 equal_bytes : elements_bytes (packed_of (record (only_other (plain (codes "x"))) { two = Some (plain (codes "x")) })) ≡ 0 ∷ 120 ∷ []
 equal_bytes = refl
 
-marked_bytes : elements_bytes (packed_of (record (only_other (plain (codes "x"))) { one = Some (record { metadata = 1; text = codes "x" }) })) ≡ 128 ∷ 1 ∷ 120 ∷ 1 ∷ 0 ∷ 17 ∷ 120 ∷ []
+-- metadata 1 beside the same text makes an item
+marked_bytes : elements_bytes
+    (packed_of (record (only_other (plain (codes "x"))) { one = Some (record { metadata = 1; text = codes "x" }) })) ≡ 128 ∷ 1
+    ∷ 120 ∷ 1 ∷ 0 ∷ 17 ∷ 120 ∷ []
 marked_bytes = refl
 
+-- a category's value that equals other's is no value of its own
 equal_is_no_repeat : without_repeats (record items { two = Some (plain (codes "items")) }) ≡ items
 equal_is_no_repeat = refl
 
@@ -32,34 +39,53 @@ equal_is_no_repeat = refl
 most_beside : pack_fault (packed_of (record (only_other (plain (replicate 255 97))) { one = Some (plain (98 ∷ [])) })) ≡ None
 most_beside = refl
 
-too_long_beside : pack_fault (packed_of (record (only_other (plain (replicate 256 97))) { one = Some (plain (98 ∷ [])) })) ≡ Some DefaultLimit
+-- 256 bytes are too many beside an item
+too_long_beside : pack_fault (packed_of (record (only_other (plain (replicate 256 97))) { one = Some (plain (98 ∷ [])) })) ≡ Some
+    DefaultLimit
 too_long_beside = refl
 
+-- alone they are not
 long_alone : pack_fault (packed_of (only_other (plain (replicate 256 97)))) ≡ None
 long_alone = refl
 
 -- an item that starts at 65535, and one behind it
-last_start : pack_fault (packed_of (record (only_other (plain [])) { zero = Some (plain (replicate 65534 97)); one = Some (plain (98 ∷ [])) })) ≡ None
+last_start : pack_fault
+    (packed_of (record (only_other (plain [])) { zero = Some (plain (replicate 65534 97)); one = Some (plain (98 ∷ [])) })) ≡ None
 last_start = refl
 
-start_behind : pack_fault (packed_of (record (only_other (plain [])) { zero = Some (plain (replicate 65535 97)); one = Some (plain (98 ∷ [])) })) ≡ Some StartLimit
+-- 65536 is too high for a start
+start_behind : pack_fault
+    (packed_of (record (only_other (plain [])) { zero = Some (plain (replicate 65535 97)); one = Some (plain (98 ∷ [])) }))
+    ≡ Some StartLimit
 start_behind = refl
 
 -- JSON
 abbrev pair : ℕ → List ℕ → Data
 pair metadata text = array (item (number (unsigned metadata)) (item (string text) no_items))
 
-read_items : packed_of_json (object (member (codes "explicit_one") (pair 0 (codes "items")) (member (codes "one") (pair 0 (codes "item")) (member (codes "other") (pair 0 (codes "items")) (member (codes "two") null no_members))))) ≡ Ok (packed_of items)
+-- a null is read as an absent value
+read_items : packed_of_json
+    (object (member (codes "explicit_one") (pair 0 (codes "items"))
+    (member (codes "one") (pair 0 (codes "item"))
+    (member (codes "other") (pair 0 (codes "items")) (member (codes "two") null no_members))))) ≡ Ok (packed_of items)
 read_items = refl
 
-written_items : elements_json items ≡ object (member (codes "explicit_one") (pair 0 (codes "items")) (member (codes "one") (pair 0 (codes "item")) (member (codes "other") (pair 0 (codes "items")) no_members)))
+-- and absent values are not written
+written_items : elements_json items ≡ object
+    (member (codes "explicit_one") (pair 0 (codes "items"))
+    (member (codes "one") (pair 0 (codes "item")) (member (codes "other") (pair 0 (codes "items")) no_members)))
 written_items = refl
 
+-- 16 is no metadata
 metadata_16 : packed_of_json (object (member (codes "other") (pair 16 (codes "x")) no_members)) ≡ Err Shape
 metadata_16 = refl
 
+-- other's value has to be there
 no_other : packed_of_json (object (member (codes "one") (pair 0 (codes "x")) no_members)) ≡ Err Shape
 no_other = refl
 
-list_of_three : packed_of_json (object (member (codes "other") (array (item (number (unsigned 0)) (item (string (codes "x")) (item null no_items)))) no_members)) ≡ Err Shape
+-- a list of three is no value
+list_of_three : packed_of_json
+    (object (member (codes "other") (array (item (number (unsigned 0)) (item (string (codes "x")) (item null no_items))))
+    no_members)) ≡ Err Shape
 list_of_three = refl

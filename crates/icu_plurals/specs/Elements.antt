@@ -13,7 +13,7 @@ use Rattle.plural_base.specs.declared.category.PluralCategory.TheVariants.{Zero,
 use Rattle.fixed_decimal.specs.Places.{Places, IsWritten}
 use Rattle.plural_reference.specs.declared.ast.Condition.{Condition}
 use Rattle.plural_reference.specs.Exactness.{IsWithinBound, exact_truth}
-use Rattle.plural_base.specs.RuleTexts.{AreReadFrom}
+use Rattle.plural_base.specs.RuleTexts.{AreRulesOf, AreReadAs}
 
 pub record Elements (T : Type 0) : Type 0 where
   pub other : T
@@ -86,7 +86,7 @@ exact_element_at e exact conditions =
 abbrev pub IsExactElement : {T : Type 0} → Elements T → FiveRules → Places → ℕ → T → Type 0
 IsExactElement e rules number exponent value =
     (texts : Five (Option (List ℕ))) (conditions : Five (Option Condition)) (exact : Operands)
-    → AreReadFrom texts conditions rules
+    → AreRulesOf texts rules → AreReadAs texts conditions
     → IsWithinBound number exponent (moduli_of rules) → AreExact number exponent exact
     → value ≡ exact_element_at e exact conditions
 

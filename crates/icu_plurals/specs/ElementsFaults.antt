@@ -32,22 +32,22 @@ IsShort (first ∷ len ∷ bytes) = (128 ≤ first) × (length bytes < len)
 -- ---- the items
 
 -- what is wrong with the item at a place: no byte, a key above the last one, or a text that isn't UTF-8
-abbrev pub item_fault : ℕ → List ℕ → Option ElementsBytesError
-item_fault place [] = Some (errors.ItemEmpty place)
-item_fault place (byte ∷ text) =
+abbrev pub element_fault : ℕ → List ℕ → Option ElementsBytesError
+element_fault place [] = Some (errors.ItemEmpty place)
+element_fault place (byte ∷ text) =
     if nat_lt 6 (byte / 16) then Some (errors.Key place) else (if is_utf8 text then None else Some (errors.ItemText place))
 
 -- what is wrong with the first bad item, if there is one; the first item stands at the given place
-abbrev pub first_fault : ℕ → List (List ℕ) → Option ElementsBytesError
-first_fault place [] = None
-first_fault place (item ∷ items) = option_or (item_fault place item) (first_fault (place + 1) items)
+abbrev pub first_element_fault : ℕ → List (List ℕ) → Option ElementsBytesError
+first_element_fault place [] = None
+first_element_fault place (item ∷ items) = option_or (element_fault place item) (first_element_fault (place + 1) items)
 
 -- ---- the faults
 
 -- what is left is no list, or a list with a bad item
 abbrev pub HasItemsFault : List ℕ → ElementsBytesError → Type 0
 HasItemsFault rest (errors.List fault) = HasFault rest fault
-HasItemsFault rest fault = (items : List (List ℕ)) × ListBytes items rest × (first_fault 0 items ≡ Some fault)
+HasItemsFault rest fault = (items : List (List ℕ)) × ListBytes items rest × (first_element_fault 0 items ≡ Some fault)
 
 -- the same, where something is left
 abbrev pub HasRestFault : Option (List ℕ) → ElementsBytesError → Type 0

@@ -4,24 +4,23 @@ pub mod ElementCalls
 -- packed elements
 pub mod PackedElements
 pub mod ElementsFaults
-pub mod Inner
-pub mod IcuPluralsErrors
 pub mod ElementsJson
--- the element of a number
+-- the texts of errors
+pub mod IcuPluralsErrors
+-- no definitions of the subject: the reader of bytes, steps, and what contracts see of lent values
+pub mod Inner
+-- ---- Definitions of the crates below, passed on so that a crate above needs this one alone.
+
 -- the written numbers
 pub use Rattle.fixed_decimal.specs.Digits
 pub use Rattle.fixed_decimal.specs.Places
 pub use Rattle.fixed_decimal.specs.Written
-pub use Rattle.fixed_decimal.specs.FixedDecimalErrors
 -- packed lists
 pub use Rattle.packed_list.specs.ListBytes
-pub use Rattle.packed_list.specs.Inner.ListReading
-pub use Rattle.packed_list.specs.PackedListErrors
 -- operands, texts and trees
 pub use Rattle.plural_reference.specs.Lexer
 pub use Rattle.plural_reference.specs.Operands
 pub use Rattle.plural_reference.specs.OperandText
-pub use Rattle.plural_reference.specs.PluralReferenceErrors
 pub use Rattle.plural_reference.specs.Parser
 pub use Rattle.plural_reference.specs.Samples
 pub use Rattle.plural_reference.specs.Reading
@@ -30,14 +29,10 @@ pub use Rattle.plural_reference.specs.Truth
 pub use Rattle.plural_reference.specs.Exactness
 -- packed rules
 pub use Rattle.plural_runtime.specs.PackedRelations
-pub use Rattle.plural_runtime.specs.RuleBytes
 pub use Rattle.plural_runtime.specs.PackedTruth
 pub use Rattle.plural_runtime.specs.PackedTree
 pub use Rattle.plural_runtime.specs.RuleOfText
-pub use Rattle.plural_runtime.specs.PluralRuntimeErrors
 pub use Rattle.plural_runtime.specs.RuleKinds
-pub use Rattle.plural_runtime.specs.Inner.RuleReading
-pub use Rattle.plural_runtime.specs.Inner.RuleViews
 -- categories
 pub use Rattle.plural_base.specs.Categories
 pub use Rattle.plural_base.specs.FiveRules
@@ -50,5 +45,15 @@ pub use Rattle.plural_base.specs.Providers
 pub use Rattle.plural_base.specs.Json
 pub use Rattle.plural_base.specs.RulesJson
 pub use Rattle.plural_base.specs.RangesJson
-pub use Rattle.plural_base.specs.PluralBaseErrors
 pub use Rattle.plural_base.specs.DocumentJson
+-- the texts of errors
+pub use Rattle.fixed_decimal.specs.FixedDecimalErrors
+pub use Rattle.packed_list.specs.PackedListErrors
+pub use Rattle.plural_reference.specs.PluralReferenceErrors
+pub use Rattle.plural_runtime.specs.PluralRuntimeErrors
+pub use Rattle.plural_base.specs.PluralBaseErrors
+-- ---- No definitions of the subject: readers of bytes and what contracts see of lent values, which laws and views speak of.
+
+pub use Rattle.packed_list.specs.Inner.ListReading
+pub use Rattle.plural_runtime.specs.Inner.RuleReading
+pub use Rattle.plural_runtime.specs.Inner.RuleViews

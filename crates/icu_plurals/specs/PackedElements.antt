@@ -19,7 +19,7 @@ pub record PackedValue : Type 0 where
   pub metadata : ℕ
   pub text : List ℕ
 
--- a value beside the default, and its key
+-- a value beside the default, and its key: 0 zero, 1 one, 2 two, 3 few, 4 many, 5 exactly 0, 6 exactly 1
 pub record PackedItem : Type 0 where
   pub key : ℕ
   pub value : PackedValue
@@ -29,30 +29,7 @@ pub record PackedElements : Type 0 where
   pub default : PackedValue
   pub items : Option (List PackedItem)
 
--- ---- the keys
-
-abbrev pub zero_key : ℕ
-zero_key = 0
-
-abbrev pub one_key : ℕ
-one_key = 1
-
-abbrev pub two_key : ℕ
-two_key = 2
-
-abbrev pub few_key : ℕ
-few_key = 3
-
-abbrev pub many_key : ℕ
-many_key = 4
-
-abbrev pub explicit_zero_key : ℕ
-explicit_zero_key = 5
-
-abbrev pub explicit_one_key : ℕ
-explicit_one_key = 6
-
--- ---- the bytes
+-- ---- The bytes
 
 -- metadata has four bits, and the text is UTF-8
 pub record IsPackedValue (value : PackedValue) : Type 0 where
@@ -61,7 +38,7 @@ pub record IsPackedValue (value : PackedValue) : Type 0 where
 
 -- the key is one of the seven, and the value is one
 pub record IsPackedItem (item : PackedItem) : Type 0 where
-  pub key : item.key ≤ explicit_one_key
+  pub key : item.key ≤ 6
   pub value : IsPackedValue item.value
 
 -- the key in bits 4 to 7 of a byte, the metadata in bits 0 to 3, and the text
@@ -99,22 +76,22 @@ pub record ElementsBytes (packed : PackedElements) (bytes : List ℕ) : Type 0 w
 -- ---- the values by key
 
 -- the value of a key: that of the first item that has it
-abbrev pub value_at : ℕ → List PackedItem → Option PackedValue
-value_at key items = option_map (λ item. item.value) (find (λ item. item.key == key) items)
+abbrev pub value_of_key : ℕ → List PackedItem → Option PackedValue
+value_of_key key items = option_map (λ item. item.value) (find (λ item. item.key == key) items)
 
 abbrev pub elements_of : PackedElements → Elements PackedValue
 elements_of packed = record {
   other = packed.default;
-  zero = value_at zero_key (items_of packed);
-  one = value_at one_key (items_of packed);
-  two = value_at two_key (items_of packed);
-  few = value_at few_key (items_of packed);
-  many = value_at many_key (items_of packed);
-  explicit_zero = value_at explicit_zero_key (items_of packed);
-  explicit_one = value_at explicit_one_key (items_of packed);
+  zero = value_of_key 0 (items_of packed);
+  one = value_of_key 1 (items_of packed);
+  two = value_of_key 2 (items_of packed);
+  few = value_of_key 3 (items_of packed);
+  many = value_of_key 4 (items_of packed);
+  explicit_zero = value_of_key 5 (items_of packed);
+  explicit_one = value_of_key 6 (items_of packed);
 }
 
--- ---- what elements are packed as
+-- ---- What elements are packed as
 
 -- whether metadata and text are the same
 abbrev pub is_same_value : PackedValue → PackedValue → Bool
@@ -132,13 +109,13 @@ category_item key other value = item_at key (unless_equal is_same_value other va
 -- in the order of the keys, the category values that differ from other's, and the explicit values
 abbrev pub packed_items : Elements PackedValue → List PackedItem
 packed_items e =
-    category_item zero_key e.other e.zero
-    ++ (category_item one_key e.other e.one
-    ++ (category_item two_key e.other e.two
-    ++ (category_item few_key e.other e.few
-    ++ (category_item many_key e.other e.many
-    ++ (item_at explicit_zero_key e.explicit_zero
-    ++ item_at explicit_one_key e.explicit_one)))))
+    category_item 0 e.other e.zero
+    ++ (category_item 1 e.other e.one
+    ++ (category_item 2 e.other e.two
+    ++ (category_item 3 e.other e.few
+    ++ (category_item 4 e.other e.many
+    ++ (item_at 5 e.explicit_zero
+    ++ item_at 6 e.explicit_one)))))
 
 -- none where there are none
 abbrev pub none_if_empty : List PackedItem → Option (List PackedItem)

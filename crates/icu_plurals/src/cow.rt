@@ -30,9 +30,9 @@ impl<'data> Model for PluralElementsPackedCow<'data> {
 
     ghost Value = { PackedElements };
 
-    ghost use Rattle.icu_plurals.specs.Inner.ElementsReading.{AreElements, elements_in};
+    ghost use Rattle.icu_plurals.specs.Inner.ElementsReading.{AreElements, read_elements};
 
-    ghost view = { λ packed. elements_in (cow_slice_items packed.bytes) };
+    ghost view = { λ packed. read_elements (cow_slice_items packed.bytes) };
 
     ghost invariant = { λ packed. AreElements (cow_slice_items packed.bytes) };
 }

@@ -7,7 +7,7 @@ ghost use Rattle.serde_json.specs.Find.{as_str};
 ghost use Rattle.serde_json.specs.View.{view, members_view};
 ghost use Rattle.icu_plurals.specs.Elements.{each_by};
 ghost use Rattle.icu_plurals.specs.ElementsJson.{elements_in_json, elements_json, metadata_in, optional_in, packed_of_json, packs, value_in, value_json, with_value};
-ghost use Rattle.icu_plurals.specs.Inner.ElementsViews.{lent_value, number_of};
+ghost use Rattle.icu_plurals.specs.Inner.ElementsViews.{lent_value, metadata_number};
 ghost use Rattle.icu_plurals.specs.PackedElements.{elements_of};
 
 use crate::cow::PluralElementsPackedCow;
@@ -151,7 +151,7 @@ fn read_value(value: &Value) -> Option<(FourBitMetadata, &str)>
 
 // A number from 0 to 15.
 fn read_metadata(value: Option<&Value>) -> Option<FourBitMetadata>
-    ensures { option_map number_of result ≡ option_and_then metadata_in (option_map (λ v. view v.now) value.entry) }
+    ensures { option_map metadata_number result ≡ option_and_then metadata_in (option_map (λ v. view v.now) value.entry) }
 {
     let number = value?.as_u64()?;
     if number > 15 {

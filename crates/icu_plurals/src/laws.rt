@@ -5,7 +5,7 @@ ghost use Rattle.plural_reference.specs.Operands.{Operands};
 ghost use Rattle.plural_base.specs.FiveRules.{FiveRules};
 ghost use Rattle.icu_plurals.specs.Elements.{KeptElementIsExact, Elements, element_at};
 ghost use Rattle.icu_plurals.specs.PackedElements.{without_repeats, ElementsBytes, PackedElements, PackedValue, elements_of, packed_of};
-ghost use Rattle.icu_plurals.specs.Inner.ElementsReading.{elements_in};
+ghost use Rattle.icu_plurals.specs.Inner.ElementsReading.{read_elements};
 
 use packed_list::laws::read_again;
 use plural_base::laws::kept_choice_is_exact;
@@ -23,7 +23,7 @@ pub fn one_encoding_of_elements()
 
 /// What the reader of bytes gives is the elements that they are packed from.
 pub fn elements_read_again()
-    ensures { (elements : PackedElements) (bytes : List ℕ) → ElementsBytes elements bytes → elements_in bytes ≡ elements }
+    ensures { (elements : PackedElements) (bytes : List ℕ) → ElementsBytes elements bytes → read_elements bytes ≡ elements }
 {
     read_again();
 }

@@ -1,22 +1,22 @@
 //! Elements as packed bytes.
 
-ghost use Rattle.icu_plurals.specs.Inner.ElementsReading.{AreElements, ElementsBytes-prop, elements_in};
+ghost use Rattle.icu_plurals.specs.Inner.ElementsReading.{AreElements, ElementsBytes-prop, read_elements};
 
 pub(crate) mod error;
 mod items;
 pub(crate) mod keys;
 pub(crate) mod metadata;
 mod parts;
+mod value;
 mod values;
 
 use crate::elements::PluralElements;
-use crate::packed::values::{find_value, value_of};
+use crate::packed::values::Values;
 use error::ElementsBytesError;
 use metadata::FourBitMetadata;
-use packed_list::PackedList;
 use packed_list::laws::read_again;
-use parts::{Parts, check_parts, parts_of};
-use plural_base::{PluralCategory, PluralRules};
+use parts::{check_parts, parts_of};
+use plural_base::PluralRules;
 use plural_reference::PluralOperands;
 
 /// Elements as checked bytes: a default, and either nothing else or a packed list of items beside it. Each value is
@@ -24,17 +24,16 @@ use plural_reference::PluralOperands;
 #[derive(Clone, Copy, Debug)]
 pub struct PluralElementsPackedULE<'a> {
     bytes: &'a [u8],
-    ghost checked: { AreElements bytes.now } by { ElementsBytes-prop (elements_in bytes.now) bytes.now },
+    ghost checked: { AreElements bytes.now } by { ElementsBytes-prop (read_elements bytes.now) bytes.now },
 }
 
 impl<'a> PluralElementsPackedULE<'a> {
-    ghost use Rattle.std.specs.Prelude.{◌≡◌, ◌↔◌, IfOk, IsTrue, MatchResult, Err, map, option_map};
-    ghost use Rattle.std.specs.List.{list_all};
-    ghost use Rattle.icu_plurals.specs.Elements.{each_by, element_at, explicit_at, of_category};
-    ghost use Rattle.icu_plurals.specs.PackedElements.{PackedElements, ElementsBytes, elements_of, items_of, value_at};
+    ghost use Rattle.std.specs.Prelude.{◌≡◌, ◌↔◌, IfOk, MatchResult, Err};
+    ghost use Rattle.icu_plurals.specs.Elements.{each_by, element_at};
+    ghost use Rattle.icu_plurals.specs.PackedElements.{PackedElements, ElementsBytes, elements_of};
     ghost use Rattle.icu_plurals.specs.ElementsFaults.{HasElementsFault};
-    ghost use Rattle.icu_plurals.specs.Inner.ElementsReading.{AreElements, AreShown, is_item, item_in};
-    ghost use Rattle.icu_plurals.specs.Inner.ElementsViews.{lent_parts, lent_value, lent_elements};
+    ghost use Rattle.icu_plurals.specs.Inner.ElementsReading.{AreElements};
+    ghost use Rattle.icu_plurals.specs.Inner.ElementsViews.{lent_value, lent_elements};
 
     /// Reads bytes as packed elements. It takes no memory.
     ///
@@ -81,9 +80,10 @@ impl<'a> PluralElementsPackedULE<'a> {
     pub fn get(&self, op: PluralOperands, rules: &PluralRules<'_>) -> (FourBitMetadata, &'a str)
         ensures { lent_value result ≡ element_at (elements_of (lent_elements self.now)) op rules.now }
     {
-        match self.explicit_at(op) {
+        let values = Values::of_checked(self.bytes);
+        match values.explicit_at(op) {
             Some(value) => value,
-            None => self.of_category(rules.category_for(op)),
+            None => values.of_category(rules.category_for(op)),
         }
     }
 
@@ -92,79 +92,14 @@ impl<'a> PluralElementsPackedULE<'a> {
     pub fn decode(&self) -> PluralElements<(FourBitMetadata, &'a str)>
         ensures { each_by lent_value result ≡ elements_of (lent_elements self.now) }
     {
-        PluralElements {
-            other: self.get_default(),
-            zero: self.value_at(keys::ZERO),
-            one: self.value_at(keys::ONE),
-            two: self.value_at(keys::TWO),
-            few: self.value_at(keys::FEW),
-            many: self.value_at(keys::MANY),
-            explicit_zero: self.value_at(keys::EXPLICIT_ZERO),
-            explicit_one: self.value_at(keys::EXPLICIT_ONE),
-        }
+        Values::of_checked(self.bytes).by_key()
     }
 
     /// The default.
     pub fn get_default(&self) -> (FourBitMetadata, &'a str)
         ensures { lent_value result ≡ (lent_elements self.now).default }
     {
-        let parts = self.parts();
-        value_of(parts.first, parts.text)
-    }
-
-    // The explicit value at exactly 0 or 1, where it is there.
-    fn explicit_at(&self, op: PluralOperands) -> Option<(FourBitMetadata, &'a str)>
-        ensures { option_map lent_value result ≡ explicit_at (elements_of (lent_elements self.now)) op }
-    {
-        if op.is_exactly_zero() {
-            self.value_at(keys::EXPLICIT_ZERO)
-        } else if op.is_exactly_one() {
-            self.value_at(keys::EXPLICIT_ONE)
-        } else {
-            None
-        }
-    }
-
-    // The value of a category, or the default.
-    fn of_category(&self, category: PluralCategory) -> (FourBitMetadata, &'a str)
-        ensures { lent_value result ≡ of_category (elements_of (lent_elements self.now)) category }
-    {
-        let Some(key) = keys::key_of(category) else {
-            return self.get_default();
-        };
-        match self.value_at(key) {
-            Some(value) => value,
-            None => self.get_default(),
-        }
-    }
-
-    // The value of the first item that has a key.
-    fn value_at(&self, key: u8) -> Option<(FourBitMetadata, &'a str)>
-        ensures { option_map lent_value result ≡ value_at key (items_of (lent_elements self.now)) }
-    {
-        find_value(&self.list(), key)
-    }
-
-    // The list of items; without items it is empty.
-    fn list(&self) -> PackedList<'a>
-        ensures items { map item_in result ≡ items_of (lent_elements self.now) }
-        ensures good { IsTrue (list_all is_item result) }
-    {
-        read_again();
-        match self.parts().rest {
-            Some(rest) => PackedList::from_checked(rest),
-            None => PackedList::from_checked(&[]),
-        }
-    }
-
-    // The parts of the bytes.
-    fn parts(&self) -> Parts<'a>
-        ensures { AreShown (lent_parts result) (lent_elements self.now) }
-    {
-        let Ok(parts) = parts_of(self.bytes) else {
-            unreachable!();
-        };
-        parts
+        Values::of_checked(self.bytes).default
     }
 }
 

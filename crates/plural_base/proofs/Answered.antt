@@ -2,7 +2,7 @@
 use Rattle.std.proofs.Common.{◌≡◌, ℕ, List, inl, inr, Ok, Err}
 use Rattle.std.specs.Prelude.{◌⊎◌, IfOk, IfErr}
 use Rattle.plural_runtime.specs.declared.error.RuleError.TheVariants.{Memory}
-use Rattle.plural_runtime.specs.RuleOfText.{RuleAnswer, TextGives, TextsGiveOneAnswer, rule_of_text}
+use Rattle.plural_runtime.specs.RuleOfText.{RuleAnswer, IsPackedFrom, TextGives, TextsGiveOneAnswer, rule_of_text}
 
 -- what is answered is what the reader gives, or want of memory
 pub answered_told : TextsGiveOneAnswer → (text : List ℕ) (answer : RuleAnswer) → TextGives text answer ⊎ (answer ≡ Err Memory)
@@ -10,10 +10,11 @@ pub answered_told : TextsGiveOneAnswer → (text : List ℕ) (answer : RuleAnswe
 answered_told one_answer text answer (inl gives) = inl ((one_answer text answer).0 gives)
 answered_told one_answer text answer (inr memory) = inr memory
 
--- a rule that is answered is given
+-- a rule that is answered is packed from the text
 pub answered_ok : (text : List ℕ) (answer : RuleAnswer) → TextGives text answer ⊎ (answer ≡ Err Memory)
-    → IfOk answer (λ rule. TextGives text (Ok rule))
-answered_ok text (Ok rule) (inl gives) = gives
+    → IfOk answer (λ rule. IsPackedFrom text (Ok rule))
+answered_ok text (Ok rule) (inl (inl read)) = read
+answered_ok text (Ok rule) (inl (inr fault)) = absurd (let e = fault.2 in cc)
 answered_ok text (Ok rule) (inr memory) = absurd cc
 answered_ok text (Err e) h = tt
 

@@ -2,12 +2,12 @@
 use Rattle.std.proofs.Common.{◌≡◌, ℕ, List, sym, subst, ◌∙◌, Option, Some, None, Ok, inl, inr}
 use Rattle.plural_reference.specs.declared.ast.Condition.{Condition}
 use Rattle.plural_reference.specs.Parser.{Reads}
-use Rattle.plural_reference.specs.Reading.{TextReads}
+use Rattle.plural_reference.specs.Lexer.{TextReads}
 use Rattle.plural_reference.specs.ReadingLaws.{HaveOneListOfTokens, HaveOneReading}
 use Rattle.plural_reference.specs.Samples.{ReadsCondition}
 use Rattle.plural_runtime.specs.PackedRelations.{PackedRelation}
 use Rattle.plural_runtime.specs.PackedTree.{packing}
-use Rattle.plural_runtime.specs.RuleOfText.{TextGives}
+use Rattle.plural_runtime.specs.RuleOfText.{IsPackedFrom}
 use Rattle.plural_base.specs.FiveRules.{Paired}
 use Rattle.plural_base.specs.RuleTexts.{IsRuleOf, IsAnswerFor, HaveEveryReading}
 
@@ -32,12 +32,11 @@ condition_of_rule text condition h =
 
 -- a condition that is read of a text that gives a rule is that of the rule, which is its packing
 rule_again : HaveOneListOfTokens → HaveOneReading → (text : List ℕ) (condition : Condition) (rule : List PackedRelation)
-    → TextGives text (Ok rule) → TextReads Reads text condition → TextReads ReadsCondition text condition × (packing condition ≡ Ok rule)
-rule_again one_list one_reading text condition rule (inl known) reading =
+    → IsPackedFrom text (Ok rule) → TextReads Reads text condition → TextReads ReadsCondition text condition × (packing condition ≡ Ok rule)
+rule_again one_list one_reading text condition rule known reading =
     let P : Condition → Type 0 = λ c. TextReads ReadsCondition text c × (packing c ≡ Ok rule) in
     subst P (one_condition one_list one_reading text known.0 condition (condition_of_rule text known.0 known.1) reading)
     (known.1, sym known.2)
-rule_again one_list one_reading text condition rule (inr fault) reading = absurd (let e = fault.2 in cc)
 
 -- so it is where the text may be absent
 optional_again : HaveOneListOfTokens → HaveOneReading

@@ -8,16 +8,16 @@ use Rattle.plural_reference.specs.declared.error.ParseError.TheVariants.{ValueTo
 use Rattle.plural_reference.specs.Exactness.{exact_truth}
 use Rattle.plural_reference.specs.ExactnessLaws.{ConditionsAgree, IsKept}
 use Rattle.plural_reference.specs.Operands.{Operands}
-use Rattle.plural_reference.specs.Reading.{TextReads}
+use Rattle.plural_reference.specs.Lexer.{TextReads}
 use Rattle.plural_reference.specs.Samples.{ReadsCondition}
 use Rattle.plural_reference.specs.Truth.{groups_of}
 use Rattle.plural_runtime.specs.declared.error.RuleError.TheVariants.{Parse, StartLimit}
 use Rattle.plural_runtime.specs.PackedRelations.{PackedRelation}
 use Rattle.plural_runtime.specs.PackedTree.{packed, has_large_value, packing}
 use Rattle.plural_runtime.specs.PackedTruth.{packed_truth}
-use Rattle.plural_runtime.specs.RuleOfText.{TextGives, TextsGiveOneAnswer}
+use Rattle.plural_runtime.specs.RuleOfText.{IsPackedFrom, TextsGiveOneAnswer}
 use Rattle.plural_base.specs.FiveRules.{Five, FiveRules, Paired, passes, first_category, moduli_of_relation, moduli_of_rule, moduli_of}
-use Rattle.plural_base.specs.RuleTexts.{IsRuleOf, AreReadFrom}
+use Rattle.plural_base.specs.RuleTexts.{IsRuleOf, AreRulesOf, AreReadAs}
 use Rattle.plural_base.proofs.Choice.{same_choice}
 use Rattle.plural_base.proofs.ConditionsAdmitted.{Covers, condition_admitted}
 use Rattle.plural_base.proofs.PackedConditions.{AreLaterFilled, packed_truth-packed, read_is_filled}
@@ -50,9 +50,9 @@ reads_filled text condition reads =
 
 -- the rule that a text gives is the packing of the condition that the text is read as
 packed_from : TextsGiveOneAnswer → (text : List ℕ) (condition : Condition) (rule : List PackedRelation)
-    → TextGives text (Ok rule) → TextReads ReadsCondition text condition → packing condition ≡ Ok rule
+    → IsPackedFrom text (Ok rule) → TextReads ReadsCondition text condition → packing condition ≡ Ok rule
 packed_from one_answer text condition rule gives reads =
-    (one_answer text (packing condition)).0 (inl (condition, reads, refl)) ∙ sym ((one_answer text (Ok rule)).0 gives)
+    (one_answer text (packing condition)).0 (inl (condition, reads, refl)) ∙ sym ((one_answer text (Ok rule)).0 (inl gives))
 
 -- a rule is true of the kept operands where the condition of its text is true of the exact ones
 rule_alike : ConditionsAgree → TextsGiveOneAnswer → (x : Places) (e : ℕ) (moduli : List ℕ) (cut exact : Operands)
@@ -77,9 +77,9 @@ rule_alike agree one_answer x e moduli cut exact kept (Some text) (Some conditio
 -- rules that are read from texts choose the category that the exact number has by their conditions
 pub first_category-exact : ConditionsAgree → TextsGiveOneAnswer → (x : Places) (e : ℕ) (cut exact : Operands)
     → (texts : Five (Option (List ℕ))) (conditions : Five (Option Condition)) (rules : FiveRules)
-    → IsKept x e (moduli_of rules) cut exact → AreReadFrom texts conditions rules
+    → IsKept x e (moduli_of rules) cut exact → AreRulesOf texts rules → AreReadAs texts conditions
     → first_category (packed_truth cut) rules ≡ first_category (exact_truth exact) conditions
-first_category-exact agree one_answer x e cut exact texts conditions rules kept read =
+first_category-exact agree one_answer x e cut exact texts conditions rules kept given read =
     let a = moduli_of_rule rules.zero in
     let b = moduli_of_rule rules.one in
     let c = moduli_of_rule rules.two in
@@ -87,14 +87,14 @@ first_category-exact agree one_answer x e cut exact texts conditions rules kept 
     let f = moduli_of_rule rules.many in
     let alike = rule_alike agree one_answer x e (moduli_of rules) cut exact kept in
     same_choice
-    (alike texts.zero conditions.zero rules.zero read.0.zero read.1.zero
+    (alike texts.zero conditions.zero rules.zero given.zero read.zero
     (λ m h. Contains-append_left (a ++ b ++ c ++ d) f m
     (Contains-append_left (a ++ b ++ c) d m (Contains-append_left (a ++ b) c m (Contains-append_left a b m h)))))
-    (alike texts.one conditions.one rules.one read.0.one read.1.one
+    (alike texts.one conditions.one rules.one given.one read.one
     (λ m h. Contains-append_left (a ++ b ++ c ++ d) f m
     (Contains-append_left (a ++ b ++ c) d m (Contains-append_left (a ++ b) c m (Contains-append_right a b m h)))))
-    (alike texts.two conditions.two rules.two read.0.two read.1.two
+    (alike texts.two conditions.two rules.two given.two read.two
     (λ m h. Contains-append_left (a ++ b ++ c ++ d) f m (Contains-append_left (a ++ b ++ c) d m (Contains-append_right (a ++ b) c m h))))
-    (alike texts.few conditions.few rules.few read.0.few read.1.few
+    (alike texts.few conditions.few rules.few given.few read.few
     (λ m h. Contains-append_left (a ++ b ++ c ++ d) f m (Contains-append_right (a ++ b ++ c) d m h)))
-    (alike texts.many conditions.many rules.many read.0.many read.1.many (λ m h. Contains-append_right (a ++ b ++ c ++ d) f m h))
+    (alike texts.many conditions.many rules.many given.many read.many (λ m h. Contains-append_right (a ++ b ++ c ++ d) f m h))

@@ -1,6 +1,6 @@
 -- Rules that a value stands for are those of the texts in it.
 use Rattle.std.proofs.Common.{◌≡◌, ℕ, List, ◌∷◌, Bool, true, false, cond, Option, Some, None, is_some, Result, Ok, Err, codes}
-use Rattle.std.proofs.Common.{if◌then◌else◌, IfOk, refl, subst, Ordering, Less, Equal, Greater, is_eq, nat_cmp}
+use Rattle.std.proofs.Common.{if◌then◌else◌, IfOk, inl, inr, refl, subst, Ordering, Less, Equal, Greater, is_eq, nat_cmp}
 use Rattle.std.proofs.lemmas.Map.Text.{is_eq-slice_cmp}
 use Rattle.std.specs.Cmp.Lexicographic.{slice_cmp}
 use Rattle.std.specs.Option.{option_and_then}
@@ -12,8 +12,7 @@ use Rattle.plural_base.specs.declared.category.PluralCategory.TheVariants.{Zero,
 use Rattle.plural_base.specs.declared.json.error.JsonError.{JsonError}
 use Rattle.plural_base.specs.declared.json.error.JsonError.TheVariants.{Shape}
 use Rattle.plural_base.specs.DocumentJson.{Rows, Document, found, rows_meant, map_meant, all_maps, document_meant, value_of_locale}
-use Rattle.plural_base.specs.DocumentJson.{IsReadAt}
-use Rattle.plural_base.specs.DocumentJson.{AreRangesAt}
+use Rattle.plural_base.specs.DocumentJson.{IsReadAt, AreRangesAt}
 use Rattle.plural_base.specs.declared.ranges.PluralRanges.{PluralRanges}
 use Rattle.plural_base.specs.FiveRules.{Five, FiveRules, Paired}
 use Rattle.plural_base.specs.RangesJson.{ranges_meant}
@@ -44,7 +43,8 @@ are_given one_answer text = (one_answer text (rule_of_text text)).1 refl
 -- the rule that a text stands for is the one that it gives
 taken_text : (text : List ℕ) (answer : RuleAnswer) → TextGives text answer → (category : PluralCategory) (rule : Option Rule)
     → (named (Some category) answer >>= λ r. Ok (Some r)) ≡ Ok rule → IsRuleOf (Some text) rule
-taken_text text (Ok r) given category rule h = subst (λ x. IsRuleOf (Some text) x) (same_ok _ _ h) given
+taken_text text (Ok r) (inl given) category rule h = subst (λ x. IsRuleOf (Some text) x) (same_ok _ _ h) given
+taken_text text (Ok r) (inr fault) category rule h = absurd (let e = fault.2 in cc)
 taken_text text (Err e) given category rule h = absurd cc
 
 -- what an optional rule stands for is that of its text

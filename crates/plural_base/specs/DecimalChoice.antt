@@ -9,7 +9,7 @@ use Rattle.plural_reference.specs.Exactness.{IsWithinBound, exact_truth}
 use Rattle.plural_runtime.specs.PackedTruth.{packed_truth}
 use Rattle.plural_base.specs.declared.category.PluralCategory.{PluralCategory}
 use Rattle.plural_base.specs.FiveRules.{Five, FiveRules, first_category, moduli_of}
-use Rattle.plural_base.specs.RuleTexts.{AreReadFrom}
+use Rattle.plural_base.specs.RuleTexts.{AreRulesOf, AreReadAs}
 
 -- Whatever five texts the rules are those of, and whatever conditions these are read as: if the number, with its compact exponent, is
 -- within the bound, the category is the first of zero, one, two, few, many whose condition is present and true of the exact number,
@@ -18,7 +18,7 @@ use Rattle.plural_base.specs.RuleTexts.{AreReadFrom}
 abbrev pub IsExactChoice : FiveRules → Places → ℕ → PluralCategory → Type 0
 IsExactChoice rules number exponent category =
     (texts : Five (Option (List ℕ))) (conditions : Five (Option Condition)) (exact : Operands)
-    → AreReadFrom texts conditions rules
+    → AreRulesOf texts rules → AreReadAs texts conditions
     → IsWithinBound number exponent (moduli_of rules) → AreExact number exponent exact
     → category ≡ first_category (exact_truth exact) conditions
 

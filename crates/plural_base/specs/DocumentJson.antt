@@ -3,7 +3,7 @@
 --     document_of_json value      the maps of a document, or its first refusal
 --     IsReadAt value rules      nothing on both sides, or the rules of the texts in the value
 --     AreRangesAt value ranges      nothing on both sides, or the ranges that the value stands for
-use Rattle.std.specs.Prelude.{◌≡◌, ℕ, List, [], ◌∷◌, codes, ⊤, Option, Some, None, is_some, Ok, Err, bytes_eq, if◌then◌else◌}
+use Rattle.std.specs.Prelude.{◌≡◌, ℕ, List, [], ◌∷◌, codes, Option, Some, None, is_some, Ok, Err, bytes_eq, if◌then◌else◌}
 use Rattle.std.specs.Map.{lookup}
 use Rattle.std.specs.Option.{option_and_then}
 use Rattle.plural_base.specs.declared.json.error.JsonError.TheVariants.{Shape}

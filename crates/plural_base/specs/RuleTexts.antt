@@ -1,7 +1,6 @@
--- Five rules and the texts that they come from. What one text gives is `TextGives` of plural_runtime.
+-- Five rules and the texts that they come from. What one text gives is said by `IsPackedFrom` and `TextGives` of plural_runtime.
 --     AreRulesOf texts rules      each text gives its rule; where there is no text, there is no rule
 --     AreReadAs texts conditions      each text is read as a rule with its condition
---     AreReadFrom texts conditions rules      both
 --     IsFirstRefused texts category error      the category's text gives no rule for this reason, and those before it give some
 --     HaveEveryReading Read      rules of texts are those of every reading of these texts (`laws::rules_have_every_reading`)
 --     texts_of zero one two few many      the texts behind references
@@ -10,34 +9,29 @@ use Rattle.std.specs.Borrow.{Bor}
 use Rattle.std.specs.Option.{option_copied}
 use Rattle.plural_reference.specs.declared.ast.Condition.{Condition}
 use Rattle.plural_reference.specs.declared.token.Token.{Token}
-use Rattle.plural_reference.specs.Lexer.{AreTokensOf}
+use Rattle.plural_reference.specs.Lexer.{AreTokensOf, TextReads}
 use Rattle.plural_reference.specs.Parser.{Reads}
-use Rattle.plural_reference.specs.Reading.{TextReads}
 use Rattle.plural_reference.specs.Samples.{ReadsCondition}
 use Rattle.plural_runtime.specs.declared.error.RuleError.{RuleError}
 use Rattle.plural_runtime.specs.declared.error.RuleError.TheVariants.{Memory}
 use Rattle.plural_runtime.specs.PackedRelations.{PackedRelation}
 use Rattle.plural_runtime.specs.PackedTree.{packing}
-use Rattle.plural_runtime.specs.RuleOfText.{TextGives}
+use Rattle.plural_runtime.specs.RuleOfText.{IsPackedFrom, TextGives}
 use Rattle.plural_base.specs.declared.category.PluralCategory.{PluralCategory}
 use Rattle.plural_base.specs.declared.category.PluralCategory.TheVariants.{Zero, One, Two, Few, Many, Other}
 use Rattle.plural_base.specs.FiveRules.{Five, five, FiveRules, Paired, ArePaired}
 
--- the text gives the rule, or neither is there
+-- the text is read as a condition that is packed to the rule, or neither is there
 abbrev pub IsRuleOf : Option (List ℕ) → Option (List PackedRelation) → Type 0
-IsRuleOf = Paired (λ text rule. TextGives text (Ok rule))
+IsRuleOf = Paired (λ text rule. IsPackedFrom text (Ok rule))
 
 -- each of the rules is that of its text
 abbrev pub AreRulesOf : Five (Option (List ℕ)) → FiveRules → Type 0
-AreRulesOf = ArePaired (λ text rule. TextGives text (Ok rule))
+AreRulesOf = ArePaired (λ text rule. IsPackedFrom text (Ok rule))
 
 -- each of the texts is read as a rule with its condition
 abbrev pub AreReadAs : Five (Option (List ℕ)) → Five (Option Condition) → Type 0
 AreReadAs = ArePaired (TextReads ReadsCondition)
-
--- the rules are those of the texts, and these are read as the conditions
-abbrev pub AreReadFrom : Five (Option (List ℕ)) → Five (Option Condition) → FiveRules → Type 0
-AreReadFrom texts conditions rules = AreRulesOf texts rules × AreReadAs texts conditions
 
 -- the texts behind five references
 abbrev pub texts_of : {A : Type 0} → Option (Bor A) → Option (Bor A) → Option (Bor A) → Option (Bor A) → Option (Bor A)

@@ -4,7 +4,7 @@ ghost use Rattle.plural_base.specs.ChoiceLaws.{BoundIsWidestForChoice, KeptChoic
 ghost use Rattle.plural_base.specs.Ranges.{RangeBytesDiffer, RangesAreTheirMaps};
 ghost use Rattle.plural_base.specs.RuleTexts.{HaveEveryReading, IsAnswerFor};
 ghost use Rattle.plural_reference.specs.Parser.{Reads};
-ghost use Rattle.plural_reference.specs.Reading.{TextReads};
+ghost use Rattle.plural_reference.specs.Lexer.{TextReads};
 ghost use Rattle.plural_reference.specs.Samples.{ReadsCondition};
 ghost use Rattle.plural_runtime.specs.RuleOfText.{TextsGiveOneAnswer};
 

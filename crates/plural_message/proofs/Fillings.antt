@@ -1,11 +1,12 @@
 -- How a text is filled: without a `{}` it stays, else the first one is replaced and the rest filled.
-use Rattle.std.proofs.Common.{◌≡◌, ℕ, ◌<◌, List, [], ◌∷◌, ◌++◌, flat_map, length, take, drop, ap, subst, sym, ◌∙◌, append_assoc, append-nil, arith, length-append, length-take, Some, None, true, false, refl}
+use Rattle.std.proofs.Common.{◌≡◌, ℕ, ◌<◌, List, [], ◌∷◌, ◌++◌, flat_map, length, take, drop, ap, subst, sym, ◌∙◌}
+use Rattle.std.proofs.Common.{append_assoc, append-nil, arith, length-append, length-take, Some, None, true, false, refl}
 use Rattle.std.specs.List.{AllByRecursion}
 use Rattle.std.specs.Str.Iter.{HasSubslice}
 use Rattle.std.specs.Str.Pattern.{FindsText, HasTextAt, LacksTextAt, SplitsAroundMatch}
 use Rattle.std.proofs.lemmas.List.{drop_at, take-append-drop}
 use Rattle.std.proofs.lemmas.Str.Pattern.{contains_text}
-use Rattle.plural_message.specs.Messages.{placeholder, joined, IsFilling}
+use Rattle.plural_message.specs.Messages.{placeholder, joined_by, IsFilling}
 
 -- ---- A piece more
 
@@ -19,25 +20,28 @@ filling-plain number text none =
     record { pieces = text ∷ []; uncut = (none, tt); cut = sym (append-nil text); filled_is = sym (append-nil text) }
 
 -- one piece more before others, or before nothing, which is an empty piece
-joined-more : (separator piece : List ℕ) (p : List ℕ) (ps : List (List ℕ)) → piece ++ (separator ++ joined separator (p ∷ ps)) ≡ joined separator (piece ∷ p ∷ ps)
-joined-more separator piece p ps = ap (λ l. piece ++ l) (sym (append_assoc separator p (flat_map (λ q. separator ++ q) ps)))
+joined_by-more : (separator piece : List ℕ) (p : List ℕ) (ps : List (List ℕ))
+    → piece ++ (separator ++ joined_by separator (p ∷ ps)) ≡ joined_by separator (piece ∷ p ∷ ps)
+joined_by-more separator piece p ps = ap (λ l. piece ++ l) (sym (append_assoc separator p (flat_map (λ q. separator ++ q) ps)))
 
+-- a piece more before pieces that fill what stands behind it
 more : (number before after rest : List ℕ) (pieces : List (List ℕ)) → ¬ (HasSubslice before placeholder)
-    → AllByRecursion (λ piece. ¬ (HasSubslice piece placeholder)) pieces → after ≡ joined placeholder pieces → rest ≡ joined number pieces
+    → AllByRecursion (λ piece. ¬ (HasSubslice piece placeholder)) pieces → after ≡ joined_by placeholder pieces
+    → rest ≡ joined_by number pieces
     → IsFilling number (before ++ (placeholder ++ after)) (before ++ (number ++ rest))
 more number before after rest [] none uncut cut filled =
     record {
       pieces = before ∷ [] ∷ [];
       uncut = (none, (none_in_empty, tt));
-      cut = ap (λ l. before ++ (placeholder ++ l)) cut ∙ joined-more placeholder before [] [];
-      filled_is = ap (λ l. before ++ (number ++ l)) filled ∙ joined-more number before [] [];
+      cut = ap (λ l. before ++ (placeholder ++ l)) cut ∙ joined_by-more placeholder before [] [];
+      filled_is = ap (λ l. before ++ (number ++ l)) filled ∙ joined_by-more number before [] [];
     }
 more number before after rest (p ∷ ps) none uncut cut filled =
     record {
       pieces = before ∷ p ∷ ps;
       uncut = (none, uncut);
-      cut = ap (λ l. before ++ (placeholder ++ l)) cut ∙ joined-more placeholder before p ps;
-      filled_is = ap (λ l. before ++ (number ++ l)) filled ∙ joined-more number before p ps;
+      cut = ap (λ l. before ++ (placeholder ++ l)) cut ∙ joined_by-more placeholder before p ps;
+      filled_is = ap (λ l. before ++ (number ++ l)) filled ∙ joined_by-more number before p ps;
     }
 
 -- what stands before the first placeholder, the number, and the rest filled
@@ -71,7 +75,8 @@ pub uncut_filling : (number text : List ℕ) → FindsText placeholder text None
 uncut_filling number text none = filling-plain number text (none_found text none)
 
 -- what is cut at the first placeholder is filled as what stands behind it
-pub cut_filling : (number text before after rest : List ℕ) → SplitsAroundMatch (FindsText placeholder) text before after → IsFilling number after rest
+pub cut_filling : (number text before after rest : List ℕ) → SplitsAroundMatch (FindsText placeholder) text before after
+    → IsFilling number after rest
     → IsFilling number text (before ++ (number ++ rest))
 cut_filling number text before after rest (i, j, found, front, back, _, _, _) filled =
     let whole : text ≡ before ++ (placeholder ++ after) =

@@ -1,10 +1,11 @@
 -- A text is cut at its places in one way, so it is filled in one.
 -- The two characters of a placeholder are o and c, which differ: `{` and `}`.
-use Rattle.std.proofs.Common.{◌≡◌, ℕ, ◌≤◌, List, [], ◌∷◌, ◌++◌, flat_map, length, refl, ap, sym, ◌∙◌, append_assoc, append-nil, arith, length-append, ⊎_elim}
+use Rattle.std.proofs.Common.{◌≡◌, ℕ, ◌≤◌, List, [], ◌∷◌, ◌++◌, flat_map, length, refl, ap, sym, ◌∙◌, append_assoc}
+use Rattle.std.proofs.Common.{append-nil, arith, length-append, ⊎_elim}
 use Rattle.std.specs.List.{AllByRecursion}
 use Rattle.std.specs.Str.Iter.{HasSubslice}
 use Rattle.std.proofs.lemmas.Bool.Decides.{eqb_tells}
-use Rattle.plural_message.specs.Messages.{joined, OneFilling}
+use Rattle.plural_message.specs.Messages.{joined_by, OneFilling}
 
 abbrev mark : ℕ → ℕ → List ℕ
 mark o c = o ∷ c ∷ []
@@ -17,9 +18,11 @@ Lacks o c piece = ¬ (HasSubslice piece (mark o c))
 abbrev AreUncut : ℕ → ℕ → List (List ℕ) → Type 0
 AreUncut o c pieces = AllByRecursion (Lacks o c) pieces
 
+-- a list of at most one number holds no placeholder
 lacks_short : (o c : ℕ) (xs : List ℕ) → length xs ≤ 1 → Lacks o c xs
 lacks_short o c xs short h = omega (arith, ap length h.2, length-append h.0 (mark o c ++ h.1))
 
+-- what holds no placeholder holds none behind its first number either
 lacks_behind : (o c x : ℕ) (xs : List ℕ) → Lacks o c (x ∷ xs) → Lacks o c xs
 lacks_behind o c x xs none h = none (x ∷ h.0, h.1, ap (λ l. x ∷ l) h.2)
 
@@ -38,39 +41,43 @@ same_cut o c apart (x ∷ a) (y ∷ b) xs ys none other e =
     (cc, tails.1)
 
 -- a piece before others
-joined-cons : (separator p q : List ℕ) (ps : List (List ℕ)) → joined separator (p ∷ q ∷ ps) ≡ p ++ (separator ++ joined separator (q ∷ ps))
-joined-cons separator p q ps = ap (λ l. p ++ l) (append_assoc separator q (flat_map (λ r. separator ++ r) ps))
+joined_by-cons : (separator p q : List ℕ) (ps : List (List ℕ))
+    → joined_by separator (p ∷ q ∷ ps) ≡ p ++ (separator ++ joined_by separator (q ∷ ps))
+joined_by-cons separator p q ps = ap (λ l. p ++ l) (append_assoc separator q (flat_map (λ r. separator ++ r) ps))
 
 -- a piece without a placeholder is no text with one
-no_more : (o c : ℕ) (p q r : List ℕ) (ps : List (List ℕ)) → Lacks o c p → joined (mark o c) (p ∷ []) ≡ joined (mark o c) (q ∷ r ∷ ps) → ⊥
-no_more o c p q r ps none e = none (q, joined (mark o c) (r ∷ ps), sym (append-nil p) ∙ e ∙ joined-cons (mark o c) q r ps)
+no_more : (o c : ℕ) (p q r : List ℕ) (ps : List (List ℕ)) → Lacks o c p
+    → joined_by (mark o c) (p ∷ []) ≡ joined_by (mark o c) (q ∷ r ∷ ps) → ⊥
+no_more o c p q r ps none e = none (q, joined_by (mark o c) (r ∷ ps), sym (append-nil p) ∙ e ∙ joined_by-cons (mark o c) q r ps)
 
 -- the pieces of one text
 same_pieces : (o c : ℕ) → ¬ (o ≡ c) → (number p q : List ℕ) (ps qs : List (List ℕ)) → AreUncut o c (p ∷ ps) → AreUncut o c (q ∷ qs)
-    → joined (mark o c) (p ∷ ps) ≡ joined (mark o c) (q ∷ qs) → joined number (p ∷ ps) ≡ joined number (q ∷ qs)
+    → joined_by (mark o c) (p ∷ ps) ≡ joined_by (mark o c) (q ∷ qs) → joined_by number (p ∷ ps) ≡ joined_by number (q ∷ qs)
 same_pieces o c apart number p q [] [] left right e = e
 same_pieces o c apart number p q [] (r ∷ qs) left right e = absurd (no_more o c p q r qs left.0 e)
 same_pieces o c apart number p q (r ∷ ps) [] left right e = absurd (no_more o c q p r ps right.0 (sym e))
 same_pieces o c apart number p q (r ∷ ps) (s ∷ qs) left right e =
-    let cut = same_cut o c apart p q (joined (mark o c) (r ∷ ps)) (joined (mark o c) (s ∷ qs)) left.0 right.0
-    (sym (joined-cons (mark o c) p r ps) ∙ e ∙ joined-cons (mark o c) q s qs) in
-    joined-cons number p r ps
+    let cut = same_cut o c apart p q (joined_by (mark o c) (r ∷ ps)) (joined_by (mark o c) (s ∷ qs)) left.0 right.0
+    (sym (joined_by-cons (mark o c) p r ps) ∙ e ∙ joined_by-cons (mark o c) q s qs) in
+    joined_by-cons number p r ps
     ∙ (λ k. cut.0 k ++ (number ++ same_pieces o c apart number r s ps qs left.1 right.1 cut.1 k))
-    ∙ sym (joined-cons number q s qs)
+    ∙ sym (joined_by-cons number q s qs)
 
 -- no pieces are an empty one
 record IsSomePieces (o c : ℕ) (pieces : List (List ℕ)) : Type 0 where
   first : List ℕ
   rest : List (List ℕ)
   uncut : AreUncut o c (first ∷ rest)
-  alike : (separator : List ℕ) → joined separator pieces ≡ joined separator (first ∷ rest)
+  alike : (separator : List ℕ) → joined_by separator pieces ≡ joined_by separator (first ∷ rest)
 
+-- every list of pieces joins as one that has a first piece
 some_pieces : (o c : ℕ) (pieces : List (List ℕ)) → AreUncut o c pieces → IsSomePieces o c pieces
 some_pieces o c [] uncut = record { first = []; rest = []; uncut = (lacks_short o c [] (omega arith), tt); alike = λ _. refl }
 some_pieces o c (p ∷ ps) uncut = record { first = p; rest = ps; uncut = uncut; alike = λ _. refl }
 
+-- two cuts of one text are filled alike
 same_joins : (o c : ℕ) → ¬ (o ≡ c) → (number : List ℕ) (ps qs : List (List ℕ)) → AreUncut o c ps → AreUncut o c qs
-    → joined (mark o c) ps ≡ joined (mark o c) qs → joined number ps ≡ joined number qs
+    → joined_by (mark o c) ps ≡ joined_by (mark o c) qs → joined_by number ps ≡ joined_by number qs
 same_joins o c apart number ps qs left right e =
     let p = some_pieces o c ps left in
     let q = some_pieces o c qs right in
@@ -85,7 +92,7 @@ record IsCut (o c : ℕ) (text : List ℕ) : Type 0 where
   first : List ℕ
   rest : List (List ℕ)
   uncut : AreUncut o c (first ∷ rest)
-  whole : text ≡ joined (mark o c) (first ∷ rest)
+  whole : text ≡ joined_by (mark o c) (first ∷ rest)
 
 -- a placeholder in front
 cut-placeholder : (o c x y : ℕ) (text : List ℕ) → x ≡ o → y ≡ c → IsCut o c text → IsCut o c (x ∷ y ∷ text)
@@ -108,12 +115,14 @@ cut-character o c x text begins_none cut =
     }
   where
     lacks_at : (a b : List ℕ) → x ∷ cut.first ≡ a ++ (mark o c ++ b) → ⊥
-    lacks_at [] b e = begins_none (b ++ flat_map (λ q. mark o c ++ q) cut.rest) (ap (λ l. x ∷ l) cut.whole ∙ ap (λ l. l ++ flat_map (λ q. mark o c ++ q) cut.rest) e)
+    lacks_at [] b e = begins_none (b ++ flat_map (λ q. mark o c ++ q) cut.rest)
+        (ap (λ l. x ∷ l) cut.whole ∙ ap (λ l. l ++ flat_map (λ q. mark o c ++ q) cut.rest) e)
     lacks_at (y ∷ a) b e = cut.uncut.0 (a, b, cc)
 
     lacks_more : Lacks o c (x ∷ cut.first)
     lacks_more h = lacks_at h.0 h.1 h.2
 
+-- every text can be cut at its placeholders
 every_cut : (o c : ℕ) (text : List ℕ) → IsCut o c text
 every_cut o c [] = record { first = []; rest = []; uncut = (lacks_short o c [] (omega arith), tt); whole = refl }
 every_cut o c (x ∷ []) = cut-character o c x [] (λ rest e. omega (arith, ap length e)) (every_cut o c [])
@@ -125,14 +134,16 @@ every_cut o c (x ∷ y ∷ text) =
 
 -- ---- The law
 
+-- `{` and `}` are two characters
 apart : ¬ (◌≡◌ {A = ℕ} 123 125)
 apart e = omega (arith, e)
 
+-- the law: a text is filled, and in one way
 pub one_filling : OneFilling
 one_filling number text =
     let cut = every_cut 123 125 text in
     let pieces = cut.first ∷ cut.rest in (
-      joined number pieces,
+      joined_by number pieces,
       record { pieces = pieces; uncut = cut.uncut; cut = cut.whole; filled_is = refl },
       λ other filling.
           filling.filled_is ∙ same_joins 123 125 apart number filling.pieces pieces filling.uncut cut.uncut (sym filling.cut ∙ cut.whole),

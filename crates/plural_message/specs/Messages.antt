@@ -12,15 +12,15 @@ abbrev pub placeholder : List ℕ
 placeholder = codes "{}"
 
 -- the pieces, with a text between each two
-abbrev pub joined : List ℕ → List (List ℕ) → List ℕ
-joined separator pieces = join_by (λ piece. piece) separator pieces
+abbrev pub joined_by : List ℕ → List (List ℕ) → List ℕ
+joined_by separator pieces = join_by (λ piece. piece) separator pieces
 
 -- The text is cut at its `{}` into pieces in which there is none, and the pieces are joined by the number's text.
 pub record IsFilling (number text filled : List ℕ) : Type 0 where
   pub pieces : List (List ℕ)
   pub uncut : AllByRecursion (λ piece. ¬ (HasSubslice piece placeholder)) pieces
-  pub cut : text ≡ joined placeholder pieces
-  pub filled_is : filled ≡ joined number pieces
+  pub cut : text ≡ joined_by placeholder pieces
+  pub filled_is : filled ≡ joined_by number pieces
 
 -- ---- Every text is filled in one way.
 

@@ -1,12 +1,16 @@
--- The ends of a list.
+-- How a text is cut into pieces, and the tokens of the pieces (UTS 35 Part 3, Plural Rules Syntax; what is no piece of a
+-- rule is one token Junk, so that every text has tokens).
 use Rattle.std.specs.Prelude.{List, [], ◌∷◌, Option, Some, None, ◌≡◌, ◌≢◌, ◌≤◌, ◌<◌, ℕ, ◌++◌, IfSome, All, Contains, codes}
 use Rattle.std.specs.List.{filter_map}
 use Rattle.std.specs.Char.{IsAsciiDigit}
 use Rattle.std.specs.Str.Parse.{digits_value}
 use Rattle.plural_reference.specs.declared.ast.Operand.TheVariants.{N, I, F, T, V, W, C}
 use Rattle.plural_reference.specs.declared.ast.Operator.TheVariants.{Eq, NotEq}
+use Rattle.plural_reference.specs.declared.error.ParseError.{ParseError}
 use Rattle.plural_reference.specs.declared.token.Token.{Token}
 use Rattle.plural_reference.specs.declared.token.Token.TheVariants.{Operand, Operator, Number, Zero, Dot, DotDot, Comma, Or, And, Modulo, Junk, At, Decimal, Integer, Ellipsis, Tilde, E}
+
+-- ---- The ends of a list
 
 -- the first of a list
 abbrev pub first : {A : Type 0} → List A → Option A
@@ -19,8 +23,7 @@ last [] = None
 last (x ∷ []) = Some x
 last (x ∷ y ∷ ys) = last (y ∷ ys)
 
--- ---- How a text is cut into pieces, and the tokens of the pieces (UTS 35 Part 3, Plural Rules Syntax; what is no piece of a
--- rule is one token Junk, so that every text has tokens).
+-- ---- Pieces and tokens
 
 -- a piece that is always spelled in one way, and its token
 abbrev pub Word : Type 0
@@ -103,3 +106,13 @@ IsCut text (p ∷ ps) = (rest : List ℕ) × (text ≡ p.0 ++ rest) × IsPiece p
 -- these are the tokens of the text
 abbrev pub AreTokensOf : List ℕ → List Token → Type 0
 AreTokensOf text tokens = (pieces : List Piece) × IsCut text pieces × (tokens ≡ filter_map (λ p. p.1) pieces)
+
+-- ---- What a text is read as
+
+-- the text is read as x: x is read from its tokens
+abbrev pub TextReads : {A : Type 0} → (List Token → A → Type 0) → List ℕ → A → Type 0
+TextReads Read text x = (tokens : List Token) × AreTokensOf text tokens × Read tokens x
+
+-- the text has this fault: its tokens have it
+abbrev pub TextFaulty : (List Token → ParseError → Type 0) → List ℕ → ParseError → Type 0
+TextFaulty Fault text kind = (tokens : List Token) × AreTokensOf text tokens × Fault tokens kind

@@ -11,8 +11,7 @@ use Rattle.plural_reference.specs.declared.ast.Relation.{Relation}
 use Rattle.plural_reference.specs.declared.ast.Rule.{Rule}
 use Rattle.plural_reference.specs.declared.ast.SampleList.{SampleList}
 use Rattle.plural_reference.specs.declared.ast.Value.{Value}
-use Rattle.plural_reference.specs.Lexer.{max_number, first, last}
-use Rattle.plural_reference.specs.Reading.{TextReads}
+use Rattle.plural_reference.specs.Lexer.{max_number, first, last, TextReads}
 use Rattle.plural_reference.specs.Parser.{Reads}
 use Rattle.plural_reference.specs.Samples.{ReadsRule}
 use Rattle.plural_reference.specs.Serializer.{condition_text, rule_text}

@@ -1,22 +1,10 @@
--- What a text is read as, or which fault it has, and what a call that reads may answer.
+-- What a call that reads may answer.
 use Rattle.std.specs.Prelude.{◌≡◌, ◌⊎◌, List, ℕ, Result, Ok, Err}
 use Rattle.plural_reference.specs.declared.error.ParseError.{ParseError}
 use Rattle.plural_reference.specs.declared.error.ReadError.{ReadError}
 use Rattle.plural_reference.specs.declared.error.ReadError.TheVariants.{Parse, Memory}
 use Rattle.plural_reference.specs.declared.token.Token.{Token}
 use Rattle.plural_reference.specs.Lexer.{AreTokensOf}
-
--- ---- What a text is read as
-
--- the text is read as x: x is read from its tokens
-abbrev pub TextReads : {A : Type 0} → (List Token → A → Type 0) → List ℕ → A → Type 0
-TextReads Read text x = (tokens : List Token) × AreTokensOf text tokens × Read tokens x
-
--- the text has this fault: its tokens have it
-abbrev pub TextFaulty : (List Token → ParseError → Type 0) → List ℕ → ParseError → Type 0
-TextFaulty Fault text kind = (tokens : List Token) × AreTokensOf text tokens × Fault tokens kind
-
--- ---- What a call answers
 
 -- the answer is this one, unless memory ran out
 abbrev pub AnswersUnlessMemory : {A : Type 0} → Result A ReadError → Result A ReadError → Type 0

@@ -3,10 +3,9 @@ use Rattle.std.specs.Prelude.{◌≡◌, ◌⊎◌, ◌↔◌, ℕ, List, Ok, Er
 use Rattle.plural_reference.specs.declared.ast.Condition.{Condition}
 use Rattle.plural_reference.specs.declared.error.ParseError.{ParseError}
 use Rattle.plural_reference.specs.declared.token.Token.{Token}
-use Rattle.plural_reference.specs.Lexer.{IsCut, AreTokensOf}
+use Rattle.plural_reference.specs.Lexer.{IsCut, AreTokensOf, TextReads, TextFaulty}
 use Rattle.plural_reference.specs.Parser.{Reads, Faulty}
 use Rattle.plural_reference.specs.Samples.{ReadsRule, ReadsCondition, FaultyRule}
-use Rattle.plural_reference.specs.Reading.{TextReads, TextFaulty}
 use Rattle.plural_reference.specs.Inner.RuleReader.{condition_of_text}
 
 -- there is one thing of this kind, and no other

@@ -46,19 +46,15 @@ impl<'l> Iterator for Lexer<'l> {
 
     ghost remaining = { item_count (λ l. l) };
 
-    #[tactic(auto, using(crate::proofs::Alone::low_is_junk), unfolding(crate::specs::Inner::Scan::tokens_from))]
+    #[tactic(auto, unfolding(crate::specs::Inner::Scan::tokens_from))]
     fn next(&mut self) -> Option<Token> {
         while let [first, rest @ ..] = self.rest {
-            // No piece begins below a space, so that one test keeps spaces away from the table of pieces.
-            if *first > b' ' {
+            if *first != b' ' {
                 let (token, after) = token_at(*first, rest);
                 self.rest = after;
                 return Some(token);
             }
             self.rest = rest;
-            if *first != b' ' {
-                return Some(Token::Junk);
-            }
         }
         None
     }
@@ -66,7 +62,7 @@ impl<'l> Iterator for Lexer<'l> {
 
 // The token that the byte begins, and the bytes behind it.
 #[inline]
-#[tactic(auto, using(crate::proofs::Alone::i_alone, crate::proofs::Alone::point_alone), unfolding(crate::specs::Inner::Scan::tokens_from))]
+#[tactic(auto, using(crate::proofs::tokens::Alone::i_alone, crate::proofs::tokens::Alone::point_alone), unfolding(crate::specs::Inner::Scan::tokens_from))]
 fn token_at(first: u8, rest: &[u8]) -> (Token, &[u8])
     requires { first ≢ blank }
     ensures { tokens_of (first ∷ rest.now) ≡ result.0 ∷ tokens_of result.1.now }

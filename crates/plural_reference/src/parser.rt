@@ -31,7 +31,7 @@ use std::marker::Model;
 ///
 /// It refuses a text by the [`ParseError`] of the first place where the condition doesn't go on, or for
 /// want of memory, which is taken for the tree alone.
-#[tactic(auto, using(crate::proofs::Answered::condition_answers))]
+#[tactic(auto, using(crate::proofs::reading::Answered::condition_answers))]
 pub fn parse_condition(alloc: Global, text: &[u8]) -> Result<Condition, ReadError>
     ensures { AnswersExactly Reads Faulty text.now result }
 {
@@ -139,7 +139,7 @@ impl<'p> Parser<'p> {
     }
 
     // item = value | value DotDot value
-    #[tactic(auto, using(crate::proofs::ParserSteps::item_steps))]
+    #[tactic(auto, using(crate::proofs::reading::ParserSteps::item_steps))]
     fn item(&mut self) -> Result<RangeListItem, ParseError>
         ensures shorter { length self.new ≤ length self.old }
         ensures item { MatchResult result (λ x. ReadsItem self.old x self.new) (FailsAtItem self.old) }

@@ -1,7 +1,7 @@
 //! Printing rules (UTS 35 Part 3, Plural Rules Syntax and Samples).
 //!
 //! Each call writes the text of one part to any writer, piece by piece and without memory of its own.
-#![tactic(auto, using(crate::proofs::Writes::one_call, crate::proofs::Writes::then_writes))]
+#![tactic(auto, using(crate::proofs::printing::Writes::one_call, crate::proofs::printing::Writes::then_writes))]
 
 ghost use Rattle.std.specs.Prelude.{◌≡◌, OnOk};
 ghost use Rattle.std.specs.Fmt.{WritesInCalls};

@@ -15,7 +15,7 @@ use Rattle.plural_reference.specs.Parser.{before_value, operand_of, value_of, op
 use Rattle.plural_reference.specs.Samples.{SamplePlace, after_at, before_sample, after_comma, after_mark, type_fault, sample_fault}
 use Rattle.plural_reference.specs.Samples.{fault_in_samples, FaultyRule}
 use Rattle.plural_runtime.specs.declared.error.RuleError.TheVariants.{Parse}
-use Rattle.plural_runtime.specs.RuleBytes.{relation_bytes}
+use Rattle.plural_runtime.specs.PackedRelations.{relation_bytes}
 use Rattle.plural_runtime.specs.PackedTree.{packed, has_large_value, packing}
 use Rattle.plural_runtime.proofs.PackedTrees.{packing-high, packing-ok}
 

@@ -13,9 +13,8 @@ use Rattle.plural_reference.specs.declared.ast.Operator.{Operator}
 use Rattle.plural_reference.specs.declared.ast.Operator.TheVariants.{Eq, NotEq}
 use Rattle.plural_reference.specs.declared.ast.Operand.{Operand}
 use Rattle.plural_reference.specs.declared.ast.Operand.TheVariants.{N, I, V, W, F, T, C, E}
-use Rattle.plural_runtime.specs.PackedRelations.{PackedRelation, FitsBytes}
-use Rattle.plural_runtime.specs.RuleBytes.{and_or_bit, operator_bit, operand_number, first_byte, range_bytes, relation_bytes}
-use Rattle.plural_runtime.specs.RuleBytes.{is_item_length, is_relation}
+use Rattle.plural_runtime.specs.PackedRelations.{PackedRelation, FitsBytes, and_or_bit, operator_bit, operand_number, first_byte}
+use Rattle.plural_runtime.specs.PackedRelations.{range_bytes, relation_bytes, is_item_length, is_relation}
 use Rattle.plural_runtime.specs.Inner.RuleReading.{and_or_in, operator_in, operand_in, operand_numbered, operand_or_n}
 use Rattle.plural_runtime.specs.Inner.RuleReading.{four_byte_number, range_in, ranges_in, relation_in}
 

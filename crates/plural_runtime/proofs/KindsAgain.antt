@@ -9,7 +9,7 @@ use Rattle.plural_runtime.specs.declared.kinds.Operand.{Operand as PackedOperand
 use Rattle.plural_runtime.specs.declared.kinds.Operand.TheVariants as packed
 use Rattle.plural_runtime.specs.declared.kinds.Polarity.{Polarity}
 use Rattle.plural_runtime.specs.declared.kinds.Polarity.TheVariants.{Negative, Positive}
-use Rattle.plural_runtime.specs.RuleBytes.{first_byte}
+use Rattle.plural_runtime.specs.PackedRelations.{first_byte}
 use Rattle.plural_runtime.specs.RuleKinds.{byte_of, operator_of, packed_operand_of, polarity_of, tree_operand_of}
 
 -- an operator comes back from its polarity

@@ -16,8 +16,7 @@ use Rattle.plural_reference.specs.Truth.{ends_of, modulus_of}
 use Rattle.plural_runtime.specs.declared.kinds.AndOr.{AndOr}
 use Rattle.plural_runtime.specs.declared.kinds.AndOr.TheVariants.{And, Or}
 use Rattle.plural_runtime.specs.declared.error.RuleError.TheVariants.{Parse, StartLimit}
-use Rattle.plural_runtime.specs.PackedRelations.{PackedRelation, FitsBytes}
-use Rattle.plural_runtime.specs.RuleBytes.{relation_bytes}
+use Rattle.plural_runtime.specs.PackedRelations.{PackedRelation, FitsBytes, relation_bytes}
 use Rattle.plural_runtime.specs.PackedTree.{packed, packed_groups, packed_and_condition, packed_relation, has_large_value, is_large}
 use Rattle.plural_runtime.specs.PackedTree.{is_large_item, is_large_modulus, is_large_relation, packing}
 

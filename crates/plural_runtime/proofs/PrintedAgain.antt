@@ -4,8 +4,7 @@ use Rattle.std.specs.Prelude.{Ok}
 use Rattle.packed_list.specs.ListBytes.{has_high_start}
 use Rattle.plural_reference.specs.declared.ast.Condition.{Condition}
 use Rattle.plural_reference.specs.PrintingLaws.{IsSpellable, ConditionsOfTextsAreSpellable, SpellableConditionsPrintBack}
-use Rattle.plural_runtime.specs.PackedRelations.{PackedRelation}
-use Rattle.plural_runtime.specs.RuleBytes.{relation_bytes}
+use Rattle.plural_runtime.specs.PackedRelations.{PackedRelation, relation_bytes}
 use Rattle.plural_runtime.specs.PackedTree.{packed, unpacked, has_large_value, packing}
 use Rattle.plural_runtime.specs.RuleText.{PrintedRulesPackAgain}
 use Rattle.plural_runtime.proofs.PackedTrees.{packing-high, packing-ok}

@@ -10,9 +10,8 @@ use Rattle.std.proofs.lemmas.Bool.{le-ltb, le-leb, leb-true, ltb-false}
 use Rattle.packed_list.specs.declared.error.ListError.{ListError}
 use Rattle.packed_list.specs.Inner.ListReading.{AreBytes, items_in, IsList}
 use Rattle.packed_list.specs.ListBytes.{ListBytes}
-use Rattle.plural_runtime.specs.PackedRelations.{PackedRelation, FitsBytes}
-use Rattle.plural_runtime.specs.RuleBytes.{relation_bytes, RuleBytes, is_item_length, is_relation, relation_fault, or_else}
-use Rattle.plural_runtime.specs.RuleBytes.{first_relation_fault}
+use Rattle.plural_runtime.specs.PackedRelations.{PackedRelation, FitsBytes, relation_bytes, RuleBytes, is_item_length, is_relation}
+use Rattle.plural_runtime.specs.PackedRelations.{relation_fault, or_else, first_relation_fault}
 use Rattle.plural_runtime.specs.Inner.RuleReading.{relation_in, relations_in, IsRule}
 use Rattle.plural_runtime.specs.declared.error.RuleBytesError.{RuleBytesError}
 use Rattle.plural_runtime.specs.declared.error.RuleBytesError.TheVariants as errors

@@ -3,11 +3,11 @@ use Rattle.std.proofs.Common.{◌≡◌, ℕ, List, refl, sym, ap, ◌∙◌, in
 use Rattle.std.specs.Prelude.{◌⊎◌, Result, Ok, Err}
 use Rattle.plural_reference.specs.declared.ast.Condition.{Condition}
 use Rattle.plural_reference.specs.declared.error.ParseError.{ParseError}
-use Rattle.plural_reference.specs.Reading.{TextFaulty, TextReads}
-use Rattle.plural_reference.specs.Samples.{FaultyRule, ReadsCondition}
+use Rattle.plural_reference.specs.Lexer.{TextReads}
+use Rattle.plural_reference.specs.Samples.{ReadsCondition}
 use Rattle.plural_reference.specs.Inner.RuleReader.{condition_of_text}
 use Rattle.plural_reference.specs.ReadingLaws.{TextsAreRead}
-use Rattle.plural_runtime.specs.declared.error.RuleError.TheVariants.{Memory, Parse}
+use Rattle.plural_runtime.specs.declared.error.RuleError.TheVariants.{Memory}
 use Rattle.plural_runtime.specs.PackedTree.{Packs}
 use Rattle.plural_runtime.specs.RuleOfText.{RuleAnswer, TextGives, TextsGiveOneAnswer, packing_of, rule_of_text}
 
@@ -33,10 +33,6 @@ pub gives_when_read : (text : List ℕ) (condition : Condition) (answer : RuleAn
     → TextReads ReadsCondition text condition → Packs condition answer → TextGives text answer ⊎ (answer ≡ Err Memory)
 gives_when_read text condition answer reads (inl is) = inl (inl (condition, reads, is))
 gives_when_read text condition answer reads (inr memory) = inr memory
-
--- a text with a fault gives this fault
-pub gives_when_faulty : (text : List ℕ) (kind : ParseError) → TextFaulty FaultyRule text kind → TextGives text (Err (Parse kind))
-gives_when_faulty text kind faulty = inr (kind, faulty, refl)
 
 -- both say the same
 pub texts_give_one_answer : TextsAreRead → TextsGiveOneAnswer

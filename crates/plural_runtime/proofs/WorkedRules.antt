@@ -12,8 +12,7 @@ use Rattle.plural_reference.specs.Serializer.{condition_text}
 use Rattle.plural_reference.specs.Truth.{tree_truth}
 use Rattle.plural_runtime.specs.declared.kinds.AndOr.TheVariants.{And, Or}
 use Rattle.plural_runtime.specs.declared.error.RuleBytesError.TheVariants as errors
-use Rattle.plural_runtime.specs.PackedRelations.{PackedRelation}
-use Rattle.plural_runtime.specs.RuleBytes.{relation_bytes, packed_bytes, range_bytes, first_relation_fault}
+use Rattle.plural_runtime.specs.PackedRelations.{PackedRelation, relation_bytes, packed_bytes, range_bytes, first_relation_fault}
 use Rattle.plural_runtime.specs.Inner.RuleReading.{relation_in, relations_in}
 use Rattle.plural_runtime.specs.PackedTruth.{packed_truth, needed_ranges}
 use Rattle.plural_runtime.specs.PackedTree.{packed, unpacked, condition_of_groups, has_large_value}

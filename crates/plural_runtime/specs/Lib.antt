@@ -1,5 +1,4 @@
 pub mod PackedRelations
-pub mod RuleBytes
 pub mod PackedTruth
 pub mod PackedTree
 pub mod RuleKinds

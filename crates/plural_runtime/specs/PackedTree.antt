@@ -13,12 +13,11 @@ use Rattle.plural_reference.specs.declared.ast.RangeListItem.TheVariants as item
 use Rattle.plural_reference.specs.Truth.{meaning_of, groups_of, RelationMeaning}
 use Rattle.plural_runtime.specs.declared.kinds.AndOr.{AndOr}
 use Rattle.plural_runtime.specs.declared.kinds.AndOr.TheVariants.{And, Or}
-use Rattle.plural_runtime.specs.PackedRelations.{PackedRelation, groups}
+use Rattle.plural_runtime.specs.PackedRelations.{PackedRelation, groups, relation_bytes}
 use Rattle.packed_list.specs.ListBytes.{has_high_start}
 use Rattle.plural_reference.specs.declared.error.ParseError.TheVariants.{ValueTooLarge}
 use Rattle.plural_runtime.specs.declared.error.RuleError.{RuleError}
 use Rattle.plural_runtime.specs.declared.error.RuleError.TheVariants.{Parse, StartLimit, Memory}
-use Rattle.plural_runtime.specs.RuleBytes.{relation_bytes}
 
 -- ---- Packing
 

@@ -15,7 +15,7 @@ use Rattle.plural_runtime.specs.declared.kinds.Operand.TheVariants.{N, I, V, W, 
 use Rattle.plural_runtime.specs.declared.range.RangeOrValue.{RangeOrValue}
 use Rattle.plural_runtime.specs.declared.range.RangeOrValue.TheVariants.{Range, Value}
 use Rattle.plural_runtime.specs.declared.first_byte.AndOrPolarityOperand.{AndOrPolarityOperand}
-use Rattle.plural_runtime.specs.RuleBytes.{first_byte}
+use Rattle.plural_runtime.specs.PackedRelations.{first_byte}
 use Rattle.plural_runtime.specs.PackedTree.{is_large_item}
 
 -- the operator that a polarity stands for

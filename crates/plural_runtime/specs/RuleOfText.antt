@@ -1,11 +1,12 @@
 -- What a text gives as a rule: the relations that its condition is packed to, or the reason why it gives none.
+--     IsPackedFrom text answer      the text is read, and packing answers this
 --     TextGives text answer      the text gives this, by the grammar
 --     rule_of_text text      what the text gives, by a reader
 -- The two say the same (`laws::texts_give_one_answer`).
 use Rattle.std.specs.Prelude.{◌≡◌, ◌⊎◌, ◌↔◌, ℕ, List, Result, Ok, Err}
 use Rattle.plural_reference.specs.declared.ast.Condition.{Condition}
 use Rattle.plural_reference.specs.declared.error.ParseError.{ParseError}
-use Rattle.plural_reference.specs.Reading.{TextReads, TextFaulty}
+use Rattle.plural_reference.specs.Lexer.{TextReads, TextFaulty}
 use Rattle.plural_reference.specs.Samples.{ReadsCondition, FaultyRule}
 use Rattle.plural_reference.specs.Inner.RuleReader.{condition_of_text}
 use Rattle.plural_runtime.specs.declared.error.RuleError.{RuleError}
@@ -13,17 +14,19 @@ use Rattle.plural_runtime.specs.declared.error.RuleError.TheVariants.{Parse}
 use Rattle.plural_runtime.specs.PackedRelations.{PackedRelation}
 use Rattle.plural_runtime.specs.PackedTree.{packing}
 
+-- the text is read as a condition, and this is what packing it answers
+abbrev pub IsPackedFrom : List ℕ → Result (List PackedRelation) RuleError → Type 0
+IsPackedFrom text answer = (condition : Condition) × TextReads ReadsCondition text condition × (answer ≡ packing condition)
+
+-- the same, or the text has this fault
+abbrev pub TextGives : List ℕ → Result (List PackedRelation) RuleError → Type 0
+TextGives text answer = IsPackedFrom text answer ⊎ ((kind : ParseError) × TextFaulty FaultyRule text kind × (answer ≡ Err (Parse kind)))
+
+-- ---- The same as a function
+
 -- the relations of a rule, or why there is none
 abbrev pub RuleAnswer : Type 0
 RuleAnswer = Result (List PackedRelation) RuleError
-
--- the text is read as a condition and this is what packing it answers, or the text has this fault
-abbrev pub TextGives : List ℕ → RuleAnswer → Type 0
-TextGives text answer =
-    ((condition : Condition) × TextReads ReadsCondition text condition × (answer ≡ packing condition))
-    ⊎ ((kind : ParseError) × TextFaulty FaultyRule text kind × (answer ≡ Err (Parse kind)))
-
--- ---- The same as a function
 
 -- what packing answers of the condition that was read; else the fault
 abbrev pub packing_of : Result Condition ParseError → RuleAnswer

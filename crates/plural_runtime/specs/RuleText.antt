@@ -11,7 +11,7 @@ use Rattle.plural_runtime.specs.declared.range.RangeOrValue.TheVariants.{Range, 
 use Rattle.plural_runtime.specs.PackedRelations.{PackedRelation}
 use Rattle.plural_runtime.specs.RuleKinds.{range_or_value}
 use Rattle.plural_reference.specs.declared.ast.Rule.{Rule as TreeRule}
-use Rattle.plural_reference.specs.Reading.{TextReads}
+use Rattle.plural_reference.specs.Lexer.{TextReads}
 use Rattle.plural_reference.specs.Samples.{ReadsRule}
 use Rattle.plural_runtime.specs.PackedTree.{unpacked, packing}
 

@@ -2,8 +2,7 @@
 
 ghost use Rattle.std.specs.Prelude.{◌≡◌, ◌↔◌, ◌≤◌, List, ℕ, length, IfOk, MatchResult, Ok, Err, Some, None};
 ghost use Rattle.packed_list.specs.ListBytes.{ListBytes, HasFault};
-ghost use Rattle.plural_runtime.specs.PackedRelations.{PackedRelation};
-ghost use Rattle.plural_runtime.specs.RuleBytes.{RuleBytes, relation_fault, first_relation_fault};
+ghost use Rattle.plural_runtime.specs.PackedRelations.{PackedRelation, RuleBytes, relation_fault, first_relation_fault};
 
 use crate::error::RuleBytesError;
 use crate::first_byte::operand_of;

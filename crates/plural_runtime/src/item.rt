@@ -1,7 +1,7 @@
 //! Reads the parts of a packed relation in place.
 
 ghost use Rattle.std.specs.Prelude.{◌≡◌, length, IsTrue};
-ghost use Rattle.plural_runtime.specs.RuleBytes.{is_relation, is_whole};
+ghost use Rattle.plural_runtime.specs.PackedRelations.{is_relation, is_whole};
 ghost use Rattle.plural_runtime.specs.Inner.RuleReading.{relation_in, ranges_in};
 ghost use Rattle.plural_runtime.specs.RuleKinds.{operator_of, tree_operand_of};
 

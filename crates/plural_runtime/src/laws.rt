@@ -3,8 +3,7 @@
 ghost use Rattle.std.specs.Prelude.{◌≡◌, ◌↔◌, ◌⊎◌, ◌≤◌, ℕ, List, IsTrue};
 ghost use Rattle.plural_reference.specs.Operands.{Operands};
 ghost use Rattle.plural_reference.specs.Truth.{tree_truth};
-ghost use Rattle.plural_runtime.specs.PackedRelations.{PackedRelation};
-ghost use Rattle.plural_runtime.specs.RuleBytes.{RuleBytes};
+ghost use Rattle.plural_runtime.specs.PackedRelations.{PackedRelation, RuleBytes};
 ghost use Rattle.plural_runtime.specs.Inner.RuleReading.{relations_in};
 ghost use Rattle.plural_runtime.specs.PackedTree.{packed, unpacked, has_no_negated_n};
 ghost use Rattle.plural_runtime.specs.PackedTruth.{packed_truth, needed_ranges, range_count};

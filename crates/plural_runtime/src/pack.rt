@@ -3,7 +3,7 @@
 ghost use Rattle.std.specs.Prelude.{◌≡◌, ◌↔◌, map, Err, IfSome, IfNone, IsTrue, IsFalse};
 ghost use Rattle.std.specs.List.{list_any};
 ghost use Rattle.packed_list.specs.ListBytes.{has_high_start};
-ghost use Rattle.plural_runtime.specs.RuleBytes.{relation_bytes};
+ghost use Rattle.plural_runtime.specs.PackedRelations.{relation_bytes};
 ghost use Rattle.plural_runtime.specs.PackedTree.{packed, has_large_value, is_large, is_large_item, is_large_modulus, is_large_relation, Packs};
 
 use crate::error::RuleError;

@@ -1,7 +1,7 @@
 //! The ranges of a packed relation.
 
 ghost use Rattle.std.specs.Prelude.{◌≡◌, ◌≤◌, length};
-ghost use Rattle.plural_runtime.specs.RuleBytes.{range_bytes, range_length};
+ghost use Rattle.plural_runtime.specs.PackedRelations.{range_bytes, range_length};
 ghost use Rattle.plural_runtime.specs.Inner.RuleReading.{range_in};
 ghost use Rattle.plural_runtime.specs.RuleKinds.{ends, item_of, ItemGives, range_or_value};
 

@@ -2,7 +2,7 @@
 
 ghost use Rattle.std.specs.Prelude.{◌≡◌, map, IsTrue, length};
 ghost use Rattle.std.specs.Iterator.{YieldsFirst, item_count};
-ghost use Rattle.plural_runtime.specs.RuleBytes.{is_whole};
+ghost use Rattle.plural_runtime.specs.PackedRelations.{is_whole};
 ghost use Rattle.plural_runtime.specs.Inner.RuleReading.{ranges_in};
 ghost use Rattle.plural_runtime.specs.RuleKinds.{range_or_value};
 
@@ -22,7 +22,7 @@ impl<'a> Model for Ranges<'a> {
 
     ghost Value = { List RangeOrValue };
 
-    ghost use Rattle.plural_runtime.specs.RuleBytes.{is_whole};
+    ghost use Rattle.plural_runtime.specs.PackedRelations.{is_whole};
     ghost use Rattle.plural_runtime.specs.Inner.RuleReading.{ranges_in};
     ghost use Rattle.plural_runtime.specs.RuleKinds.{range_or_value};
 

@@ -1,7 +1,7 @@
 //! One relation of a packed rule: its checked bytes, and what they say.
 
 ghost use Rattle.std.specs.Prelude.{◌≡◌, ◌↔◌, ◌*◌, ◌/◌, ◌<◌, drop, flat_map, IsTrue, length};
-ghost use Rattle.plural_runtime.specs.RuleBytes.{range_bytes, range_length, relation_bytes, is_relation, is_whole};
+ghost use Rattle.plural_runtime.specs.PackedRelations.{range_bytes, range_length, relation_bytes, is_relation, is_whole};
 ghost use Rattle.plural_runtime.specs.Inner.RuleReading.{range_in, ranges_in, relation_in};
 ghost use Rattle.plural_runtime.specs.RuleKinds.{range_or_value};
 
@@ -30,7 +30,7 @@ pub struct Relation<'a> {
 
 impl<'a> RelationULE<'a> {
     ghost use Rattle.std.specs.Prelude.{◌≡◌, IsTrue};
-    ghost use Rattle.plural_runtime.specs.RuleBytes.{relation_bytes, is_relation};
+    ghost use Rattle.plural_runtime.specs.PackedRelations.{relation_bytes, is_relation};
     ghost use Rattle.plural_runtime.specs.Inner.RuleReading.{relation_in};
     ghost use Rattle.plural_runtime.specs.Inner.RuleViews.{item_relation, lent_relation};
 
@@ -147,7 +147,7 @@ impl<'a> PartialEq for Relation<'a> {
     ghost use Rattle.std.specs.Prelude.{◌≡◌, ◌↔◌, IsTrue};
     ghost use Rattle.std.specs.Cmp.{on_per, partial_equiv_from_equiv};
     ghost use Rattle.std.specs.Cmp.Lexicographic.{nat_list_eq_equiv};
-    ghost use Rattle.plural_runtime.specs.RuleBytes.{is_same_relation, relation_numbers};
+    ghost use Rattle.plural_runtime.specs.PackedRelations.{is_same_relation, relation_numbers};
     ghost use Rattle.plural_runtime.specs.Inner.RuleViews.{lent_relation};
 
     ghost eq = { λ relation other. is_same_relation (lent_relation relation) (lent_relation other) };
@@ -171,7 +171,7 @@ impl<'a> PartialEq for Relation<'a> {
 impl<'a> Eq for Relation<'a> {
     ghost use Rattle.std.specs.Cmp.{on_equiv};
     ghost use Rattle.std.specs.Cmp.Lexicographic.{nat_list_eq_equiv};
-    ghost use Rattle.plural_runtime.specs.RuleBytes.{relation_numbers};
+    ghost use Rattle.plural_runtime.specs.PackedRelations.{relation_numbers};
     ghost use Rattle.plural_runtime.specs.Inner.RuleViews.{lent_relation};
 
     ghost laws = { on_equiv (λ relation. relation_numbers (lent_relation relation)) nat_list_eq_equiv };

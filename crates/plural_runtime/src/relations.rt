@@ -3,7 +3,7 @@
 ghost use Rattle.std.specs.Prelude.{◌≡◌, map, IsTrue, length, Some, IfSome, ◌≤◌};
 ghost use Rattle.std.specs.List.{list_all};
 ghost use Rattle.std.specs.Iterator.{YieldsFirstBy, item_count, UpTo, at_most};
-ghost use Rattle.plural_runtime.specs.RuleBytes.{is_relation};
+ghost use Rattle.plural_runtime.specs.PackedRelations.{is_relation};
 ghost use Rattle.plural_runtime.specs.Inner.RuleReading.{relation_in};
 ghost use Rattle.plural_runtime.specs.Inner.RuleViews.{item_relation};
 
@@ -24,7 +24,7 @@ impl<'a> Model for Relations<'a> {
 
     ghost Value = { List PackedRelation };
 
-    ghost use Rattle.plural_runtime.specs.RuleBytes.{is_relation};
+    ghost use Rattle.plural_runtime.specs.PackedRelations.{is_relation};
     ghost use Rattle.plural_runtime.specs.Inner.RuleReading.{relation_in};
 
     ghost view = { λ relations. map relation_in relations.items };

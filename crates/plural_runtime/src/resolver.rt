@@ -3,7 +3,7 @@
 ghost use Rattle.std.specs.Prelude.{◌≡◌, ◌≤◌, ◌+◌, ◌<◌, min, length, option_map, IsTrue};
 ghost use Rattle.std.specs.Fn.{iterate};
 ghost use Rattle.plural_reference.specs.Truth.{holds_value, is_in_ranges, operand_value, range_holds, remainder};
-ghost use Rattle.plural_runtime.specs.RuleBytes.{is_relation, is_whole, range_length};
+ghost use Rattle.plural_runtime.specs.PackedRelations.{is_relation, is_whole, range_length};
 ghost use Rattle.plural_runtime.specs.Inner.RuleReading.{relation_in, range_in, ranges_in};
 ghost use Rattle.plural_runtime.specs.PackedTruth.{packed_truth, is_true_at, needed_ranges, range_count, needed_of_relation, needed_of_list};
 

@@ -2,7 +2,7 @@
 
 ghost use Rattle.std.specs.Prelude.{◌≡◌, List, map, length, slice_get, option_map, IfOk, IsTrue, ◌==◌};
 ghost use Rattle.std.specs.List.{list_all};
-ghost use Rattle.plural_runtime.specs.RuleBytes.{RuleBytes, relation_bytes, is_relation};
+ghost use Rattle.plural_runtime.specs.PackedRelations.{RuleBytes, relation_bytes, is_relation};
 ghost use Rattle.plural_runtime.specs.Inner.RuleReading.{IsRule, relation_in};
 ghost use Rattle.plural_runtime.specs.Inner.RuleViews.{item_relation};
 
@@ -136,7 +136,7 @@ impl<'data> PartialEq for Rule<'data> {
     ghost use Rattle.std.specs.Prelude.{◌≡◌, ◌↔◌, IsTrue, nat_eq};
     ghost use Rattle.std.specs.Cmp.{on_per, partial_equiv_from_equiv};
     ghost use Rattle.std.specs.Cmp.Lexicographic.{pointwise, nat_list_eq_equiv};
-    ghost use Rattle.plural_runtime.specs.RuleBytes.{packed_bytes};
+    ghost use Rattle.plural_runtime.specs.PackedRelations.{packed_bytes};
 
     ghost eq = { λ rule other. pointwise nat_eq (packed_bytes rule) (packed_bytes other) };
 

@@ -3,7 +3,7 @@
 ghost use Rattle.std.specs.Prelude.{◌≡◌, ◌∷◌};
 ghost use Rattle.std.specs.Int.{w32, to_le_bytes};
 ghost use Rattle.plural_reference.specs.Truth.{ends_of, modulus_of};
-ghost use Rattle.plural_runtime.specs.RuleBytes.{first_byte, range_bytes};
+ghost use Rattle.plural_runtime.specs.PackedRelations.{first_byte, range_bytes};
 ghost use Rattle.plural_runtime.specs.PackedTree.{packed};
 ghost use Rattle.plural_runtime.specs.Inner.TreeWalk.{relations_left};
 
@@ -53,7 +53,7 @@ impl<'a> TreeRelations<'a> {
 
 impl<'a> ByteItems for TreeRelations<'a> {
     ghost use Rattle.std.specs.Prelude.{map};
-    ghost use Rattle.plural_runtime.specs.RuleBytes.{relation_bytes};
+    ghost use Rattle.plural_runtime.specs.PackedRelations.{relation_bytes};
     ghost use Rattle.plural_runtime.specs.Inner.TreeWalk.{relations_left};
 
     type Item = TreeRelation<'a>;
@@ -78,7 +78,7 @@ impl<'a> ByteItems for TreeRelations<'a> {
 
 impl<'a> ByteItem for TreeRelation<'a> {
     ghost use Rattle.plural_runtime.specs.PackedTree.{packed_relation};
-    ghost use Rattle.plural_runtime.specs.RuleBytes.{relation_bytes};
+    ghost use Rattle.plural_runtime.specs.PackedRelations.{relation_bytes};
 
     ghost item_bytes = { λ item. relation_bytes (packed_relation item.and_or item.relation.now) };
 
@@ -87,7 +87,7 @@ impl<'a> ByteItem for TreeRelation<'a> {
         HEAD_LENGTH + RANGE_LENGTH * self.relation.range_list.0.as_slice().len()
     }
 
-    #[tactic(auto, unfolding(crate::specs::RuleBytes::relation_bytes))]
+    #[tactic(auto, unfolding(crate::specs::PackedRelations::relation_bytes))]
     fn write_to(&self, bytes: &mut Vec<u8>) -> Result<(), AllocError> {
         bytes.extend_from_slice(&head_of(self.and_or, self.relation))?;
         for item in self.relation.range_list.0.as_slice() {

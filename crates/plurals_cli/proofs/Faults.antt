@@ -1,118 +1,110 @@
 -- A fault of a step is the answer's fault.
-use Rattle.std.proofs.Common.{◌≡◌, ℕ, codes, List, Option, Some, None, Result, Ok, Err, refl, sym, ◌∙◌, ap, subst}
-use Rattle.icu_plurals.specs.declared.PluralRuleType.{PluralRuleType}
-use Rattle.icu_plurals.specs.declared.JsonError.{JsonError}
-use Rattle.icu_plurals.specs.DocumentJson.{document_of_json, found}
-use Rattle.icu_plurals.specs.RuleTexts.{TextReader}
-use Rattle.plurals_cli.specs.Answer.{AnswersFrom, Gives, Text}
-use Rattle.serde_json.specs.Find.{get}
-use Rattle.plurals_cli.specs.Input.{document_with, elements_beside, elements_for, elements_of, elements_of_json, ◌>>=◌, GivesValue, document_of, or_bad, or_fault, ranged_for, ranged_of, rows_for, rules_for, rules_of, value_of}
+use Rattle.std.proofs.Common.{◌≡◌, ℕ, List, Result, Ok, Err, refl, sym, ◌∙◌, ap, subst}
+use Rattle.std.specs.Cow.{cow_str_bytes}
+use Rattle.plurals_cli.specs.Answer.{AnswersFrom}
+use Rattle.plurals_cli.specs.Inner.CallAnswers.{Gives, GivesFault, GivesText, GivesValue, Text}
+use Rattle.plurals_cli.specs.Steps.{After, HasNoFault, Then, ◌>>=◌}
 use Rattle.plurals_cli.specs.declared.error.RunError.{RunError}
-use Rattle.plurals_cli.specs.declared.error.RunError.TheVariants.{Usage, Condition, Number, Read, TooLong, Json, Document, Locale, Write, Memory}
+use Rattle.plurals_cli.specs.declared.error.RunError.TheVariants.{Usage, Condition, Number, Read, TooLong}
+use Rattle.plurals_cli.specs.declared.error.RunError.TheVariants.{Json, Document, Locale, Write, Memory}
 
--- of what the input gives
-of_given : {A C : Type 0} (view : C → A) (IsText : A → List ℕ → Type 0) (given : Result A RunError) (e : RunError)
-    → GivesValue {A = C} view given (Err e) → Gives (AnswersFrom IsText given) (Err e)
-of_given view IsText given Usage h = rw h refl
-of_given view IsText given (Condition k) h = rw h refl
-of_given view IsText given (Number k) h = rw h refl
-of_given view IsText given Read h = h
-of_given view IsText given TooLong h = rw h refl
-of_given view IsText given Json h = rw h refl
-of_given view IsText given (Document k) h = rw h refl
-of_given view IsText given Locale h = rw h refl
-of_given view IsText given Write h = h
-of_given view IsText given Memory h = tt
+-- where each fault of one kind is one of another, a call that gives the first gives the second
+pub mapped : (P Q : RunError → Type 0) → ((fault : RunError) → P fault → Q fault) → (e : RunError) → GivesFault P e → GivesFault Q e
+mapped P Q f Usage h = f _ h
+mapped P Q f (Condition k) h = f _ h
+mapped P Q f (Number k) h = f _ h
+mapped P Q f Read h = h
+mapped P Q f TooLong h = f _ h
+mapped P Q f Json h = f _ h
+mapped P Q f (Document k) h = f _ h
+mapped P Q f Locale h = f _ h
+mapped P Q f Write h = h
+mapped P Q f Memory h = tt
 
--- of the first step, by which there is no second
-pub of_first : {A B C D : Type 0} (view : C → A) (seen : D → B) (value : Result A RunError) (next : A → Result B RunError) (e : RunError)
-    → GivesValue {A = C} view value (Err e) → GivesValue {A = D} seen (value >>= next) (Err e)
-of_first view seen value next Usage h = rw h refl
-of_first view seen value next (Condition k) h = rw h refl
-of_first view seen value next (Number k) h = rw h refl
-of_first view seen value next Read h = h
-of_first view seen value next TooLong h = rw h refl
-of_first view seen value next Json h = rw h refl
-of_first view seen value next (Document k) h = rw h refl
-of_first view seen value next Locale h = rw h refl
-of_first view seen value next Write h = h
-of_first view seen value next Memory h = tt
-
-pub refused_first : {A B C D : Type 0} (view : C → A) (seen : D → B) (value : Result A RunError) (next : A → Result B RunError) (e : RunError) (r : Result D RunError)
-    → r ≡ Err e → GivesValue {A = C} view value (Err e) → GivesValue {A = D} seen (value >>= next) r
-refused_first view seen value next e r is h = rw is (of_first view seen value next e h)
-
--- of the second, or what it gives, after the first
-pub of_second : {A B C : Type 0} (view : C → B) (value : Result A RunError) (x : A) (next : A → Result B RunError) (r : Result C RunError)
-    → value ≡ Ok x → GivesValue view (next x) r → GivesValue view (value >>= next) r
-of_second {A} view value x next r there h = subst (λ (v : Result A RunError). GivesValue view (v >>= next) r) (sym there) h
-
--- what `?` hands on
+-- what `?` hands on is the error that the call gave
 pub handed_on : {X : Type 0} (r : Result X RunError) (e : RunError) (p : (f : RunError) × (r ≡ Err f) × (f ≡ e)) → r ≡ Err e
 handed_on r e p = p.1 ∙ ap Err p.2
 
--- nothing is given
-pub none_given : {A C : Type 0} (view : C → A) (IsText : A → List ℕ → Type 0) (given : Result A RunError) (e : RunError) (r : Result Text RunError)
-    → r ≡ Err e → GivesValue {A = C} view given (Err e) → Gives (AnswersFrom IsText given) r
-none_given view IsText given e r is h = rw is (of_given view IsText given e h)
+-- ---- Two relations
 
-pub no_first : {A B C : Type 0} (view : C → A) (IsText : B → List ℕ → Type 0) (value : Result A RunError) (next : A → Result B RunError) (e : RunError) (r : Result Text RunError)
-    → r ≡ Err e → GivesValue {A = C} view value (Err e) → Gives (AnswersFrom IsText (value >>= next)) r
-no_first {A} {B} view IsText value next e r is h = none_given (λ (x : B). x) IsText (value >>= next) e r is (of_first view (λ (x : B). x) value next e h)
+-- a fault of the first is one of both
+pub fault_of_first : {A B : Type 0} (First : Result A RunError → Type 0) (Next : A → Result B RunError → Type 0) (e : RunError)
+    → GivesFault (λ fault. First (Err fault)) e → GivesFault (λ fault. Then First Next (Err fault)) e
+fault_of_first First Next e h =
+    mapped (λ fault. First (Err fault)) (λ fault. Then First Next (Err fault)) (λ fault there. (Err fault, there, refl)) e h
 
-pub no_second : {A B C : Type 0} (view : C → B) (IsText : B → List ℕ → Type 0) (value : Result A RunError) (x : A) (next : A → Result B RunError) (e : RunError) (r : Result Text RunError)
-    → r ≡ Err e → value ≡ Ok x → GivesValue {A = C} view (next x) (Err e) → Gives (AnswersFrom IsText (value >>= next)) r
-no_second view IsText value x next e r is there h = none_given view IsText (value >>= next) e r is (of_second view value x next (Err e) there h)
+-- so is a fault of the second, after the first
+pub fault_of_second : {A B : Type 0} (First : Result A RunError → Type 0) (Next : A → Result B RunError → Type 0) (x : A) (e : RunError)
+    → First (Ok x) → GivesFault (λ fault. Next x (Err fault)) e → GivesFault (λ fault. Then First Next (Err fault)) e
+fault_of_second First Next x e is h =
+    mapped (λ fault. Next x (Err fault)) (λ fault. Then First Next (Err fault)) (λ fault there. (Ok x, is, there)) e h
 
--- the second after the first
-pub after : {A B : Type 0} (value : Result A RunError) (x : A) (next : A → Result B RunError) (y : Result B RunError) → value ≡ Ok x → next x ≡ y → (value >>= next) ≡ y
+-- where neither has a fault, both have none
+pub no_fault_of_both : {A B : Type 0} (First : Result A RunError → Type 0) (Next : A → Result B RunError → Type 0)
+    → HasNoFault First → ((x : A) → HasNoFault (Next x)) → HasNoFault (Then First Next)
+no_fault_of_both {A} {B} First Next none nones fault h = of_either h.0 h.1 h.2
+  where
+    of_either : (first : Result A RunError) → First first → After Next first (Err fault) → ⊥
+    of_either (Ok x) is h = nones x fault h
+    of_either (Err e) is h = none e is
+
+-- ---- A value, then a relation
+
+-- a fault in place of the value is one of both
+pub fault_of_value : {A B : Type 0} (Next : A → Result B RunError → Type 0) (given : Result A RunError) (e : RunError)
+    → GivesFault (λ fault. given ≡ Err fault) e → GivesFault (λ fault. After Next given (Err fault)) e
+fault_of_value Next given e h =
+    mapped (λ fault. given ≡ Err fault) (λ fault. After Next given (Err fault)) (λ fault there. rw there refl) e h
+
+-- and it is the answer
+pub value_fault : {A B D : Type 0} (seen : D → B) (Next : A → Result B RunError → Type 0) (given : Result A RunError)
+    (e : RunError) (r : Result D RunError) → r ≡ Err e → GivesFault (λ fault. given ≡ Err fault) e → Gives seen (After Next given) r
+value_fault seen Next given e r is h = rw is (fault_of_value Next given e h)
+
+-- what is answered to the value is the answer
+pub value_answer : {A B D : Type 0} (seen : D → B) (Next : A → Result B RunError → Type 0) (given : Result A RunError)
+    (x : A) (r : Result D RunError) → given ≡ Ok x → Gives seen (Next x) r → Gives seen (After Next given) r
+value_answer {A} seen Next given x r there h = subst (λ (v : Result A RunError). Gives seen (After Next v) r) (sym there) h
+
+-- ---- Two values
+
+-- a fault of the first is that of both
+pub refused_first : {A B D : Type 0} (seen : D → B) (value : Result A RunError) (next : A → Result B RunError)
+    (e : RunError) (r : Result D RunError) → r ≡ Err e → GivesFault (λ fault. value ≡ Err fault) e → GivesValue seen (value >>= next) r
+refused_first seen value next e r is h =
+    rw is (mapped (λ fault. value ≡ Err fault) (λ fault. (value >>= next) ≡ Err fault) (λ fault there. rw there refl) e h)
+
+-- what a call gives for the second, after the first, it gives for both
+pub of_second : {A B D : Type 0} (seen : D → B) (value : Result A RunError) (x : A) (next : A → Result B RunError) (r : Result D RunError)
+    → value ≡ Ok x → GivesValue seen (next x) r → GivesValue seen (value >>= next) r
+of_second {A} seen value x next r there h = subst (λ (v : Result A RunError). GivesValue seen (v >>= next) r) (sym there) h
+
+-- both are the second of the first
+pub after : {A B : Type 0} (value : Result A RunError) (x : A) (next : A → Result B RunError) (y : Result B RunError)
+    → value ≡ Ok x → next x ≡ y → (value >>= next) ≡ y
 after value x next y there e = rw there e
 
-pub both : {A B : Type 0} (IsText : B → List ℕ → Type 0) (value : Result A RunError) (x : A) (next : A → Result B RunError) (y : B) (text : List ℕ)
-    → value ≡ Ok x → next x ≡ Ok y → IsText y text → AnswersFrom IsText (value >>= next) (Ok text)
-both IsText value x next y text there found' h = rw (there, found') h
+-- ---- A line of what is given
 
--- ---- The length is no fault of the bytes
+-- where nothing is given, its fault is the answer
+pub nothing_given : {A : Type 0} (IsText : A → List ℕ → Type 0) (given : Result A RunError) (e : RunError) (r : Result Text RunError)
+    → r ≡ Err e → GivesFault (λ fault. given ≡ Err fault) e → GivesText (AnswersFrom IsText given) r
+nothing_given IsText given e r is h =
+    rw is (mapped (λ fault. given ≡ Err fault) (λ fault. AnswersFrom IsText given (Err fault)) (λ fault there. rw there refl) e h)
 
-pub steps_not_long : {A B : Type 0} (value : Result A RunError) (next : A → Result B RunError)
-    → (value ≡ Err TooLong → ⊥) → ((x : A) → next x ≡ Err TooLong → ⊥) → (value >>= next) ≡ Err TooLong → ⊥
-steps_not_long (Ok x) next first second h = second x h
-steps_not_long {A} (Err e) next first second h = let same : e ≡ TooLong = cc in first (ap Err same)
+-- a text is no fault
+no_fault_of_text : {P : Type 0} (bytes : List ℕ) (fault : RunError) → ◌≡◌ {A = Result (List ℕ) RunError} (Ok bytes) (Err fault) → P
+no_fault_of_text bytes fault h = cc
 
-pub locale_not_long : {A : Type 0} (o : Option A) → or_fault Locale o ≡ Err TooLong → ⊥
-locale_not_long None h = cc
-locale_not_long (Some x) h = cc
+-- a text of what is given is the answer
+pub line_given : {A : Type 0} (IsText : A → List ℕ → Type 0) (given : Result A RunError) (x : A) (bytes : List ℕ) (r : Result Text RunError)
+    → given ≡ Ok x → IsText x bytes → GivesValue cow_str_bytes (Ok bytes) r → GivesText (AnswersFrom IsText given) r
+line_given IsText given x bytes (Ok text) there is h = let same : bytes ≡ cow_str_bytes text = cc in rw there (subst (IsText x) same is)
+line_given IsText given x bytes (Err e) there is h =
+    mapped (λ fault. Ok bytes ≡ Err fault) (λ fault. AnswersFrom IsText given (Err fault))
+    (λ fault none. no_fault_of_text bytes fault none) e h
 
-value_not_long : {A : Type 0} (o : Option A) → or_fault Json o ≡ Err TooLong → ⊥
-value_not_long None h = cc
-value_not_long (Some x) h = cc
-
-pub stands_not_long : {A : Type 0} (s : Result A JsonError) → or_bad s ≡ Err TooLong → ⊥
-stands_not_long (Ok x) h = cc
-stands_not_long (Err e) h = cc
-
-pub document_not_long : (texts : TextReader) (bytes : List ℕ) → document_of texts bytes ≡ Err TooLong → ⊥
-document_not_long texts bytes =
-    steps_not_long (or_fault Json (value_of bytes)) (λ value. or_bad (document_of_json texts value)) (value_not_long (value_of bytes)) (λ value. stands_not_long (document_of_json texts value))
-
-pub not_too_long : (texts : TextReader) (type : PluralRuleType) (locale bytes : List ℕ) → rules_of texts type locale bytes ≡ Err TooLong → ⊥
-not_too_long texts type locale bytes =
-    steps_not_long (document_of texts bytes) (rules_for type locale) (document_not_long texts bytes) (λ document. locale_not_long (found locale (rows_for type document)))
-
-pub ranged_not_long : (texts : TextReader) (type : PluralRuleType) (locale bytes : List ℕ) → ranged_of texts type locale bytes ≡ Err TooLong → ⊥
-ranged_not_long texts type locale bytes =
-    steps_not_long (document_of texts bytes) (ranged_for type locale) (document_not_long texts bytes)
-    (λ document. steps_not_long (rules_for type locale document) (λ rules. or_fault Locale (found locale document.ranges) >>= λ ranges. Ok (record { rules = rules; ranges = ranges }))
-    (locale_not_long (found locale (rows_for type document)))
-    (λ rules. steps_not_long (or_fault Locale (found locale document.ranges)) (λ ranges. Ok (record { rules = rules; ranges = ranges }))
-    (locale_not_long (found locale document.ranges)) (λ ranges h. cc)))
-
-pub elements_not_long : (texts : TextReader) (type : PluralRuleType) (locale bytes : List ℕ) → elements_of texts type locale bytes ≡ Err TooLong → ⊥
-elements_not_long texts type locale bytes =
-    steps_not_long (document_with texts bytes) (elements_for type locale)
-    (steps_not_long (or_fault Json (value_of bytes)) (λ value. or_bad (document_of_json texts value) >>= elements_beside value) (value_not_long (value_of bytes))
-    (λ value. steps_not_long (or_bad (document_of_json texts value)) (elements_beside value) (stands_not_long (document_of_json texts value))
-    (λ document. steps_not_long (or_bad (elements_of_json (get (codes "elements") value))) (λ elements. Ok (record { document = document; elements = elements }))
-    (stands_not_long (elements_of_json (get (codes "elements") value))) (λ elements h. cc))))
-    (λ given. steps_not_long (rules_for type locale given.document) (λ rules. Ok (record { elements = given.elements; rules = rules }))
-    (locale_not_long (found locale (rows_for type given.document))) (λ rules h. cc))
+-- the same of a text that is lent
+pub lent_line : {A : Type 0} (IsText : A → List ℕ → Type 0) (given : Result A RunError) (x : A) (bytes : List ℕ)
+    → given ≡ Ok x → IsText x bytes → AnswersFrom IsText given (Ok bytes)
+lent_line IsText given x bytes there is = rw there is

@@ -1,8 +1,7 @@
-pub mod TestAnswers
 pub mod Integers
 pub mod Documents
 pub mod Inputs
 pub mod Faults
+pub mod Lengths
 pub mod Readings
-pub mod Lines
-pub mod MessageFaults
+pub mod Questions

@@ -1,3 +1,4 @@
 -- No definitions of the subject: readers and steps, of which views and private contracts speak.
-pub mod CommandWords
+pub mod PrivateViews
+pub mod CallAnswers
 pub mod InputBytes

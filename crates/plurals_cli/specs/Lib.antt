@@ -1,5 +1,7 @@
 pub mod Commands
+pub mod Steps
 pub mod NumberWords
+pub mod Queries
 pub mod Input
 pub mod Lines
 pub mod Answer

@@ -1,4 +1,4 @@
--- The lines that are printed of rules.
+-- The lines that are printed of rules and of elements.
 use Rattle.std.specs.Prelude.{◌≡◌, ℕ, List, [], ◌∷◌, ◌++◌, codes, Option, Some, None}
 use Rattle.icu_plurals.specs.declared.PluralCategory.{PluralCategory}
 use Rattle.icu_plurals.specs.declared.PluralCategory.TheVariants.{Zero, One, Two, Few, Many}
@@ -10,10 +10,10 @@ use Rattle.icu_plurals.specs.PackedRelations.{PackedRelation}
 use Rattle.icu_plurals.specs.PackedTree.{unpacked}
 use Rattle.icu_plurals.specs.Ranges.{resolved}
 use Rattle.icu_plurals.specs.Serializer.{condition_text}
-use Rattle.plurals_cli.specs.Input.{RangedRules, ElementsAndRules}
+use Rattle.plurals_cli.specs.Input.{RangedRules, RuledElements}
 use Rattle.icu_plurals.specs.Elements.{IsExactElement, IsKeptElement}
 use Rattle.icu_plurals.specs.PackedElements.{PackedValue, elements_of}
-use Rattle.plural_message.specs.Messages.{IsMessageOf}
+use Rattle.plural_message.specs.Messages.{IsMessageWith}
 
 -- a text and a newline
 abbrev pub line : List ℕ → List ℕ
@@ -30,7 +30,8 @@ IsCategoryOf x rules category =
 abbrev pub IsCategoryLine : CompactNumber → FiveRules → List ℕ → Type 0
 IsCategoryLine x rules text = (category : PluralCategory) × (text ≡ line (name_of category)) × IsCategoryOf x rules category
 
--- The line with the name of the category of a range: that which the ranges have for the categories of its start and its end, else the end's.
+-- The line with the name of the category of a range: that which the ranges have for the categories of its start and its end, else
+-- the end's.
 abbrev pub IsRangeLine : CompactNumber → CompactNumber → RangedRules → List ℕ → Type 0
 IsRangeLine x y ranged text =
     (start : PluralCategory) × (end : PluralCategory) × (text ≡ line (name_of (resolved ranged.ranges start end)))
@@ -49,23 +50,23 @@ rule_lines rules =
 abbrev pub AreRuleLines : FiveRules → List ℕ → Type 0
 AreRuleLines rules text = text ≡ rule_lines rules
 
--- ---- The lines that are printed of elements.
+-- ---- The lines that are printed of elements
 
 -- The element that a number chooses: that of the operands that are kept of it, and within the exactness bound that of the number
 -- itself (docs/EXACTNESS.md).
-abbrev pub IsElementOf : CompactNumber → ElementsAndRules → PackedValue → Type 0
+abbrev pub IsElementOf : CompactNumber → RuledElements → PackedValue → Type 0
 IsElementOf x given element =
     IsKeptElement (elements_of given.elements) given.rules x.significand.absolute x.exponent element
     × IsExactElement (elements_of given.elements) given.rules x.significand.absolute x.exponent element
 
 -- the line with its text
-abbrev pub IsElementLine : CompactNumber → ElementsAndRules → List ℕ → Type 0
+abbrev pub IsElementLine : CompactNumber → RuledElements → List ℕ → Type 0
 IsElementLine x given text = (element : PackedValue) × (text ≡ line element.text) × IsElementOf x given element
 
--- The line with the message of a word that writes a number: the text of the element that the number chooses, filled by the word
--- (docs/MESSAGES.md); within the exactness bound it is that of the number itself.
-abbrev pub IsMessageLine : List ℕ → ElementsAndRules → List ℕ → Type 0
-IsMessageLine word given text =
+-- The line with the message of a number: the text of the element that the number chooses, filled by the number's word
+-- (docs/MESSAGES.md); within the exactness bound the element is that of the number itself.
+abbrev pub IsMessageLine : CompactNumber → List ℕ → RuledElements → List ℕ → Type 0
+IsMessageLine x word given text =
     (message : List ℕ) × (text ≡ line message)
-    × IsMessageOf (IsKeptElement (elements_of given.elements) given.rules) word message
-    × IsMessageOf (IsExactElement (elements_of given.elements) given.rules) word message
+    × IsMessageWith (IsKeptElement (elements_of given.elements) given.rules) x word message
+    × IsMessageWith (IsExactElement (elements_of given.elements) given.rules) x word message

@@ -1,30 +1,29 @@
 //! The command `category`.
 
-ghost use Rattle.icu_plurals.specs.RuleTexts.{TextReader, TellsTexts};
 ghost use Rattle.icu_plurals.specs.Categories.{name_of};
 ghost use Rattle.std.specs.Prelude.{◌≡◌};
-ghost use Rattle.plurals_cli.specs.Answer.{AnswersFrom, Gives};
-ghost use Rattle.plurals_cli.specs.Input.{rules_of};
+ghost use Rattle.plurals_cli.specs.Answer.{AnswersFrom};
+ghost use Rattle.plurals_cli.specs.Input.{rules_for};
+ghost use Rattle.plurals_cli.specs.Inner.CallAnswers.{GivesText};
+ghost use Rattle.plurals_cli.specs.Inner.PrivateViews.{document_view};
 ghost use Rattle.plurals_cli.specs.Lines.{IsCategoryLine, line};
 
-use crate::document::{document_of, rules_for};
+use crate::document::{Document, rules_for};
 use crate::error::RunError;
 use icu_plurals::{CompactDecimal, PluralCategory, PluralRuleType, PluralRules};
-use std::alloc::Global;
 use std::borrow::CowStr;
 
-// The line for a number under the rules of a locale in the document of the bytes.
+// The line for a number under the rules that a document has for a locale.
 pub(crate) fn category_line(
-    alloc: Global,
-    bytes: &[u8],
+    document: &Document,
     locale: &str,
     rule_type: PluralRuleType,
     number: &CompactDecimal,
 ) -> Result<CowStr<'static>, RunError>
-    ensures { (texts : TextReader) → TellsTexts texts → Gives (AnswersFrom (IsCategoryLine number.now) (rules_of texts rule_type locale.now bytes.now)) result }
+    ensures { GivesText (AnswersFrom (IsCategoryLine number.now)
+        (rules_for rule_type locale.now (document_view document.now))) result }
 {
-    let document = document_of(alloc, bytes)?;
-    let rules = PluralRules::from_data(rules_for(&document, locale, rule_type)?);
+    let rules = PluralRules::from_data(rules_for(document, locale, rule_type)?);
     let category = rules.category_for_compact(number);
     Ok(CowStr::Borrowed(line_of(category)))
 }

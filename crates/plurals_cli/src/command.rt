@@ -2,7 +2,7 @@
 
 ghost use Rattle.std.specs.Prelude.{◌≡◌, map, option_map};
 ghost use Rattle.plurals_cli.specs.Commands.{command_of, of_two, of_three, of_four, type_of};
-ghost use Rattle.plurals_cli.specs.Inner.CommandWords.{seen};
+ghost use Rattle.plurals_cli.specs.Inner.PrivateViews.{command_view};
 
 use icu_plurals::PluralRuleType;
 
@@ -25,7 +25,7 @@ pub(crate) enum Command<'a> {
 
 // The command of the words, if they are one.
 pub(crate) fn command_of<'a>(words: &[&'a str]) -> Option<Command<'a>>
-    ensures { option_map seen result ≡ command_of (map (λ w. w.now) words.now) }
+    ensures { option_map command_view result ≡ command_of (map (λ w. w.now) words.now) }
 {
     match words {
         [command, first, second] => of_two(command, first, second),
@@ -37,7 +37,7 @@ pub(crate) fn command_of<'a>(words: &[&'a str]) -> Option<Command<'a>>
 
 // A command with two words behind it.
 fn of_two<'a>(command: &str, first: &'a str, second: &'a str) -> Option<Command<'a>>
-    ensures { option_map seen result ≡ of_two command.now first.now second.now }
+    ensures { option_map command_view result ≡ of_two command.now first.now second.now }
 {
     if command == "test" {
         Some(Command::Test(first, second))
@@ -55,7 +55,7 @@ fn of_three<'a>(
     rule_type: &str,
     number: &'a str,
 ) -> Option<Command<'a>>
-    ensures { option_map seen result ≡ of_three command.now locale.now rule_type.now number.now }
+    ensures { option_map command_view result ≡ of_three command.now locale.now rule_type.now number.now }
 {
     if command == "category" {
         Some(Command::Category(locale, type_of(rule_type)?, number))
@@ -76,7 +76,7 @@ fn of_four<'a>(
     start: &'a str,
     end: &'a str,
 ) -> Option<Command<'a>>
-    ensures { option_map seen result ≡ of_four command.now locale.now rule_type.now start.now end.now }
+    ensures { option_map command_view result ≡ of_four command.now locale.now rule_type.now start.now end.now }
 {
     if command == "range" {
         Some(Command::Range(locale, type_of(rule_type)?, start, end))

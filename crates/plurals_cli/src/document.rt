@@ -1,10 +1,12 @@
-//! The rules and ranges that a document has for a locale.
+//! The document that an input is, and the rules and ranges that it has for a locale.
 
 ghost use Rattle.serde_json.specs.View.{view};
 ghost use Rattle.icu_plurals.specs.DocumentJson.{document_of_json};
 ghost use Rattle.icu_plurals.specs.FiveRules.{rules_of as data_of};
-ghost use Rattle.icu_plurals.specs.RuleTexts.{TextReader, TellsTexts};
-ghost use Rattle.plurals_cli.specs.Input.{GivesValue, document_of, or_bad, or_fault, ranged_for, rules_for, value_of};
+ghost use Rattle.plurals_cli.specs.Input.{document_of, json_of, or_bad, ranged_for, rules_for};
+ghost use Rattle.plurals_cli.specs.Inner.CallAnswers.{GivesValue};
+ghost use Rattle.plurals_cli.specs.Inner.PrivateViews.{document_view};
+ghost use Rattle.plurals_cli.specs.Steps.{or_fault};
 ghost use Rattle.plurals_cli.specs.declared.error.RunError.TheVariants.{Json};
 
 use crate::error::RunError;
@@ -16,9 +18,25 @@ use icu_plurals::{
 use serde_json::Value;
 use std::alloc::Global;
 
+// A document: its JSON value, and the maps of rules and of ranges in it.
+#[derive(Drop)]
+pub(crate) struct Document {
+    pub(crate) value: Value,
+    maps: JsonProvider,
+}
+
+// The document that the bytes write.
+pub(crate) fn document_of(alloc: Global, bytes: &[u8]) -> Result<Document, RunError>
+    ensures { GivesValue document_view (document_of bytes.now) result }
+{
+    let value = value_of(alloc, bytes)?;
+    let maps = maps_of(alloc, &value)?;
+    Ok(Document { value, maps })
+}
+
 // The JSON value that the bytes write.
-pub(crate) fn value_of(alloc: Global, bytes: &[u8]) -> Result<Value, RunError>
-    ensures { GivesValue view (or_fault Json (value_of bytes.now)) result }
+fn value_of(alloc: Global, bytes: &[u8]) -> Result<Value, RunError>
+    ensures { GivesValue view (or_fault Json (json_of bytes.now)) result }
 {
     match Value::from_slice(alloc, bytes) {
         Ok(value) => Ok(value),
@@ -32,20 +50,12 @@ pub(crate) fn value_of(alloc: Global, bytes: &[u8]) -> Result<Value, RunError>
     }
 }
 
-// The document that the bytes write.
-pub(crate) fn document_of(alloc: Global, bytes: &[u8]) -> Result<JsonProvider, RunError>
-    ensures { (texts : TextReader) → TellsTexts texts → GivesValue (λ document. document) (document_of texts bytes.now) result }
-{
-    let value = value_of(alloc, bytes)?;
-    document_in(alloc, &value)
-}
-
-// The document that a JSON value is.
-pub(crate) fn document_in(alloc: Global, value: &Value) -> Result<JsonProvider, RunError>
-    ensures { (texts : TextReader) → TellsTexts texts → GivesValue (λ document. document) (or_bad (document_of_json texts (view value.now))) result }
+// The maps that a JSON value stands for.
+fn maps_of(alloc: Global, value: &Value) -> Result<JsonProvider, RunError>
+    ensures { GivesValue (λ maps. maps) (or_bad (document_of_json (view value.now))) result }
 {
     match JsonProvider::from_value(alloc, value) {
-        Ok(document) => Ok(document),
+        Ok(maps) => Ok(maps),
         Err(JsonError::Memory) => Err(RunError::Memory),
         Err(refusal) => Err(RunError::Document(refusal)),
     }
@@ -53,15 +63,15 @@ pub(crate) fn document_in(alloc: Global, value: &Value) -> Result<JsonProvider, 
 
 // The rules of a type that the document has for a locale.
 pub(crate) fn rules_for<'a>(
-    document: &'a JsonProvider,
+    document: &'a Document,
     locale: &str,
     rule_type: PluralRuleType,
 ) -> Result<PluralRulesData<'a>, RunError>
-    ensures { GivesValue data_of (rules_for rule_type locale.now document.now) result }
+    ensures { GivesValue data_of (rules_for rule_type locale.now (document_view document.now)) result }
 {
     let found = match rule_type {
-        PluralRuleType::Cardinal => document.load_cardinal(locale),
-        PluralRuleType::Ordinal => document.load_ordinal(locale),
+        PluralRuleType::Cardinal => document.maps.load_cardinal(locale),
+        PluralRuleType::Ordinal => document.maps.load_ordinal(locale),
     };
     match found {
         Ok(rules) => Ok(rules),
@@ -71,14 +81,14 @@ pub(crate) fn rules_for<'a>(
 
 // The same with the ranges that the document has for the locale.
 pub(crate) fn ranged_for<'a>(
-    document: &'a JsonProvider,
+    document: &'a Document,
     locale: &str,
     rule_type: PluralRuleType,
 ) -> Result<PluralRulesWithRanges<PluralRules<'a>>, RunError>
-    ensures { GivesValue (λ ranged. ranged) (ranged_for rule_type locale.now document.now) result }
+    ensures { GivesValue (λ ranged. ranged) (ranged_for rule_type locale.now (document_view document.now)) result }
 {
     let options = PluralRulesOptions::from(rule_type);
-    let Ok(ranged) = PluralRulesWithRanges::try_new_unstable(document, locale, options) else {
+    let Ok(ranged) = PluralRulesWithRanges::try_new_unstable(&document.maps, locale, options) else {
         return Err(RunError::Locale);
     };
     Ok(ranged)

@@ -3,36 +3,41 @@
 ghost use Rattle.std.specs.Prelude.{codes};
 ghost use Rattle.serde_json.specs.Find.{get};
 ghost use Rattle.serde_json.specs.View.{view};
-ghost use Rattle.icu_plurals.specs.RuleTexts.{TextReader, TellsTexts};
-ghost use Rattle.plurals_cli.specs.Input.{document_with, elements_of_json, GivesValue, or_bad};
+ghost use Rattle.plurals_cli.specs.Input.{elements_at_key, elements_for, or_bad};
+ghost use Rattle.plurals_cli.specs.Inner.CallAnswers.{GivesValue};
+ghost use Rattle.plurals_cli.specs.Inner.PrivateViews.{document_view, elements_view};
 
-use crate::document::{document_in, value_of};
+use crate::document::{Document, rules_for};
 use crate::error::RunError;
 use icu_plurals::provider::PluralElementsPackedCow;
-use icu_plurals::{JsonError, JsonProvider};
+use icu_plurals::{JsonError, PluralRuleType, PluralRules};
 use serde_json::Value;
 use std::alloc::Global;
 
-// The maps of a document, and its elements.
+// The elements of a document, and the rules that choose among them.
 #[derive(Drop)]
-pub(crate) struct WithElements {
-    pub(crate) document: JsonProvider,
+pub(crate) struct RuledElements<'a> {
     pub(crate) elements: PluralElementsPackedCow<'static>,
+    pub(crate) rules: PluralRules<'a>,
 }
 
-// The document that the bytes write, with its elements.
-pub(crate) fn document_with(alloc: Global, bytes: &[u8]) -> Result<WithElements, RunError>
-    ensures { (texts : TextReader) → TellsTexts texts → GivesValue (λ given. given) (document_with texts bytes.now) result }
+// The elements that the document has, with its rules of a type for a locale.
+pub(crate) fn elements_for<'a>(
+    alloc: Global,
+    document: &'a Document,
+    locale: &str,
+    rule_type: PluralRuleType,
+) -> Result<RuledElements<'a>, RunError>
+    ensures { GivesValue elements_view (elements_for rule_type locale.now (document_view document.now)) result }
 {
-    let value = value_of(alloc, bytes)?;
-    let document = document_in(alloc, &value)?;
-    let elements = elements_of(alloc, &value)?;
-    Ok(WithElements { document, elements })
+    let elements = elements_of(alloc, &document.value)?;
+    let rules = PluralRules::from_data(rules_for(document, locale, rule_type)?);
+    Ok(RuledElements { elements, rules })
 }
 
 // The elements of the document that a JSON value is.
 fn elements_of(alloc: Global, value: &Value) -> Result<PluralElementsPackedCow<'static>, RunError>
-    ensures { GivesValue (λ elements. elements) (or_bad (elements_of_json (get (codes "elements") (view value.now)))) result }
+    ensures { GivesValue (λ elements. elements) (or_bad (elements_at_key (get (codes "elements") (view value.now)))) result }
 {
     let Some(elements) = value.get("elements") else {
         return Err(RunError::Document(JsonError::Shape));

@@ -3,20 +3,22 @@
 ghost use Rattle.std.specs.Prelude.{◌≡◌};
 ghost use Rattle.std.specs.Char.{is_ascii_digit};
 ghost use Rattle.std.specs.List.{list_all};
-ghost use Rattle.plurals_cli.specs.Answer.{integer_of, is_numeral};
+ghost use Rattle.plurals_cli.specs.Inner.CallAnswers.{GivesValue};
+ghost use Rattle.plurals_cli.specs.NumberWords.{integer_of, is_numeral};
 
+use crate::error::RunError;
 use icu_plurals::DecimalError;
 
 // The number of a word of one or more digits. The form is decided before the limit.
-pub(crate) fn integer(word: &str) -> Result<u64, DecimalError>
-    ensures { result ≡ integer_of word.now }
+pub(crate) fn integer(word: &str) -> Result<u64, RunError>
+    ensures { GivesValue (λ n. n) (integer_of word.now) result }
 {
     if !is_numeral(word) {
-        return Err(DecimalError::Syntax);
+        return Err(RunError::Number(DecimalError::Syntax));
     }
     match word.parse::<u64>() {
         Ok(number) => Ok(number),
-        Err(_) => Err(DecimalError::Limit),
+        Err(_) => Err(RunError::Number(DecimalError::Limit)),
     }
 }
 

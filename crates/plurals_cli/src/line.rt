@@ -2,7 +2,7 @@
 
 ghost use Rattle.std.specs.Prelude.{◌≡◌, IfOk, Ok, string_bytes};
 ghost use Rattle.std.specs.Cow.{cow_str_bytes};
-ghost use Rattle.plurals_cli.specs.Input.{GivesValue};
+ghost use Rattle.plurals_cli.specs.Inner.CallAnswers.{GivesValue};
 ghost use Rattle.plurals_cli.specs.Lines.{line};
 
 use crate::error::RunError;

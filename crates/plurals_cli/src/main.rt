@@ -1,9 +1,11 @@
 //! The program `plurals`: plural rules from a command line.
 #![tactic(auto)]
 
+mod answer;
 mod arguments;
 mod category_command;
 mod command;
+mod condition;
 mod document;
 mod elements;
 mod error;
@@ -13,6 +15,7 @@ mod line;
 mod message_command;
 mod number;
 mod print_command;
+mod query;
 mod range_command;
 mod run;
 mod select_command;
@@ -27,7 +30,7 @@ use std::process::ExitCode;
 mod tests;
 
 // Answers the words of the command line.
-fn answer(rt: &HostRuntime) -> Result<(), RunError> {
+fn answer_words(rt: &HostRuntime) -> Result<(), RunError> {
     let owned = arguments(rt.alloc(), rt)?;
     let Ok(words) = owned
         .iter()
@@ -45,7 +48,7 @@ fn answer(rt: &HostRuntime) -> Result<(), RunError> {
 }
 
 fn main(rt: HostRuntime) -> ExitCode {
-    match answer(&rt) {
+    match answer_words(&rt) {
         Ok(()) => ExitCode::SUCCESS,
         Err(fault) => {
             let _ = eprintln!(rt; "plurals: {fault}");

@@ -1,38 +1,36 @@
 //! The command `message`.
 
-ghost use Rattle.icu_plurals.specs.RuleTexts.{TextReader, TellsTexts};
-ghost use Rattle.plurals_cli.specs.Answer.{AnswersFrom, Gives};
+ghost use Rattle.plurals_cli.specs.Answer.{AnswersFrom};
+ghost use Rattle.plurals_cli.specs.Input.{elements_for};
+ghost use Rattle.plurals_cli.specs.Inner.CallAnswers.{GivesText};
+ghost use Rattle.plurals_cli.specs.Inner.PrivateViews.{document_view};
 ghost use Rattle.plurals_cli.specs.Lines.{IsMessageLine};
-ghost use Rattle.plurals_cli.specs.Input.{elements_of};
-ghost use Rattle.plurals_cli.specs.NumberWords.{HasNoFault};
 
-use crate::document::rules_for;
-use crate::elements::document_with;
+use crate::document::Document;
+use crate::elements::elements_for;
 use crate::error::RunError;
 use crate::line::ended;
-use icu_plurals::{PluralRuleType, PluralRules};
-use plural_message::{Message, MessageError};
+use icu_plurals::{CompactDecimal, PluralRuleType};
+use plural_message::Message;
 use std::alloc::Global;
 use std::borrow::CowStr;
 
-// The line for a word that writes a number: its message by the elements in the document of the bytes, under the rules of a locale
-// there.
+// The line for a number and its word: the number's message by the elements in a document, under the rules of a locale there.
 pub(crate) fn message_line(
     alloc: Global,
-    bytes: &[u8],
+    document: &Document,
     locale: &str,
     rule_type: PluralRuleType,
+    number: &CompactDecimal,
     word: &str,
 ) -> Result<CowStr<'static>, RunError>
-    requires { HasNoFault word.now }
-    ensures { (texts : TextReader) → TellsTexts texts → Gives (AnswersFrom (IsMessageLine word.now) (elements_of texts rule_type locale.now bytes.now)) result }
+    ensures { GivesText (AnswersFrom (IsMessageLine number.now word.now)
+        (elements_for rule_type locale.now (document_view document.now))) result }
 {
-    let given = document_with(alloc, bytes)?;
-    let rules = PluralRules::from_data(rules_for(&given.document, locale, rule_type)?);
+    let given = elements_for(alloc, document, locale, rule_type)?;
     let message = Message::new(given.elements.as_packed());
-    match message.format(alloc, word, &rules) {
+    match message.format_number(alloc, number, word, &given.rules) {
         Ok(text) => ended(text),
-        Err(MessageError::Number(fault)) => Err(RunError::Number(fault)),
-        Err(MessageError::Memory) => Err(RunError::Memory),
+        Err(_) => Err(RunError::Memory),
     }
 }

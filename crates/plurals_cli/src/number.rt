@@ -1,6 +1,6 @@
 //! The word NUMBER of a command.
 
-ghost use Rattle.plurals_cli.specs.NumberWords.{GivesNumber};
+ghost use Rattle.plurals_cli.specs.Inner.CallAnswers.{GivesNumber};
 
 use crate::error::RunError;
 use icu_plurals::{CompactDecimal, DecimalError};

@@ -2,12 +2,13 @@
 
 ghost use Rattle.std.specs.Prelude.{◌≡◌, ◌++◌, OnOk, IfOk, string_bytes};
 ghost use Rattle.icu_plurals.specs.FiveRules.{rules_of as data_of};
-ghost use Rattle.icu_plurals.specs.RuleTexts.{TextReader, TellsTexts};
-ghost use Rattle.plurals_cli.specs.Answer.{AnswersFrom, Gives};
-ghost use Rattle.plurals_cli.specs.Input.{rules_of};
+ghost use Rattle.plurals_cli.specs.Answer.{AnswersFrom};
+ghost use Rattle.plurals_cli.specs.Input.{rules_for};
+ghost use Rattle.plurals_cli.specs.Inner.CallAnswers.{GivesText};
+ghost use Rattle.plurals_cli.specs.Inner.PrivateViews.{document_view};
 ghost use Rattle.plurals_cli.specs.Lines.{AreRuleLines, rule_line, rule_lines};
 
-use crate::document::{document_of, rules_for};
+use crate::document::{Document, rules_for};
 use crate::error::RunError;
 use icu_plurals::provider::rules::runtime::ast::Rule;
 use icu_plurals::provider::{PluralRulesData, RawPluralCategory};
@@ -15,17 +16,17 @@ use icu_plurals::{PluralCategory, PluralRuleType};
 use std::alloc::{AllocError, Global};
 use std::borrow::CowStr;
 
-// The lines of the rules of a locale in the document of the bytes.
+// The lines of the rules that a document has for a locale.
 pub(crate) fn rule_lines(
     alloc: Global,
-    bytes: &[u8],
+    document: &Document,
     locale: &str,
     rule_type: PluralRuleType,
 ) -> Result<CowStr<'static>, RunError>
-    ensures { (texts : TextReader) → TellsTexts texts → Gives (AnswersFrom AreRuleLines (rules_of texts rule_type locale.now bytes.now)) result }
+    ensures { GivesText (AnswersFrom AreRuleLines
+        (rules_for rule_type locale.now (document_view document.now))) result }
 {
-    let document = document_of(alloc, bytes)?;
-    let rules = rules_for(&document, locale, rule_type)?;
+    let rules = rules_for(document, locale, rule_type)?;
     match lines_of(alloc, &rules) {
         Ok(lines) => Ok(CowStr::Owned(lines)),
         Err(_) => Err(RunError::Memory),

@@ -1,26 +1,16 @@
 //! Answers the words of a command line.
 
-ghost use Rattle.std.specs.Prelude.{◌≡◌, List, ℕ, map, Some};
-ghost use Rattle.icu_plurals.specs.RuleTexts.{TextReader, TellsTexts};
-ghost use Rattle.plurals_cli.specs.Answer.{AnswersCommand, AnswersCategory, AnswersFrom, AnswersMessage, AnswersRange, AnswersSelect, GivesAfterReading, IsAnswered, IsInput, IsNotRead, IsRead, NeedsInput};
-ghost use Rattle.plurals_cli.specs.Inner.CommandWords.{seen};
-ghost use Rattle.plurals_cli.specs.Commands.{command_of};
-ghost use Rattle.plurals_cli.specs.Input.{elements_in, ranged_in, rules_in};
-ghost use Rattle.plurals_cli.specs.NumberWords.{HasNoFault};
-ghost use Rattle.plurals_cli.specs.Lines.{AreRuleLines};
+ghost use Rattle.std.specs.Prelude.{◌≡◌, List, ℕ, map};
+ghost use Rattle.plurals_cli.specs.Answer.{AnswersQuery, AnswersWords, IsAnswered, IsInput, IsNotRead, IsRead};
+ghost use Rattle.plurals_cli.specs.Inner.CallAnswers.{GivesAfterReading, IsOfDocument};
+ghost use Rattle.plurals_cli.specs.Inner.PrivateViews.{lookup_view, query_view};
+ghost use Rattle.plurals_cli.specs.Queries.{NeedsInput, of_document};
 
-use crate::category_command::category_line;
-use crate::command::{Command, command_of};
+use crate::answer::text_in;
 use crate::error::RunError;
 use crate::input::read_input;
-use crate::message_command::message_line;
-use crate::number::number;
-use crate::print_command::rule_lines;
-use crate::range_command::range_line;
-use crate::select_command::element_line;
-use crate::test_command::test_line;
-use icu_plurals::PluralRuleType;
-use icu_plurals::laws::texts_give_one_answer;
+use crate::query::{Lookup, Query, query_of};
+use crate::test_command::truth_line;
 use std::alloc::Global;
 use std::borrow::CowStr;
 use std::io::{Read, Write};
@@ -52,145 +42,46 @@ pub fn run<R: Read, W: Write>(
     writer: &mut W,
 ) -> Result<(), RunError>
     // The answer is that of some input, which is what the reader had left, where that is known.
-    ensures answers { (texts : TextReader) → TellsTexts texts → (input : List ℕ) × IsInput (R.remaining reader.old) input
-        × IsAnswered (AnswersCommand texts (command_of (map (λ w. w.now) words.now)) input) (W.contents writer.old) (W.contents writer.new) result }
-    ensures reads { NeedsInput (command_of (map (λ w. w.now) words.now)) → IsRead (R.remaining reader.old) (R.remaining reader.new) result }
-    ensures reads_nothing { ¬ (NeedsInput (command_of (map (λ w. w.now) words.now))) → (reader.new ≡ reader.old) × IsNotRead result }
+    ensures answers { (input : List ℕ) × IsInput (R.remaining reader.old) input
+        × IsAnswered (AnswersWords (map (λ w. w.now) words.now) input) (W.contents writer.old) (W.contents writer.new) result }
+    ensures reads { NeedsInput (map (λ w. w.now) words.now) → IsRead (R.remaining reader.old) (R.remaining reader.new) result }
+    ensures reads_nothing { ¬ (NeedsInput (map (λ w. w.now) words.now)) → (reader.new ≡ reader.old) × IsNotRead result }
 {
-    let Some(command) = command_of(words) else {
-        return Err(RunError::Usage);
-    };
-    let text = answer(alloc, &command, reader)?;
+    let query = query_of(alloc, words)?;
+    let text = answer(alloc, &query, reader)?;
     match writer.write_all(text.as_str().as_bytes()) {
         Ok(()) => Ok(()),
         Err(_) => Err(RunError::Write),
     }
 }
 
-// The answer to a command.
+// The answer to what is asked. A truth value needs no input.
 fn answer<R: Read>(
     alloc: Global,
-    command: &Command<'_>,
+    query: &Query<'_>,
     reader: &mut R,
 ) -> Result<CowStr<'static>, RunError>
-    ensures answers { (texts : TextReader) → TellsTexts texts → (input : List ℕ) × IsInput (R.remaining reader.old) input
-        × GivesAfterReading (AnswersCommand texts (Some (seen command.now)) input) result }
-    ensures reads { NeedsInput (Some (seen command.now)) → IsRead (R.remaining reader.old) (R.remaining reader.new) result }
-    ensures reads_nothing { ¬ (NeedsInput (Some (seen command.now))) → (reader.new ≡ reader.old) × IsNotRead result }
+    ensures answers { (input : List ℕ) × IsInput (R.remaining reader.old) input
+        × GivesAfterReading (AnswersQuery (query_view query.now) input) result }
+    ensures reads { IsOfDocument (query_view query.now) → IsRead (R.remaining reader.old) (R.remaining reader.new) result }
+    ensures reads_nothing { ¬ (IsOfDocument (query_view query.now)) → (reader.new ≡ reader.old) × IsNotRead result }
 {
-    match command {
-        Command::Test(condition, integer) => test_line(alloc, condition, integer),
-        Command::Category(locale, rule_type, word) => {
-            category_answer(alloc, locale, *rule_type, word, reader)
-        }
-        Command::Range(locale, rule_type, start, end) => {
-            range_answer(alloc, locale, *rule_type, start, end, reader)
-        }
-        Command::Print(locale, rule_type) => print_answer(alloc, locale, *rule_type, reader),
-        Command::Select(locale, rule_type, word) => {
-            select_answer(alloc, locale, *rule_type, word, reader)
-        }
-        Command::Message(locale, rule_type, word) => {
-            message_answer(alloc, locale, *rule_type, word, reader)
-        }
+    match query {
+        Query::Test(condition, integer) => Ok(CowStr::Borrowed(truth_line(condition, *integer))),
+        Query::Document(lookup) => looked_up(alloc, lookup, reader),
     }
 }
 
-// The answer to `category`: the number is looked at before anything is read.
-fn category_answer<R: Read>(
+// What the document that the reader gives answers.
+fn looked_up<R: Read>(
     alloc: Global,
-    locale: &str,
-    rule_type: PluralRuleType,
-    word: &str,
+    lookup: &Lookup<'_>,
     reader: &mut R,
 ) -> Result<CowStr<'static>, RunError>
-    ensures answers { (texts : TextReader) → TellsTexts texts → (input : List ℕ) × IsInput (R.remaining reader.old) input
-        × GivesAfterReading (AnswersCategory (rules_in texts rule_type locale.now input) word.now) result }
-    ensures reads { HasNoFault word.now → IsRead (R.remaining reader.old) (R.remaining reader.new) result }
-    ensures reads_nothing { ¬ (HasNoFault word.now) → (reader.new ≡ reader.old) × IsNotRead result }
-{
-    // What a fault of the input tells of reading is told by any texts.
-    texts_give_one_answer();
-    let number = number(alloc, word)?;
-    let input = read_input(alloc, reader)?;
-    category_line(alloc, input.as_slice(), locale, rule_type, &number)
-}
-
-// The answer to `range`: the start is looked at before the end, and both before anything is read.
-fn range_answer<R: Read>(
-    alloc: Global,
-    locale: &str,
-    rule_type: PluralRuleType,
-    start: &str,
-    end: &str,
-    reader: &mut R,
-) -> Result<CowStr<'static>, RunError>
-    ensures answers { (texts : TextReader) → TellsTexts texts → (input : List ℕ) × IsInput (R.remaining reader.old) input
-        × GivesAfterReading (AnswersRange (ranged_in texts rule_type locale.now input) start.now end.now) result }
-    ensures reads { HasNoFault start.now × HasNoFault end.now → IsRead (R.remaining reader.old) (R.remaining reader.new) result }
-    ensures reads_nothing { ¬ (HasNoFault start.now × HasNoFault end.now) → (reader.new ≡ reader.old) × IsNotRead result }
-{
-    // What a fault of the input tells of reading is told by any texts.
-    texts_give_one_answer();
-    let start = number(alloc, start)?;
-    let end = number(alloc, end)?;
-    let input = read_input(alloc, reader)?;
-    range_line(alloc, input.as_slice(), locale, rule_type, &start, &end)
-}
-
-// The answer to `print`.
-fn print_answer<R: Read>(
-    alloc: Global,
-    locale: &str,
-    rule_type: PluralRuleType,
-    reader: &mut R,
-) -> Result<CowStr<'static>, RunError>
-    ensures answers { (texts : TextReader) → TellsTexts texts → (input : List ℕ) × IsInput (R.remaining reader.old) input
-        × GivesAfterReading (AnswersFrom AreRuleLines (rules_in texts rule_type locale.now input)) result }
+    ensures answers { (input : List ℕ) × IsInput (R.remaining reader.old) input
+        × GivesAfterReading (AnswersQuery (of_document (lookup_view lookup.now)) input) result }
     ensures reads { IsRead (R.remaining reader.old) (R.remaining reader.new) result }
 {
-    // What a fault of the input tells of reading is told by any texts.
-    texts_give_one_answer();
-    let bytes = read_input(alloc, reader)?;
-    rule_lines(alloc, bytes.as_slice(), locale, rule_type)
-}
-
-// The answer to `select`: the number is looked at before anything is read.
-fn select_answer<R: Read>(
-    alloc: Global,
-    locale: &str,
-    rule_type: PluralRuleType,
-    word: &str,
-    reader: &mut R,
-) -> Result<CowStr<'static>, RunError>
-    ensures answers { (texts : TextReader) → TellsTexts texts → (input : List ℕ) × IsInput (R.remaining reader.old) input
-        × GivesAfterReading (AnswersSelect (elements_in texts rule_type locale.now input) word.now) result }
-    ensures reads { HasNoFault word.now → IsRead (R.remaining reader.old) (R.remaining reader.new) result }
-    ensures reads_nothing { ¬ (HasNoFault word.now) → (reader.new ≡ reader.old) × IsNotRead result }
-{
-    // What a fault of the input tells of reading is told by any texts.
-    texts_give_one_answer();
-    let number = number(alloc, word)?;
     let input = read_input(alloc, reader)?;
-    element_line(alloc, input.as_slice(), locale, rule_type, &number)
-}
-
-// The answer to `message`: the number is looked at before anything is read.
-fn message_answer<R: Read>(
-    alloc: Global,
-    locale: &str,
-    rule_type: PluralRuleType,
-    word: &str,
-    reader: &mut R,
-) -> Result<CowStr<'static>, RunError>
-    ensures answers { (texts : TextReader) → TellsTexts texts → (input : List ℕ) × IsInput (R.remaining reader.old) input
-        × GivesAfterReading (AnswersMessage (elements_in texts rule_type locale.now input) word.now) result }
-    ensures reads { HasNoFault word.now → IsRead (R.remaining reader.old) (R.remaining reader.new) result }
-    ensures reads_nothing { ¬ (HasNoFault word.now) → (reader.new ≡ reader.old) × IsNotRead result }
-{
-    // What a fault of the input tells of reading is told by any texts.
-    texts_give_one_answer();
-    let _ = number(alloc, word)?;
-    let input = read_input(alloc, reader)?;
-    message_line(alloc, input.as_slice(), locale, rule_type, word)
+    text_in(alloc, input.as_slice(), lookup)
 }

@@ -1,34 +1,35 @@
 //! The command `select`.
 
-ghost use Rattle.icu_plurals.specs.RuleTexts.{TextReader, TellsTexts};
-ghost use Rattle.plurals_cli.specs.Answer.{AnswersFrom, Gives};
+ghost use Rattle.plurals_cli.specs.Answer.{AnswersFrom};
+ghost use Rattle.plurals_cli.specs.Input.{elements_for};
+ghost use Rattle.plurals_cli.specs.Inner.CallAnswers.{GivesText};
+ghost use Rattle.plurals_cli.specs.Inner.PrivateViews.{document_view};
 ghost use Rattle.plurals_cli.specs.Lines.{IsElementLine};
-ghost use Rattle.plurals_cli.specs.Input.{elements_of};
 
-use crate::document::rules_for;
-use crate::elements::document_with;
+use crate::document::Document;
+use crate::elements::elements_for;
 use crate::error::RunError;
 use crate::line::line;
 use icu_plurals::laws::kept_element_is_exact;
-use icu_plurals::{CompactDecimal, PluralOperands, PluralRuleType, PluralRules};
+use icu_plurals::{CompactDecimal, PluralOperands, PluralRuleType};
 use std::alloc::Global;
 use std::borrow::CowStr;
 
-// The line for a number: the text of the element that it chooses in the document of the bytes, under the rules of a locale there.
+// The line for a number: the text of the element that it chooses in a document, under the rules of a locale there.
 pub(crate) fn element_line(
     alloc: Global,
-    bytes: &[u8],
+    document: &Document,
     locale: &str,
     rule_type: PluralRuleType,
     number: &CompactDecimal,
 ) -> Result<CowStr<'static>, RunError>
-    ensures { (texts : TextReader) → TellsTexts texts → Gives (AnswersFrom (IsElementLine number.now) (elements_of texts rule_type locale.now bytes.now)) result }
+    ensures { GivesText (AnswersFrom (IsElementLine number.now)
+        (elements_for rule_type locale.now (document_view document.now))) result }
 {
     // Within the exactness bound the element is that of the number itself.
     kept_element_is_exact();
-    let given = document_with(alloc, bytes)?;
-    let rules = PluralRules::from_data(rules_for(&given.document, locale, rule_type)?);
+    let given = elements_for(alloc, document, locale, rule_type)?;
     let operands = PluralOperands::from(number);
-    let text = given.elements.get(operands, &rules);
+    let text = given.elements.get(operands, &given.rules);
     line(alloc, text)
 }

@@ -1,7 +1,8 @@
 -- A reader of the bytes of packed elements, for the view of checked bytes, the laws and private contracts. Not a definition of the subject.
-use Rattle.std.specs.Prelude.{◌≡◌, ℕ, ◌/◌, ◌%◌, List, [], ◌∷◌, map, take, drop, Bool, false, ◌&&◌, nat_le, if◌then◌else◌, nat_lt, IsTrue, Option, Some, None, unwrap_or, ⊤, ◌+◌, ◌++◌, length}
+use Rattle.std.specs.Prelude.{◌≡◌, ◌==◌, ℕ, ◌/◌, ◌%◌, List, [], ◌∷◌, map, take, drop, Bool, false, ◌&&◌, nat_le, if◌then◌else◌, nat_lt, IsTrue, Option, Some, None, unwrap_or, ⊤, ◌+◌, ◌++◌, length}
 use Rattle.std.proofs.Props.{props}
 use Rattle.std.specs.List.{AllByRecursion, AllByRecursion-prop}
+use Rattle.std.specs.Option.{option_or}
 use Rattle.std.specs.Str.{is_utf8}
 use Rattle.packed_list.specs.ListBytes.{ListBytes, list_bytes}
 use Rattle.packed_list.specs.Inner.ListReading.{items_in}
@@ -9,29 +10,30 @@ use Rattle.plural_base.specs.declared.category.PluralCategory.{PluralCategory}
 use Rattle.plural_base.specs.declared.category.PluralCategory.TheVariants.{Zero, One, Two, Few, Many, Other}
 use Rattle.icu_plurals.specs.declared.packed.error.ElementsBytesError.{ElementsBytesError}
 use Rattle.icu_plurals.specs.declared.packed.error.ElementsBytesError.TheVariants as errors
-use Rattle.icu_plurals.specs.ElementsFaults.{ElementsParts, IsShort, HasPadding, first_fault}
-use Rattle.icu_plurals.specs.PackedElements.{PackedValue, PackedItem, PackedElements, IsPackedItem, CanPackItems, ElementsBytes, items_of, item_bytes, zero_key, one_key, two_key, few_key, many_key}
+use Rattle.icu_plurals.specs.Elements.{Elements}
+use Rattle.icu_plurals.specs.ElementsFaults.{ElementsParts, IsShort, HasPadding, first_element_fault}
+use Rattle.icu_plurals.specs.PackedElements.{PackedValue, PackedItem, PackedElements, IsPackedItem, CanPackItems, ElementsBytes, items_of, item_bytes}
 
 -- the item that bytes hold
-abbrev pub item_in : List ℕ → PackedItem
-item_in [] = record { key = 0; value = record { metadata = 0; text = [] } }
-item_in (byte ∷ text) = record { key = byte / 16; value = record { metadata = byte % 16; text = text } }
+abbrev pub read_item : List ℕ → PackedItem
+read_item [] = record { key = 0; value = record { metadata = 0; text = [] } }
+read_item (byte ∷ text) = record { key = byte / 16; value = record { metadata = byte % 16; text = text } }
 
 -- the packed elements that bytes hold, with their first byte and what stands behind it
-abbrev pub elements_behind : ℕ → List ℕ → PackedElements
-elements_behind first [] = record { default = record { metadata = first % 16; text = [] }; items = None }
-elements_behind first (len ∷ bytes) =
+abbrev pub read_behind : ℕ → List ℕ → PackedElements
+read_behind first [] = record { default = record { metadata = first % 16; text = [] }; items = None }
+read_behind first (len ∷ bytes) =
     if nat_lt first 128 then record { default = record { metadata = first % 16; text = len ∷ bytes }; items = None }
-    else record { default = record { metadata = first % 16; text = take len bytes }; items = Some (map item_in (items_in (drop len bytes))) }
+    else record { default = record { metadata = first % 16; text = take len bytes }; items = Some (map read_item (items_in (drop len bytes))) }
 
 -- the packed elements that bytes hold, if they are those of some
-unfoldable pub elements_in : List ℕ → PackedElements
-elements_in [] = record { default = record { metadata = 0; text = [] }; items = None }
-elements_in (first ∷ bytes) = elements_behind first bytes
+unfoldable pub read_elements : List ℕ → PackedElements
+read_elements [] = record { default = record { metadata = 0; text = [] }; items = None }
+read_elements (first ∷ bytes) = read_behind first bytes
 
 -- the bytes are those of the packed elements that they hold
 abbrev pub AreElements : List ℕ → Type 0
-AreElements bytes = ElementsBytes (elements_in bytes) bytes
+AreElements bytes = ElementsBytes (read_elements bytes) bytes
 
 -- ---- a fact that bytes have in one way at most
 
@@ -60,7 +62,7 @@ is_item (byte ∷ text) = nat_le (byte / 16) 6 && is_utf8 text
 
 -- what is left is a list without a bad item
 abbrev pub AreGoodItems : List ℕ → Type 0
-AreGoodItems rest = (items : List (List ℕ)) × ListBytes items rest × (first_fault 0 items ≡ None)
+AreGoodItems rest = (items : List (List ℕ)) × ListBytes items rest × (first_element_fault 0 items ≡ None)
 
 abbrev pub IsGoodRest : Option (List ℕ) → Type 0
 IsGoodRest None = ⊤
@@ -80,12 +82,31 @@ pub record AreShown (parts : ElementsParts) (packed : PackedElements) : Type 0 w
 
 -- the key of a category's value: other's is the default
 abbrev pub category_key : PluralCategory → Option ℕ
-category_key Zero = Some zero_key
-category_key One = Some one_key
-category_key Two = Some two_key
-category_key Few = Some few_key
-category_key Many = Some many_key
+category_key Zero = Some 0
+category_key One = Some 1
+category_key Two = Some 2
+category_key Few = Some 3
+category_key Many = Some 4
 category_key Other = None
+
+-- ---- One walk over items.
+
+-- the value of a key, or else that of an item that has the key
+abbrev pub first_value : ℕ → Option PackedValue → PackedItem → Option PackedValue
+first_value key value item = if item.key == key then option_or value (Some item.value) else value
+
+-- the values by key, and that of an item, unless its key has one already
+abbrev pub with_item : Elements PackedValue → PackedItem → Elements PackedValue
+with_item e item = record {
+  other = e.other;
+  zero = first_value 0 e.zero item;
+  one = first_value 1 e.one item;
+  two = first_value 2 e.two item;
+  few = first_value 3 e.few item;
+  many = first_value 4 e.many item;
+  explicit_zero = first_value 5 e.explicit_zero item;
+  explicit_one = first_value 6 e.explicit_one item;
+}
 
 -- ---- The bytes of a default and of items.
 

@@ -4,7 +4,7 @@ ghost use Rattle.std.specs.Prelude.{◌≡◌, ◌+◌, ◌++◌, ◌<◌, ◌�
 ghost use Rattle.std.specs.List.{AllByRecursion};
 ghost use Rattle.arrayvec.specs.ArrayVec.{array_vec_len};
 ghost use Rattle.icu_plurals.specs.Elements.{each_by};
-ghost use Rattle.icu_plurals.specs.Inner.ElementsViews.{lent_value, number_of, bytes_of, lent_bytes};
+ghost use Rattle.icu_plurals.specs.Inner.ElementsViews.{lent_value, metadata_number, lent_item_bytes, lent_bytes};
 ghost use Rattle.icu_plurals.specs.PackedElements.{IsPackedItem, category_item, is_same_value, item_at, item_bytes, packed_items};
 
 use crate::elements::PluralElements;
@@ -22,7 +22,7 @@ pub(crate) struct Item<'a> {
 }
 
 impl<'a> ByteItem for Item<'a> {
-    ghost item_bytes = { bytes_of };
+    ghost item_bytes = { lent_item_bytes };
 
     #[inline]
     fn byte_count(&self) -> usize {
@@ -102,8 +102,8 @@ fn is_same(value: &(FourBitMetadata, &str), other: &(FourBitMetadata, &str)) -> 
 // The item of a key, and of metadata and a text.
 fn item_of(key: u8, metadata: FourBitMetadata, text: &str) -> Item<'_>
     requires { key ≤ 6 }
-    ensures bytes { bytes_of result ≡ item_bytes (record { key = key; value = record { metadata = number_of metadata; text = text.entry.now } }) }
-    ensures valid { IsPackedItem (record { key = key; value = record { metadata = number_of metadata; text = text.entry.now } }) }
+    ensures bytes { lent_item_bytes result ≡ item_bytes (record { key = key; value = record { metadata = metadata_number metadata; text = text.entry.now } }) }
+    ensures valid { IsPackedItem (record { key = key; value = record { metadata = metadata_number metadata; text = text.entry.now } }) }
 {
     Item {
         first: 16 * key + metadata.get(),

@@ -1,8 +1,8 @@
 //! The items beside the default of packed elements.
 
-ghost use Rattle.std.specs.Prelude.{◌≡◌, ◌/◌, ◌%◌, ◌<◌, MatchResult, IsOk, IsTrue, Err};
+ghost use Rattle.std.specs.Prelude.{◌≡◌, ◌/◌, ◌%◌, ◌<◌, ◌≤◌, length, MatchResult, IsOk, IsTrue, Err};
 ghost use Rattle.std.specs.Str.{is_utf8};
-ghost use Rattle.icu_plurals.specs.ElementsFaults.{HasItemsFault, first_fault, item_fault};
+ghost use Rattle.icu_plurals.specs.ElementsFaults.{HasItemsFault, first_element_fault, element_fault};
 ghost use Rattle.icu_plurals.specs.Inner.ElementsReading.{AreGoodItems};
 
 use crate::packed::error::ElementsBytesError;
@@ -27,12 +27,10 @@ pub(crate) fn check_items(rest: &[u8]) -> Result<(), ElementsBytesError>
 
 // What is wrong with the first bad item.
 fn first_fault_of(list: &PackedList<'_>) -> Option<ElementsBytesError>
-    ensures { result ≡ first_fault 0 list.now }
+    requires { length list.now ≤ 65535 }
+    ensures { result ≡ first_element_fault 0 list.now }
 {
-    for index in 0..list.len() {
-        let Some(item) = list.get(index) else {
-            unreachable!();
-        };
+    for (index, item) in list.iter().enumerate() {
         let fault = fault_of(index, item);
         if fault.is_some() {
             return fault;
@@ -43,7 +41,7 @@ fn first_fault_of(list: &PackedList<'_>) -> Option<ElementsBytesError>
 
 // What is wrong with the item at a place.
 fn fault_of(place: usize, item: &[u8]) -> Option<ElementsBytesError>
-    ensures { result ≡ item_fault place item.now }
+    ensures { result ≡ element_fault place item.now }
 {
     let Some((first, text)) = item.split_first() else {
         return Some(ElementsBytesError::ItemEmpty(place));

@@ -11,11 +11,11 @@ pub struct FourBitMetadata {
 
 impl FourBitMetadata {
     ghost use Rattle.std.specs.Prelude.{◌≡◌, ◌≤◌, ◌<◌, ◌%◌, ◌↔◌, IfSome, IsSome};
-    ghost use Rattle.icu_plurals.specs.Inner.ElementsViews.{number_of};
+    ghost use Rattle.icu_plurals.specs.Inner.ElementsViews.{metadata_number};
 
     /// The number as metadata, where it is at most 15.
     pub fn try_from_byte(byte: u8) -> Option<FourBitMetadata>
-        ensures same { IfSome result (λ metadata. number_of metadata ≡ byte) }
+        ensures same { IfSome result (λ metadata. metadata_number metadata ≡ byte) }
         ensures found { IsSome result ↔ (byte ≤ 15) }
     {
         if byte > 15 {
@@ -26,21 +26,21 @@ impl FourBitMetadata {
 
     /// No bit set.
     pub fn zero() -> FourBitMetadata
-        ensures { number_of result ≡ 0 }
+        ensures { metadata_number result ≡ 0 }
     {
         FourBitMetadata { value: 0 }
     }
 
     // What bits 0 to 3 of a byte say.
     pub(crate) fn of_low_bits(byte: u8) -> FourBitMetadata
-        ensures { number_of result ≡ byte % 16 }
+        ensures { metadata_number result ≡ byte % 16 }
     {
         FourBitMetadata { value: byte % 16 }
     }
 
     /// The number, at most 15.
     pub fn get(self) -> u8
-        ensures same { result ≡ number_of self }
+        ensures same { result ≡ metadata_number self }
         ensures below { result < 16 }
     {
         self.value

@@ -3,7 +3,7 @@
 ghost use Rattle.std.specs.Prelude.{◌≡◌, ◌≢◌, ◌++◌, ◌⊎◌, Some, Ok, Err, codes, IfOk, IfErr};
 ghost use Rattle.std.specs.Option.{option_copied};
 ghost use Rattle.plural_runtime.specs.PluralRuntimeErrors.{rule_error_text};
-ghost use Rattle.plural_runtime.specs.RuleOfText.{TextGives, rule_of_text};
+ghost use Rattle.plural_runtime.specs.RuleOfText.{IsPackedFrom, TextGives, rule_of_text};
 ghost use Rattle.plural_base.specs.Categories.{name_of};
 ghost use Rattle.plural_base.specs.RuleTexts.{IsRuleOf, IsRefused, IsFirstRefused};
 
@@ -98,7 +98,7 @@ fn rule_of(
 // The rule of a text.
 pub(crate) fn packed(alloc: Global, text: &str) -> Result<Rule<'static>, RuleError>
     ensures told { (result ≡ rule_of_text text.now) ⊎ (result ≡ Err RuleError.Memory) }
-    ensures ok { IfOk result (λ rule. TextGives text.now (Ok rule)) }
+    ensures ok { IfOk result (λ rule. IsPackedFrom text.now (Ok rule)) }
     ensures refused { IfErr result (λ e. TextGives text.now (Err e) ⊎ (e ≡ RuleError.Memory)) }
     ensures fits { IfErr result (λ e. e ≢ RuleError.Parse ParseError.ValueTooLarge) }
 {

@@ -1,9 +1,8 @@
 //! The printed texts of a condition's parts.
-#![tactic(auto, using(crate::proofs::Writes::one_call, crate::proofs::Writes::then_writes))]
+#![tactic(auto, using(crate::proofs::printing::Writes::one_call, crate::proofs::printing::Writes::then_writes))]
 
 use super::part::{Part, serialize_joined, serialize_prefixed};
 use crate::ast;
-use itoa::Buffer;
 use std::fmt;
 
 impl Part for ast::AndCondition {
@@ -94,7 +93,7 @@ impl Part for ast::Value {
     ghost text = { value_text };
 
     fn write_to<W: fmt::Write>(&self, w: &mut W) -> fmt::Result {
-        let mut digits = Buffer::new();
-        w.write_str(digits.format(self.0))
+        let number = self.0;
+        write!(w, "{number}")
     }
 }

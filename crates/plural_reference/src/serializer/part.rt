@@ -1,5 +1,5 @@
 //! The parts of a rule that print themselves, one after another or behind a prefix.
-#![tactic(auto, using(crate::proofs::Writes::one_call, crate::proofs::Writes::then_writes))]
+#![tactic(auto, using(crate::proofs::printing::Writes::one_call, crate::proofs::printing::Writes::then_writes))]
 
 ghost use Rattle.std.specs.Prelude.{◌≡◌, ℕ, List, OnOk};
 ghost use Rattle.std.specs.Option.{option_copied};

@@ -7,8 +7,7 @@ use Rattle.plural_reference.specs.declared.ast.Operator.{Operator}
 use Rattle.plural_reference.specs.declared.ast.Operator.TheVariants.{Eq, NotEq}
 use Rattle.plural_runtime.specs.declared.kinds.AndOr.{AndOr}
 use Rattle.plural_runtime.specs.declared.kinds.AndOr.TheVariants.{And, Or}
-use Rattle.plural_runtime.specs.PackedRelations.{PackedRelation}
-use Rattle.plural_runtime.specs.RuleBytes.{head_length, RuleBytes}
+use Rattle.plural_runtime.specs.PackedRelations.{PackedRelation, head_length, RuleBytes}
 
 -- what bit 7 of a byte says
 abbrev pub and_or_in : ℕ → AndOr

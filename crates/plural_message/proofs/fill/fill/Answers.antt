@@ -11,9 +11,12 @@ loop-before-preserved c = (
       let text = c.args.text.now in
       let front = string_bytes c.loop-before.filled in
       let before = c.in-Some.before.now in
-      let grown : string_bytes c.push_str-in-Some.new.self ≡ (front ++ before) ++ number = c.in_ok-push_str-2.ensures.bytes ∙ ap (λ l. l ++ number) c.in_ok-push_str.ensures.bytes in
-      let whole = c.loop-before.invariant.1 (before ++ (number ++ out)) (cut_filling number c.loop-before.rest.now before c.in-Some.after.now out c.in-Some.ensures.cases rest) in
-      subst (λ l. IsFilling number text l) (sym (ap (λ l. l ++ out) grown ∙ append_assoc (front ++ before) number out ∙ append_assoc front before (number ++ out))) whole,
+      let grown : string_bytes c.push_str-in-Some.new.self ≡ (front ++ before) ++ number =
+      c.in_ok-push_str-2.ensures.bytes ∙ ap (λ l. l ++ number) c.in_ok-push_str.ensures.bytes in
+      let whole = c.loop-before.invariant.1 (before ++ (number ++ out))
+      (cut_filling number c.loop-before.rest.now before c.in-Some.after.now out c.in-Some.ensures.cases rest) in
+      subst (λ l. IsFilling number text l)
+      (sym (ap (λ l. l ++ out) grown ∙ append_assoc (front ++ before) number out ∙ append_assoc front before (number ++ out))) whole,
 )
 
 pub returns : goal.returns

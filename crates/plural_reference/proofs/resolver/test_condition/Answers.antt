@@ -1,6 +1,6 @@
 use Rattle.std.proofs.Common.{◌≡◌, ◌==◌, length, false}
 use Rattle.plural_reference.specs.Truth.{tree_relation_truth}
-use Rattle.plural_reference.proofs.Folds.{is_true_of-map}
+use Rattle.plural_reference.proofs.exactness.Folds.{is_true_of-map}
 use Rattle.plural_reference.proofs.resolver.test_condition.Goals as goal
 
 pub returns-else-is_empty : goal.returns-else-is_empty

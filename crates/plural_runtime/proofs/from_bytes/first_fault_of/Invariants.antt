@@ -1,5 +1,5 @@
 use Rattle.std.proofs.Common.{◌≡◌, ◌+◌, length}
-use Rattle.plural_runtime.specs.RuleBytes.{first_relation_fault}
+use Rattle.plural_runtime.specs.PackedRelations.{first_relation_fault}
 use Rattle.plural_runtime.proofs.from_bytes.first_fault_of.Given as goal
 
 -- The first bad item of those that are left is the first of all.

@@ -2,7 +2,7 @@ use Rattle.std.proofs.Common.{◌∙◌, ap, sym}
 use Rattle.std.specs.Prelude.{flat_map}
 use Rattle.std.proofs.lemmas.Bool.Decides.{Decides-eqb}
 use Rattle.std.proofs.lemmas.Slice.Eq.{slice_eq-Decides}
-use Rattle.plural_runtime.specs.RuleBytes.{range_bytes}
+use Rattle.plural_runtime.specs.PackedRelations.{range_bytes}
 use Rattle.plural_runtime.specs.Inner.RuleReading.{ranges_in}
 use Rattle.plural_runtime.proofs.relation.same_ranges.Goals as goal
 

@@ -3,7 +3,7 @@ use Rattle.std.specs.Cmp.{second_so}
 use Rattle.std.specs.Fn.{iterate}
 use Rattle.std.specs.List.{list_all}
 use Rattle.plural_runtime.specs.declared.kinds.AndOr.TheVariants.{And, Or}
-use Rattle.plural_runtime.specs.RuleBytes.{is_relation}
+use Rattle.plural_runtime.specs.PackedRelations.{is_relation}
 use Rattle.plural_runtime.specs.Inner.RuleReading.{relation_in}
 use Rattle.plural_runtime.specs.PackedTruth.{needed_of_relation}
 use Rattle.plural_runtime.proofs.Counts.{steps_left}

@@ -1,7 +1,7 @@
 use Rattle.std.proofs.Common.{◌≡◌, map, IsTrue}
 use Rattle.std.specs.Fn.{iterate}
 use Rattle.std.specs.List.{list_all}
-use Rattle.plural_runtime.specs.RuleBytes.{is_relation}
+use Rattle.plural_runtime.specs.PackedRelations.{is_relation}
 use Rattle.plural_runtime.specs.Inner.RuleReading.{relation_in}
 use Rattle.plural_runtime.specs.PackedTruth.{packed_truth, needed_ranges}
 use Rattle.plural_runtime.proofs.Walks.{truth_left, needed_left}

@@ -1,4 +1,4 @@
-use Rattle.std.proofs.Common.{arith, ap, sym, map, ◌≡◌, ◌∙◌, ◌++◌, ◌∷◌, [], List}
+use Rattle.std.proofs.Common.{arith, ap, sym, map, ◌∙◌, ◌++◌, ◌∷◌, [], List}
 use Rattle.std.proofs.lemmas.Bool.{eqb-true, eqb-false}
 use Rattle.plural_reference.specs.declared.ast.AndCondition.{AndCondition}
 use Rattle.plural_reference.specs.declared.ast.Relation.{Relation}

@@ -7,7 +7,8 @@ use Rattle.icu_plurals.proofs.elements.PluralElements.try_for_each_mut.Goals as 
 pub returns-in_err-f-clause-err : goal.returns-in_err-f-clause-err
 returns-in_err-f-clause-err g c =
     let p = err_from_is_err_and c.from_residual.result c.from_residual.ensures.1 in
-    rw (p.1, p.2, ← c.self.view_is) (c.f.new.self, stops_here_changing _ _ _ _ _ _ _ (IfErr-at_err _ c.in_err-f.was (lent_err _ _ _ _ _ _ c.f.ensures)))
+    rw (p.1, p.2, ← c.self.view_is)
+    (c.f.new.self, stops_here_changing _ _ _ _ _ _ _ (IfErr-at_err _ c.in_err-f.was (lent_err _ _ _ _ _ _ c.f.ensures)))
 
 pub returns-in_err-try_change_place-clause-err : goal.returns-in_err-try_change_place-clause-err
 returns-in_err-try_change_place-clause-err g c =

@@ -14,19 +14,24 @@ use Rattle.icu_plurals.proofs.packed.PluralElementsPackedULE.encode.Goals.{After
 abbrev values : After-list_beside → Elements PackedValue
 values c = each_by lent_value c.args.elements.now
 
+-- what is packed as the default is other's value
 default_is : (c : After-list_beside) → lent_value c.other-default.result.now ≡ (values c).other
 default_is c = ap lent_value c.other-default.ensures
 
+-- the items that are lent are those that the elements are packed as
 items_are : (c : After-list_beside) → lent_bytes c.as_slice-items.result.now ≡ map item_bytes (packed_items (values c))
 items_are c = ap lent_bytes c.as_slice-items.ensures.value ∙ c.items_of-items.ensures.bytes
 
 -- ---- the refusals
 
+-- a default that is too long is told exactly where the elements have this fault
 long : (c : After-list_beside) → (c.list_beside.result ≡ Err DefaultLimit) ↔ (pack_fault (packed_of (values c)) ≡ Some DefaultLimit)
 long c =
-    let told = default_refused (values c) (lent_value c.other-default.result.now) c.as_slice-items.result.now (default_is c) (items_are c) in
+    let told = default_refused (values c) (lent_value c.other-default.result.now) c.as_slice-items.result.now (default_is c)
+    (items_are c) in
     ((λ h. told.0 (c.list_beside.ensures.default_limit.0 h)), (λ h. c.list_beside.ensures.default_limit.1 (told.1 h)))
 
+-- a start that is too high is told exactly where the elements have this fault
 high : (c : After-list_beside) → (c.list_beside.result ≡ Err StartLimit) ↔ (pack_fault (packed_of (values c)) ≡ Some StartLimit)
 high c =
     let told = start_refused (values c) (lent_value c.other-default.result.now) c.as_slice-items.result.now (default_is c) (items_are c) in
@@ -74,12 +79,14 @@ returns-in-Err-clause-start_limit c =
 
 -- ---- the bytes
 
+-- what is written are the bytes of what the elements are packed as
 is_encoded : (c : In-Ok) → ElementsBytes (packed_of (each_by lent_value c.args.elements.now)) c.in-Ok.bytes.items
 is_encoded c =
     let e = each_by lent_value c.args.elements.now in
     let lent = c.as_slice-items.result.now in
     let other : lent_value c.other-default.result.now ≡ e.other = ap lent_value c.other-default.ensures in
-    let same : lent_bytes lent ≡ map item_bytes (packed_items e) = ap lent_bytes c.as_slice-items.ensures.value ∙ c.items_of-items.ensures.bytes in
+    let same : lent_bytes lent ≡ map item_bytes (packed_items e) =
+    ap lent_bytes c.as_slice-items.ensures.value ∙ c.items_of-items.ensures.bytes in
     let told = c.in-Ok.ensures in
     encoded e lent c.in-Ok.bytes.items same c.items_of-items.ensures.valid (subst IsPackedValue other told.valid)
     (λ some. subst (λ value. length value.text ≤ 255) other (c.in_ok-list.ensures.default some))
@@ -90,4 +97,6 @@ pub returns-in-Ok-clause-ok : goal.returns-in-Ok-clause-ok
 returns-in-Ok-clause-ok c = is_encoded (goal.at.returns-in-Ok-clause-ok c).In-Ok
 
 pub returns-in-Ok-clause-answers : goal.returns-in-Ok-clause-answers
-returns-in-Ok-clause-answers c = answers_as c.read_again.ensures (each_by lent_value c.args.elements.now) c.in-Ok.bytes.items (is_encoded (goal.at.returns-in-Ok-clause-answers c).In-Ok)
+returns-in-Ok-clause-answers c =
+    answers_as c.read_again.ensures (each_by lent_value c.args.elements.now) c.in-Ok.bytes.items
+    (is_encoded (goal.at.returns-in-Ok-clause-answers c).In-Ok)

@@ -8,7 +8,8 @@ use Rattle.icu_plurals.proofs.packed.PluralElementsPackedULE.parse_bytes.Goals a
 
 pub returns-in-Err-clause-accepted : goal.returns-in-Err-clause-accepted
 returns-in-Err-clause-accepted c = λ elements h.
-    let good = c.in-Err.ensures.good (elements_are_good elements (lent_parts c.in_ok-parts.parts) c.args.bytes.now h c.in_ok-parts.ensures) in
+    let good = c.in-Err.ensures.good
+    (elements_are_good elements (lent_parts c.in_ok-parts.parts) c.args.bytes.now h c.in_ok-parts.ensures) in
     cc
 
 pub returns-in-Err-clause-refused : goal.returns-in-Err-clause-refused
@@ -25,7 +26,8 @@ returns-in-Err-clause-refused c = λ fault.
 
 pub from_checked-requires : goal.from_checked-requires
 from_checked-requires c =
-    good_are_elements c.read_again.ensures (lent_parts c.in_ok-parts.parts) c.args.bytes.now (λ i. omega (arith, c.type_inv.bytes i)) c.in_ok-parts.ensures c.in-Ok.ensures.sound
+    good_are_elements c.read_again.ensures (lent_parts c.in_ok-parts.parts) c.args.bytes.now
+    (λ i. omega (arith, c.type_inv.bytes i)) c.in_ok-parts.ensures c.in-Ok.ensures.sound
 
 pub returns-in-Ok-clause-accepted : goal.returns-in-Ok-clause-accepted
 returns-in-Ok-clause-accepted c = λ elements h.
@@ -35,5 +37,6 @@ returns-in-Ok-clause-accepted c = λ elements h.
 pub returns-in-Ok-clause-refused : goal.returns-in-Ok-clause-refused
 returns-in-Ok-clause-refused c = λ fault. (
   (λ same. cc),
-  (λ other. let e = c.in-Ok.ensures.only fault (fault_of_parts c.args.bytes.now (lent_parts c.in_ok-parts.parts) fault c.in_ok-parts.ensures other) in cc),
+  (λ other. let e = c.in-Ok.ensures.only fault
+      (fault_of_parts c.args.bytes.now (lent_parts c.in_ok-parts.parts) fault c.in_ok-parts.ensures other) in cc),
 )

@@ -1,7 +1,10 @@
-use Rattle.std.proofs.Common.{◌≡◌, drop}
-use Rattle.icu_plurals.specs.ElementsFaults.{first_fault}
+use Rattle.std.proofs.Common.{◌≡◌, ◌+◌, ◌≤◌, length}
+use Rattle.icu_plurals.specs.ElementsFaults.{first_element_fault}
 use Rattle.icu_plurals.proofs.packed.items.first_fault_of.Given as goal
 
--- The first bad item of those that are left is the first of all.
+-- The first bad item of those that are left is the first of all, and places are counted as far as there are items.
 abbrev pub invariant-loop-index : goal.invariant-loop-index
-invariant-loop-index l = first_fault l.index (drop l.index l.list) ≡ first_fault 0 l.list
+invariant-loop-index l = record {
+  first : first_element_fault l.index l.item-iterator ≡ first_element_fault 0 l.list;
+  counted : l.index + length l.item-iterator ≤ 65535;
+}

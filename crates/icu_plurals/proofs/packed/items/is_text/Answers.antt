@@ -4,6 +4,7 @@ use Rattle.std.specs.Str.{IsUtf8, is_utf8}
 use Rattle.std.proofs.lemmas.Str.{is_utf8-from_IsUtf8, IsUtf8-from_is_utf8}
 use Rattle.icu_plurals.proofs.packed.items.is_text.Goals as goal
 
+-- the test is false of bytes that aren't UTF-8
 not_utf8 : (bytes : List ℕ) → ¬ (IsUtf8 bytes) → false ≡ is_utf8 bytes
 not_utf8 bytes n = by (is_utf8 bytes) refl
   where

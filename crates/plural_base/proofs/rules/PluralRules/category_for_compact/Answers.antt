@@ -5,7 +5,7 @@ use Rattle.plural_base.proofs.ExactCategories.{first_category-exact}
 use Rattle.plural_base.proofs.rules.PluralRules.category_for_compact.Goals as goal
 
 pub returns-clause-exact : goal.returns-clause-exact
-returns-clause-exact c = λ texts conditions exact read within are_exact.
+returns-clause-exact c = λ texts conditions exact given read within are_exact.
     let digits = c.args.number.now.significand.absolute in
     let exponent = c.args.number.now.exponent in
     let rules = c.args.self.now in
@@ -14,4 +14,4 @@ returns-clause-exact c = λ texts conditions exact read within are_exact.
     c.category_for.ensures.first
     ∙ first_category-exact c.kept_operands_agree.ensures.conditions c.texts_give_one_answer.ensures digits exponent c.from-operands.result
     exact
-    texts conditions rules kept read
+    texts conditions rules kept given read

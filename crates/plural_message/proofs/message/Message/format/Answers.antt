@@ -23,4 +23,5 @@ handed_on r answer no_memory was is told = (λ e. absurd cc, λ p. (let e : r �
 pub returns-in_err-compact-clause-syntax : goal.returns-in_err-compact-clause-syntax
 returns-in_err-compact-clause-syntax c =
     let p = err_from_is_err_and c.from_residual.result c.from_residual.ensures.1 in
-    handed_on c.from_str.result c.from_residual.result c.in_err-compact.field-0.0 c.in_err-compact.was (p.1 ∙ ap Err p.2) c.from_str.ensures.syntax
+    handed_on c.from_str.result c.from_residual.result c.in_err-compact.field-0.0 c.in_err-compact.was (p.1 ∙ ap Err p.2)
+    c.from_str.ensures.syntax

@@ -27,5 +27,6 @@ returns-clause-exact c =
     let element = lent_value c.get.result in
     let chosen = kept_element _ c.args.self.now c.args.rules.now x.significand.absolute x.exponent c.from-operands.result element
     c.from-operands.ensures.0 c.get.ensures c.self.view_is in
-    let exact = c.kept_element_is_exact.ensures c.args.self.now c.args.rules.now x.significand.absolute x.exponent element c.from-operands.ensures.1 chosen in
+    let exact = c.kept_element_is_exact.ensures c.args.self.now c.args.rules.now x.significand.absolute x.exponent element
+    c.from-operands.ensures.1 chosen in
     IfOk-weaker c.fill.result _ _ (λ filled h. (element, exact, h)) c.fill.ensures

@@ -1,4 +1,4 @@
-use Rattle.plural_reference.proofs.ExactnessLawsProved.{shifted_places, long_value}
+use Rattle.plural_reference.proofs.exactness.ExactnessLawsProved.{shifted_places, long_value}
 use Rattle.plural_reference.proofs.laws.exactness.bound_before_the_shift.Goals as goal
 
 pub returns-clause-places : goal.returns-clause-places

@@ -1,4 +1,4 @@
-use Rattle.plural_reference.proofs.ExactnessLawsProved.{bound_is_widest}
+use Rattle.plural_reference.proofs.exactness.ExactnessLawsProved.{bound_is_widest}
 use Rattle.plural_reference.proofs.laws.exactness.bound_is_widest.Goals as goal
 
 pub returns : goal.returns

@@ -1,4 +1,4 @@
-use Rattle.plural_reference.proofs.GroupsAgree.{relations_agree, groups_agree, conditions_agree}
+use Rattle.plural_reference.proofs.exactness.GroupsAgree.{relations_agree, groups_agree, conditions_agree}
 use Rattle.plural_reference.proofs.laws.exactness.kept_operands_agree.Goals as goal
 
 pub returns-clause-relations : goal.returns-clause-relations

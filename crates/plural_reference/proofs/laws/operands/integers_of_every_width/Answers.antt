@@ -1,4 +1,4 @@
-use Rattle.plural_reference.proofs.OperandLawsProved.{same_below_limit, congruent_from_limit}
+use Rattle.plural_reference.proofs.numbers.OperandLawsProved.{same_below_limit, congruent_from_limit}
 use Rattle.plural_reference.proofs.laws.operands.integers_of_every_width.Goals as goal
 
 pub returns-clause-below : goal.returns-clause-below

@@ -1,4 +1,4 @@
-use Rattle.plural_reference.proofs.OperandLawsProved.{one_kept, one_exact}
+use Rattle.plural_reference.proofs.numbers.OperandLawsProved.{one_kept, one_exact}
 use Rattle.plural_reference.proofs.laws.operands.one_list_of_operands.Goals as goal
 
 pub returns-clause-kept : goal.returns-clause-kept

@@ -1,4 +1,4 @@
-use Rattle.plural_reference.proofs.NamedOnce.{one_named}
+use Rattle.plural_reference.proofs.numbers.NamedOnce.{one_named}
 use Rattle.plural_reference.proofs.laws.operands.texts_name_one_list.Goals as goal
 
 pub returns : goal.returns

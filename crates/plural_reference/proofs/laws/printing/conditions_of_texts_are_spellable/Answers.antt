@@ -1,4 +1,4 @@
-use Rattle.plural_reference.proofs.SpellableConditions.{conditions_of_texts_are_spellable}
+use Rattle.plural_reference.proofs.printing.SpellableConditions.{conditions_of_texts_are_spellable}
 use Rattle.plural_reference.proofs.laws.printing.conditions_of_texts_are_spellable.Goals as goal
 
 pub returns : goal.returns

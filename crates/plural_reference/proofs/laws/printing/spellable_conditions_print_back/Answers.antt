@@ -1,4 +1,4 @@
-use Rattle.plural_reference.proofs.PrintedBack.{spellable_conditions_print_back}
+use Rattle.plural_reference.proofs.printing.PrintedBack.{spellable_conditions_print_back}
 use Rattle.plural_reference.proofs.laws.printing.spellable_conditions_print_back.Goals as goal
 
 pub returns : goal.returns

@@ -1,4 +1,4 @@
-use Rattle.plural_reference.proofs.CutOnce.{have_one_cut}
+use Rattle.plural_reference.proofs.tokens.CutOnce.{have_one_cut}
 use Rattle.plural_reference.proofs.laws.reading.one_cut.Goals as goal
 
 pub returns : goal.returns

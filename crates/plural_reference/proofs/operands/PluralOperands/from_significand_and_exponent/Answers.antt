@@ -2,7 +2,7 @@ use Rattle.std.proofs.Common.{◌≡◌, ◌+◌, ◌-◌, ◌*◌, ◌^◌, ◌
 use Rattle.fixed_decimal.specs.Digits.{value_of}
 use Rattle.fixed_decimal.specs.Places.{shift_right, digits_from}
 use Rattle.plural_reference.specs.Operands.{kept_whole}
-use Rattle.plural_reference.proofs.Conversion.{below_limit, short_whole, long_whole, kept_fraction_of, same_fraction_of}
+use Rattle.plural_reference.proofs.numbers.Conversion.{below_limit, short_whole, long_whole, kept_fraction_of, same_fraction_of}
 use Rattle.plural_reference.proofs.operands.PluralOperands.from_significand_and_exponent.Goals as goal
 use Rattle.plural_reference.proofs.operands.PluralOperands.from_significand_and_exponent.Goals.{then-whole-le-KEPT_PLACES}
 use Rattle.plural_reference.proofs.operands.PluralOperands.from_significand_and_exponent.Goals.{else-whole-le-KEPT_PLACES}

@@ -1,5 +1,5 @@
 use Rattle.std.proofs.Common.{◌≡◌, ◌-◌, ◌*◌, ◌^◌, ap, arith}
-use Rattle.plural_reference.proofs.Conversion.{one_zero_less, quotient, no_fewer}
+use Rattle.plural_reference.proofs.numbers.Conversion.{one_zero_less, quotient, no_fewer}
 use Rattle.plural_reference.proofs.operands.fraction.without_zeros.Goals as goal
 
 pub loop-left-init : goal.loop-left-init

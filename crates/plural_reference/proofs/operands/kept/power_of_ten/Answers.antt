@@ -1,5 +1,5 @@
 use Rattle.std.proofs.Common.{refl, ◌∙◌, ℕ, List, [], ◌∷◌, arith}
-use Rattle.plural_reference.proofs.Numbers.{ArePowers, power_at}
+use Rattle.plural_reference.proofs.numbers.Numbers.{ArePowers, power_at}
 use Rattle.plural_reference.proofs.operands.kept.power_of_ten.Goals as goal
 
 -- the powers of ten up to 10 ^ 18

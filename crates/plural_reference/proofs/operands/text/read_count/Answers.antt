@@ -1,6 +1,6 @@
 use Rattle.std.proofs.Common.{ℕ, List, sym, subst}
 use Rattle.plural_reference.specs.Inner.OperandReader.{HasCount, HasWord}
-use Rattle.plural_reference.proofs.OperandTexts.{count_of_word, no_count}
+use Rattle.plural_reference.proofs.numbers.OperandTexts.{count_of_word, no_count}
 use Rattle.plural_reference.proofs.operands.text.read_count.Goals as goal
 
 pub returns-in_err-number-clause-none : goal.returns-in_err-number-clause-none

@@ -1,5 +1,6 @@
 use Rattle.std.proofs.Common.{◌≡◌, ◌∙◌, ◌-◌, length, refl, sym}
-use Rattle.plural_reference.proofs.OperandTexts.{left, scanned, scan_stops, scan_overflows_at, no_digit_at_end, no_digit_first, no_large_word, no_word, word_found}
+use Rattle.plural_reference.proofs.numbers.OperandTexts.{left, scanned, scan_stops, scan_overflows_at}
+use Rattle.plural_reference.proofs.numbers.OperandTexts.{no_digit_at_end, no_digit_first, no_large_word, no_word, word_found}
 use Rattle.plural_reference.proofs.operands.text.read_digits.Goals as goal
 use Rattle.plural_reference.proofs.operands.text.read_digits.Goals.{in_default, in-len1-up+then-not-is_ascii_digit}
 

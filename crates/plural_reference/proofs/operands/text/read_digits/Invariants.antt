@@ -1,5 +1,5 @@
 use Rattle.std.proofs.Common.{◌≡◌, ◌<◌, ◌^◌, ◌≤◌, length}
-use Rattle.plural_reference.proofs.OperandTexts.{scanned}
+use Rattle.plural_reference.proofs.numbers.OperandTexts.{scanned}
 use Rattle.plural_reference.proofs.operands.text.read_digits.Given as goal
 
 -- the rest, scanned from the number so far, gives what the whole text does

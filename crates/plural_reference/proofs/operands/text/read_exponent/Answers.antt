@@ -2,7 +2,7 @@ use Rattle.std.proofs.Common.{◌≡◌, ◌-◌, ◌∷◌, ℕ, List, drop, ta
 use Rattle.std.proofs.lemmas.List.{take_rest}
 use Rattle.plural_reference.specs.OperandText.{WritesCount}
 use Rattle.plural_reference.specs.Inner.OperandReader.{Answers}
-use Rattle.plural_reference.proofs.OperandTexts.{answer_exponent, first_and_rest}
+use Rattle.plural_reference.proofs.numbers.OperandTexts.{answer_exponent, first_and_rest}
 use Rattle.plural_reference.proofs.operands.text.read_exponent.Goals as goal
 
 pub returns-in-101 : goal.returns-in-101

@@ -1,4 +1,4 @@
-use Rattle.plural_reference.proofs.OperandTexts.{no_exponent_behind_point}
+use Rattle.plural_reference.proofs.numbers.OperandTexts.{no_exponent_behind_point}
 use Rattle.plural_reference.proofs.operands.text.read_fraction.Goals as goal
 
 pub returns-in_err-read_exponent : goal.returns-in_err-read_exponent

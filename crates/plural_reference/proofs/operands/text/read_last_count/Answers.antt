@@ -1,6 +1,6 @@
 use Rattle.std.proofs.Common.{[], ap, sym, length}
 use Rattle.std.proofs.lemmas.Bool.{eqb-false}
-use Rattle.plural_reference.proofs.OperandTexts.{ending_count, one_count}
+use Rattle.plural_reference.proofs.numbers.OperandTexts.{ending_count, one_count}
 use Rattle.plural_reference.proofs.operands.text.read_last_count.Goals as goal
 
 pub returns-in_err-count : goal.returns-in_err-count

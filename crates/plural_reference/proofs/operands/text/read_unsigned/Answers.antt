@@ -2,7 +2,7 @@ use Rattle.std.proofs.Common.{◌≡◌, ◌≢◌, ◌-◌, ◌∷◌, ℕ, Lis
 use Rattle.std.proofs.lemmas.List.{take_rest}
 use Rattle.plural_reference.specs.OperandText.{WritesExponent}
 use Rattle.plural_reference.specs.Inner.OperandReader.{Answers, WritesBehindPoint}
-use Rattle.plural_reference.proofs.OperandTexts.{answer_pointed, first_and_rest, no_unpointed, no_unsigned, unpointed}
+use Rattle.plural_reference.proofs.numbers.OperandTexts.{answer_pointed, first_and_rest, no_unpointed, no_unsigned, unpointed}
 use Rattle.plural_reference.proofs.operands.text.read_unsigned.Goals as goal
 use Rattle.plural_reference.proofs.operands.text.read_unsigned.Goals.{in_default-via-then-rest-lt1, in_default-via-else-rest-lt1+in_default-1}
 

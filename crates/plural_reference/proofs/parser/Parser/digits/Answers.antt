@@ -1,6 +1,6 @@
 use Rattle.std.proofs.Common.{length, ap, arith}
-use Rattle.plural_reference.proofs.SampleParserSteps.{takes_digits}
-use Rattle.plural_reference.proofs.SampleSinks.{keeps_no_digits, keeps_more_digits}
+use Rattle.plural_reference.proofs.samples.SampleParserSteps.{takes_digits}
+use Rattle.plural_reference.proofs.samples.SampleSinks.{keeps_no_digits, keeps_more_digits}
 use Rattle.plural_reference.proofs.parser.Parser.digits.Goals as goal
 
 pub digits-init : goal.digits-init

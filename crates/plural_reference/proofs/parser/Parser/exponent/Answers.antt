@@ -1,5 +1,5 @@
-use Rattle.plural_reference.proofs.SampleParserSteps.{no_exponent_value, takes_digits}
-use Rattle.plural_reference.proofs.SampleSinks.{keeps_no_exponent, keeps_exponent}
+use Rattle.plural_reference.proofs.samples.SampleParserSteps.{no_exponent_value, takes_digits}
+use Rattle.plural_reference.proofs.samples.SampleSinks.{keeps_no_exponent, keeps_exponent}
 use Rattle.plural_reference.proofs.parser.Parser.exponent.Goals as goal
 
 pub returns-in_default-clause-exponent : goal.returns-in_default-clause-exponent

@@ -1,5 +1,5 @@
 use Rattle.std.proofs.Common.{refl}
-use Rattle.plural_reference.proofs.SampleSinks.{keeps_number_alone, keeps_number_with_point}
+use Rattle.plural_reference.proofs.samples.SampleSinks.{keeps_number_alone, keeps_number_with_point}
 use Rattle.plural_reference.proofs.parser.Parser.number.Goals as goal
 
 pub returns-then-not-take_if-clause-number : goal.returns-then-not-take_if-clause-number

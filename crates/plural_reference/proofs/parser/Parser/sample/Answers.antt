@@ -1,7 +1,7 @@
 use Rattle.std.proofs.lemmas.Result.{err_from_is_err_and}
 use Rattle.plural_reference.specs.declared.error.ParseError.TheVariants.{ExpectedValue}
-use Rattle.plural_reference.proofs.SampleComplete.{sample_stop}
-use Rattle.plural_reference.proofs.SampleSinks.{kept_is, keeps_sample, exponent_fault}
+use Rattle.plural_reference.proofs.samples.SampleComplete.{sample_stop}
+use Rattle.plural_reference.proofs.samples.SampleSinks.{kept_is, keeps_sample, exponent_fault}
 use Rattle.plural_reference.proofs.parser.Parser.sample.Goals as goal
 
 pub returns-then-not-is_before_sample-clause-sample : goal.returns-then-not-is_before_sample-clause-sample

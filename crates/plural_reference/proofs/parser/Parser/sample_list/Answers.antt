@@ -1,7 +1,8 @@
 use Rattle.std.proofs.Common.{length, ap, arith}
 use Rattle.std.proofs.lemmas.Result.{err_from_is_err_and}
-use Rattle.plural_reference.proofs.ParserSteps.{passes_on}
-use Rattle.plural_reference.proofs.SampleSinks.{keeps_one_range, keeps_more_ranges, list_range_fault, keeps_list_with_ellipsis, keeps_list_without_ellipsis}
+use Rattle.plural_reference.proofs.reading.ParserSteps.{passes_on}
+use Rattle.plural_reference.proofs.samples.SampleSinks.{keeps_one_range, keeps_more_ranges}
+use Rattle.plural_reference.proofs.samples.SampleSinks.{list_range_fault, keeps_list_with_ellipsis, keeps_list_without_ellipsis}
 use Rattle.plural_reference.proofs.parser.Parser.sample_list.Goals as goal
 
 pub list-init : goal.list-init

@@ -1,6 +1,6 @@
 use Rattle.std.proofs.lemmas.Result.{err_from_is_err_and}
-use Rattle.plural_reference.proofs.ParserSteps.{passes_on}
-use Rattle.plural_reference.proofs.SampleSinks.{keeps_range_alone, keeps_range_to, upper_fault}
+use Rattle.plural_reference.proofs.reading.ParserSteps.{passes_on}
+use Rattle.plural_reference.proofs.samples.SampleSinks.{keeps_range_alone, keeps_range_to, upper_fault}
 use Rattle.plural_reference.proofs.parser.Parser.sample_range.Goals as goal
 
 pub returns-then-not-take_if-clause-range : goal.returns-then-not-take_if-clause-range

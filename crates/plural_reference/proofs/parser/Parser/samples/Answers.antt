@@ -1,6 +1,6 @@
 use Rattle.std.proofs.lemmas.Result.{err_from_is_err_and}
-use Rattle.plural_reference.proofs.ParserSteps.{passes_on}
-use Rattle.plural_reference.proofs.SampleSinks.{keeps_no_lists, keeps_more_lists, lists_type_fault, lists_fault, keeps_all_lists}
+use Rattle.plural_reference.proofs.reading.ParserSteps.{passes_on}
+use Rattle.plural_reference.proofs.samples.SampleSinks.{keeps_no_lists, keeps_more_lists, lists_type_fault, lists_fault, keeps_all_lists}
 use Rattle.plural_reference.proofs.parser.Parser.samples.Goals as goal
 
 pub lists-init : goal.lists-init

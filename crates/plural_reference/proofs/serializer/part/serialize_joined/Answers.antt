@@ -1,5 +1,5 @@
 use Rattle.std.proofs.Common.{refl}
-use Rattle.plural_reference.proofs.Writes.{more_written}
+use Rattle.plural_reference.proofs.printing.Writes.{more_written}
 use Rattle.plural_reference.proofs.serializer.part.serialize_joined.Goals as goal
 
 pub loop-part-preserved : goal.loop-part-preserved

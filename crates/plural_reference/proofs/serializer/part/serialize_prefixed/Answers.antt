@@ -1,5 +1,5 @@
 use Rattle.std.proofs.Common.{refl}
-use Rattle.plural_reference.proofs.Writes.{one_call, then_writes}
+use Rattle.plural_reference.proofs.printing.Writes.{one_call, then_writes}
 use Rattle.plural_reference.proofs.serializer.part.serialize_prefixed.Goals as goal
 
 pub returns-in_ok-write_to : goal.returns-in_ok-write_to

@@ -1,5 +1,5 @@
 use Rattle.std.proofs.Common.{ap, sym, ◌∙◌}
-use Rattle.plural_runtime.specs.RuleBytes.{range_bytes}
+use Rattle.plural_runtime.specs.PackedRelations.{range_bytes}
 use Rattle.plural_runtime.specs.RuleKinds.{ends, range_or_value}
 use Rattle.plural_runtime.specs.Inner.RuleReading.{range_in}
 use Rattle.plural_runtime.proofs.ItemRanges.{ends_again}

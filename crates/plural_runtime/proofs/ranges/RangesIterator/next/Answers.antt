@@ -1,4 +1,4 @@
-use Rattle.std.proofs.Common.{◌≡◌, ◌∙◌, ◌≤◌, ◌∷◌, arith, length, map, sym, ap, drop}
+use Rattle.std.proofs.Common.{◌∙◌, ◌≤◌, ◌∷◌, arith, length, map, sym, ap, drop}
 use Rattle.std.proofs.lemmas.Bool.{eqb-true, eqb-false}
 use Rattle.plural_runtime.specs.RuleKinds.{range_or_value}
 use Rattle.plural_runtime.specs.Inner.RuleReading.{range_in, ranges_in}

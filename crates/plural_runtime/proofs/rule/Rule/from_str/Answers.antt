@@ -1,11 +1,12 @@
 use Rattle.std.proofs.Common.{◌≡◌, ◌∙◌, ap, subst, sym, inl, inr, Err}
 use Rattle.plural_reference.specs.declared.error.ParseError.TheVariants.{ValueTooLarge}
-use Rattle.plural_reference.specs.Reading.{IsAnswer, TextFaulty, TextReads}
+use Rattle.plural_reference.specs.Reading.{IsAnswer}
+use Rattle.plural_reference.specs.Lexer.{TextFaulty, TextReads}
 use Rattle.plural_reference.specs.Samples.{ReadsCondition, FaultyRule}
 use Rattle.plural_runtime.specs.PackedTree.{has_large_value}
 use Rattle.plural_runtime.proofs.FaultKinds.{never_too_large, packing_not_large}
 use Rattle.plural_runtime.proofs.SpellableTrees.{spellable_is_small}
-use Rattle.plural_runtime.proofs.TextAnswers.{gives_when_read, gives_when_faulty}
+use Rattle.plural_runtime.proofs.TextAnswers.{gives_when_read}
 use Rattle.plural_runtime.proofs.rule.Rule.from_str.Goals as goal
 
 pub returns-in-Ok-clause-gives : goal.returns-in-Ok-clause-gives
@@ -28,7 +29,11 @@ returns-in-Err-Parse-clause-gives c =
     let faulty : FaultyRule law.0 fault =
     subst (λ r. IsAnswer (ReadsCondition law.0) (FaultyRule law.0) r) found (c.parse_without_samples.ensures.only law.0 law.1) in
     let here : TextFaulty FaultyRule text fault = (law.0, law.1, faulty) in
-    inl (gives_when_faulty c.args.text.now fault (subst (λ t. TextFaulty FaultyRule t fault) c.as_bytes.ensures.value here))
+    let said = subst (λ t. TextFaulty FaultyRule t fault) c.as_bytes.ensures.value here in
+    elim (c.parse_without_samples.ensures.fault law.0 fault law.1 faulty) [
+      | inl same ↦ inl (inr (fault, said, cc))
+      | inr memory ↦ cc
+    ]
 
 pub returns-in-Ok-clause-fits : goal.returns-in-Ok-clause-fits
 returns-in-Ok-clause-fits c = λ h.

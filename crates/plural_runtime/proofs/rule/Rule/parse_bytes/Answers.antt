@@ -3,7 +3,7 @@ use Rattle.std.specs.Prelude.{Ok, map}
 use Rattle.std.specs.List.{AllByRecursion, list_all}
 use Rattle.packed_list.specs.ListBytes.{ListBytes}
 use Rattle.packed_list.specs.Inner.ListReading.{AreBytes}
-use Rattle.plural_runtime.specs.RuleBytes.{first_relation_fault, is_relation, relation_bytes}
+use Rattle.plural_runtime.specs.PackedRelations.{first_relation_fault, is_relation, relation_bytes}
 use Rattle.plural_runtime.proofs.RuleItems.{is_rule, items_pass, no_fault, relations_in_one, first_relation_fault-list}
 use Rattle.plural_runtime.proofs.rule.Rule.parse_bytes.Goals as goal
 

@@ -2,7 +2,7 @@ use Rattle.std.proofs.Common.{◌≡◌, ◌++◌, drop, map}
 use Rattle.std.specs.List.{flat_map}
 use Rattle.plural_reference.specs.Truth.{ends_of}
 use Rattle.plural_runtime.specs.PackedTree.{packed_relation}
-use Rattle.plural_runtime.specs.RuleBytes.{relation_bytes, range_bytes}
+use Rattle.plural_runtime.specs.PackedRelations.{relation_bytes, range_bytes}
 use Rattle.plural_runtime.proofs.tree_bytes.TreeRelationByteItem.write_to.Given as goal
 
 -- What is written and the ranges that are left are the bytes of the relation.

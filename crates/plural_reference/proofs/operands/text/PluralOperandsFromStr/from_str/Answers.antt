@@ -3,7 +3,7 @@ use Rattle.std.proofs.lemmas.Bool.{eqb-false}
 use Rattle.plural_reference.specs.Operands.{Operands}
 use Rattle.plural_reference.specs.OperandText.{WritesUnsignedOperands}
 use Rattle.plural_reference.specs.Inner.OperandReader.{without_sign}
-use Rattle.plural_reference.proofs.OperandTexts.{not_named}
+use Rattle.plural_reference.proofs.numbers.OperandTexts.{not_named}
 use Rattle.plural_reference.proofs.operands.text.PluralOperandsFromStr.from_str.Goals as goal
 
 pub returns-in-None : goal.returns-in-None

@@ -1,6 +1,6 @@
 use Rattle.std.proofs.Common.{refl}
 use Rattle.std.proofs.lemmas.Result.{on_ok_weaker}
-use Rattle.plural_reference.proofs.Writes.{one_call, then_writes}
+use Rattle.plural_reference.proofs.printing.Writes.{one_call, then_writes}
 use Rattle.plural_reference.proofs.serializer.condition.AstRangeListItemPart.write_to.Goals as goal
 
 pub returns-in_ok-write_str-in-Range : goal.returns-in_ok-write_str-in-Range

@@ -1,0 +1,6 @@
+-- When conditions are true of the kept operands just where they are of the exact number.
+pub mod Folds
+pub mod Agreement
+pub mod GroupsAgree
+pub mod ExactnessLawsProved
+mod OperandRows

@@ -1,0 +1,292 @@
+-- The steps of the parser.
+use Rattle.std.proofs.Common.{◌≡◌, ◌≢◌, List, [], ◌∷◌, ◌++◌, Some, None, Ok, Err, refl, sym, ap, ◌∙◌, subst}
+use Rattle.plural_reference.specs.declared.ast.AndCondition.{AndCondition}
+use Rattle.plural_reference.specs.declared.ast.Relation.{Relation}
+use Rattle.plural_reference.specs.declared.ast.Expression.{Expression}
+use Rattle.plural_reference.specs.declared.ast.Operand as operand
+use Rattle.plural_reference.specs.declared.ast.Operator as operator
+use Rattle.plural_reference.specs.declared.ast.RangeListItem.{RangeListItem}
+use Rattle.plural_reference.specs.declared.ast.RangeListItem.TheVariants as items
+use Rattle.plural_reference.specs.declared.ast.Value.{Value}
+use Rattle.plural_reference.specs.declared.error.ParseError.{ParseError}
+use Rattle.plural_reference.specs.declared.error.ParseError.TheVariants.{ExpectedValue, ExpectedOperand, ExpectedOperator}
+use Rattle.plural_reference.specs.declared.error.ParseError.TheVariants.{ExpectedRelation, ExpectedAndCondition}
+use Rattle.plural_reference.specs.declared.error.ReadError.{ReadError}
+use Rattle.plural_reference.specs.declared.error.ReadError.TheVariants.{Parse, Memory}
+use Rattle.plural_reference.specs.Reading.{IsFault}
+use Rattle.plural_reference.specs.declared.token.Token.{Token}
+use Rattle.plural_reference.specs.declared.token.Token.TheVariants.{Operator, DotDot, Comma, Modulo, And, Or, At}
+use Rattle.plural_reference.specs.Lexer.{first}
+use Rattle.plural_reference.specs.Parser.{value_of, operand_of, value_fault, operator_fault, IsUnconditional}
+use Rattle.plural_reference.specs.Inner.Reader.{Before, Opened, State, before_operand, after_operand, before_item, after_item}
+use Rattle.plural_reference.specs.Inner.Reader.{relation_of, with_relation, with_group, ended_condition, no_operand, refuse, run, begin}
+use Rattle.plural_reference.specs.Inner.Reader.{ReadsItem, ReadsItems, ReadsExpression, NoDots, NoOperand, Completes, ReadsGroups}
+use Rattle.plural_reference.proofs.reading.ReaderComplete.{before_item_stop, before_end_stop, after_modulo_stop, operator_stop}
+use Rattle.plural_reference.proofs.reading.ReaderComplete.{after_operand_stop, operand_stop}
+
+-- where no value comes next, an item is a fault
+pub no_item : (old : List Token) (o : Opened) (xs : List RangeListItem)
+    → value_fault (first old) ≡ Some ExpectedValue → run (before_item o xs) old ≡ Err ExpectedValue
+no_item old o xs h = before_item_stop o xs old ExpectedValue h
+
+-- the same behind the dots of a range
+pub no_end : (old middle after : List Token) (t : Token) (v : Value) (o : Opened) (xs : List RangeListItem)
+    → old ≡ t ∷ middle → value_of t ≡ Some v → middle ≡ DotDot ∷ after → value_fault (first after) ≡ Some ExpectedValue
+    → run (before_item o xs) old ≡ Err ExpectedValue
+unfolding run
+no_end old middle after t v o xs e h f k = rw (e, h, f) (before_end_stop o xs v after ExpectedValue k)
+
+-- two values with dots between them are a range
+pub item_range : (old middle after new : List Token) (t u : Token) (v w : Value)
+    → old ≡ t ∷ middle → value_of t ≡ Some v → middle ≡ DotDot ∷ after → after ≡ u ∷ new → value_of u ≡ Some w
+    → ReadsItem old (items.Range v w) new
+unfolding run
+item_range old middle after new t u v w e h f g k = record { run_is = λ o xs. rw (e, h, f, g, k) refl; no_dots = tt }
+
+-- a value that no dots follow is an item
+pub item_value : (old middle new : List Token) (t : Token) (v : Value)
+    → old ≡ t ∷ middle → value_of t ≡ Some v → first middle ≢ Some DotDot → new ≡ middle → ReadsItem old (items.Value v) new
+unfolding run
+item_value old middle new t v e h f g = record { run_is = λ o xs. rw (e, h, g) refl; no_dots = rw g f }
+
+-- what a parser of an item may be left to show
+pub ruleset item_steps = (no_item, no_end, item_range, item_value)
+
+-- ---- lists of items
+
+-- an item is a list of one
+pub one_item : (old new : List Token) (x : RangeListItem) → ReadsItem old x new → ReadsItems old (x ∷ []) new
+one_item old new x h = record { front = []; item = x; items_are = refl; run_is = λ o. h.run_is o []; no_dots = h.no_dots }
+
+-- an item behind Comma joins the list
+pub more_items : (old middle after new : List Token) (ys : List RangeListItem) (x : RangeListItem)
+    → ReadsItems old ys middle → middle ≡ Comma ∷ after → ReadsItem after x new → ReadsItems old (ys ++ x ∷ []) new
+unfolding run
+more_items old middle after new ys x h e k = record {
+  front = ys;
+  item = x;
+  items_are = refl;
+  run_is = λ o. h.run_is o ∙ ap (run (after_item o h.front h.item)) e ∙ ap (λ zs. run (before_item o zs) after) (sym h.items_are)
+      ∙ k.run_is o ys;
+  no_dots = k.no_dots;
+}
+
+-- a fault of an item is one of the list
+pub items_fault : (old middle after : List Token) (ys : List RangeListItem) (e : ParseError)
+    → ReadsItems old ys middle → middle ≡ Comma ∷ after → ((o : Opened) (xs : List RangeListItem) → run (before_item o xs) after ≡ Err e)
+    → (o : Opened) → run (before_item o []) old ≡ Err e
+unfolding run
+items_fault old middle after ys e h f k o = h.run_is o ∙ ap (run (after_item o h.front h.item)) f ∙ k o (h.front ++ h.item ∷ [])
+
+-- ---- expressions
+
+-- behind an operand that no modulus follows
+after_operand_fault : (o : operand.Operand) (b : Before) (new : List Token)
+    → first new ≢ Some Modulo → operator_fault (first new) ≡ Some ExpectedOperator → run (after_operand b o) new ≡ Err ExpectedOperator
+after_operand_fault o b [] n h = after_operand_stop b o [] ExpectedOperator h
+after_operand_fault o b (Modulo ∷ ts) n h = absurd (n refl)
+after_operand_fault o b (Operator op ∷ ts) n h = after_operand_stop b o (Operator op ∷ ts) ExpectedOperator h
+after_operand_fault o b (_ ∷ ts) n h = after_operand_stop b o (_ ∷ ts) ExpectedOperator h
+
+-- an operand that no Modulo follows is an expression
+pub expression_alone : (old new : List Token) (t : Token) (o : operand.Operand)
+    → old ≡ t ∷ new → operand_of t ≡ Some o → first new ≢ Some Modulo → ReadsExpression old (record { operand = o; modulus = None }) new
+unfolding run
+expression_alone old new t o e h n = record {
+  goes_on = λ b op rest f. rw (e, h, f) refl;
+  stops = λ b f. rw (e, h) (after_operand_fault o b new n f);
+}
+
+-- an operand, Modulo and a value are one
+pub expression_reduced : (old middle after new : List Token) (t u : Token) (o : operand.Operand) (v : Value)
+    → old ≡ t ∷ middle → operand_of t ≡ Some o → middle ≡ Modulo ∷ after → after ≡ u ∷ new → value_of u ≡ Some v
+    → ReadsExpression old (record { operand = o; modulus = Some v }) new
+unfolding run
+expression_reduced old middle after new t u o v e h f g k = record {
+  goes_on = λ b op rest l. rw (e, h, f, g, k, l) refl;
+  stops = λ b l. rw (e, h, f, g, k) (operator_stop b (record { operand = o; modulus = Some v }) new ExpectedOperator l);
+}
+
+-- where no value stands behind Modulo, that is the fault
+pub no_modulus : (old middle after : List Token) (t : Token) (o : operand.Operand)
+    → old ≡ t ∷ middle → operand_of t ≡ Some o → middle ≡ Modulo ∷ after → value_fault (first after) ≡ Some ExpectedValue → (b : Before)
+    → run (before_operand b) old ≡ Err ExpectedValue
+unfolding run
+no_modulus old middle after t o e h f k b = rw (e, h, f) (after_modulo_stop b o after ExpectedValue k)
+
+-- a token that is no operand is a fault where one is awaited
+pub no_operand_fault : (old : List Token) (e : ParseError)
+    → NoOperand old e → (b : Before) → run (before_operand b) old ≡ Err ExpectedOperand
+no_operand_fault old e h b = operand_stop b None old ExpectedOperand (λ e k. cc) (h.1 None)
+
+-- ---- relations
+
+-- an expression, an operator and a list complete a relation of the group
+pub relation_completes : (old middle after new : List Token) (e : Expression) (op : operator.Operator) (ys : List RangeListItem)
+    → ReadsExpression old e middle → middle ≡ Operator op ∷ after → ReadsItems after ys new → first new ≢ Some Comma → (b : Before)
+    → Completes (before_operand b) old (with_relation b (record { expression = e; operator = op; range_list = record { 0 = ys } })) new
+relation_completes old middle after new e op ys h f k n b =
+    let o : Opened = record { before = b; expression = e; operator = op } in
+    record {
+      opened = o;
+      front = k.front;
+      item = k.item;
+      run_is = h.goes_on b op after f ∙ k.run_is o;
+      complete = ap (λ xs. with_relation b (relation_of o xs)) (sym k.items_are);
+      no_dots = k.no_dots;
+      no_comma = n;
+    }
+
+-- a fault of the list is one of the relation
+pub relation_items_fault : (old middle after : List Token) (e : Expression) (op : operator.Operator) (kind : ParseError)
+    → ReadsExpression old e middle → middle ≡ Operator op ∷ after → ((o : Opened) → run (before_item o []) after ≡ Err kind)
+    → (b : Before) → run (before_operand b) old ≡ Err kind
+relation_items_fault old middle after e op kind h f k b = h.goes_on b op after f ∙ k (record { before = b; expression = e; operator = op })
+
+-- ---- groups
+
+-- Comma, dots and then And or Or stand behind a complete relation
+pub goes_on_and : (from : State) (old middle after : List Token) (b : Before)
+    → Completes from old b middle → middle ≡ And ∷ after → run from old ≡ run (before_operand b) after
+unfolding run
+goes_on_and from old middle after b h e =
+    h.run_is ∙ ap (run (after_item h.opened h.front h.item)) e ∙ ap (λ (c : Before). run (before_operand c) after) h.complete
+
+-- behind Or an operand is awaited, and the group is complete
+pub goes_on_or : (from : State) (old middle after : List Token) (b : Before)
+    → Completes from old b middle → middle ≡ Or ∷ after → run from old ≡ run (before_operand (with_group b)) after
+unfolding run
+goes_on_or from old middle after b h e =
+    h.run_is ∙ ap (run (after_item h.opened h.front h.item)) e ∙ ap (λ (c : Before). run (before_operand (with_group c)) after) h.complete
+
+-- after other tokens, the same
+pub completes_from : (from middle_state : State) (old middle new : List Token) (b : Before)
+    → run from old ≡ run middle_state middle → Completes middle_state middle b new → Completes from old b new
+completes_from from middle_state old middle new b e h = record {
+  opened = h.opened;
+  front = h.front;
+  item = h.item;
+  run_is = e ∙ h.run_is;
+  complete = h.complete;
+  no_dots = h.no_dots;
+  no_comma = h.no_comma;
+}
+
+-- a relation behind And joins the group
+pub more_relations : (from : State) (old middle after new : List Token) (b : Before) (r : Relation)
+    → Completes from old b middle → middle ≡ And ∷ after → ((b : Before) → Completes (before_operand b) after (with_relation b r) new)
+    → Completes from old (with_relation b r) new
+more_relations from old middle after new b r h e k =
+    completes_from from (before_operand b) old after new (with_relation b r) (goes_on_and from old middle after b h e) (k b)
+
+-- a fault of a relation behind And is one of the group
+pub and_fault : (from : State) (old middle after : List Token) (b : Before) (kind : ParseError)
+    → Completes from old b middle → middle ≡ And ∷ after → ((b : Before) → run (before_operand b) after ≡ Err kind)
+    → run from old ≡ Err kind
+and_fault from old middle after b kind h e k = goes_on_and from old middle after b h e ∙ k b
+
+-- nothing behind And
+some_relations : (groups : List AndCondition) (relations : List Relation) (r : Relation)
+    → no_operand groups (relations ++ r ∷ []) ≡ refuse ExpectedRelation
+some_relations [] [] r = refl
+some_relations [] (x ∷ xs) r = refl
+some_relations (g ∷ gs) [] r = refl
+some_relations (g ∷ gs) (x ∷ xs) r = refl
+
+-- where no operand comes next, the reader stops as it does at the end
+unconditional_fault : (b : Before) (rest : List Token) (kind : ParseError)
+    → IsUnconditional rest → no_operand b.groups b.relations ≡ refuse kind → run (before_operand b) rest ≡ Err kind
+unfolding run
+unconditional_fault b [] kind u h = rw h refl
+unconditional_fault b (At ∷ ts) kind u h = rw h refl
+unconditional_fault b (_ ∷ ts) kind u h = absurd u
+
+-- where none stands behind And, a relation is wanted
+pub no_relation : (from : State) (old middle after : List Token) (b : Before)
+    → Completes from old b middle → middle ≡ And ∷ after → IsUnconditional after → run from old ≡ Err ExpectedRelation
+no_relation from old middle after b h e u =
+    goes_on_and from old middle after b h e
+    ∙ unconditional_fault b after ExpectedRelation u
+    (ap (λ (c : Before). no_operand c.groups c.relations) (sym h.complete)
+    ∙ some_relations h.opened.before.groups h.opened.before.relations _)
+
+-- ---- conditions
+
+-- nothing behind Or
+some_groups : (groups : List AndCondition) (g : AndCondition) → no_operand (groups ++ g ∷ []) [] ≡ refuse ExpectedAndCondition
+some_groups [] g = refl
+some_groups (k ∷ ks) g = refl
+
+-- a group is a condition of one
+pub one_group : (old new : List Token) (c : AndCondition)
+    → ((groups : List AndCondition)
+    → Completes (before_operand (record { groups = groups; relations = [] })) old (record { groups = groups; relations = c.0 }) new)
+    → ReadsGroups old (c ∷ []) new
+one_group old new c h = record { before = record { groups = []; relations = c.0 }; completes = h []; groups_are = refl }
+
+-- a group behind Or joins the condition
+pub more_groups : (old middle after new : List Token) (gs : List AndCondition) (c : AndCondition)
+    → ReadsGroups old gs middle → middle ≡ Or ∷ after
+    → ((groups : List AndCondition)
+    → Completes (before_operand (record { groups = groups; relations = [] })) after (record { groups = groups; relations = c.0 }) new)
+    → ReadsGroups old (gs ++ c ∷ []) new
+more_groups old middle after new gs c h e k = record {
+  before = record { groups = gs; relations = c.0 };
+  completes = completes_from begin (before_operand (with_group h.before)) old after new (record { groups = gs; relations = c.0 })
+      (goes_on_or begin old middle after h.before h.completes e)
+      (subst
+      (λ (xs : List AndCondition).
+      Completes (before_operand (record { groups = xs; relations = [] })) after (record { groups = gs; relations = c.0 }) new)
+      h.groups_are (k gs));
+  groups_are = refl;
+}
+
+-- a fault of a group behind Or is one of the condition
+pub or_fault : (old middle after : List Token) (gs : List AndCondition) (kind : ParseError)
+    → ReadsGroups old gs middle → middle ≡ Or ∷ after
+    → ((groups : List AndCondition) → run (before_operand (record { groups = groups; relations = [] })) after ≡ Err kind)
+    → run begin old ≡ Err kind
+or_fault old middle after gs kind h e k = goes_on_or begin old middle after h.before h.completes e ∙ k (with_group h.before).groups
+
+-- where none stands behind Or, an and-condition is wanted
+pub no_group : (old middle after : List Token) (gs : List AndCondition)
+    → ReadsGroups old gs middle → middle ≡ Or ∷ after → IsUnconditional after → run begin old ≡ Err ExpectedAndCondition
+no_group old middle after gs h e u =
+    goes_on_or begin old middle after h.before h.completes e
+    ∙ unconditional_fault (with_group h.before) after ExpectedAndCondition u (some_groups h.before.groups _)
+
+-- nothing goes on
+ends : (o : Opened) (front : List RangeListItem) (item : RangeListItem) (rest : List Token)
+    → NoDots item rest → first rest ≢ Some Comma → first rest ≢ Some And → first rest ≢ Some Or
+    → run (after_item o front item) rest ≡ Ok (ended_condition (with_relation o.before (relation_of o (front ++ item ∷ []))), rest)
+unfolding run
+ends o front item [] d c a r = refl
+ends o front item (And ∷ ts) d c a r = absurd (a refl)
+ends o front item (Or ∷ ts) d c a r = absurd (r refl)
+ends o front item (Comma ∷ ts) d c a r = absurd (c refl)
+ends o front (items.Value v) (DotDot ∷ ts) d c a r = absurd (d refl)
+ends o front (items.Range x y) (DotDot ∷ ts) d c a r = refl
+ends o front item (_ ∷ ts) d c a r = refl
+
+-- groups that neither And nor Or follows are the condition
+pub condition_is : (old new : List Token) (gs : List AndCondition)
+    → ReadsGroups old gs new → first new ≢ Some And → first new ≢ Some Or → run begin old ≡ Ok (record { 0 = gs }, new)
+condition_is old new gs h a r =
+    h.completes.run_is
+    ∙ ends h.completes.opened h.completes.front h.completes.item new h.completes.no_dots h.completes.no_comma a r
+    ∙ ap (λ (c : Before). Ok (ended_condition c, new)) h.completes.complete
+    ∙ ap (λ (xs : List AndCondition). Ok (record { 0 = xs }, new)) (sym h.groups_are)
+
+-- no token, or At as the first, is the empty condition
+pub no_condition : (old new : List Token) → IsUnconditional old → new ≡ old → run begin old ≡ Ok (record { 0 = [] }, new)
+unfolding run
+no_condition [] new u e = rw e refl
+no_condition (At ∷ ts) new u e = rw e refl
+no_condition (_ ∷ ts) new u e = absurd u
+
+-- ---- what an error passes on
+
+-- a fault of a part is a fault of the whole, and want of memory stays want of memory
+pub passes_on : (Q Q' : ParseError → Type 0) (e : ReadError) → IsFault Q e → ((kind : ParseError) → Q kind → Q' kind) → IsFault Q' e
+passes_on Q Q' (Parse kind) h f = f kind h
+passes_on Q Q' Memory h f = tt

@@ -1,0 +1,7 @@
+-- How a text is cut into pieces and tokens: the scan of its bytes and the pieces of the grammar agree.
+pub mod ScanComplete
+pub mod ScanSound
+pub mod ScanSize
+pub mod CutOnce
+pub mod Alone
+pub mod TokensFit

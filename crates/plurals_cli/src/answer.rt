@@ -1,0 +1,55 @@
+//! The text that answers what is asked.
+
+ghost use Rattle.plurals_cli.specs.Answer.{AnswersLookup};
+ghost use Rattle.plurals_cli.specs.Input.{document_of};
+ghost use Rattle.plurals_cli.specs.Inner.CallAnswers.{GivesText};
+ghost use Rattle.plurals_cli.specs.Inner.PrivateViews.{document_view, lookup_view};
+ghost use Rattle.plurals_cli.specs.Steps.{After};
+
+use crate::category_command::category_line;
+use crate::document::{Document, document_of};
+use crate::error::RunError;
+use crate::message_command::message_line;
+use crate::print_command::rule_lines;
+use crate::query::Lookup;
+use crate::range_command::range_line;
+use crate::select_command::element_line;
+use std::alloc::Global;
+use std::borrow::CowStr;
+
+// What the document of the bytes answers.
+pub(crate) fn text_in(
+    alloc: Global,
+    bytes: &[u8],
+    lookup: &Lookup<'_>,
+) -> Result<CowStr<'static>, RunError>
+    ensures { GivesText (After (AnswersLookup (lookup_view lookup.now)) (document_of bytes.now)) result }
+{
+    let document = document_of(alloc, bytes)?;
+    text_of(alloc, &document, lookup)
+}
+
+// What a document answers.
+fn text_of(
+    alloc: Global,
+    document: &Document,
+    lookup: &Lookup<'_>,
+) -> Result<CowStr<'static>, RunError>
+    ensures { GivesText (AnswersLookup (lookup_view lookup.now) (document_view document.now)) result }
+{
+    match lookup {
+        Lookup::Category(locale, rule_type, number) => {
+            category_line(document, locale, *rule_type, number)
+        }
+        Lookup::Range(locale, rule_type, start, end) => {
+            range_line(document, locale, *rule_type, start, end)
+        }
+        Lookup::Print(locale, rule_type) => rule_lines(alloc, document, locale, *rule_type),
+        Lookup::Select(locale, rule_type, number) => {
+            element_line(alloc, document, locale, *rule_type, number)
+        }
+        Lookup::Message(locale, rule_type, number, word) => {
+            message_line(alloc, document, locale, *rule_type, number, word)
+        }
+    }
+}
