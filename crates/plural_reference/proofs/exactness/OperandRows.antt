@@ -181,7 +181,7 @@ no_plus_behind_the_point o h =
     elim (unsigned_behind (codes "1.+5") 1 (codes ".+5") o one (named_unsigned (codes "1.+5") o h)) [
       | inl p ↦ pointed o (subst (λ (l : List ℕ). WritesBehindPoint 1 l o) (sym (same_tail 46 46 (codes "+5") p.0 p.1)) p.2)
       | inr p ↦ no_exponent_of (codes ".+5") (λ z. let s : 3 ≡ 0 = ap length z in omega (arith, s))
-        (λ more z. let b : 46 ≡ 101 = other_head 46 101 (codes "+5") more z in omega (arith, b)) o.c p.0
+          (λ more z. let b : 46 ≡ 101 = other_head 46 101 (codes "+5") more z in omega (arith, b)) o.c p.0
     ]
   where
     one : HasCount (codes "1.+5") 1 (codes ".+5")

@@ -36,9 +36,9 @@ digit_no : (b : ℕ) → ¬ (IsAsciiDigit b) → is_ascii_digit b ≡ false
 digit_no b h =
     elim (leb_tells 48 b) [
       | inl low ↦ elim (leb_tells b 57) [
-          | inl high ↦ absurd (h (low.1, high.1))
-          | inr high ↦ rw (low.0, high.0) refl
-        ]
+        | inl high ↦ absurd (h (low.1, high.1))
+        | inr high ↦ rw (low.0, high.0) refl
+      ]
       | inr low ↦ rw low.0 refl
     ]
 
@@ -134,7 +134,7 @@ scan_tells [] n m rest below e = ends_here n m [] rest below tt e
 scan_tells (b ∷ bytes) n m rest below e =
     elim (digit_or_not b) [
       | inl digit ↦ elim (cases_lt (n * 10 + (b - 48)) (2 ^ 64)) [
-          | inl fits ↦
+        | inl fits ↦
             let more : Scans (n * 10 + (b - 48)) bytes m rest
             = scan_tells bytes (n * 10 + (b - 48)) m rest fits (sym (scan_goes_on n b (n * 10 + (b - 48)) bytes digit refl fits) ∙ e) in
             let byte : b ≡ 48 + (b - 48) = omega (arith, digit) in
@@ -146,8 +146,8 @@ scan_tells (b ∷ bytes) n m rest below e =
               whole = more.whole;
               below = more.below;
             }
-          | inr over ↦ let none : scanned n (b ∷ bytes) ≡ None = scan_overflows n b bytes digit over in absurd cc
-        ]
+        | inr over ↦ let none : scanned n (b ∷ bytes) ≡ None = scan_overflows n b bytes digit over in absurd cc
+      ]
       | inr other ↦ ends_here n m (b ∷ bytes) rest below other (sym (scan_stops n (b ∷ bytes) other) ∙ e)
     ]
   where
@@ -156,9 +156,9 @@ scan_tells (b ∷ bytes) n m rest below e =
         elim (cases_lt b 48) [
           | inl low ↦ inr (λ (h : IsAsciiDigit b). omega (arith, h.0))
           | inr low ↦ elim (cases_lt 57 b) [
-              | inl high ↦ inr (λ (h : IsAsciiDigit b). omega (arith, h.1))
-              | inr high ↦ inl (low, high)
-            ]
+            | inl high ↦ inr (λ (h : IsAsciiDigit b). omega (arith, h.1))
+            | inr high ↦ inl (low, high)
+          ]
         ]
 
 -- ---- a word

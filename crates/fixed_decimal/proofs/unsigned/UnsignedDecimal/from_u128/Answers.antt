@@ -22,5 +22,8 @@ returns-clause-digits c =
     let small : c.args.number < 10 ^ 64 = omega arith in
     let x = c.in_ok-from_digits.field-0 in
     let made : x ≡ places_of_sides (decimal c.args.number) []
-    = c.in_ok-from_digits.ensures ∙ ap (λ (t : List ℕ). places_of_sides t []) (bytes (goal.at.returns-clause-digits c).After-as_bytes-digits) in
+    =
+    c.in_ok-from_digits.ensures
+    ∙ ap (λ (t : List ℕ). places_of_sides t []) (bytes (goal.at.returns-clause-digits c).After-as_bytes-digits)
+    in
     subst (λ (y : Places). IsNumeral y.whole c.args.number × (y.fraction ≡ [])) (sym made) (decimal_numeral c.args.number small, refl)

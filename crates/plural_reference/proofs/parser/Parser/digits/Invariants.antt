@@ -6,7 +6,8 @@ use Rattle.plural_reference.proofs.parser.Parser.digits.Given as goal
 -- the digits so far have joined the text
 abbrev pub invariant-digits : goal.invariant-digits
 invariant-digits g l = record {
-  read : (before : List ℕ) → has_exponent before ≡ false → IsStored g.S.Sink.keeps (string_bytes l.initial.text) before → ReadsStored g.S.Sink.keeps (ReadsDigits before) l.fn.self (string_bytes l.text) l.self;
+  read : (before : List ℕ) → has_exponent before ≡ false → IsStored g.S.Sink.keeps (string_bytes l.initial.text) before
+      → ReadsStored g.S.Sink.keeps (ReadsDigits before) l.fn.self (string_bytes l.text) l.self;
   shorter : length l.self ≤ length l.fn.self;
 }
 

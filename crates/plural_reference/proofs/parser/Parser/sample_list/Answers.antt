@@ -18,13 +18,17 @@ pub returns-in_err-sample_range-2-clause-list : goal.returns-in_err-sample_range
 returns-in_err-sample_range-2-clause-list g c =
     let p = err_from_is_err_and c.from_residual-in_err-sample_range-2.result c.from_residual-in_err-sample_range-2.ensures.1 in
     let n = c.if-take_if.ensures in
-    rw (p.1, p.2) (passes_on _ _ c.in_err-sample_range-2.field-0.0 c.in_err-sample_range-2.ensures.range (λ kind q. list_range_fault _ _ _ _ _ _ kind c.list.invariant.read c.list-test.ensures n.0 n.1 q))
+    rw (p.1, p.2)
+    (passes_on _ _ c.in_err-sample_range-2.field-0.0 c.in_err-sample_range-2.ensures.range
+    (λ kind q. list_range_fault _ _ _ _ _ _ kind c.list.invariant.read c.list-test.ensures n.0 n.1 q))
 
 pub list-preserved : goal.list-preserved
 list-preserved g c =
     let n = c.if-take_if.ensures in
     record {
-      read = keeps_more_ranges _ _ _ _ _ _ _ _ _ c.list.invariant.read c.list-test.ensures n.0 n.1 c.in_ok-sample_range-2.ensures.range c.in_ok-push_range-2.ensures;
+      read =
+          keeps_more_ranges _ _ _ _ _ _ _ _ _ c.list.invariant.read c.list-test.ensures n.0 n.1
+          c.in_ok-sample_range-2.ensures.range c.in_ok-push_range-2.ensures;
       shorter = omega (arith, ap length c.list-test.ensures, ap length n.1, c.in_ok-sample_range-2.ensures.shorter);
     }
 
