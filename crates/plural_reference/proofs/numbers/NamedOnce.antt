@@ -15,9 +15,11 @@ use Rattle.plural_reference.proofs.numbers.OperandTexts.{count_of_unsigned, unsi
 one_number : (text : List ℕ) (m n : ℕ) → WritesCount text m → WritesCount text n → m ≡ n
 one_number text m n h k = let same : (m ≡ n) × ([] ≡ []) = one_count text m [] n [] (ending_count text m h) (ending_count text n k) in same.0
 
+-- The empty text doesn't begin with a byte.
 none_and_some : (text more : List ℕ) (b : ℕ) → text ≡ [] → text ≡ b ∷ more → ⊥
 none_and_some text more b e f = let z : 0 ≡ suc (length more) = ap length (sym e ∙ f) in omega (arith, z)
 
+-- A text names one exponent.
 one_exponent : (text : List ℕ) (c d : ℕ) → WritesExponent text c → WritesExponent text d → c ≡ d
 one_exponent text c d (inl h) (inl k) = h.1 ∙ sym k.1
 one_exponent text c d (inl h) (inr (more, k, f)) = absurd (none_and_some text more 101 h.0 f)
@@ -27,6 +29,7 @@ one_exponent text c d (inr (more, h, e)) (inr (rest, k, f)) =
 
 -- ---- the same parts name the same operands
 
+-- The same digits and exponent behind a point name the same operands.
 one_behind_point : (i : ℕ) (text : List ℕ) (x y : Operands) → WritesBehindPoint i text x → WritesBehindPoint i text y → x ≡ y
 one_behind_point i text x y (xs, r, same, w, f, p, e) (ys, s, other, u, g, q, k) =
     let word : HasWord text xs r = record { word = w; spelled = e; whole = exponent_begins r x.c p } in
@@ -53,6 +56,7 @@ one_behind i rest x y (inl (more, e, h)) (inr (p, g, k)) = absurd (no_point rest
 one_behind i rest x y (inr (p, f, h)) (inl (more, e, k)) = absurd (no_point rest more x.c e p)
 one_behind i rest x y (inr (p, f, h)) (inr (q, g, k)) = one_record x y (h ∙ sym k) (one_fraction x y 0 0 f g) (one_exponent rest x.c y.c p q)
 
+-- Without a sign it names one, by its count and what stands behind it.
 one_unsigned : (text : List ℕ) (x y : Operands) → WritesUnsignedOperands text x → WritesUnsignedOperands text y → x ≡ y
 one_unsigned text x y h k =
     let parts : (fraction exponent : List ℕ) × HasCount text x.i (fraction ++ exponent) × WritesFraction fraction x × WritesExponent exponent x.c
@@ -60,5 +64,6 @@ one_unsigned text x y h k =
     let rest : List ℕ = parts.0 ++ parts.1 in
     one_behind x.i rest x y (unsigned_behind text x.i rest x parts.2 h) (unsigned_behind text x.i rest y parts.2 k)
 
+-- With a `-` or without, a text names one list of operands.
 pub one_named : OneNamed
 one_named text x y h k = one_unsigned (without_sign 45 text) x y (named_unsigned text x h) (named_unsigned text y k)
