@@ -13,7 +13,7 @@ use Rattle.icu_plurals.specs.declared.provider.rules.reference.ParseError.{Parse
 use Rattle.icu_plurals.specs.declared.provider.rules.reference.ast.Condition.{Condition as Tree}
 use Rattle.icu_plurals.specs.Parser.{Reads, Faulty}
 use Rattle.icu_plurals.specs.Places.{IsWithinLimit}
-use Rattle.icu_plurals.specs.Reading.{TextReads, TextFaulty}
+use Rattle.icu_plurals.specs.Lexer.{TextReads, TextFaulty}
 use Rattle.icu_plurals.specs.Written.{CompactNumber, WritesCompact, IsCompactOverLimit}
 use Rattle.plurals_cli.specs.declared.error.RunError.{RunError}
 use Rattle.plurals_cli.specs.declared.error.RunError.TheVariants.{Condition, Number}
