@@ -51,12 +51,24 @@ impl<'l> Iterator for Lexer<'l> {
         while let [first, rest @ ..] = self.rest {
             if *first != b' ' {
                 let (token, after) = token_at(*first, rest);
-                self.rest = after;
+                self.rest = behind_space(after);
                 return Some(token);
             }
             self.rest = rest;
         }
         None
+    }
+}
+
+// The bytes behind the space that mostly follows a token: so it doesn't come to the table of pieces.
+#[inline]
+#[tactic(auto, unfolding(crate::specs::Inner::Scan::tokens_from))]
+fn behind_space(text: &[u8]) -> &[u8]
+    ensures { tokens_of result.now ≡ tokens_of text.now }
+{
+    match text {
+        [next, after @ ..] if *next == b' ' => after,
+        _ => text,
     }
 }
 

@@ -44,7 +44,12 @@ impl Sink for Kept {
         String::with_capacity(alloc, TEXT_ROOM)
     }
 
+    // Most numbers have one digit, which is written without a buffer and a copy.
+    #[tactic(auto, using(std::proofs::lemmas::Fmt::decimal_digit, std::proofs::lemmas::Str::Ascii::encode_ascii))]
     fn push_number(text: &mut String, number: u32) -> Result<(), AllocError> {
+        if number < 10 {
+            return text.push(char::from(b'0' + number as u8));
+        }
         let mut digits = Buffer::new();
         text.push_str(digits.format(number))
     }
