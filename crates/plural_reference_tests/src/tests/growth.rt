@@ -86,7 +86,10 @@ fn growth_of_rules_may_be_refused(rt: HostRuntime) {
 #[test]
 fn growth_of_rules_without_samples_may_be_refused(rt: HostRuntime) {
     let table = [
-        ("i = 0 or n = 1 @integer 0, 1, … @decimal 0.0~1.0", "i = 0 or n = 1"),
+        (
+            "i = 0 or n = 1 @integer 0, 1, … @decimal 0.0~1.0",
+            "i = 0 or n = 1",
+        ),
         (RUSSIAN_FEW, "v = 0 and i % 10 = 2..4 and i % 100 != 12..14"),
     ];
     for (text, printed) in table {

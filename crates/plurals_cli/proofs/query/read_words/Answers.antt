@@ -16,11 +16,11 @@ returns-in_err-number-in-Category c =
     let e = c.in_err-number-in-Category.field-0.0 in
     refused_command (Some (command_view c.args.command)) e c.from_residual-in_err-number-in-Category.result
     (handed_on _ _
-        (err_from_is_err_and c.from_residual-in_err-number-in-Category.result
-            c.from_residual-in_err-number-in-Category.ensures.1))
+    (err_from_is_err_and c.from_residual-in_err-number-in-Category.result
+    c.from_residual-in_err-number-in-Category.ensures.1))
     (rw c.in-Category.is
-        (fault_of_first (ReadsNumberWord c.in-Category.word.now) (λ n. IsAsked (query n)) e
-            c.in_err-number-in-Category.ensures))
+    (fault_of_first (ReadsNumberWord c.in-Category.word.now) (λ n. IsAsked (query n)) e
+    c.in_err-number-in-Category.ensures))
 
 pub returns-in_ok-number-in-Category : goal.returns-in_ok-number-in-Category
 returns-in_ok-number-in-Category c =
@@ -84,20 +84,20 @@ returns-in_ok-number-in-Select c =
 pub returns-in_err-number-in-Message : goal.returns-in_err-number-in-Message
 returns-in_err-number-in-Message c =
     let query =
-        λ (n : CompactNumber).
-            of_document (number_message c.in-Message.locale.now c.in-Message.rule_type n c.in-Message.word.now) in
+    λ (n : CompactNumber).
+    of_document (number_message c.in-Message.locale.now c.in-Message.rule_type n c.in-Message.word.now) in
     let e = c.in_err-number-in-Message.field-0.0 in
     refused_command (Some (command_view c.args.command)) e c.from_residual-in_err-number-in-Message.result
     (handed_on _ _ (err_from_is_err_and c.from_residual-in_err-number-in-Message.result c.from_residual-in_err-number-in-Message.ensures.1))
     (rw c.in-Message.is
-        (fault_of_first (ReadsNumberWord c.in-Message.word.now) (λ n. IsAsked (query n)) e
-            c.in_err-number-in-Message.ensures))
+    (fault_of_first (ReadsNumberWord c.in-Message.word.now) (λ n. IsAsked (query n)) e
+    c.in_err-number-in-Message.ensures))
 
 pub returns-in_ok-number-in-Message : goal.returns-in_ok-number-in-Message
 returns-in_ok-number-in-Message c =
     let query =
-        λ (n : CompactNumber).
-            of_document (number_message c.in-Message.locale.now c.in-Message.rule_type n c.in-Message.word.now) in
+    λ (n : CompactNumber).
+    of_document (number_message c.in-Message.locale.now c.in-Message.rule_type n c.in-Message.word.now) in
     let number = c.in_ok-number-in-Message in
     let asked = number_asked c.in-Message.word.now query number.number number.ensures.0 number.ensures.1 in
     rw c.in-Message.is (asked.0, (tt, asked.1))
