@@ -11,7 +11,8 @@ use Rattle.plural_reference.specs.declared.ast.RangeListItem.TheVariants as item
 use Rattle.plural_reference.specs.declared.ast.Relation.{Relation}
 use Rattle.plural_reference.specs.declared.ast.Value.{Value}
 use Rattle.plural_reference.specs.declared.error.ParseError.{ParseError}
-use Rattle.plural_reference.specs.declared.error.ParseError.TheVariants.{ExpectedAndCondition, ExpectedRelation, ExpectedOperator, ExpectedOperand, ExpectedValue}
+use Rattle.plural_reference.specs.declared.error.ParseError.TheVariants.{ExpectedAndCondition, ExpectedRelation, ExpectedOperator}
+use Rattle.plural_reference.specs.declared.error.ParseError.TheVariants.{ExpectedOperand, ExpectedValue}
 use Rattle.plural_reference.specs.declared.token.Token.{Token}
 use Rattle.plural_reference.specs.declared.token.Token.TheVariants.{Operator, DotDot, Comma, Or, And, Modulo, At}
 use Rattle.plural_reference.specs.Parser.{value_of, operand_of, value_fault, operand_fault, operator_fault, IsUnconditional}
@@ -178,7 +179,8 @@ ReadsOption Read old (Some x) new = Read old x new
 
 -- an expression is read wherever an operand is awaited: an operator behind it leads to the items, and any other token is a fault
 pub record ReadsExpression (old : List Token) (e : Expression) (new : List Token) : Type 0 where
-  pub goes_on : (b : Before) (op : operator.Operator) (rest : List Token) → new ≡ token.Operator op ∷ rest → run (before_operand b) old ≡ run (before_item (record { before = b; expression = e; operator = op }) []) rest
+  pub goes_on : (b : Before) (op : operator.Operator) (rest : List Token) → new ≡ token.Operator op ∷ rest
+      → run (before_operand b) old ≡ run (before_item (record { before = b; expression = e; operator = op }) []) rest
   pub stops : (b : Before) → operator_fault (first new) ≡ Some ExpectedOperator → run (before_operand b) old ≡ Err ExpectedOperator
 
 -- the first token is the value

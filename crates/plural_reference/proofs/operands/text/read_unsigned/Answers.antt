@@ -4,7 +4,8 @@ use Rattle.plural_reference.specs.OperandText.{WritesExponent}
 use Rattle.plural_reference.specs.Inner.OperandReader.{Answers, WritesBehindPoint}
 use Rattle.plural_reference.proofs.numbers.OperandTexts.{answer_pointed, first_and_rest, no_unpointed, no_unsigned, unpointed}
 use Rattle.plural_reference.proofs.operands.text.read_unsigned.Goals as goal
-use Rattle.plural_reference.proofs.operands.text.read_unsigned.Goals.{in_default-via-then-rest-lt1, in_default-via-else-rest-lt1+in_default-1}
+use Rattle.plural_reference.proofs.operands.text.read_unsigned.Goals.{in_default-via-then-rest-lt1}
+use Rattle.plural_reference.proofs.operands.text.read_unsigned.Goals.{in_default-via-else-rest-lt1+in_default-1}
 
 pub returns-in_err-i : goal.returns-in_err-i
 returns-in_err-i c = rw c.from_residual.ensures (no_unsigned c.args.text.now c.in_err-i.ensures.none)
@@ -32,4 +33,5 @@ pub returns-in_ok-read_exponent-in_default : goal.returns-in_ok-read_exponent-in
 returns-in_ok-read_exponent-in_default c =
     let rest = c.in_ok-i.rest.now in
     let exponent = subst (WritesExponent rest) (sym c.from_parts.ensures.exponent) c.in_ok-read_exponent-in_default.ensures in
-    unpointed c.args.text.now c.in_ok-i.i rest c.from_parts.result c.in_ok-i.ensures.found c.from_parts.ensures.integer c.from_parts.ensures.fraction exponent
+    unpointed c.args.text.now c.in_ok-i.i rest c.from_parts.result c.in_ok-i.ensures.found
+        c.from_parts.ensures.integer c.from_parts.ensures.fraction exponent
