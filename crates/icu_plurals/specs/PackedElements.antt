@@ -143,7 +143,7 @@ abbrev pub fault_beside : PackedValue → Option (List PackedItem) → Option El
 fault_beside default None = None
 fault_beside default (Some items) =
     if nat_lt 255 (length default.text) then Some DefaultLimit
-        else (if has_high_start (map item_bytes items) then Some StartLimit else None)
+    else (if has_high_start (map item_bytes items) then Some StartLimit else None)
 
 abbrev pub pack_fault : PackedElements → Option ElementsPackError
 pack_fault packed = fault_beside packed.default packed.items
@@ -152,7 +152,7 @@ pack_fault packed = fault_beside packed.default packed.items
 abbrev pub AnswersAs : Elements PackedValue → List ℕ → Type 0
 AnswersAs values bytes =
     (packed : PackedElements) → ElementsBytes packed bytes → (op : Operands) (rules : FiveRules)
-        → element_at (elements_of packed) op rules ≡ element_at values op rules
+    → element_at (elements_of packed) op rules ≡ element_at values op rules
 
 -- the values without those of the five categories that equal other's
 abbrev pub without_repeats : Elements PackedValue → Elements PackedValue

@@ -82,7 +82,7 @@ range_bytes range = to_le_bytes w32 range.0 ++ to_le_bytes w32 range.1
 unfoldable pub relation_bytes : PackedRelation → List ℕ
 relation_bytes relation =
     first_byte relation.and_or relation.meaning.operator relation.meaning.operand
-        ∷ (to_le_bytes w32 relation.meaning.modulus ++ flat_map range_bytes relation.meaning.ranges)
+    ∷ (to_le_bytes w32 relation.meaning.modulus ++ flat_map range_bytes relation.meaning.ranges)
 
 -- the bytes of the relations
 abbrev pub packed_bytes : List PackedRelation → List ℕ

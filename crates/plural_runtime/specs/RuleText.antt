@@ -55,4 +55,4 @@ abbrev pub PrintedRulesPackAgain : Type 0
 PrintedRulesPackAgain = (text : List ℕ) (rule : TreeRule) (relations : List PackedRelation) → TextReads ReadsRule text rule
     → packing rule.condition ≡ Ok relations
     → TextReads ReadsRule (condition_text (unpacked relations)) (record { condition = unpacked relations; samples = None })
-        × (packing (unpacked relations) ≡ Ok relations)
+    × (packing (unpacked relations) ≡ Ok relations)

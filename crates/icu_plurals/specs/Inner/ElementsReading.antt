@@ -26,8 +26,10 @@ abbrev pub read_behind : ℕ → List ℕ → PackedElements
 read_behind first [] = record { default = record { metadata = first % 16; text = [] }; items = None }
 read_behind first (len ∷ bytes) =
     if nat_lt first 128 then record { default = record { metadata = first % 16; text = len ∷ bytes }; items = None }
-    else record { default = record { metadata = first % 16; text = take len bytes };
-        items = Some (map read_item (items_in (drop len bytes))) }
+    else record {
+      default = record { metadata = first % 16; text = take len bytes };
+      items = Some (map read_item (items_in (drop len bytes)));
+    }
 
 -- the packed elements that bytes hold, if they are those of some
 unfoldable pub read_elements : List ℕ → PackedElements

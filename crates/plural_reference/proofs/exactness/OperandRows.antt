@@ -57,8 +57,13 @@ nonzero : (n : ℕ) → 0 < n → n ≢ 0
 nonzero n h e = omega arith
 
 no_fraction : (n : ℕ) → HasFraction (of_whole n) 0 0
-no_fraction n = record { v = refl; f = refl; w_divides = dvd_of_mod-eq-zero 1 refl; w_least = least_by 0 0 0 (lit≤ tt) (inl refl);
-    t = refl }
+no_fraction n = record {
+  v = refl;
+  f = refl;
+  w_divides = dvd_of_mod-eq-zero 1 refl;
+  w_least = least_by 0 0 0 (lit≤ tt) (inl refl);
+  t = refl;
+}
 
 -- ---- 1, 28 zeros and 21, by i % 10 = 1 and i % 100 != 11
 
@@ -141,11 +146,16 @@ long_fraction_not_within moduli h = let f : 19 ≤ 18 = h.fraction in omega arit
 
 exact_long_fraction : AreExact long_fraction 0 (six 1 19 19 1 1 0)
 exact_long_fraction = record {
-    i = refl;
-    fraction = record { v = refl; f = refl; w_divides = dvd_of_mod-eq-zero 1 refl;
-        w_least = least_by 19 1 19 (lit≤ tt) (inr (nonzero 1 (lit< tt))); t = refl };
-    c = refl
-    }
+  i = refl;
+  fraction = record {
+    v = refl;
+    f = refl;
+    w_divides = dvd_of_mod-eq-zero 1 refl;
+    w_least = least_by 19 1 19 (lit≤ tt) (inr (nonzero 1 (lit< tt)));
+    t = refl;
+  };
+  c = refl;
+}
 
 no_exact_n : exact_value N 0 (six 1 19 19 1 1 0) ≡ None
 no_exact_n = refl
@@ -165,11 +175,16 @@ n_by_10 = refl
 
 compact_million : AreExact (number (codes "1") (codes "00000020")) 6 (six 1000000 2 1 20 2 6)
 compact_million = record {
-    i = refl;
-    fraction = record { v = refl; f = refl; w_divides = dvd_of_mod-eq-zero 10 refl;
-        w_least = least_by 2 20 1 (lit≤ tt) (inr (nonzero 20 (lit< tt))); t = refl };
-    c = refl
-    }
+  i = refl;
+  fraction = record {
+    v = refl;
+    f = refl;
+    w_divides = dvd_of_mod-eq-zero 10 refl;
+    w_least = least_by 2 20 1 (lit≤ tt) (inr (nonzero 20 (lit< tt)));
+    t = refl;
+  };
+  c = refl;
+}
 
 -- ---- texts of operands
 
@@ -188,8 +203,13 @@ named_5_10 = inr (codes "5.10", (codes "5", codes ".10", [], five, fraction, inl
       1 ∷ 0 ∷ [],
       named (1 ∷ 0 ∷ []) (lit< tt) (lit< tt, (lit< tt, tt)) (lit< tt),
       refl,
-      record { v = refl; f = refl; w_divides = dvd_of_mod-eq-zero 10 refl;
-          w_least = least_by 2 10 1 (lit≤ tt) (inr (nonzero 10 (lit< tt))); t = refl },
+      record {
+        v = refl;
+        f = refl;
+        w_divides = dvd_of_mod-eq-zero 10 refl;
+        w_least = least_by 2 10 1 (lit≤ tt) (inr (nonzero 10 (lit< tt)));
+        t = refl;
+      },
     )
 
 -- `1.+5`: a fraction takes no `+`
@@ -202,8 +222,12 @@ no_plus_behind_the_point o h =
     ]
   where
     one : HasCount (codes "1.+5") 1 (codes ".+5")
-    one = (codes "1", (1 ∷ [], named (1 ∷ []) (lit< tt) (lit< tt, tt) (lit< tt), refl, inl refl), refl,
-        λ (h : IsAsciiDigit 46). omega (arith, h.0))
+    one = (
+      codes "1",
+      (1 ∷ [], named (1 ∷ []) (lit< tt) (lit< tt, tt) (lit< tt), refl, inl refl),
+      refl,
+      λ (h : IsAsciiDigit 46). omega (arith, h.0),
+    )
 
     pointed : (o : Operands) → WritesBehindPoint 1 (codes "+5") o → ⊥
     pointed o ([], tail, i, word, f, x, e) = let s : 0 < 0 = word.nonempty in omega (arith, s)

@@ -62,7 +62,7 @@ one_behind i rest x y (inr (p, f, h)) (inr (q, g, k)) =
 one_unsigned : (text : List ℕ) (x y : Operands) → WritesUnsignedOperands text x → WritesUnsignedOperands text y → x ≡ y
 one_unsigned text x y h k =
     let parts : (fraction exponent : List ℕ) × HasCount text x.i (fraction ++ exponent) × WritesFraction fraction x
-        × WritesExponent exponent x.c
+    × WritesExponent exponent x.c
     = count_of_unsigned text x h in
     let rest : List ℕ = parts.0 ++ parts.1 in
     one_behind x.i rest x y (unsigned_behind text x.i rest x parts.2 h) (unsigned_behind text x.i rest y parts.2 k)

@@ -99,7 +99,7 @@ scans_digits : (ds rest : List ℕ) (n m : ℕ) → AreDigits ds → BeginsWithN
 scans_digits [] rest n m h w e below = scan_stops n rest w ∙ ap (λ k. Some (k, rest)) (omega (arith, e))
 scans_digits (d ∷ ds) rest n m h w e below =
     let total : m ≡ (n * 10 + d) * 10 ^ length ds + value_of ds = e
-        ∙ one_more n d (10 ^ length ds) _ (value_of ds) (pow-suc 10 (length ds)) in
+    ∙ one_more n d (10 ^ length ds) _ (value_of ds) (pow-suc 10 (length ds)) in
     let front : n * 10 + d ≤ m = front_below (n * 10 + d) (10 ^ length ds) (value_of ds) m (power_above (length ds)) total in
     scan_goes_on n (48 + d) (n * 10 + d) (text_of ds ++ rest) (written_digit d h.0) (omega arith) (omega (arith, front, below))
     ∙ scans_digits ds rest (n * 10 + d) m h.1 w total below
@@ -134,8 +134,14 @@ both_parts n m xs ys e = (ap (λ l. number_in l) e, ap (λ l. rest_in l) e)
 ends_here : (n m : ℕ) (text rest : List ℕ) → n < 2 ^ 64 → BeginsWithNoDigit text → left n text ≡ left m rest → Scans n text m rest
 ends_here n m text rest below w e =
     let p : (n ≡ m) × (text ≡ rest) = both_parts n m text rest e in
-    record { ds = []; digits = tt; spelled = p.1; value = sym p.0 ∙ omega arith; whole = subst BeginsWithNoDigit p.1 w;
-        below = subst (λ k. k < 2 ^ 64) p.0 below }
+    record {
+      ds = [];
+      digits = tt;
+      spelled = p.1;
+      value = sym p.0 ∙ omega arith;
+      whole = subst BeginsWithNoDigit p.1 w;
+      below = subst (λ k. k < 2 ^ 64) p.0 below;
+    }
 
 scan_tells : (text : List ℕ) (n m : ℕ) (rest : List ℕ) → n < 2 ^ 64 → scanned n text ≡ Some (m, rest) → Scans n text m rest
 scan_tells [] n m rest below e = ends_here n m [] rest below tt e
@@ -347,19 +353,36 @@ behind_point i text ds rest o h whole f x = (ds, rest, whole, h.word, f, x, h.sp
 -- the integer, and what stands behind it
 pub count_of_unsigned : (text : List ℕ) (o : Operands) → WritesUnsignedOperands text o
     → (fraction exponent : List ℕ) × HasCount text o.i (fraction ++ exponent) × WritesFraction fraction o × WritesExponent exponent o.c
-count_of_unsigned text o (whole, fraction, exponent, w, inl f, x, e) =
-    (fraction, exponent, (whole, w, e,
-        subst BeginsWithNoDigit (ap (λ l. l ++ exponent) (sym f.0)) (exponent_begins exponent o.c x)), inl f, x)
-count_of_unsigned text o (whole, fraction, exponent, w, inr (ds, d, e, f), x, k) =
-    (fraction, exponent, (whole, w, k,
-        subst BeginsWithNoDigit (ap (λ l. l ++ exponent) (sym e)) (λ (h : IsAsciiDigit 46). omega (arith, h.0))), inr (ds, d, e, f),
-        x)
+count_of_unsigned text o (whole, fraction, exponent, w, inl f, x, e) = (
+  fraction,
+  exponent,
+  (
+    whole,
+    w,
+    e,
+    subst BeginsWithNoDigit (ap (λ l. l ++ exponent) (sym f.0)) (exponent_begins exponent o.c x),
+  ),
+  inl f,
+  x,
+)
+count_of_unsigned text o (whole, fraction, exponent, w, inr (ds, d, e, f), x, k) = (
+  fraction,
+  exponent,
+  (
+    whole,
+    w,
+    k,
+    subst BeginsWithNoDigit (ap (λ l. l ++ exponent) (sym e)) (λ (h : IsAsciiDigit 46). omega (arith, h.0)),
+  ),
+  inr (ds, d, e, f),
+  x,
+)
 
 pub no_unsigned : (text : List ℕ) → ((n : ℕ) (rest : List ℕ) → ¬ (HasCount text n rest)) → (o : Operands)
     → ¬ (WritesUnsignedOperands text o)
 no_unsigned text none o h =
     let parts : (fraction exponent : List ℕ) × HasCount text o.i (fraction ++ exponent) × WritesFraction fraction o
-        × WritesExponent exponent o.c
+    × WritesExponent exponent o.c
     = count_of_unsigned text o h in
     none o.i (parts.0 ++ parts.1) parts.2
 
@@ -382,9 +405,16 @@ unsigned_behind text i rest o h k = behind (count_of_unsigned text o k)
 -- at a point
 pub answer_pointed : (text : List ℕ) (i : ℕ) (rest more : List ℕ) (r : Option Operands) → HasCount text i rest → rest ≡ 46 ∷ more
     → Answers (WritesBehindPoint i more) r → Answers (WritesUnsignedOperands text) r
-answer_pointed text i rest more (Some o) (front, w, e, whole) k (ds, tail, same, d, f, x, spelled) =
-    (front, 46 ∷ text_of ds, tail, subst (WritesCount front) (sym same) w, inr (ds, d, refl, f), x, e
-        ∙ ap (λ l. front ++ l) (k ∙ ap (λ l. 46 ∷ l) spelled))
+answer_pointed text i rest more (Some o) (front, w, e, whole) k (ds, tail, same, d, f, x, spelled) = (
+  front,
+  46 ∷ text_of ds,
+  tail,
+  subst (WritesCount front) (sym same) w,
+  inr (ds, d, refl, f),
+  x,
+  e
+      ∙ ap (λ l. front ++ l) (k ∙ ap (λ l. 46 ∷ l) spelled),
+)
 answer_pointed text i rest more None h k a = refused
   where
     refused : (o : Operands) → ¬ (WritesUnsignedOperands text o)

@@ -240,7 +240,7 @@ abbrev pub ReadsSampleList : List Token → SampleList → List Token → Type 0
 ReadsSampleList old list new =
     (sections : List Section) (type : Token)
     → run_samples (awaits_sample (begin_list sections type)) old
-        ≡ run_samples (after_sections (sections ++ (record { type = type; list = list }) ∷ [])) new
+    ≡ run_samples (after_sections (sections ++ (record { type = type; list = list }) ∷ [])) new
 
 -- lists are read from the beginning; At may follow
 pub record ReadsLists (old : List Token) (samples : Option samples.Samples) (new : List Token) : Type 0 where

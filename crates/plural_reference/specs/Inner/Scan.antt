@@ -57,7 +57,7 @@ abbrev pub begin_piece : ℕ → ScanMove
 begin_piece b =
     cond (nat_eq b blank) ([], between)
     (cond (nat_le (byte "1") b) (cond (nat_le b (byte "9")) ([], in_number (0 * 10 + digit_value b)) (look_up b piece_starts))
-        (look_up b piece_starts))
+    (look_up b piece_starts))
 
 -- the token of a whole number
 abbrev pub number_token : ℕ → Token

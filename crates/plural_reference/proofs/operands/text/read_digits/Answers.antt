@@ -9,7 +9,7 @@ returns-in_err-number-clause-none c =
     rw c.from_residual.ensures (no_large_word c.args.text.now (
     sym c.loop-rest.invariant.same
     ∙ scan_overflows_at c.loop-rest.number c.loop-rest.rest.now c.in-len1-up.len_at_least
-        c.if-not-is_ascii_digit.ensures.cases c.in_err-number.ensures.none
+    c.if-not-is_ascii_digit.ensures.cases c.in_err-number.ensures.none
     ))
 
 pub returns-then-count-eq0-clause-none : goal.returns-then-count-eq0-clause-none

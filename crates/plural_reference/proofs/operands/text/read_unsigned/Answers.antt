@@ -34,4 +34,4 @@ returns-in_ok-read_exponent-in_default c =
     let rest = c.in_ok-i.rest.now in
     let exponent = subst (WritesExponent rest) (sym c.from_parts.ensures.exponent) c.in_ok-read_exponent-in_default.ensures in
     unpointed c.args.text.now c.in_ok-i.i rest c.from_parts.result c.in_ok-i.ensures.found
-        c.from_parts.ensures.integer c.from_parts.ensures.fraction exponent
+    c.from_parts.ensures.integer c.from_parts.ensures.fraction exponent
