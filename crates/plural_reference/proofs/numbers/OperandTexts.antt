@@ -11,7 +11,7 @@ use Rattle.fixed_decimal.specs.Digits.{value_of, AreDigits, text_of}
 use Rattle.plural_reference.specs.Operands.{Operands, HasFraction}
 use Rattle.plural_reference.specs.OperandText.{IsWord, WritesCount, WritesFraction, WritesExponent, WritesUnsignedOperands}
 use Rattle.plural_reference.specs.OperandText.{WritesOperands, FailsOperands, ReadsOperands}
-use Rattle.plural_reference.specs.Inner.OperandReader.{Answers, BeginsWithNoDigit, HasCount, HasWord, WritesBehindPoint, without_sign}
+use Rattle.plural_reference.specs.Inner.OperandReader.{IsReading, BeginsWithNoDigit, HasCount, HasWord, WritesBehindPoint, without_sign}
 use Rattle.plural_reference.specs.declared.operands.error.OperandsError.{OperandsError}
 use Rattle.plural_reference.specs.declared.operands.error.OperandsError.TheVariants.{Empty, Invalid}
 use Rattle.plural_reference.proofs.numbers.Numbers.{power_above}
@@ -315,8 +315,8 @@ pub no_exponent_of : (text : List ℕ) → text ≢ [] → ((more : List ℕ) �
 no_exponent_of text some other c (inl h) = some h.0
 no_exponent_of text some other c (inr (more, w, e)) = other more e
 
-pub answer_exponent : (text rest : List ℕ) (r : Option ℕ) → text ≡ 101 ∷ rest → Answers (WritesCount rest) r
-    → Answers (WritesExponent text) r
+pub answer_exponent : (text rest : List ℕ) (r : Option ℕ) → text ≡ 101 ∷ rest → IsReading (WritesCount rest) r
+    → IsReading (WritesExponent text) r
 answer_exponent text rest (Some c) e a = inr (rest, a, e)
 answer_exponent text rest None e a = refused
   where
@@ -404,7 +404,7 @@ unsigned_behind text i rest o h k = behind (count_of_unsigned text o k)
 
 -- at a point
 pub answer_pointed : (text : List ℕ) (i : ℕ) (rest more : List ℕ) (r : Option Operands) → HasCount text i rest → rest ≡ 46 ∷ more
-    → Answers (WritesBehindPoint i more) r → Answers (WritesUnsignedOperands text) r
+    → IsReading (WritesBehindPoint i more) r → IsReading (WritesUnsignedOperands text) r
 answer_pointed text i rest more (Some o) (front, w, e, whole) k (ds, tail, same, d, f, x, spelled) = (
   front,
   46 ∷ text_of ds,
