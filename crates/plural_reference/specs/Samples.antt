@@ -18,13 +18,13 @@ use Rattle.plural_reference.specs.declared.token.Token.{Token}
 use Rattle.plural_reference.specs.declared.token.Token.TheVariants.{Operand, Number, Zero, Dot, Comma, At, Decimal, Integer}
 use Rattle.plural_reference.specs.declared.token.Token.TheVariants.{Ellipsis, Tilde, E}
 use Rattle.plural_reference.specs.Lexer.{first, last}
-use Rattle.plural_reference.specs.Parser.{Separated, ReadsUpTo, Faulty, value_of, value_fault}
+use Rattle.plural_reference.specs.Parser.{Separated, ReadsUpTo, Faulty, token_value, value_fault}
 
 -- ---- kinds of token
 
 -- a run of digits
 abbrev pub IsDigits : Token → Type 0
-IsDigits t = IsSomeAnd (value_of t) (λ _. Unit {0})
+IsDigits t = IsSomeAnd (token_value t) (λ _. Unit {0})
 
 -- what begins the exponent of a sample
 abbrev pub IsExponentMark : Token → Type 0

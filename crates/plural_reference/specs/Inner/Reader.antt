@@ -15,7 +15,7 @@ use Rattle.plural_reference.specs.declared.error.ParseError.TheVariants.{Expecte
 use Rattle.plural_reference.specs.declared.error.ParseError.TheVariants.{ExpectedOperand, ExpectedValue}
 use Rattle.plural_reference.specs.declared.token.Token.{Token}
 use Rattle.plural_reference.specs.declared.token.Token.TheVariants.{Operator, DotDot, Comma, Or, And, Modulo, At}
-use Rattle.plural_reference.specs.Parser.{value_of, operand_of, value_fault, operand_fault, operator_fault, IsUnconditional}
+use Rattle.plural_reference.specs.Parser.{token_value, operand_of, value_fault, operand_fault, operator_fault, IsUnconditional}
 use Rattle.plural_reference.specs.declared.token.Token.TheVariants as token
 use Rattle.plural_reference.specs.Lexer.{first}
 
@@ -106,11 +106,11 @@ operand_next t b o = operator_move t b (record { operand = o; modulus = None })
 abbrev pub step : State → Token → Move
 step (before_operand b) t = operand_move (operand_of t) t b
 step (after_operand b o) t = operand_next t b o
-step (after_modulo b o) t = value_move (value_of t) (λ v. after_modulus b (record { operand = o; modulus = Some v }))
+step (after_modulo b o) t = value_move (token_value t) (λ v. after_modulus b (record { operand = o; modulus = Some v }))
 step (after_modulus b e) t = operator_move t b e
-step (before_item o xs) t = value_move (value_of t) (λ v. after_item o xs (items.Value v))
+step (before_item o xs) t = value_move (token_value t) (λ v. after_item o xs (items.Value v))
 step (after_item o xs x) t = item_move o xs x t
-step (before_end o xs v) t = value_move (value_of t) (λ w. after_item o xs (items.Range v w))
+step (before_end o xs v) t = value_move (token_value t) (λ w. after_item o xs (items.Range v w))
 
 -- where the tokens end
 abbrev pub at_end : State → Move
@@ -185,7 +185,7 @@ pub record ReadsExpression (old : List Token) (e : Expression) (new : List Token
 
 -- the first token is the value
 abbrev pub TakesValue : List Token → Value → List Token → Type 0
-TakesValue old v new = (t : Token) × (old ≡ t ∷ new) × (value_of t ≡ Some v)
+TakesValue old v new = (t : Token) × (old ≡ t ∷ new) × (token_value t ≡ Some v)
 
 -- no value comes next
 abbrev pub NoValue : List Token → ParseError → Type 0
