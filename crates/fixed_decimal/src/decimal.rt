@@ -15,8 +15,9 @@ use std::alloc::Global;
 
 /// A written number with the sign that its text has.
 ///
-/// <!-- snippet crates/fixed_decimal/src/tests.rt: example "let number = CompactDecimal::from_parts" to "holds!(rt;
-/// number.significand().sign == Sign::Positive" of fn a_compact_decimal_has_its_parts -->
+/// <!-- snippet crates/fixed_decimal/src/tests.rt:
+/// example "let number = CompactDecimal::from_parts" to "holds!(rt; number.significand().sign == Sign::P"
+/// of fn a_compact_decimal_has_its_parts -->
 /// ```
 /// let number = CompactDecimal::from_parts(Decimal::from_str(alloc, "+2.5")?, 255);
 /// assert!(rt; number.exponent() == 255);
