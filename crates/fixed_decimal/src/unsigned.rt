@@ -18,8 +18,8 @@ use std::marker::Model;
 /// A written number without a sign: its integer digits, at least one, and its fraction digits. All
 /// written zeros count. Only the digits from the first to the last that isn't zero are stored.
 ///
-/// <!-- snippet crates/fixed_decimal/src/tests.rt: example "let number = UnsignedDecimal::from_str" to "}" of fn
-/// outside_the_places_each_digit_is_zero -->
+/// <!-- snippet crates/fixed_decimal/src/tests.rt:
+/// example "let number = UnsignedDecimal::from_str" to "}" of fn outside_the_places_each_digit_is_zero -->
 /// ```
 /// let number = UnsignedDecimal::from_str(alloc, "98.76")?;
 /// for magnitude in [i16::MIN, -32767, -4, -3, 2, 3, 32766, i16::MAX] {
@@ -161,8 +161,8 @@ impl UnsignedDecimal {
     /// Returns how many integer places and how many fraction places are written after the point has
     /// moved to the right by `exponent` places, as a compact exponent moves it.
     ///
-    /// <!-- snippet crates/fixed_decimal/src/tests.rt: example "let rows" to "}" of fn
-    /// an_exponent_moves_places_to_the_left_of_the_point -->
+    /// <!-- snippet crates/fixed_decimal/src/tests.rt:
+    /// example "let rows" to "}" of fn an_exponent_moves_places_to_the_left_of_the_point -->
     /// ```
     /// let rows = [
     ///     ("12.340", 0, (2, 3)),
