@@ -119,7 +119,7 @@ impl<'data> Rule<'data> {
         }
     }
 
-    /// Returns a rule of the same bytes: borrowed if this one is borrowed, otherwise a copy. `Err` is out of memory alone.
+    /// Returns a rule of the same bytes: borrowed if this one is borrowed, otherwise a copy. The only error is out of memory.
     pub fn try_clone(&self) -> Result<Rule<'data>, AllocError>
         ensures { IfOk result (λ rule. rule ≡ self.now) }
     {

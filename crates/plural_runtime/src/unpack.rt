@@ -13,7 +13,7 @@ use std::alloc::{AllocError, Global};
 use std::mem;
 
 impl<'data> Rule<'data> {
-    /// Returns the tree of the rule, without samples. `Err` is out of memory alone.
+    /// Returns the tree of the rule, without samples. The only error is out of memory.
     ///
     /// Each relation marked Or begins a new and-condition. Equal ends come back as a value, a modulus 0 as none.
     ///

@@ -11,7 +11,7 @@ use crate::sequence::Sequence;
 use std::alloc::AllocError;
 
 impl Rule {
-    /// Returns a clone, equal to the rule. `Err` is out of memory alone.
+    /// Returns a clone, equal to the rule. The only error is out of memory.
     pub fn try_clone(&self) -> Result<Self, AllocError>
         ensures { IfOk result (λ x. x ≡ self.now) }
     {
@@ -23,7 +23,7 @@ impl Rule {
 }
 
 impl Condition {
-    /// Returns a clone, equal to the condition. `Err` is out of memory alone.
+    /// Returns a clone, equal to the condition. The only error is out of memory.
     pub fn try_clone(&self) -> Result<Self, AllocError>
         ensures { IfOk result (λ x. x ≡ self.now) }
     {
@@ -32,7 +32,7 @@ impl Condition {
 }
 
 impl AndCondition {
-    /// Returns a clone, equal to the and-condition. `Err` is out of memory alone.
+    /// Returns a clone, equal to the and-condition. The only error is out of memory.
     pub fn try_clone(&self) -> Result<Self, AllocError>
         ensures { IfOk result (λ x. x ≡ self.now) }
     {
@@ -41,7 +41,7 @@ impl AndCondition {
 }
 
 impl Relation {
-    /// Returns a clone, equal to the relation. `Err` is out of memory alone.
+    /// Returns a clone, equal to the relation. The only error is out of memory.
     pub fn try_clone(&self) -> Result<Self, AllocError>
         ensures { IfOk result (λ x. x ≡ self.now) }
     {
@@ -66,7 +66,7 @@ impl Expression {
 }
 
 impl RangeList {
-    /// Returns a clone, equal to the list. `Err` is out of memory alone.
+    /// Returns a clone, equal to the list. The only error is out of memory.
     pub fn try_clone(&self) -> Result<Self, AllocError>
         ensures { IfOk result (λ x. x ≡ self.now) }
     {
@@ -98,7 +98,7 @@ impl Value {
 }
 
 impl Samples {
-    /// Returns a clone, equal to the samples. `Err` is out of memory alone.
+    /// Returns a clone, equal to the samples. The only error is out of memory.
     pub fn try_clone(&self) -> Result<Self, AllocError>
         ensures { IfOk result (λ x. x ≡ self.now) }
     {
@@ -110,7 +110,7 @@ impl Samples {
 }
 
 impl SampleList {
-    /// Returns a clone, equal to the list. `Err` is out of memory alone.
+    /// Returns a clone, equal to the list. The only error is out of memory.
     pub fn try_clone(&self) -> Result<Self, AllocError>
         ensures { IfOk result (λ x. x ≡ self.now) }
     {
@@ -122,7 +122,7 @@ impl SampleList {
 }
 
 impl SampleRange {
-    /// Returns a clone, equal to the range. `Err` is out of memory alone.
+    /// Returns a clone, equal to the range. The only error is out of memory.
     pub fn try_clone(&self) -> Result<Self, AllocError>
         ensures { IfOk result (λ x. x ≡ self.now) }
     {
@@ -134,7 +134,7 @@ impl SampleRange {
 }
 
 impl DecimalValue {
-    /// Returns a clone, equal to the sample. `Err` is out of memory alone.
+    /// Returns a clone, equal to the sample. The only error is out of memory.
     pub fn try_clone(&self) -> Result<Self, AllocError>
         ensures { IfOk result (λ x. x ≡ self.now) }
     {
