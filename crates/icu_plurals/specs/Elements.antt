@@ -1,9 +1,9 @@
--- A value for each plural category, and for exactly 0 and exactly 1 (UTS 35 Part 3, Plural Rules and Explicit 0 and 1 Rules). Other's
--- value is always there, the seven others may be.
+-- A value for each plural category, and for exactly 0 and exactly 1 (UTS 35 Part 3, Plural Rules and Explicit 0 and 1 Rules). The
+-- value of other is always present; each of the seven others is present or absent.
 --     Elements T      the values by key
 --     values_in_order e      the eight places in the order in which closures are called
---     of_category e c      the value of a category, or other's
---     element_at e op rules      the value at operands: the explicit one, else that of the category that the rules choose, else other's
+--     of_category e c      the value of a category, or that of other
+--     element_at e op rules      the value for operands: the explicit one, else that of the category by the rules, else of other
 use Rattle.std.specs.Prelude.{ℕ, ◌==◌, ◌&&◌, List, [], ◌∷◌, Bool, Option, Some, None, option_map, unwrap_or, if◌then◌else◌, ◌≡◌}
 use Rattle.plural_reference.specs.Operands.{Operands, AreKept, AreExact}
 use Rattle.plural_runtime.specs.PackedTruth.{packed_truth}
@@ -25,7 +25,7 @@ pub record Elements (T : Type 0) : Type 0 where
   pub explicit_zero : Option T
   pub explicit_one : Option T
 
--- other's value alone
+-- the value of other alone
 abbrev pub only_other : {T : Type 0} → T → Elements T
 only_other x = record { other = x; zero = None; one = None; two = None; few = None; many = None; explicit_zero = None; explicit_one = None }
 
@@ -33,7 +33,7 @@ only_other x = record { other = x; zero = None; one = None; two = None; few = No
 abbrev pub values_in_order : {T : Type 0} → Elements T → List (Option T)
 values_in_order e = Some e.other ∷ e.zero ∷ e.one ∷ e.two ∷ e.few ∷ e.many ∷ e.explicit_zero ∷ e.explicit_one ∷ []
 
--- each value by a function
+-- each value as a function gives it
 abbrev pub each_by : {S T : Type 0} → (S → T) → Elements S → Elements T
 each_by f e = record {
   other = f e.other;
@@ -46,12 +46,12 @@ each_by f e = record {
   explicit_one = option_map f e.explicit_one;
 }
 
--- the value, unless it equals other's
+-- the value, unless it equals that of other
 abbrev pub unless_equal : {T : Type 0} → (T → T → Bool) → T → Option T → Option T
 unless_equal eq other None = None
 unless_equal eq other (Some x) = if eq x other then None else Some x
 
--- the value of a category, or other's
+-- the value of a category, or that of other
 abbrev pub of_category : {T : Type 0} → Elements T → PluralCategory → T
 of_category e Zero = unwrap_or e.zero e.other
 of_category e One = unwrap_or e.one e.other
@@ -64,24 +64,24 @@ of_category e Other = e.other
 abbrev pub is_exactly : ℕ → Operands → Bool
 is_exactly n op = (op.i == n) && (op.v == 0) && (op.w == 0) && (op.f == 0) && (op.t == 0) && (op.c == 0)
 
--- the explicit value at exactly 0 or exactly 1, where it is there
+-- the explicit value for exactly 0 or exactly 1, if present
 abbrev pub explicit_at : {T : Type 0} → Elements T → Operands → Option T
 explicit_at e op = if is_exactly 0 op then e.explicit_zero else (if is_exactly 1 op then e.explicit_one else None)
 
 abbrev pub element_at : {T : Type 0} → Elements T → Operands → FiveRules → T
 element_at e op rules = unwrap_or (explicit_at e op) (of_category e (first_category (packed_truth op) rules))
 
--- ---- Which value of elements a written number has under five rules (UTS 35 Part 3, Language Plural Rules, Explicit 0 and 1 Rules).
+-- ---- Which value of elements a written number has under five rules (UTS 35 Part 3, Language Plural Rules, Explicit 0 and 1)
 --     IsExactElement      within the bound: the one that the number itself has, whatever its length
---     IsKeptElement      within the bound or not: the one of the operands that are kept of it
+--     IsKeptElement      within the bound or not: the one that its kept operands choose
 
--- The value of the exact number: the explicit one where the number is exactly 0 or 1 and it is there, else that of the first of
--- zero, one, two, few, many whose condition is there and true of the number, else other's.
+-- The value of the exact number: the explicit one if the number is exactly 0 or 1 and it is present, else that of the first of
+-- zero, one, two, few, many whose condition is present and true of the number, else that of other.
 abbrev pub exact_element_at : {T : Type 0} → Elements T → Operands → Five (Option Condition) → T
 exact_element_at e exact conditions =
     unwrap_or (explicit_at e exact) (of_category e (first_category (exact_truth exact) conditions))
 
--- Whatever five texts the rules are read from: if the number, with its compact exponent, is within the bound, the value is
+-- For any five texts that the rules are read from: if the number, with its compact exponent, is within the bound, the value is
 -- that of the exact number. A modulus 0 is no modulus in exact truth.
 abbrev pub IsExactElement : {T : Type 0} → Elements T → FiveRules → Places → ℕ → T → Type 0
 IsExactElement e rules number exponent value =
@@ -90,7 +90,7 @@ IsExactElement e rules number exponent value =
     → IsWithinBound number exponent (moduli_of rules) → AreExact number exponent exact
     → value ≡ exact_element_at e exact conditions
 
--- The value is that of the operands that are kept of the number.
+-- The value is the one that the kept operands of the number choose.
 abbrev pub IsKeptElement : {T : Type 0} → Elements T → FiveRules → Places → ℕ → T → Type 0
 IsKeptElement e rules number exponent value =
     (kept : Operands) × AreKept number exponent kept × (value ≡ element_at e kept rules)

@@ -1,4 +1,4 @@
--- What is wrong with bytes that are no packed elements, in the order in which it is looked for.
+-- What is wrong with bytes that are no packed elements, in the order in which faults are looked for.
 use Rattle.std.specs.Prelude.{◌≡◌, ℕ, ◌+◌, ◌/◌, ◌%◌, ◌<◌, ◌≤◌, List, [], ◌∷◌, ◌++◌, length, if◌then◌else◌, nat_lt, IsTrue, IsFalse}
 use Rattle.std.specs.Prelude.{Option, Some, None}
 use Rattle.std.specs.Option.{option_or}
@@ -7,9 +7,9 @@ use Rattle.packed_list.specs.ListBytes.{ListBytes, HasFault}
 use Rattle.icu_plurals.specs.declared.packed.error.ElementsBytesError.{ElementsBytesError}
 use Rattle.icu_plurals.specs.declared.packed.error.ElementsBytesError.TheVariants as errors
 
--- ---- what stands where
+-- ---- the parts
 
--- the first byte, the default's text, and what is left behind it where bit 7 of the first byte says that there are items
+-- the first byte, the default's text, and what is left after it if bit 7 of the first byte says that items follow
 pub record ElementsParts : Type 0 where
   pub first : ℕ
   pub text : List ℕ
@@ -24,7 +24,7 @@ PartsWith first text (Some rest) bytes = (128 ≤ first) × (bytes ≡ first ∷
 abbrev pub ArePartsOf : ElementsParts → List ℕ → Type 0
 ArePartsOf parts bytes = PartsWith parts.first parts.text parts.rest bytes
 
--- bit 7 of the first byte is set, and there is no byte for the length of the text, or there are fewer bytes behind it than it says
+-- bit 7 of the first byte is set, and the length of the text is missing or more than the bytes left
 abbrev pub IsShort : List ℕ → Type 0
 IsShort [] = ⊥
 IsShort (first ∷ []) = 128 ≤ first
@@ -32,13 +32,13 @@ IsShort (first ∷ len ∷ bytes) = (128 ≤ first) × (length bytes < len)
 
 -- ---- the items
 
--- what is wrong with the item at a place: no byte, a key above the last one, or a text that isn't UTF-8
+-- what is wrong with the item at a place: no byte, a key above 6, or a text that isn't UTF-8
 abbrev pub element_fault : ℕ → List ℕ → Option ElementsBytesError
 element_fault place [] = Some (errors.ItemEmpty place)
 element_fault place (byte ∷ text) =
     if nat_lt 6 (byte / 16) then Some (errors.Key place) else (if is_utf8 text then None else Some (errors.ItemText place))
 
--- what is wrong with the first bad item, if there is one; the first item stands at the given place
+-- what is wrong with the first bad item, if any; the first item is at the given place
 abbrev pub first_element_fault : ℕ → List (List ℕ) → Option ElementsBytesError
 first_element_fault place [] = None
 first_element_fault place (item ∷ items) = option_or (element_fault place item) (first_element_fault (place + 1) items)
@@ -50,12 +50,12 @@ abbrev pub HasItemsFault : List ℕ → ElementsBytesError → Type 0
 HasItemsFault rest (errors.List fault) = HasFault rest fault
 HasItemsFault rest fault = (items : List (List ℕ)) × ListBytes items rest × (first_element_fault 0 items ≡ Some fault)
 
--- the same, where something is left
+-- `HasItemsFault` of what is left, if items follow
 abbrev pub HasRestFault : Option (List ℕ) → ElementsBytesError → Type 0
 HasRestFault None fault = ⊥
 HasRestFault (Some rest) fault = HasItemsFault rest fault
 
--- a bit of 4 to 6 of the first byte is set
+-- one of the bits 4 to 6 of the first byte is set
 abbrev pub HasPadding : ℕ → Type 0
 HasPadding first = 16 ≤ first % 128
 

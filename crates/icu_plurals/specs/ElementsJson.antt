@@ -1,4 +1,4 @@
--- What a JSON value stands for as packed elements, or why it stands for none, and the one JSON value that is written for elements
+-- What a JSON value means as packed elements, or why it is refused, and the one JSON value that is written for elements
 -- (docs/JSON.md). Values are what serde_json's accessors show of them.
 use Rattle.std.specs.Prelude.{ℕ, List, codes, Option, Some, None, is_some, option_map, Ok, Err, nat_lt, if◌then◌else◌}
 use Rattle.std.specs.Option.{option_and_then}
@@ -33,7 +33,7 @@ abbrev pub optional_in : Option Data → Option (Option PackedValue)
 optional_in None = Some None
 optional_in (Some value) = if is_some (as_null value) then Some None else option_map Some (value_in value)
 
--- eight values that are all of their form
+-- eight values, if all are of their form
 abbrev pub all_eight : Option PackedValue → Option (Option PackedValue) → Option (Option PackedValue) → Option (Option PackedValue)
     → Option (Option PackedValue)
     → Option (Option PackedValue) → Option (Option PackedValue) → Option (Option PackedValue) → Option (Elements PackedValue)
@@ -50,7 +50,7 @@ all_eight (Some other) (Some zero) (Some one) (Some two) (Some few) (Some many) 
     })
 all_eight _ _ _ _ _ _ _ _ = None
 
--- elements are an object with other's value under its key, and the seven others under theirs; its other keys are not looked at
+-- elements are an object with the value of other under its key, and the seven others under theirs; its other keys aren't read
 abbrev pub elements_in_json : Data → Option (Elements PackedValue)
 elements_in_json value =
     all_eight (option_and_then value_in (get (codes "other") value)) (optional_in (get (codes "zero") value))
@@ -70,7 +70,7 @@ abbrev pub packed_shape : Option (Elements PackedValue) → Stands PackedElement
 packed_shape None = Err Shape
 packed_shape (Some values) = packs values
 
--- the packed elements of a value: where something has not its form, that is told before what can't be packed
+-- the packed elements of a value: a part of another form is refused before elements that can't be packed
 abbrev pub packed_of_json : Data → Stands PackedElements
 packed_of_json = unless_float (λ value. packed_shape (elements_in_json value))
 
@@ -80,12 +80,12 @@ packed_of_json = unless_float (λ value. packed_shape (elements_in_json value))
 abbrev pub value_json : PackedValue → Data
 value_json value = array (item (number (unsigned value.metadata)) (item (string value.text) no_items))
 
--- a value that is there stands under its key
+-- a value that is present is under its key
 abbrev pub with_value : List ℕ → Option PackedValue → Members → Members
 with_value key None members = members
 with_value key (Some value) members = put key (value_json value) members
 
--- elements are an object with the keys of the values that are there, and no other
+-- elements are an object with the keys of the values that are present, and no others
 abbrev pub elements_json : Elements PackedValue → Data
 elements_json e = object (
     with_value (codes "explicit_one") e.explicit_one (with_value (codes "explicit_zero") e.explicit_zero

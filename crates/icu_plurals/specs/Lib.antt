@@ -7,9 +7,9 @@ pub mod ElementsFaults
 pub mod ElementsJson
 -- the texts of errors
 pub mod IcuPluralsErrors
--- no definitions of the subject: the reader of bytes, steps, and what contracts see of lent values
+-- no definitions of the subject: the reader of bytes, steps, and what contracts see of borrowed values
 pub mod Inner
--- ---- Definitions of the crates below, passed on so that a crate above needs this one alone.
+-- ---- Definitions of the crates below, passed on so that a crate above needs only this one
 
 -- the written numbers
 pub use Rattle.fixed_decimal.specs.Digits
@@ -52,7 +52,7 @@ pub use Rattle.packed_list.specs.PackedListErrors
 pub use Rattle.plural_reference.specs.PluralReferenceErrors
 pub use Rattle.plural_runtime.specs.PluralRuntimeErrors
 pub use Rattle.plural_base.specs.PluralBaseErrors
--- ---- No definitions of the subject: readers of bytes and what contracts see of lent values, which laws and views speak of.
+-- ---- No definitions of the subject: readers of bytes and what contracts see of borrowed values, for laws and views
 
 pub use Rattle.packed_list.specs.Inner.ListReading
 pub use Rattle.plural_runtime.specs.Inner.RuleReading

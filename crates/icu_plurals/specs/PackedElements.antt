@@ -1,7 +1,7 @@
--- Packed elements: a default, and either nothing else or a list of items beside it. A value is four bits of metadata and a text.
+-- Packed elements: a default, and either nothing else or a list of items after it. A value is four bits of metadata and a text.
 --     PackedElements      the default and its items
 --     ElementsBytes packed bytes      the bytes are those of packed elements
---     elements_of packed      the values by key: of a key that stands twice the first item's
+--     elements_of packed      the values by key: if a key occurs twice, that of its first item
 --     packed_of elements      what elements are packed as
 use Rattle.std.specs.Prelude.{◌≡◌, ℕ, ◌+◌, ◌*◌, ◌<◌, ◌≤◌, ◌==◌, ◌&&◌, List, [], ◌∷◌, ◌++◌, length, map, Bool, IsTrue, Option, Some}
 use Rattle.std.specs.Prelude.{None, option_map, unwrap_or, ⊤, nat_lt, if◌then◌else◌}
@@ -20,12 +20,12 @@ pub record PackedValue : Type 0 where
   pub metadata : ℕ
   pub text : List ℕ
 
--- a value beside the default, and its key: 0 zero, 1 one, 2 two, 3 few, 4 many, 5 exactly 0, 6 exactly 1
+-- a value after the default, and its key: 0 zero, 1 one, 2 two, 3 few, 4 many, 5 exactly 0, 6 exactly 1
 pub record PackedItem : Type 0 where
   pub key : ℕ
   pub value : PackedValue
 
--- the default, and the items beside it. No items and a list without items are two things.
+-- the default, and the items after it. No items and a list without items differ.
 pub record PackedElements : Type 0 where
   pub default : PackedValue
   pub items : Option (List PackedItem)
@@ -46,7 +46,7 @@ pub record IsPackedItem (item : PackedItem) : Type 0 where
 abbrev pub item_bytes : PackedItem → List ℕ
 item_bytes item = (16 * item.key + item.value.metadata) ∷ item.value.text
 
--- beside items the default's length fits a byte, and they fit a packed list
+-- before items the default's length fits a byte, and the items fit a packed list
 pub record CanStandBeside (default : PackedValue) (items : List PackedItem) : Type 0 where
   pub length : length default.text ≤ 255
   pub list : CanPack (map item_bytes items)
@@ -55,7 +55,7 @@ abbrev pub CanPackItems : PackedValue → Option (List PackedItem) → Type 0
 CanPackItems default None = ⊤
 CanPackItems default (Some items) = CanStandBeside default items
 
--- the items, where there are any
+-- the items, if any
 abbrev pub items_of : PackedElements → List PackedItem
 items_of packed = unwrap_or packed.items []
 
@@ -99,16 +99,16 @@ elements_of packed = record {
 abbrev pub is_same_value : PackedValue → PackedValue → Bool
 is_same_value value other = (value.metadata == other.metadata) && bytes_eq value.text other.text
 
--- the item of a key, where its value is there
+-- the item of a key, if its value is present
 abbrev pub item_at : ℕ → Option PackedValue → List PackedItem
 item_at key None = []
 item_at key (Some value) = record { key = key; value = value } ∷ []
 
--- the item of a category's key, where its value is there and differs from other's
+-- the item of a category's key, if its value is present and differs from that of other
 abbrev pub category_item : ℕ → PackedValue → Option PackedValue → List PackedItem
 category_item key other value = item_at key (unless_equal is_same_value other value)
 
--- in the order of the keys, the category values that differ from other's, and the explicit values
+-- in the order of the keys, the category values that differ from that of other, and the explicit values
 abbrev pub packed_items : Elements PackedValue → List PackedItem
 packed_items e =
     category_item 0 e.other e.zero
@@ -119,7 +119,7 @@ packed_items e =
     ++ (item_at 5 e.explicit_zero
     ++ item_at 6 e.explicit_one)))))
 
--- none where there are none
+-- none if there are no items
 abbrev pub none_if_empty : List PackedItem → Option (List PackedItem)
 none_if_empty [] = None
 none_if_empty (item ∷ items) = Some (item ∷ items)
@@ -127,18 +127,18 @@ none_if_empty (item ∷ items) = Some (item ∷ items)
 abbrev pub packed_of : Elements PackedValue → PackedElements
 packed_of e = record { default = e.other; items = none_if_empty (packed_items e) }
 
--- ---- Elements of texts alone.
+-- ---- Elements of texts alone
 
--- a text that is lent, with metadata 0
+-- a borrowed text, with metadata 0
 abbrev pub plain_value : Bor (List ℕ) → PackedValue
 plain_value text = record { metadata = 0; text = text.now }
 
--- ---- Which elements can't be packed, and what those that can are packed for (docs/FORMATS.md).
+-- ---- Which elements can't be packed, and what packing preserves (docs/FORMATS.md).
 --     pack_fault packed      why packed elements have no bytes
 --     AnswersAs values bytes      every number gets the same value from the bytes as from the elements, under all rules
---     without_repeats values      the elements without the category values that equal other's
+--     without_repeats values      the elements without the category values that equal that of other
 
--- items can't stand beside a default: its text has more than 255 bytes, or else an item starts behind place 65535
+-- items can't be packed after a default: its text has more than 255 bytes, or else an item starts after place 65535
 abbrev pub fault_beside : PackedValue → Option (List PackedItem) → Option ElementsPackError
 fault_beside default None = None
 fault_beside default (Some items) =
@@ -148,13 +148,13 @@ fault_beside default (Some items) =
 abbrev pub pack_fault : PackedElements → Option ElementsPackError
 pack_fault packed = fault_beside packed.default packed.items
 
--- what the bytes are the encoding of answers every operands, under all rules, as the elements do
+-- what the bytes are the encoding of gives all operands, under all rules, the same value as the elements
 abbrev pub AnswersAs : Elements PackedValue → List ℕ → Type 0
 AnswersAs values bytes =
     (packed : PackedElements) → ElementsBytes packed bytes → (op : Operands) (rules : FiveRules)
     → element_at (elements_of packed) op rules ≡ element_at values op rules
 
--- the values without those of the five categories that equal other's
+-- the values without those of the five categories that equal that of other
 abbrev pub without_repeats : Elements PackedValue → Elements PackedValue
 without_repeats e = record {
   other = e.other;

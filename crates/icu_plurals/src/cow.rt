@@ -18,7 +18,7 @@ use std::alloc::{AllocError, Global};
 use std::borrow::CowSlice;
 use std::marker::Model;
 
-/// Packed elements, as checked bytes that are lent or owned.
+/// Packed elements, as checked bytes that are borrowed or owned.
 #[derive(Debug, Drop)]
 pub struct PluralElementsPackedCow<'data> {
     bytes: CowSlice<'data, u8>,
@@ -40,9 +40,19 @@ impl<'data> Model for PluralElementsPackedCow<'data> {
 impl PluralElementsPackedCow<'static> {
     /// Packs texts with metadata 0, by one allocation.
     ///
-    /// [`ElementsPackError::DefaultLimit`] where other's text has more than 255 bytes and another one is packed beside
-    /// it, else [`ElementsPackError::StartLimit`] where one of these would start behind place 65535 of the data; want
-    /// of memory is [`ElementsPackError::Memory`].
+    /// <!-- snippet crates/icu_plurals_tests/src/tests/packing.rt:
+    ///      example "let one = PluralElements::new" to "holds!(rt; one.get(PluralOperands::from(2u8)" -->
+    /// ```
+    /// let one = PluralElements::new("abc").with_one_value(Some("defg"));
+    /// let one = PluralElementsPackedCow::from_elements(alloc, &one)?;
+    /// assert!(rt; one.as_packed().as_bytes() == b"\x80\x03abc\x01\0\x10defg".as_slice());
+    /// assert!(rt; one.get(PluralOperands::from(1u8), &rules) == "defg");
+    /// assert!(rt; one.get(PluralOperands::from(2u8), &rules) == "abc");
+    /// ```
+    ///
+    /// [`ElementsPackError::DefaultLimit`] if the text of other has more than 255 bytes and isn't the only one that is
+    /// packed, else [`ElementsPackError::StartLimit`] if another one would start after place 65535 of the data; out of
+    /// memory is [`ElementsPackError::Memory`].
     pub fn from_elements(
         alloc: Global,
         elements: &PluralElements<&str>,
@@ -58,7 +68,7 @@ impl PluralElementsPackedCow<'static> {
         }
     }
 
-    // The elements in owned bytes that are known to be some.
+    // The elements in owned bytes that are known to be packed elements.
     pub(crate) fn owned(bytes: Vec<u8>) -> PluralElementsPackedCow<'static>
         requires { AreElements bytes.items }
         ensures { ElementsBytes result bytes.items }
@@ -70,7 +80,16 @@ impl PluralElementsPackedCow<'static> {
 }
 
 impl<'data> PluralElementsPackedCow<'data> {
-    /// Packed elements in bytes that are lent. It takes no memory.
+    /// Packed elements in borrowed bytes. It takes no memory.
+    ///
+    /// <!-- snippet crates/icu_plurals_tests/src/tests/packing.rt:
+    ///      example "let packed" to "holds!(rt; packed.as_packed().get_default" of fn lent_bytes_keep_their_metadata -->
+    /// ```
+    /// let packed = PluralElementsPackedCow::from_bytes(b"\x8f\x01x\x01\0\x13y")?;
+    /// assert!(rt; packed.get(PluralOperands::from(1u8), &rules) == "y");
+    /// assert!(rt; packed.get(PluralOperands::from(0u8), &rules) == "x");
+    /// assert!(rt; packed.as_packed().get_default().0.get() == 15);
+    /// ```
     ///
     /// Bytes are refused as [`PluralElementsPackedULE::parse_bytes`] refuses them.
     pub fn from_bytes(
@@ -87,7 +106,7 @@ impl<'data> PluralElementsPackedCow<'data> {
         }
     }
 
-    // The elements in bytes that are known to be some.
+    // The elements in bytes that are known to be packed elements.
     fn lent(bytes: &'data [u8]) -> PluralElementsPackedCow<'data>
         requires { AreElements bytes.now }
         ensures { ElementsBytes result bytes.now }
@@ -97,7 +116,7 @@ impl<'data> PluralElementsPackedCow<'data> {
         }
     }
 
-    /// The same elements, lent from these.
+    /// The same elements, borrowed from these.
     #[inline]
     pub fn as_packed(&self) -> PluralElementsPackedULE<'_>
         ensures { lent_elements result ≡ self.now }
@@ -106,7 +125,7 @@ impl<'data> PluralElementsPackedCow<'data> {
         PluralElementsPackedULE::from_checked(self.bytes.as_slice())
     }
 
-    /// The text for a number, as [`PluralElementsPackedULE::get`] gives it. It takes no memory.
+    /// The text for a number, as [`PluralElementsPackedULE::get`] returns it. It takes no memory.
     pub fn get(&self, op: PluralOperands, rules: &PluralRules<'_>) -> &str
         ensures { result.now ≡ (element_at (elements_of self.now) op rules.now).text }
     {
@@ -114,7 +133,7 @@ impl<'data> PluralElementsPackedCow<'data> {
         text
     }
 
-    /// Packed elements of the same bytes: lent where these are lent, else a copy. Its only fault is want of memory.
+    /// Packed elements of the same bytes: borrowed if these are borrowed, else a copy. The only error is out of memory.
     pub fn try_clone(&self) -> Result<PluralElementsPackedCow<'data>, AllocError>
         ensures { IfOk result (λ packed. packed ≡ self.now) }
     {
@@ -147,7 +166,7 @@ fn plain_text(text: &str) -> (FourBitMetadata, &str)
     (FourBitMetadata::zero(), text)
 }
 
-// The same of a text that may be absent.
+// A text that may be absent, with metadata 0.
 fn plain_option<'a>(text: &Option<&'a str>) -> Option<(FourBitMetadata, &'a str)>
     ensures { option_map lent_value result ≡ option_map plain_value text.now }
 {

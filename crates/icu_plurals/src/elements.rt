@@ -14,9 +14,29 @@ use plural_reference::PluralOperands;
 use std::marker::Model;
 
 /// A value for each plural category, and for exactly 0 and exactly 1 (UTS 35 Part 3, Plural Rules and
-/// Explicit 0 and 1 Rules). Other's value is always there.
+/// Explicit 0 and 1 Rules). The value of other is always present.
 ///
-/// [`get`] chooses among them by the operands of a number.
+/// [`get`] chooses among them by the operands of a number: in English
+///
+/// <!-- snippet crates/using/src/elements.rt: body of fn print_elements -->
+/// ```
+/// let texts = PluralElements::new("files")
+///     .with_one_value(Some("file"))
+///     .with_explicit_zero_value(Some("no files"));
+/// for number in [0u8, 1, 2] {
+///     let text = texts.get(PluralOperands::from(number), rules);
+///     println!(rt; "{number}: {text}")?;
+/// }
+/// ```
+///
+/// prints
+///
+/// <!-- snippet crates/using/stdout: section elements -->
+/// ```text
+/// 0: no files
+/// 1: file
+/// 2: files
+/// ```
 ///
 /// [`get`]: PluralElements::get
 #[derive(Debug, Drop, PartialEq, Eq)]
@@ -60,7 +80,7 @@ impl<T> Model for PluralElements<T> {
 }
 
 impl<T> PluralElements<T> {
-    /// Other's value alone.
+    /// Elements with the value of other alone.
     pub fn new(other: T) -> PluralElements<T>
         ensures { result ≡ only_other other }
     {
@@ -76,35 +96,35 @@ impl<T> PluralElements<T> {
         }
     }
 
-    /// The value of [`PluralCategory::Zero`], or other's.
+    /// The value of [`PluralCategory::Zero`], or that of other.
     pub fn zero(&self) -> &T
         ensures { result.now ≡ unwrap_or self.now.zero self.now.other }
     {
         self.zero.as_ref().unwrap_or(&self.other)
     }
 
-    /// The value of [`PluralCategory::One`], or other's.
+    /// The value of [`PluralCategory::One`], or that of other.
     pub fn one(&self) -> &T
         ensures { result.now ≡ unwrap_or self.now.one self.now.other }
     {
         self.one.as_ref().unwrap_or(&self.other)
     }
 
-    /// The value of [`PluralCategory::Two`], or other's.
+    /// The value of [`PluralCategory::Two`], or that of other.
     pub fn two(&self) -> &T
         ensures { result.now ≡ unwrap_or self.now.two self.now.other }
     {
         self.two.as_ref().unwrap_or(&self.other)
     }
 
-    /// The value of [`PluralCategory::Few`], or other's.
+    /// The value of [`PluralCategory::Few`], or that of other.
     pub fn few(&self) -> &T
         ensures { result.now ≡ unwrap_or self.now.few self.now.other }
     {
         self.few.as_ref().unwrap_or(&self.other)
     }
 
-    /// The value of [`PluralCategory::Many`], or other's.
+    /// The value of [`PluralCategory::Many`], or that of other.
     pub fn many(&self) -> &T
         ensures { result.now ≡ unwrap_or self.now.many self.now.other }
     {
@@ -118,7 +138,15 @@ impl<T> PluralElements<T> {
         &self.other
     }
 
-    /// Other's value, where it is the only one that is there.
+    /// The value of other, if no other value is present.
+    ///
+    /// <!-- snippet crates/icu_plurals_tests/src/tests/elements.rt: example "let same" to "holds!(rt; another" -->
+    /// ```
+    /// let same = PluralElements::new("abc").with_one_value(Some("abc"));
+    /// assert!(rt; same.try_into_other() == Some("abc"));
+    /// let another = PluralElements::new("abc").with_one_value(Some("def"));
+    /// assert!(rt; another.try_into_other() == None);
+    /// ```
     pub fn try_into_other(self) -> Option<T>
     where
         T: Drop,
@@ -140,21 +168,21 @@ impl<T> PluralElements<T> {
         }
     }
 
-    /// The value at exactly 0, where it is there.
+    /// The value for exactly 0, if present.
     pub fn explicit_zero(&self) -> Option<&T>
         ensures { option_map (λ x. x.now) result ≡ self.now.explicit_zero }
     {
         self.explicit_zero.as_ref()
     }
 
-    /// The value at exactly 1, where it is there.
+    /// The value for exactly 1, if present.
     pub fn explicit_one(&self) -> Option<&T>
         ensures { option_map (λ x. x.now) result ≡ self.now.explicit_one }
     {
         self.explicit_one.as_ref()
     }
 
-    /// The same values, lent.
+    /// The same values, borrowed.
     pub fn as_ref(&self) -> PluralElements<&T>
         ensures { each_by (λ x. x.now) result ≡ self.now }
     {
@@ -170,8 +198,28 @@ impl<T> PluralElements<T> {
         }
     }
 
-    /// The value for a number: the explicit one where the operands are exactly 0 or 1 and it is there,
-    /// else that of the category that the rules choose, else other's. It takes no memory.
+    /// The value for a number: the explicit one if the operands are exactly 0 or 1 and it is present,
+    /// else that of the category that the rules choose, else that of other. It takes no memory.
+    ///
+    /// With the rule `i = 1` for one:
+    ///
+    /// <!-- snippet crates/icu_plurals_tests/src/tests/elements.rt:
+    ///      example "let elements = PluralElements::new" to "}" of fn explicit_values_come_before_the_category -->
+    /// ```
+    /// let elements = PluralElements::new("x")
+    ///     .with_one_value(Some("y"))
+    ///     .with_explicit_zero_value(Some("z"));
+    /// for (text, want) in [
+    ///     ("0", "z"),
+    ///     ("1", "y"),
+    ///     ("1.0", "y"),
+    ///     ("2", "x"),
+    ///     ("0.0", "x"),
+    ///     ("0e1", "x"),
+    /// ] {
+    ///     assert!(rt; elements.get(text.parse()?, &rules) == &want);
+    /// }
+    /// ```
     pub fn get<'a>(&'a self, op: PluralOperands, rules: &PluralRules<'_>) -> &'a T
         ensures { result.now ≡ element_at self.now op rules.now }
     {
@@ -181,7 +229,7 @@ impl<T> PluralElements<T> {
         }
     }
 
-    // The explicit value at exactly 0 or 1, where it is there.
+    // The explicit value for exactly 0 or 1, if present.
     fn explicit_at(&self, op: PluralOperands) -> Option<&T>
         ensures { option_map (λ x. x.now) result ≡ explicit_at self.now op }
     {
@@ -194,7 +242,7 @@ impl<T> PluralElements<T> {
         }
     }
 
-    // The value of a category, or other's.
+    // The value of a category, or that of other.
     fn of_category(&self, category: PluralCategory) -> &T
         ensures { result.now ≡ of_category self.now category }
     {

@@ -21,12 +21,27 @@ use std::alloc::{AllocError, Global};
 
 impl PluralElementsPackedCow<'static> {
     /// The packed elements of a JSON value: an object with a list of metadata, from 0 to 15, and a text under `other`,
-    /// and the same, null or nothing under each of `zero`, `one`, `two`, `few`, `many`, `explicit_zero` and
-    /// `explicit_one`. Other keys are not looked at. A category's value that equals other's isn't packed.
+    /// and such a list, null or nothing under each of `zero`, `one`, `two`, `few`, `many`, `explicit_zero` and
+    /// `explicit_one`. Other keys aren't read. A category's value that equals that of other isn't packed.
     ///
-    /// [`JsonError::Float`] where a float stands anywhere in the value, else [`JsonError::Shape`] where something has
-    /// not its form, else [`JsonError::Pack`] where the elements can't be packed. It takes memory for the bytes; want
-    /// of it is [`JsonError::Memory`].
+    /// With rows such as `{"other":[0,"abc"]}`, `b"\0abc"` and again `{"other":[0,"abc"]}`:
+    ///
+    /// <!-- snippet crates/icu_plurals_tests/src/tests/elements_json.rt:
+    ///      example "for (text, bytes, wanted)" to "}" of fn elements_are_read_and_written -->
+    /// ```
+    /// for (text, bytes, wanted) in rows {
+    ///     let value = Value::from_str(alloc, text)?;
+    ///     let elements = PluralElementsPackedCow::from_json(alloc, &value)?;
+    ///     assert!(rt; elements.as_packed().as_bytes() == bytes);
+    ///     assert!(rt; elements.as_packed() == PluralElementsPackedULE::parse_bytes(bytes)?);
+    ///     let written = elements.to_json(alloc)?.to_string(alloc)?;
+    ///     assert!(rt; written.as_str() == wanted);
+    /// }
+    /// ```
+    ///
+    /// [`JsonError::Float`] if the value holds a float, else [`JsonError::Shape`] if a part has another form, else
+    /// [`JsonError::Pack`] if the elements can't be packed. It takes memory for the bytes; out of memory is
+    /// [`JsonError::Memory`].
     pub fn from_json(
         alloc: Global,
         value: &Value,
@@ -45,9 +60,15 @@ impl PluralElementsPackedCow<'static> {
 }
 
 impl<'data> PluralElementsPackedCow<'data> {
-    /// The JSON value of the elements, as [`PluralElementsPackedULE::decode`] gives them: an object with a list of
-    /// metadata and text under the key of each value that is there. It takes memory; the only error is
+    /// The JSON value of the elements, as [`PluralElementsPackedULE::decode`] returns them: an object with a list of
+    /// metadata and text under the key of each value that is present. It takes memory; the only error is
     /// [`JsonError::Memory`].
+    ///
+    /// <!-- snippet crates/icu_plurals_tests/src/tests/packing.rt: example "let value = packed.to_json" to "holds!" -->
+    /// ```
+    /// let value = packed.to_json(alloc)?;
+    /// assert!(rt; PluralElementsPackedCow::from_json(alloc, &value)? == packed);
+    /// ```
     pub fn to_json(&self, alloc: Global) -> Result<Value, JsonError>
         ensures written { IfOk result (λ value. view value ≡ elements_json (elements_of self.now)) }
         ensures memory { IfErr result (λ error. error ≡ JsonError.Memory) }
@@ -192,7 +213,7 @@ fn written(
     Ok(Value::Object(members))
 }
 
-// Puts a value that is there under its key.
+// Puts a value that is present under its key.
 fn put_value(
     alloc: Global,
     members: &mut Map<String, Value>,

@@ -20,17 +20,38 @@ use std::alloc::{AllocError, Global};
 
 impl PluralElementsPackedULE<'_> {
     /// The bytes of elements, made by one allocation. The explicit values are packed, and those of the categories that
-    /// differ from other's in metadata or text; other's is the default.
+    /// differ from that of other in metadata or text; the value of other is the default.
     ///
-    /// Refused are, looked for in this order: a default of more than 255 bytes beside an item that is packed
-    /// ([`ElementsPackError::DefaultLimit`]); an item that would start behind place 65535 of the data
-    /// ([`ElementsPackError::StartLimit`]); want of memory ([`ElementsPackError::Memory`]).
+    /// <!-- snippet crates/icu_plurals_tests/src/tests/packing.rt:
+    ///      const EIGHT; fn eight; example body of fn packs_every_key_in_order -->
+    /// ```
+    /// const EIGHT: &[u8] =
+    ///     b"\x82\x01o\x07\0\x02\0\x04\0\x06\0\x08\0\x0a\0\x0c\0\x03z\x14a\x25b\x36c\x47d\x58e\x69f";
+    ///
+    /// fn eight() -> PluralElements<(FourBitMetadata, &'static str)> {
+    ///     PluralElements::new(value((2, "o")))
+    ///         .with_zero_value(Some(value((3, "z"))))
+    ///         .with_one_value(Some(value((4, "a"))))
+    ///         .with_two_value(Some(value((5, "b"))))
+    ///         .with_few_value(Some(value((6, "c"))))
+    ///         .with_many_value(Some(value((7, "d"))))
+    ///         .with_explicit_zero_value(Some(value((8, "e"))))
+    ///         .with_explicit_one_value(Some(value((9, "f"))))
+    /// }
+    ///
+    /// let bytes = PluralElementsPackedULE::encode(alloc, &eight())?;
+    /// assert!(rt; bytes.as_slice() == EIGHT);
+    /// ```
+    ///
+    /// The errors, in the order in which they are looked for: the default has more than 255 bytes, and an item is packed
+    /// too ([`ElementsPackError::DefaultLimit`]); an item would start after place 65535 of the data
+    /// ([`ElementsPackError::StartLimit`]); out of memory ([`ElementsPackError::Memory`]).
     pub fn encode(
         alloc: Global,
         elements: &PluralElements<(FourBitMetadata, &str)>,
     ) -> Result<Vec<u8>, ElementsPackError>
         ensures ok { IfOk result (λ bytes. ElementsBytes (packed_of (each_by lent_value elements.now)) bytes.items) }
-        // What was packed answers every number as before.
+        // The bytes give every number the same value as the elements.
         ensures answers { IfOk result (λ bytes. AnswersAs (each_by lent_value elements.now) bytes.items) }
         ensures default_limit { (result ≡ Err ElementsPackError.DefaultLimit) ↔ (pack_fault (packed_of (each_by lent_value elements.now)) ≡ Some ElementsPackError.DefaultLimit) }
         ensures start_limit { (result ≡ Err ElementsPackError.StartLimit) ↔ (pack_fault (packed_of (each_by lent_value elements.now)) ≡ Some ElementsPackError.StartLimit) }
@@ -47,7 +68,7 @@ impl PluralElementsPackedULE<'_> {
     }
 }
 
-// The list of the items beside a default, if they can be packed.
+// The list of the items after a default, if they can be packed.
 fn list_beside<'a, 'b>(
     default: &(FourBitMetadata, &str),
     items: &'b [Item<'a>],
@@ -69,7 +90,7 @@ fn list_beside<'a, 'b>(
     }
 }
 
-// The bytes of a default and the list of the items beside it.
+// The bytes of a default and the list of the items after it.
 fn written(
     alloc: Global,
     default: &(FourBitMetadata, &str),

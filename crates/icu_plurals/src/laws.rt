@@ -13,7 +13,7 @@ pub use plural_base::laws::{rules_have_every_reading, texts_give_one_answer};
 use plural_reference::laws::exactness::kept_operands_agree;
 pub use plural_reference::laws::reading::one_list_of_tokens;
 
-/// Packed elements are the same bytes exactly if they are the same default and items.
+/// Packed elements have the same bytes if and only if they have the same default and items.
 pub fn one_encoding_of_elements()
     ensures { (elements others : PackedElements) (a b : List ℕ) → ElementsBytes elements a → ElementsBytes others b
         → (a ≡ b) ↔ (elements ≡ others) }
@@ -21,20 +21,20 @@ pub fn one_encoding_of_elements()
     read_again();
 }
 
-/// What the reader of bytes gives is the elements that they are packed from.
+/// The reader of bytes returns the elements that they are packed from.
 pub fn elements_read_again()
     ensures { (elements : PackedElements) (bytes : List ℕ) → ElementsBytes elements bytes → read_elements bytes ≡ elements }
 {
     read_again();
 }
 
-/// What elements are packed as has their values, without those of the five categories that equal other's in metadata
-/// and text.
+/// Packed elements have the values that were packed, without those of the five categories that equal the value of other
+/// in metadata and text.
 pub fn packed_values_again()
     ensures { (e : Elements PackedValue) → elements_of (packed_of e) ≡ without_repeats e }
 {}
 
-/// What elements are packed as gives every number the elements' own value, under all rules.
+/// Packed elements give every number the same value as the elements that were packed, under all rules.
 pub fn packed_elements_answer()
     ensures { (e : Elements PackedValue) (op : Operands) (rules : FiveRules) → element_at (elements_of (packed_of e)) op rules ≡ element_at e op rules }
 {}

@@ -2,7 +2,161 @@
 //!
 //! The crates below are found here under the paths of the original: the rules' data in [`provider`],
 //! their text and tree in [`provider::rules::reference`], their packed form in
-//! [`provider::rules::runtime`], and all else at the root.
+//! [`provider::rules::runtime`], and all else at the root. In the examples `rt` is the runtime that
+//! `main` gets, and `alloc` is `rt.alloc()`.
+//!
+//! # Rules
+//!
+//! The rules of a language are read from texts as CLDR writes them, those of Czech from
+//!
+//! <!-- snippet crates/using/src/texts.rt: "let one" to "let czech" of fn print_czech -->
+//! ```
+//! let one = Some("i = 1 and v = 0 @integer 1");
+//! let few = Some("i = 2..4 and v = 0 @integer 2~4");
+//! let many = Some("v != 0 @decimal 0.0~1.5, 10.0, 100.0, …");
+//! let data = PluralRulesData::from_texts(alloc, None, one, None, few, many)?;
+//! let czech = PluralRules::from_data(data);
+//! ```
+//!
+//! A JSON document has rules of several locales, and the categories of their ranges:
+//!
+//! <!-- snippet crates/using/src/json.rt: const DOCUMENT; fn provider -->
+//! ```
+//! const DOCUMENT: &str = r#"{
+//!     "cardinal": {"en": {"one": "i = 1 and v = 0"}},
+//!     "ordinal": {"en": {
+//!         "one": "n % 10 = 1 and n % 100 != 11",
+//!         "two": "n % 10 = 2 and n % 100 != 12",
+//!         "few": "n % 10 = 3 and n % 100 != 13"
+//!     }},
+//!     "ranges": {"en": {"ranges": {"other--one": "other"}}}
+//! }"#;
+//!
+//! pub(crate) fn provider(alloc: Global) -> anyhow::Result<JsonProvider> {
+//!     let value = Value::from_str(alloc, DOCUMENT)?;
+//!     Ok(JsonProvider::from_value(alloc, &value)?)
+//! }
+//! ```
+//!
+//! # The category of a number
+//!
+//! <!-- snippet crates/using/src/json.rt: body of fn print_places -->
+//! ```
+//! let ordinal = PluralRules::try_new_ordinal_unstable(provider, "en")?;
+//! for place in [1u32, 2, 3, 11, 22] {
+//!     let category = ordinal.category_for(PluralOperands::from(place));
+//!     println!(rt; "{place}: {category:?}")?;
+//! }
+//! ```
+//!
+//! prints, in the document's English,
+//!
+//! <!-- snippet crates/using/stdout: section json -->
+//! ```text
+//! 1: One
+//! 2: Two
+//! 3: Few
+//! 11: Other
+//! 22: Two
+//! ```
+//!
+//! A number with zeros, with an exponent or of any length is a [`CompactDecimal`].
+//! [`PluralRules::is_exact_for`] tells whether its category is that of the number itself, and not only
+//! of what is kept of it: with the rules of French
+//!
+//! <!-- snippet crates/using/src/numbers.rt: body of fn print_exactness -->
+//! ```
+//! let rules = french(alloc)?;
+//! for text in [
+//!     "100000000000000000000000000000",
+//!     "0.000000000000000001",
+//!     "0.0000000000000000001",
+//! ] {
+//!     let number = CompactDecimal::from_str(alloc, text)?;
+//!     let category = rules.category_for_compact(&number);
+//!     let is_exact = rules.is_exact_for(&number);
+//!     println!(rt; "{text}: {category:?}, exact: {is_exact}")?;
+//! }
+//! ```
+//!
+//! prints
+//!
+//! <!-- snippet crates/using/stdout: section exact -->
+//! ```text
+//! 100000000000000000000000000000: Many, exact: true
+//! 0.000000000000000001: One, exact: true
+//! 0.0000000000000000001: One, exact: false
+//! ```
+//!
+//! # Ranges
+//!
+//! <!-- snippet crates/using/src/ranges.rt: body of fn print_ranges -->
+//! ```
+//! let english = PluralRulesWithRanges::try_new_cardinal_unstable(provider, "en")?;
+//! for (start, end) in [(0u8, 1u8), (1, 2)] {
+//!     let start = PluralOperands::from(start);
+//!     let end = PluralOperands::from(end);
+//!     println!(rt; "{:?}", english.category_for_range(start, end))?;
+//! }
+//! ```
+//!
+//! prints
+//!
+//! <!-- snippet crates/using/stdout: section ranges -->
+//! ```text
+//! Other
+//! Other
+//! ```
+//!
+//! # Elements
+//!
+//! [`PluralElements`] have a value for each category. Texts may be packed, and read in place:
+//!
+//! <!-- snippet crates/using/src/elements.rt: body of fn print_stored_texts -->
+//! ```
+//! let texts = PluralElements::new("files").with_one_value(Some("file"));
+//! let packed = PluralElementsPackedCow::from_elements(alloc, &texts)?;
+//! let bytes = packed.as_packed().as_bytes();
+//! println!(rt; "{} bytes", bytes.len())?;
+//!
+//! let stored = PluralElementsPackedULE::parse_bytes(bytes)?;
+//! let (_, text) = stored.get(PluralOperands::from(1u8), rules);
+//! println!(rt; "{text}")?;
+//! ```
+//!
+//! prints
+//!
+//! <!-- snippet crates/using/stdout: section stored -->
+//! ```text
+//! 14 bytes
+//! file
+//! ```
+//!
+//! # Messages
+//!
+//! The crate `plural_message`, which is named beside this one, puts the number into the text:
+//!
+//! <!-- snippet crates/using/src/messages.rt: body of fn print_messages -->
+//! ```
+//! let texts = PluralElements::new("{} files were copied")
+//!     .with_one_value(Some("{} file was copied"))
+//!     .with_explicit_zero_value(Some("no file was copied"));
+//! let packed = PluralElementsPackedCow::from_elements(alloc, &texts)?;
+//! let message = Message::new(packed.as_packed());
+//! for number in ["0", "1", "1.5"] {
+//!     let text = message.format(alloc, number, rules)?;
+//!     println!(rt; "{text}")?;
+//! }
+//! ```
+//!
+//! prints
+//!
+//! <!-- snippet crates/using/stdout: section messages -->
+//! ```text
+//! no file was copied
+//! 1 file was copied
+//! 1.5 files were copied
+//! ```
 #![tactic(auto)]
 
 mod cow;

@@ -19,8 +19,23 @@ use parts::{check_parts, parts_of};
 use plural_base::PluralRules;
 use plural_reference::PluralOperands;
 
-/// Elements as checked bytes: a default, and either nothing else or a packed list of items beside it. Each value is
-/// metadata and a text. They are the same exactly if their bytes are.
+/// Elements as checked bytes: a default, and either nothing else or a packed list of items after it. Each value is
+/// metadata and a text. Two are equal if and only if their bytes are.
+///
+/// <!-- snippet crates/icu_plurals_tests/src/tests/packing.rt: example body of fn packed_elements_answer_as_before -->
+/// ```
+/// let rules = rules(alloc)?;
+/// let elements = items();
+/// let bytes = PluralElementsPackedULE::encode(alloc, &elements)?;
+/// let packed = PluralElementsPackedULE::parse_bytes(&bytes)?;
+/// for number in numbers() {
+///     let (metadata, text) = packed.get(number, &rules);
+///     let (wanted, wanted_text) = *elements.get(number, &rules);
+///     assert!(rt; metadata == wanted);
+///     assert!(rt; text == wanted_text);
+///     assert!(rt; text == "items");
+/// }
+/// ```
 #[derive(Clone, Copy, Debug)]
 pub struct PluralElementsPackedULE<'a> {
     bytes: &'a [u8],
@@ -37,12 +52,20 @@ impl<'a> PluralElementsPackedULE<'a> {
 
     /// Reads bytes as packed elements. It takes no memory.
     ///
-    /// Refused are, looked for in this order: no byte ([`ElementsBytesError::Empty`]); items that are said to follow,
-    /// without the length of the default's text or with fewer bytes than it says ([`ElementsBytesError::Short`]); a
-    /// bit of 4 to 6 of the first byte ([`ElementsBytesError::Padding`]); a default that isn't UTF-8
-    /// ([`ElementsBytesError::DefaultText`]); what is no packed list behind it ([`ElementsBytesError::List`]). Then the
-    /// first bad item: it has no byte ([`ElementsBytesError::ItemEmpty`]), its key is above 6
-    /// ([`ElementsBytesError::Key`]), or its text isn't UTF-8 ([`ElementsBytesError::ItemText`]).
+    /// <!-- snippet crates/using/src/elements.rt: "let stored" to "println" of fn print_stored_texts -->
+    /// ```
+    /// let stored = PluralElementsPackedULE::parse_bytes(bytes)?;
+    /// let (_, text) = stored.get(PluralOperands::from(1u8), rules);
+    /// println!(rt; "{text}")?;
+    /// ```
+    ///
+    /// The faults, in the order in which they are looked for: no byte ([`ElementsBytesError::Empty`]); items are to
+    /// follow, but the length of the default's text is missing or more than the bytes left
+    /// ([`ElementsBytesError::Short`]); one of the bits 4 to 6 of the first byte is set
+    /// ([`ElementsBytesError::Padding`]); the default isn't UTF-8 ([`ElementsBytesError::DefaultText`]); what follows it
+    /// is no packed list ([`ElementsBytesError::List`]). Then the first bad item: it has no byte
+    /// ([`ElementsBytesError::ItemEmpty`]), its key is above 6 ([`ElementsBytesError::Key`]), or its text isn't UTF-8
+    /// ([`ElementsBytesError::ItemText`]).
     pub fn parse_bytes(bytes: &'a [u8]) -> Result<PluralElementsPackedULE<'a>, ElementsBytesError>
         ensures ok { IfOk result (λ elements. ElementsBytes (lent_elements elements) bytes.now) }
         ensures accepted { (elements : PackedElements) → ElementsBytes elements bytes.now
@@ -57,7 +80,7 @@ impl<'a> PluralElementsPackedULE<'a> {
         }
     }
 
-    // The elements in bytes that are known to be some.
+    // The elements in bytes that are known to be packed elements.
     #[inline]
     pub(crate) fn from_checked(bytes: &'a [u8]) -> PluralElementsPackedULE<'a>
         requires { AreElements bytes.now }
@@ -74,9 +97,23 @@ impl<'a> PluralElementsPackedULE<'a> {
         self.bytes
     }
 
-    /// The value for a number: the explicit one where the operands are exactly 0 or 1 and it is there, else that of
-    /// the category that the rules choose, else the default. Of a key that stands twice the first item answers. The
-    /// item is looked for in the bytes; no memory is taken.
+    /// The value for a number: the explicit one if the operands are exactly 0 or 1 and it is present, else that of
+    /// the category that the rules choose, else the default. If a key occurs twice, its first item counts. The item
+    /// is looked up in the bytes; no memory is taken.
+    ///
+    /// With the bytes of a row, and what is `wanted` for each of four numbers:
+    ///
+    /// <!-- snippet crates/icu_plurals_tests/src/tests/packed.rt:
+    ///      example "let elements" to "holds!(rt; found" of fn chooses_an_item_or_the_default -->
+    /// ```
+    /// let elements = PluralElementsPackedULE::parse_bytes(bytes)?;
+    /// assert!(rt; elements.as_bytes() == bytes);
+    /// let found = numbers().map(|number| {
+    ///     let (metadata, text) = elements.get(number, &rules);
+    ///     (metadata.get(), text)
+    /// });
+    /// assert!(rt; found == wanted);
+    /// ```
     pub fn get(&self, op: PluralOperands, rules: &PluralRules<'_>) -> (FourBitMetadata, &'a str)
         ensures { lent_value result ≡ element_at (elements_of (lent_elements self.now)) op rules.now }
     {
@@ -87,8 +124,18 @@ impl<'a> PluralElementsPackedULE<'a> {
         }
     }
 
-    /// All values by key, lent from the bytes. Of a key that stands twice the first item's value is given, and a
-    /// category's value is given where it equals the default too. It takes no memory.
+    /// All values by key, borrowed from the bytes. If a key occurs twice, its first item counts, and a category's value
+    /// is present even if it equals the default. It takes no memory.
+    ///
+    /// <!-- snippet crates/icu_plurals_tests/src/tests/packed.rt:
+    ///      example "let bytes" to "holds!(rt; shown(elements.zero())" of fn decodes_every_key -->
+    /// ```
+    /// let bytes =
+    ///     b"\x82\x01o\x07\0\x02\0\x04\0\x06\0\x08\0\x0a\0\x0c\0\x03z\x14a\x25b\x36c\x47d\x58e\x69f";
+    /// let elements = PluralElementsPackedULE::parse_bytes(bytes)?.decode();
+    /// assert!(rt; shown(elements.other()) == (2, "o"));
+    /// assert!(rt; shown(elements.zero()) == (3, "z"));
+    /// ```
     pub fn decode(&self) -> PluralElements<(FourBitMetadata, &'a str)>
         ensures { each_by lent_value result ≡ elements_of (lent_elements self.now) }
     {
@@ -96,6 +143,14 @@ impl<'a> PluralElementsPackedULE<'a> {
     }
 
     /// The default.
+    ///
+    /// <!-- snippet crates/icu_plurals_tests/src/tests/packed.rt:
+    ///      example "let alone" to "holds!" of fn decodes_the_first_of_a_key_and_equal_values -->
+    /// ```
+    /// let alone = PluralElementsPackedULE::parse_bytes(b"\x07abc")?;
+    /// let (metadata, text) = alone.get_default();
+    /// assert!(rt; (metadata.get(), text) == (7, "abc"));
+    /// ```
     pub fn get_default(&self) -> (FourBitMetadata, &'a str)
         ensures { lent_value result ≡ (lent_elements self.now).default }
     {

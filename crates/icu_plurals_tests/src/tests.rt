@@ -9,7 +9,7 @@ use icu_plurals::provider::rules::{reference, runtime};
 use icu_plurals::*;
 use std::test::Fail;
 
-// A type is named.
+// Names a type.
 fn named<T>() {}
 
 #[test]

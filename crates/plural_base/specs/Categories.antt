@@ -18,7 +18,7 @@ name_of Other = codes "other"
 abbrev pub all_categories : List PluralCategory
 all_categories = Few ∷ Many ∷ One ∷ Other ∷ Two ∷ Zero ∷ []
 
--- its place in the order of the rules, which other ends
+-- its place in the order of the rules, in which other is last
 abbrev pub place_of : PluralCategory → ℕ
 place_of Zero = 0
 place_of One = 1
@@ -36,7 +36,7 @@ category_of raw.Two = Two
 category_of raw.Few = Few
 category_of raw.Many = Many
 
--- the numbered one of the same name
+-- the numbered category of the same name
 abbrev pub raw_category_of : PluralCategory → RawPluralCategory
 raw_category_of Zero = raw.Zero
 raw_category_of One = raw.One

@@ -1,5 +1,4 @@
--- The choice of a category by the operands that are kept of a number: within the bound it is that of the number itself, and no
--- wider bound on moduli would do.
+-- The choice of a category by the kept operands of a number: within the bound it is exact, and no wider bound on moduli would do.
 use Rattle.std.specs.Prelude.{◌≡◌, ℕ, ◌*◌, ◌%◌, ◌^◌, ◌<◌, List, [], ◌∷◌, Option, Some, None, Ok}
 use Rattle.std.specs.Int.{◌∣◌}
 use Rattle.fixed_decimal.specs.Places.{Places, IsWritten}
@@ -29,7 +28,7 @@ KeptChoiceIsExact =
 
 -- ---- The bound is the widest
 
--- a thing for one, and none for the others
+-- a value for one, and none for the others
 abbrev pub only_one : {A : Type 0} → A → Five (Option A)
 only_one thing = five None (Some thing) None None None
 
@@ -41,18 +40,19 @@ leaves m r = record {
   range_list = record { 0 = items.Value (record { 0 = r }) ∷ [] };
 }
 
--- the condition of a relation alone
+-- the condition of a single relation
 abbrev pub alone : Relation → Condition
 alone relation = condition_of_groups ((relation ∷ []) ∷ [])
 
--- the condition packs to the rule; alone, for one, the condition chooses one for the exact number, and the rule other for what is kept
+-- the condition packs to the rule; as the only rule, that of one, the condition chooses one for the exact number, and the packed
+-- rule other for the kept operands
 pub record TellsApart (condition : Condition) (rule : List PackedRelation) (kept exact : Operands) : Type 0 where
   pub packs : packing condition ≡ Ok rule
   pub for_exact : first_category (exact_truth exact) (only_one condition) ≡ One
   pub for_kept : first_category (packed_truth kept) (only_one rule) ≡ Other
 
--- Each modulus up to 4294967295 that doesn't divide 10 ^ 18 is in rules that tell the exact number 2 * 10 ^ 18 from what is
--- kept of it: those with `i % m = r` alone, for one, where r is what m leaves of 2 * 10 ^ 18.
+-- Each modulus m up to 4294967295 that doesn't divide 10 ^ 18 is in rules that tell the exact number 2 * 10 ^ 18 from what is
+-- kept of it: those whose only rule, that of one, is `i % m = r`, where r is 2 * 10 ^ 18 mod m.
 abbrev pub BoundIsWidestForChoice : Type 0
 BoundIsWidestForChoice =
     (m : ℕ) (x : Places) (kept exact : Operands) → 0 < m → m < 2 ^ 32 → ¬ (m ∣ 10 ^ 18)

@@ -1,6 +1,6 @@
 -- Which category a written number has under five rules (UTS 35 Part 3, Language Plural Rules).
 --     IsExactChoice      within the bound: the one that the number itself has, whatever its length
---     IsKeptChoice      within the bound or not: the one of the operands that are kept of it
+--     IsKeptChoice      within the bound or not: the one that its kept operands choose
 use Rattle.std.specs.Prelude.{◌≡◌, ℕ, List, Option}
 use Rattle.fixed_decimal.specs.Places.{Places}
 use Rattle.plural_reference.specs.declared.ast.Condition.{Condition}
@@ -11,9 +11,9 @@ use Rattle.plural_base.specs.declared.category.PluralCategory.{PluralCategory}
 use Rattle.plural_base.specs.FiveRules.{Five, FiveRules, first_category, moduli_of}
 use Rattle.plural_base.specs.RuleTexts.{AreRulesOf, AreReadAs}
 
--- Whatever five texts the rules are those of, and whatever conditions these are read as: if the number, with its compact exponent, is
--- within the bound, the category is the first of zero, one, two, few, many whose condition is present and true of the exact number,
--- else other.
+-- For any five texts that the rules are those of, and any conditions that these are read as: if the number, with its compact
+-- exponent, is within the bound, the category is the first of zero, one, two, few, many whose condition is present and true of
+-- the exact number, else other.
 -- The standard doesn't say what a modulus 0 means: in exact truth it is no modulus, as in packed rules.
 abbrev pub IsExactChoice : FiveRules → Places → ℕ → PluralCategory → Type 0
 IsExactChoice rules number exponent category =
@@ -22,7 +22,7 @@ IsExactChoice rules number exponent category =
     → IsWithinBound number exponent (moduli_of rules) → AreExact number exponent exact
     → category ≡ first_category (exact_truth exact) conditions
 
--- The category is the first whose rule is there and true of the operands that are kept of the number, else other.
+-- The category is the first whose rule is present and true of the kept operands of the number, else other.
 abbrev pub IsKeptChoice : FiveRules → Places → ℕ → PluralCategory → Type 0
 IsKeptChoice rules number exponent category =
     (kept : Operands) × AreKept number exponent kept × (category ≡ first_category (packed_truth kept) rules)

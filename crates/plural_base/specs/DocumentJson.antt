@@ -1,8 +1,8 @@
--- What a JSON document stands for: maps from locales to rules and to ranges (docs/JSON.md).
---     found locale rows      what stands in the first row of the locale
+-- What a JSON document means: maps from locales to rules and to ranges (docs/JSON.md).
+--     found locale rows      what the first row of the locale has
 --     document_of_json value      the maps of a document, or its first refusal
---     IsReadAt value rules      nothing on both sides, or the rules of the texts in the value
---     AreRangesAt value ranges      nothing on both sides, or the ranges that the value stands for
+--     IsReadAt value rules      both are absent, or the rules are those of the texts in the value
+--     AreRangesAt value ranges      both are absent, or the ranges are those that the value means
 use Rattle.std.specs.Prelude.{◌≡◌, ℕ, List, [], ◌∷◌, codes, Option, Some, None, is_some, Ok, Err, bytes_eq, if◌then◌else◌}
 use Rattle.std.specs.Map.{lookup}
 use Rattle.std.specs.Option.{option_and_then}
@@ -33,7 +33,7 @@ pub record Document : Type 0 where
 
 -- ---- Reading
 
--- each member is the row of its key; the members stand in the order of the keys' bytes, and the first refusal is answered
+-- each member is the row of its key; the members are in the order of the keys' bytes, and the first refusal is the result
 abbrev pub rows_meant : {A : Type 0} → (Data → Stands A) → Members → Stands (Rows A)
 rows_meant meant no_members = Ok []
 rows_meant meant (member locale value members) = do
@@ -58,7 +58,7 @@ all_maps cardinal ordinal ranges = do
   tables ← ranges
   Ok (record { cardinal = rows; ordinal = others; ranges = tables })
 
--- a document is an object with three maps; its other keys are not looked at
+-- a document is an object with three maps; its other keys aren't read
 abbrev pub document_meant : Data → Stands Document
 document_meant value =
     if is_some (as_object value)
@@ -75,10 +75,10 @@ document_of_json = unless_float document_meant
 abbrev pub value_of_locale : List ℕ → List ℕ → Data → Option Data
 value_of_locale key locale value = option_and_then (get locale) (get key value)
 
--- the rules are those of the texts in the value, or neither is there
+-- the rules are those of the texts in the value, or both are absent
 abbrev pub IsReadAt : Option Data → Option FiveRules → Type 0
 IsReadAt = Paired (λ value rules. AreRulesOf (texts_in value) rules)
 
--- the ranges are those that the value stands for, or neither is there
+-- the ranges are those that the value means, or both are absent
 abbrev pub AreRangesAt : Option Data → Option PluralRanges → Type 0
 AreRangesAt = Paired (λ value ranges. ranges_meant value ≡ Ok ranges)

@@ -1,7 +1,7 @@
 -- Five rules, one for each category but other, and the category that they choose (UTS 35 Part 3, Language Plural Rules).
---     Five A      a thing for each of zero, one, two, few and many
---     first_category test things      the first of zero, one, two, few, many whose thing is there and passes, else other
---     categories_of things      those whose thing is there, in this order, then other
+--     Five A      a value for each of zero, one, two, few and many
+--     first_category test things      the first of zero, one, two, few, many whose value is present and passes, else other
+--     categories_of things      those whose value is present, in this order, then other
 use Rattle.std.specs.Prelude.{List, [], ◌∷◌, ◌++◌, Bool, false, Option, Some, None, is_some, if◌then◌else◌, ℕ, flat_map}
 use Rattle.plural_base.specs.declared.category.PluralCategory.{PluralCategory}
 use Rattle.plural_base.specs.declared.category.PluralCategory.TheVariants.{Zero, One, Two, Few, Many, Other}
@@ -10,7 +10,7 @@ use Rattle.plural_base.specs.declared.rules.data.PluralRulesData.{PluralRulesDat
 use Rattle.plural_reference.specs.declared.ast.Operand.{Operand}
 use Rattle.plural_reference.specs.declared.ast.Operand.TheVariants.{N, I, V, W, F, T, C, E}
 
--- a thing for each category but other
+-- a value for each category but other
 pub record Five (A : Type 0) : Type 0 where
   pub zero : A
   pub one : A
@@ -22,13 +22,13 @@ pub record Five (A : Type 0) : Type 0 where
 abbrev pub five : {A : Type 0} → A → A → A → A → A → Five A
 five zero one two few many = record { zero = zero; one = one; two = two; few = few; many = many }
 
--- neither is there, or both are and the relation holds of them
+-- both are absent, or both are present and the relation holds of them
 abbrev pub Paired : {A B : Type 0} → (A → B → Type 0) → Option A → Option B → Type 0
 Paired Related None None = Unit {0}
 Paired Related (Some x) (Some y) = Related x y
 Paired Related _ _ = ⊥
 
--- the same of each of five
+-- each of five is `Paired`
 pub record ArePaired {A B : Type 0} (Related : A → B → Type 0) (xs : Five (Option A)) (ys : Five (Option B)) : Type 0 where
   pub zero : Paired Related xs.zero ys.zero
   pub one : Paired Related xs.one ys.one
@@ -40,12 +40,12 @@ pub record ArePaired {A B : Type 0} (Related : A → B → Type 0) (xs : Five (O
 abbrev pub FiveRules : Type 0
 FiveRules = Five (Option (List PackedRelation))
 
--- it is there and passes
+-- it is present and passes
 abbrev pub passes : {A : Type 0} → (A → Bool) → Option A → Bool
 passes test None = false
 passes test (Some x) = test x
 
--- the first category whose thing is there and passes, else other
+-- the first category whose value is present and passes, else other
 abbrev pub first_category : {A : Type 0} → (A → Bool) → Five (Option A) → PluralCategory
 first_category test things =
     if passes test things.zero then Zero
@@ -54,24 +54,24 @@ first_category test things =
     else (if passes test things.few then Few
     else (if passes test things.many then Many else Other))))
 
--- the category, where it is there
+-- the category, if it is present
 abbrev pub listed : PluralCategory → Bool → List PluralCategory
 listed category is_there = if is_there then category ∷ [] else []
 
--- the categories whose thing is there, from zero to many, then other
+-- the categories whose value is present, from zero to many, then other
 abbrev pub categories_of : {A : Type 0} → Five (Option A) → List PluralCategory
 categories_of things =
     listed Zero (is_some things.zero) ++ listed One (is_some things.one) ++ listed Two (is_some things.two)
     ++ listed Few (is_some things.few) ++ listed Many (is_some things.many) ++ Other ∷ []
 
--- ---- What the data of five rules is.
+-- ---- What the data of five rules is seen as
 
 abbrev pub rules_of : PluralRulesData → FiveRules
 rules_of d = record { zero = d.zero; one = d.one; two = d.two; few = d.few; many = d.many }
 
--- ---- The moduli that the bound of exactness looks at: those on n and i in all five rules. A modulus 0 is none, and stands here as 0.
+-- ---- The moduli that the bound of exactness depends on: those on n and i in all five rules. A modulus 0, no modulus, is listed.
 
--- the modulus, where the operand is n or i
+-- the modulus, if the operand is n or i
 abbrev pub modulus_on : Operand → ℕ → List ℕ
 modulus_on N modulus = modulus ∷ []
 modulus_on I modulus = modulus ∷ []
@@ -82,11 +82,11 @@ modulus_on T modulus = []
 modulus_on C modulus = []
 modulus_on E modulus = []
 
--- the modulus of a relation, where it counts
+-- the modulus of a relation, if it counts
 abbrev pub moduli_of_relation : PackedRelation → List ℕ
 moduli_of_relation relation = modulus_on relation.meaning.operand relation.meaning.modulus
 
--- those of the relations of a rule, if it is there
+-- those of the relations of a rule, if present
 abbrev pub moduli_of_rule : Option (List PackedRelation) → List ℕ
 moduli_of_rule None = []
 moduli_of_rule (Some relations) = flat_map moduli_of_relation relations

@@ -1,8 +1,8 @@
--- The machinery of what JSON values mean (docs/JSON.md): what a value stands for or the first refusal, the order in which refusals are
--- looked for, and what a call answers. Values are what serde_json's accessors show of them.
---     Stands A      a thing, or the refusal of the value
+-- The machinery of what JSON values mean (docs/JSON.md): the meaning of a value or its first refusal, the order of refusals, and
+-- what a call returns. Values are what serde_json's accessors show of them.
+--     Stands A      what a value means, or its refusal
 --     unless_float meant      floats are refused before all else
---     Answers seen result stands      the call answers the thing, or its refusal, or want of memory
+--     Answers seen result stands      the call returns what the value means, or its refusal, or runs out of memory
 use Rattle.std.specs.Prelude.{◌≡◌, ⊤, Option, Some, None, Result, Ok, Err, if◌then◌else◌}
 use Rattle.plural_base.specs.declared.json.error.JsonError.{JsonError}
 use Rattle.plural_base.specs.declared.json.error.JsonError.TheVariants.{Float, Memory}
@@ -12,22 +12,22 @@ use Rattle.serde_json.specs.Written.{has_float}
 
 -- ---- The first refusal
 
--- what a value stands for, or why it stands for nothing
+-- what a value means, or why it is refused
 abbrev pub Stands : Type 0 → Type 0
 Stands A = Result A JsonError
 
--- the second after the first: a refusal of the first is the answer
+-- the second after the first: a refusal of the first is the result
 infixl 10 ◌>>=◌
 abbrev pub ◌>>=◌ : {A B : Type 0} → Stands A → (A → Stands B) → Stands B
 (Ok x) >>= next = next x
 (Err refusal) >>= next = Err refusal
 
--- what is there, or the refusal
+-- the value if present, else the refusal
 abbrev pub there_or : {A : Type 0} → JsonError → Option A → Stands A
 there_or refusal None = Err refusal
 there_or refusal (Some x) = Ok x
 
--- five things, or the first refusal in this order
+-- five values, or the first refusal in this order
 abbrev pub all_five : {A : Type 0} → Stands A → Stands A → Stands A → Stands A → Stands A → Stands (Five A)
 all_five zero one two few many = do
   zero' ← zero
@@ -37,18 +37,18 @@ all_five zero one two few many = do
   many' ← many
   Ok (five zero' one' two' few' many')
 
--- A number for which `as_u64` and `as_i64` both answer None, wherever it is, is refused before all else.
+-- A number for which `as_u64` and `as_i64` both return None, wherever it is, is refused before all else.
 abbrev pub unless_float : {A : Type 0} → (Data → Stands A) → Data → Stands A
 unless_float meant value = if has_float value then Err Float else meant value
 
--- ---- What a call answers
+-- ---- What a call returns
 
--- want of memory may come before any refusal
+-- the call may run out of memory before any refusal
 abbrev pub IsRefusal : {B : Type 0} → JsonError → Stands B → Type 0
 IsRefusal Memory stands = ⊤
 IsRefusal error stands = stands ≡ Err error
 
--- the call answers what the value stands for, as `seen`, or its refusal, or want of memory
+-- the call returns what the value means, as `seen`, or its refusal, or runs out of memory
 abbrev pub Answers : {A B : Type 0} → (A → B) → Result A JsonError → Stands B → Type 0
 Answers seen (Ok x) stands = stands ≡ Ok (seen x)
 Answers seen (Err error) stands = IsRefusal error stands

@@ -19,7 +19,7 @@ abbrev pub rule_place_text : Option PluralCategory → List ℕ
 rule_place_text None = codes "rule: "
 rule_place_text (Some category) = codes "rule " ++ name_of category ++ codes ": "
 
--- why a JSON value stands for nothing
+-- why a JSON value is refused
 abbrev pub json_error_text : JsonError → List ℕ
 json_error_text Float = codes "float"
 json_error_text Shape = codes "shape"

@@ -1,5 +1,5 @@
--- What a provider answers: three maps from locales, texts that are compared byte by byte: to cardinal rules, to ordinal rules and
--- to ranges.
+-- What a provider returns, by three maps from locales: to cardinal rules, to ordinal rules and to ranges. A locale is a text,
+-- compared byte by byte.
 use Rattle.std.specs.Prelude.{◌≡◌, Option, Some, None, Result, Ok, Err, ◌⊎◌}
 use Rattle.plural_base.specs.declared.provider.options.PluralRuleType.{PluralRuleType}
 use Rattle.plural_base.specs.declared.provider.options.PluralRuleType.TheVariants.{Cardinal, Ordinal}
@@ -9,31 +9,31 @@ use Rattle.plural_base.specs.declared.rules.PluralRules.{PluralRules}
 use Rattle.plural_base.specs.declared.rules.data.PluralRulesData.{PluralRulesData}
 use Rattle.plural_base.specs.FiveRules.{FiveRules, rules_of}
 
--- the rules that are there are answered, and NotFound exactly where there are none
+-- the rules if there are some, else NotFound
 abbrev pub Loads : Option FiveRules → Result PluralRulesData DataError → Type 0
 Loads there (Ok rules) = there ≡ Some (rules_of rules)
 Loads there (Err error) = there ≡ None
 
--- the same of rules that choose
+-- as `Loads`, of rules that choose
 abbrev pub Makes : Option FiveRules → Result PluralRules DataError → Type 0
 Makes there (Ok rules) = there ≡ Some rules
 Makes there (Err error) = there ≡ None
 
--- the same of ranges
+-- as `Loads`, of ranges
 abbrev pub LoadsRanges : Option PluralRanges → Result PluralRanges DataError → Type 0
 LoadsRanges there (Ok ranges) = there ≡ Some ranges
 LoadsRanges there (Err error) = there ≡ None
 
--- the thing of a type; none means cardinal
+-- the value for a type; no type means cardinal
 abbrev pub of_type : {A : Type 0} → Option PluralRuleType → A → A → A
 of_type None cardinal ordinal = cardinal
 of_type (Some Cardinal) cardinal ordinal = cardinal
 of_type (Some Ordinal) cardinal ordinal = ordinal
 
--- ---- Rules with the categories of ranges, and what is made of a provider's.
+-- ---- Rules with the categories of ranges, made from a provider's.
 --     WithRanges R      rules of some kind, and ranges
---     MakesBoth rules ranges answer      both are answered, and NotFound exactly where one of them isn't there
---     MakesWith rules ranges answer      the rules that were handed in and the ranges, and NotFound exactly where these aren't there
+--     MakesBoth rules ranges result      both if both are present, else NotFound
+--     MakesWith rules ranges result      these rules and the ranges if these are present, else NotFound
 
 pub record WithRanges (R : Type 0) : Type 0 where
   pub rules : R

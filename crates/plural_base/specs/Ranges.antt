@@ -1,7 +1,7 @@
--- A thing for each of the six plural categories.
---     each f      the thing that f gives of each
---     at things category      the thing of a category
---     put_at things category thing      the same things, but for this one
+-- A value for each of the six plural categories.
+--     each f      the value that f gives for each
+--     at things category      the value of a category
+--     put_at things category thing      the same values, but for this one
 use Rattle.std.specs.Prelude.{◌==◌, if◌then◌else◌, ◌≡◌, ℕ, ◌+◌, ◌*◌, List, ◌++◌, codes, map, flat_map, find, Option, bytes_eq, Some}
 use Rattle.std.specs.Prelude.{None, is_some, option_map, unwrap_or, count_by, sum_by}
 use Rattle.plural_base.specs.declared.category.by_category.ByCategory.{ByCategory}
@@ -26,12 +26,11 @@ at things Many = things.many
 abbrev pub put_at : {A : Type 0} → ByCategory A → RawPluralCategory → A → ByCategory A
 put_at things category thing = each (λ c. if category_number c == category_number category then thing else at things c)
 
--- ---- A range of numbers by the categories of its start and its end (UTS 35 Part 3, Plural Ranges): its byte and its text
--- (docs/RANGES.md).
---     range_key start end      the byte: 16 times the start's number, and the end's number
+-- ---- A range of numbers by the categories of its start and its end (UTS 35 Part 3, Plural Ranges; docs/RANGES.md).
+--     range_key start end      the byte: 16 times the start's number, plus the end's number
 --     range_text start end      the text: the start's name, two hyphens, the end's name
 --     IsKeyOfText text key      the text and the byte are those of one range
---     range_named text, category_named text      the range, or the category, whose text this is, where there is one
+--     range_named text, category_named text      the range, or the category, whose text this is, if there is one
 
 -- a start and an end
 abbrev pub Range : Type 0
@@ -72,13 +71,12 @@ range_named text = find (λ range. bytes_eq text (range_text range.0 range.1)) a
 unfoldable pub category_named : List ℕ → Option RawPluralCategory
 category_named text = find (λ category. bytes_eq text (raw_name_of category)) all_raw_categories
 
--- ---- Categories of ranges (UTS 35 Part 3, Plural Ranges): a finite map from pairs of categories, the start's and the end's,
--- to categories.
---     category_at ranges start end      the category of a pair, where it has one
+-- ---- Categories of ranges (UTS 35 Part 3, Plural Ranges): a finite map from pairs of categories, start and end, to categories.
+--     category_at ranges start end      the category of a pair, if it has one
 --     no_ranges      no pair has a category
---     with_range ranges start end category      the same, but this pair has this category
+--     with_range ranges start end category      the same ranges, but this pair has this category
 --     size_of ranges      how many pairs have a category
---     resolved ranges start end      the category of a range: the pair's, where it has one, else the end's
+--     resolved ranges start end      the category of a range: the pair's, if it has one, else the end's
 
 abbrev pub category_at : PluralRanges → RawPluralCategory → RawPluralCategory → Option RawPluralCategory
 category_at ranges start end = at (at ranges start) end
@@ -100,7 +98,7 @@ size_of ranges = sum_by (row_size ranges) all_raw_categories
 abbrev pub resolved : PluralRanges → PluralCategory → PluralCategory → PluralCategory
 resolved ranges start end = unwrap_or (option_map category_of (category_at ranges (raw_category_of start) (raw_category_of end))) end
 
--- Tables are equal where they have the same category at each pair.
+-- Tables are equal if they have the same category at each pair.
 abbrev pub RangesAreTheirMaps : Type 0
 RangesAreTheirMaps =
     (ranges others : PluralRanges)

@@ -1,5 +1,5 @@
--- What a JSON value stands for as a range or as the categories of ranges, or why it stands for none, and the one JSON value that is
--- written for them (docs/JSON.md). Values are what serde_json's accessors show of them.
+-- What a JSON value means as a range or as the categories of ranges, or why it is refused, and the one JSON value that is written
+-- for them (docs/JSON.md). Values are what serde_json's accessors show of them.
 use Rattle.std.specs.Prelude.{◌≡◌, ℕ, List, [], ◌∷◌, codes, Option, option_map, Ok}
 use Rattle.std.specs.Cmp.Lexicographic.{slice_cmp}
 use Rattle.std.specs.List.Sorted.{IsStrictlySortedBy}
@@ -30,7 +30,7 @@ category_meant value = do
   text ← there_or Shape (as_str value)
   there_or RangeValue (category_named text)
 
--- each member gives its range its category; the members stand in the order of the keys' bytes, and a key is looked at before its value
+-- each member gives its range its category; the members are in the order of the keys' bytes, a key is checked before its value
 abbrev pub members_meant : PluralRanges → Members → Stands PluralRanges
 members_meant ranges no_members = Ok ranges
 members_meant ranges (member key value members) = do
@@ -38,7 +38,7 @@ members_meant ranges (member key value members) = do
   category ← category_meant value
   members_meant (with_range ranges range.0 range.1 category) members
 
--- categories of ranges are an object with an object under `ranges`; its other keys are not looked at
+-- categories of ranges are an object with an object under `ranges`; its other keys aren't read
 abbrev pub ranges_meant : Data → Stands PluralRanges
 ranges_meant value = there_or Shape (option_and_then as_object (get (codes "ranges") value)) >>= members_meant no_ranges
 
@@ -60,7 +60,7 @@ key_json start end = string (range_text start end)
 abbrev pub name_json : RawPluralCategory → Data
 name_json category = string (raw_name_of category)
 
--- the category of the pair whose text it is, where it is a pair's and the pair has one
+-- the category of the pair whose text it is, if it is a pair's text and the pair has one
 abbrev pub category_under : List ℕ → PluralRanges → Option RawPluralCategory
 category_under text ranges = option_and_then (λ (range : Range). category_at ranges range.0 range.1) (range_named text)
 
@@ -68,7 +68,7 @@ abbrev pub keys_in : Members → List (List ℕ)
 keys_in no_members = []
 keys_in (member key value members) = key ∷ keys_in members
 
--- under a pair's text stands its category, and there is no other key; no key stands twice, and they are in the order of their bytes
+-- under a pair's text is its category, and there is no other key; no key occurs twice, and they are in the order of their bytes
 pub record AreMembersOf (ranges : PluralRanges) (members : Members) : Type 0 where
   pub under : (text : List ℕ) → get_member text members ≡ option_map name_json (category_under text ranges)
   pub ordered : IsStrictlySortedBy (slice_cmp nat_cmp) (keys_in members)

@@ -1,9 +1,9 @@
 -- Five rules and the texts that they come from. What one text gives is said by `IsPackedFrom` and `TextGives` of plural_runtime.
---     AreRulesOf texts rules      each text gives its rule; where there is no text, there is no rule
+--     AreRulesOf texts rules      each text gives its rule, and an absent text none
 --     AreReadAs texts conditions      each text is read as a rule with its condition
 --     IsFirstRefused texts category error      the category's text gives no rule for this reason, and those before it give some
 --     HaveEveryReading Read      rules of texts are those of every reading of these texts (`laws::rules_have_every_reading`)
---     texts_of zero one two few many      the texts behind references
+--     texts_of zero one two few many      the texts of five references
 use Rattle.std.specs.Prelude.{◌≡◌, ℕ, List, Option, Some, None, Ok, Err, ◌⊎◌}
 use Rattle.std.specs.Borrow.{Bor}
 use Rattle.std.specs.Option.{option_copied}
@@ -21,7 +21,7 @@ use Rattle.plural_base.specs.declared.category.PluralCategory.{PluralCategory}
 use Rattle.plural_base.specs.declared.category.PluralCategory.TheVariants.{Zero, One, Two, Few, Many, Other}
 use Rattle.plural_base.specs.FiveRules.{Five, five, FiveRules, Paired, ArePaired}
 
--- the text is read as a condition that is packed to the rule, or neither is there
+-- the text is read as a condition that is packed to the rule, or both are absent
 abbrev pub IsRuleOf : Option (List ℕ) → Option (List PackedRelation) → Type 0
 IsRuleOf = Paired (λ text rule. IsPackedFrom text (Ok rule))
 
@@ -33,7 +33,7 @@ AreRulesOf = ArePaired (λ text rule. IsPackedFrom text (Ok rule))
 abbrev pub AreReadAs : Five (Option (List ℕ)) → Five (Option Condition) → Type 0
 AreReadAs = ArePaired (TextReads ReadsCondition)
 
--- the texts behind five references
+-- the texts of five references
 abbrev pub texts_of : {A : Type 0} → Option (Bor A) → Option (Bor A) → Option (Bor A) → Option (Bor A) → Option (Bor A)
     → Five (Option A)
 texts_of zero one two few many =
@@ -41,12 +41,12 @@ texts_of zero one two few many =
 
 -- ---- The first text that gives no rule
 
--- a text is there and gives no rule for this reason, or memory ran out
+-- a text is present and gives no rule for this reason, or memory ran out
 abbrev pub IsRefused : Option (List ℕ) → RuleError → Type 0
 IsRefused None error = ⊥
 IsRefused (Some text) error = TextGives text (Err error) ⊎ (error ≡ Memory)
 
--- a text gives a rule, or there is none
+-- a text gives a rule, or is absent
 abbrev pub IsTaken : Option (List ℕ) → Type 0
 IsTaken text = (rule : Option (List PackedRelation)) × IsRuleOf text rule
 
@@ -62,7 +62,7 @@ IsFirstRefused texts Other error = ⊥
 
 -- ---- Every reading
 
--- whatever tokens the text has, the condition is read from them, as `parse_condition` answers it
+-- the condition is read from any tokens that the text has, as `parse_condition` returns it
 abbrev pub IsAnswerFor : List ℕ → Condition → Type 0
 IsAnswerFor text condition = (tokens : List Token) → AreTokensOf text tokens → Reads tokens condition
 
@@ -70,8 +70,8 @@ IsAnswerFor text condition = (tokens : List Token) → AreTokensOf text tokens �
 abbrev pub ArePackingsOf : Five (Option Condition) → FiveRules → Type 0
 ArePackingsOf = ArePaired (λ condition rule. packing condition ≡ Ok rule)
 
--- whatever conditions the texts of rules are read as by this relation, the texts are those of rules with these conditions, and the
--- rules are their packings
+-- for all conditions that the texts of rules are read as by this relation, the texts are those of rules with these conditions,
+-- and the rules are their packings
 abbrev pub HaveEveryReading : (List ℕ → Condition → Type 0) → Type 0
 HaveEveryReading Read =
     (texts : Five (Option (List ℕ))) (conditions : Five (Option Condition)) (rules : FiveRules)

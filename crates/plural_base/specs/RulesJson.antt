@@ -1,5 +1,5 @@
--- What a JSON value stands for as rules, or why it stands for none, and the one JSON value that is written for rules
--- (docs/JSON.md). Values are what serde_json's accessors show of them.
+-- What a JSON value means as rules, or why it is refused, and the one JSON value that is written for rules (docs/JSON.md). Values
+-- are what serde_json's accessors show of them.
 use Rattle.std.specs.Prelude.{ℕ, List, Option, Some, None, is_some, Ok, Err, if◌then◌else◌}
 use Rattle.std.specs.Option.{option_and_then}
 use Rattle.plural_reference.specs.Serializer.{condition_text}
@@ -40,7 +40,7 @@ optional_meant category (Some value) =
 abbrev pub member_meant : PluralCategory → Data → Stands (Option (List PackedRelation))
 member_meant category value = optional_meant category (get (name_of category) value)
 
--- five rules are an object, looked at from zero to many; its other keys are not looked at
+-- five rules are an object, read from zero to many; its other keys aren't read
 abbrev pub rules_meant : Data → Stands FiveRules
 rules_meant value =
     if is_some (as_object value)
@@ -56,7 +56,7 @@ rule_of_json = unless_float (rule_meant None)
 abbrev pub rules_of_json : Data → Stands FiveRules
 rules_of_json = unless_float rules_meant
 
--- the text that stands under the name of a category
+-- the text under the name of a category
 abbrev pub text_under : PluralCategory → Data → Option (List ℕ)
 text_under category value = option_and_then as_str (get (name_of category) value)
 
@@ -76,7 +76,7 @@ abbrev pub optional_rule_json : Option (List PackedRelation) → Data
 optional_rule_json None = null
 optional_rule_json (Some rule) = rule_json rule
 
--- an object with the five names and no other, in the order of their bytes
+-- an object with the five names and no others, in the order of their bytes
 abbrev pub object_of : Five Data → Data
 object_of values = object (
     member (name_of Few) values.few (member (name_of Many) values.many (member (name_of One) values.one

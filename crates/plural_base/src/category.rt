@@ -10,8 +10,8 @@ pub(crate) mod raw;
 
 use std::marker::Model;
 
-/// A plural category (UTS 35 Part 3, Language Plural Rules). What a category stands for differs from
-/// language to language: `Two` may hold of 2 alone, of 2 and 102, or of no number.
+/// A plural category (UTS 35 Part 3, Language Plural Rules). Which numbers have it differs from
+/// language to language: `Two` may be the category of 2 alone, of 2 and 102, or of no number.
 ///
 /// The order is that of the variants.
 #[derive(Clone, Copy, Debug, PartialEq, Eq, PartialOrd, Ord, Hash)]
@@ -26,7 +26,7 @@ pub enum PluralCategory {
     Few,
     /// `many`.
     Many,
-    /// `other`, which every language has and which needs no rule.
+    /// `other`, which every language has, and which needs no rule.
     Other,
 }
 
@@ -41,6 +41,15 @@ const ALL: &[PluralCategory] = &[
 
 impl PluralCategory {
     /// All six, in the order of their names: few, many, one, other, two, zero.
+    ///
+    /// <!-- snippet crates/plural_base_tests/src/tests/categories.rt:
+    ///      example "let mut all" to "holds!(rt; all.next() == Some(PluralCategory::Few" -->
+    /// ```
+    /// let mut all = PluralCategory::all();
+    /// assert!(rt; all.len() == 6);
+    /// assert!(rt; all.size_hint() == (6, Some(6)));
+    /// assert!(rt; all.next() == Some(PluralCategory::Few));
+    /// ```
     pub fn all() -> AllCategories
         ensures { result ≡ all_categories }
     {
@@ -48,6 +57,23 @@ impl PluralCategory {
     }
 
     /// The category of a name in lower case, as CLDR writes it; `None` for any other text.
+    ///
+    /// <!-- snippet crates/plural_base_tests/src/tests/categories.rt:
+    ///      example "let rows" to "}" of fn names_are_those_of_the_categories -->
+    /// ```
+    /// let rows = [
+    ///     ("zero", PluralCategory::Zero),
+    ///     ("one", PluralCategory::One),
+    ///     ("two", PluralCategory::Two),
+    ///     ("few", PluralCategory::Few),
+    ///     ("many", PluralCategory::Many),
+    ///     ("other", PluralCategory::Other),
+    /// ];
+    /// for (name, category) in rows {
+    ///     assert!(rt; PluralCategory::get_for_cldr_string(name) == Some(category));
+    ///     assert!(rt; RawPluralCategory::from(category).as_str() == name);
+    /// }
+    /// ```
     pub fn get_for_cldr_string(name: &str) -> Option<PluralCategory>
         ensures { (category : PluralCategory) →
             (result ≡ Some category) ↔ (name.now ≡ name_of category) }
@@ -55,7 +81,15 @@ impl PluralCategory {
         PluralCategory::get_for_cldr_bytes(name.as_bytes())
     }
 
-    /// The same of a name's bytes.
+    /// The category whose name has these bytes; `None` for any others.
+    ///
+    /// <!-- snippet crates/plural_base_tests/src/tests/categories.rt:
+    ///      example "for name in" to "}" of fn names_are_those_of_the_categories -->
+    /// ```
+    /// for name in ["", "Few", "other ", "ones"] {
+    ///     assert!(rt; PluralCategory::get_for_cldr_bytes(name.as_bytes()) == None);
+    /// }
+    /// ```
     pub fn get_for_cldr_bytes(name: &[u8]) -> Option<PluralCategory>
         ensures { (category : PluralCategory) →
             (result ≡ Some category) ↔ (name.now ≡ name_of category) }

@@ -6,11 +6,11 @@ use std::fmt;
 /// Why elements can't be packed.
 #[derive(Clone, Copy, Debug, PartialEq, Eq)]
 pub enum ElementsPackError {
-    /// The default's text has more than 255 bytes, and another element stands beside it.
+    /// The default's text has more than 255 bytes, and isn't the only element.
     DefaultLimit,
-    /// An element would start behind place 65535 of the data.
+    /// An element would start after place 65535 of the data.
     StartLimit,
-    /// There is no memory for the bytes.
+    /// Out of memory.
     Memory,
 }
 

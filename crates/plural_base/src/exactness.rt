@@ -16,13 +16,36 @@ use plural_reference::{KEPT_LIMIT, KEPT_PLACES};
 use plural_runtime::{Operand, Relation, Rule};
 
 impl<'data> PluralRules<'data> {
-    /// Whether the rules choose this number's category as the number itself does, and not only as
-    /// what is kept of it does.
+    /// Whether the rules choose the category of the number itself, and not only of what is kept of it.
     ///
-    /// It holds where, after the point has moved by the exponent, the number has at most 18 fraction
+    /// This holds if, after the point has moved by the exponent, the number has at most 18 fraction
     /// places; and either at most 18 integer places, or an integer part of at least `10^18` under
     /// rules whose moduli on `n` and `i` all divide `10^18`. Places count as they are written, with
     /// leading and trailing zeros. It takes no memory.
+    ///
+    /// <!-- snippet crates/using/src/numbers.rt: body of fn print_exactness -->
+    /// ```
+    /// let rules = french(alloc)?;
+    /// for text in [
+    ///     "100000000000000000000000000000",
+    ///     "0.000000000000000001",
+    ///     "0.0000000000000000001",
+    /// ] {
+    ///     let number = CompactDecimal::from_str(alloc, text)?;
+    ///     let category = rules.category_for_compact(&number);
+    ///     let is_exact = rules.is_exact_for(&number);
+    ///     println!(rt; "{text}: {category:?}, exact: {is_exact}")?;
+    /// }
+    /// ```
+    ///
+    /// With the rules of French, this prints
+    ///
+    /// <!-- snippet crates/using/stdout: section exact -->
+    /// ```text
+    /// 100000000000000000000000000000: Many, exact: true
+    /// 0.000000000000000001: One, exact: true
+    /// 0.0000000000000000001: One, exact: false
+    /// ```
     pub fn is_exact_for(&self, number: &CompactDecimal) -> bool
         ensures { let digits = number.now.significand.absolute in
             IsTrue result ↔ IsWithinBound digits number.now.exponent (moduli_of self.now) }
@@ -30,7 +53,17 @@ impl<'data> PluralRules<'data> {
         self.is_within_bound(&number.significand().absolute, number.exponent())
     }
 
-    /// As [`PluralRules::is_exact_for`] of a number without an exponent.
+    /// As [`PluralRules::is_exact_for`], for a number without an exponent.
+    ///
+    /// <!-- snippet crates/plural_base_tests/src/tests/exact.rt: example body of fn integers_of_64_bits_are_whole -->
+    /// ```
+    /// let rules = rules_of(alloc, "i % 3 = 2")?;
+    /// let operands = PluralOperands::from(2_000_000_000_000_000_000u64);
+    /// assert!(rt; rules.category_for(operands) == ONE);
+    /// let number = Decimal::from_str(alloc, "2000000000000000000")?;
+    /// assert!(rt; rules.category_for_decimal(&number) == OTHER);
+    /// assert!(rt; !rules.is_exact_for_decimal(&number));
+    /// ```
     pub fn is_exact_for_decimal(&self, number: &Decimal) -> bool
         ensures { IsTrue result ↔ IsWithinBound number.now.absolute 0 (moduli_of self.now) }
     {
@@ -80,7 +113,7 @@ fn first_place_above(exponent: u8) -> i16
     KEPT_PLACES as i16 - i16::from(exponent)
 }
 
-// Whether each modulus on n and i in a rule, if it is there, divides 10 to the power 18.
+// Whether each modulus on n and i in a rule, if present, divides 10 to the power 18.
 fn moduli_of_rule_divide(rule: &Option<Rule<'_>>) -> bool
     ensures { result ≡ list_all divides_ten_to_18 (moduli_of_rule rule.now) }
 {
@@ -90,7 +123,7 @@ fn moduli_of_rule_divide(rule: &Option<Rule<'_>>) -> bool
     }
 }
 
-// The same of a rule that is there.
+// Whether each modulus on n and i in this rule divides 10 to the power 18.
 #[tactic(auto, using(crate::proofs::Moduli::tests_of_both))]
 fn moduli_divide(rule: &Rule<'_>) -> bool
     ensures { result ≡ list_all divides_ten_to_18 (moduli_of_rule (Some rule.now)) }
@@ -114,7 +147,7 @@ fn relation_divides(relation: Relation<'_>) -> bool
     }
 }
 
-// Whether a modulus is none, or divides 10 to the power 18.
+// Whether a modulus is 0, which is no modulus, or divides 10 to the power 18.
 fn divides_ten_to_18(modulus: u32) -> bool
     ensures { result ≡ divides_ten_to_18 modulus }
 {

@@ -12,8 +12,8 @@ use plural_reference::laws::exactness;
 use plural_reference::laws::reading::{one_list_of_tokens, one_reading};
 use plural_runtime::laws as runtime;
 
-/// Within the bound, under rules that are read from texts, the category that the kept operands of a
-/// number choose is the one that the exact number has.
+/// Within the bound, under rules that are read from texts, the category that a number's kept operands
+/// choose is exact.
 pub fn kept_choice_is_exact()
     ensures { KeptChoiceIsExact }
 {
@@ -22,25 +22,25 @@ pub fn kept_choice_is_exact()
 }
 
 /// The bound on moduli is the widest: for each modulus `m` up to 4294967295 that doesn't divide
-/// `10^18`, the rules with `i % m = r` alone, for one, where `r` is what `m` leaves of `2 * 10^18`,
-/// choose one for that number and other for what is kept of it.
+/// `10^18`, under the single rule one: `i % m = r`, with `r = 2 * 10^18 mod m`, the number `2 * 10^18`
+/// has the category one, and its kept operands choose other.
 pub fn bound_is_widest()
     ensures { BoundIsWidestForChoice }
 {
     exactness::bound_is_widest();
 }
 
-/// Every text gives one answer as a rule, and no other: the relations that its condition is packed to,
-/// or the reason why it gives none.
+/// Every text has exactly one result as a rule: the relations that its condition is packed to, or the
+/// reason why it gives none.
 pub fn texts_give_one_answer()
     ensures { TextsGiveOneAnswer }
 {
     runtime::texts_give_one_answer();
 }
 
-/// Rules of texts are read from every reading of these texts, be they read as rules (`rules`), as
+/// Rules of texts are those of every reading of these texts, be they read as rules (`rules`), as
 /// conditions (`conditions`), or by [`plural_reference::parse_condition`] (`answers`). So the clause
-/// `exact` of [`PluralRules::category_for_decimal`] speaks of any conditions that a caller has read
+/// `exact` of [`PluralRules::category_for_decimal`] is about any conditions that a caller has read
 /// from the texts itself.
 ///
 /// [`PluralRules::category_for_decimal`]: crate::PluralRules::category_for_decimal

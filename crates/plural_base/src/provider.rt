@@ -1,4 +1,4 @@
-//! Who provides rules and ranges.
+//! Providers of rules and ranges.
 
 pub(crate) mod options;
 mod rules;
@@ -11,7 +11,7 @@ use std::fmt;
 /// Why a provider has no rules or ranges.
 #[derive(Clone, Copy, Debug, PartialEq, Eq)]
 pub enum DataError {
-    /// It has no rules of this type, or no ranges, for the locale.
+    /// The provider has no rules of this type, or no ranges, for the locale.
     NotFound,
 }
 
@@ -31,10 +31,11 @@ impl Error for DataError {}
 /// locale is a text, compared byte by byte; no other locale stands in for one that is absent.
 ///
 /// An implementation names its maps by three ghost members, `cardinal`, `ordinal` and `ranges`: functions
-/// from the provider and a locale's bytes to the five rules or the ranges, `None` where there are none.
-/// Each call answers what the map of its name says. So a provider of English alone, with no ordinal
-/// numbers and no ranges, is
+/// from the provider and a locale's bytes to the five rules or the ranges, or `None`. Each call returns
+/// what the map of its name says. So a provider of English alone, with no ordinal numbers and no ranges,
+/// is
 ///
+/// <!-- snippet crates/using/src/english.rt: struct English; impl PluralsProvider for English -->
 /// ```
 /// #[derive(Drop)]
 /// pub struct English {
@@ -42,8 +43,9 @@ impl Error for DataError {}
 /// }
 ///
 /// impl PluralsProvider for English {
-///     ghost use Rattle.std.specs.Prelude.{Some, None, codes, bytes_eq, if◌then◌else◌};
-///     ghost use Rattle.plural_base.specs.FiveRules.{rules_of};
+///     ghost use Rattle.std.specs.Prelude.{Some, None, codes, if◌then◌else◌};
+///     ghost use Rattle.std.specs.Str.{bytes_eq};
+///     ghost use Rattle.icu_plurals.specs.FiveRules.{rules_of};
 ///
 ///     ghost cardinal = { λ english locale. if bytes_eq locale (codes "en") then Some (rules_of english.cardinal) else None };
 ///
@@ -83,18 +85,18 @@ pub trait PluralsProvider {
     // The categories of ranges of a locale.
     ghost ranges: { Self → List ℕ → Option Ranges };
 
-    /// The locale's rules for cardinal numbers, lent; [`DataError::NotFound`] exactly where there are
-    /// none. It takes no memory.
+    /// The locale's rules for cardinal numbers, borrowed; [`DataError::NotFound`] if and only if there
+    /// are none. It takes no memory.
     fn load_cardinal(&self, locale: &str) -> Result<PluralRulesData<'_>, DataError>
         ensures { Loads (cardinal self.now locale.now) result };
 
-    /// The locale's rules for ordinal numbers, lent; [`DataError::NotFound`] exactly where there are
-    /// none. It takes no memory.
+    /// The locale's rules for ordinal numbers, borrowed; [`DataError::NotFound`] if and only if there
+    /// are none. It takes no memory.
     fn load_ordinal(&self, locale: &str) -> Result<PluralRulesData<'_>, DataError>
         ensures { Loads (ordinal self.now locale.now) result };
 
-    /// The locale's categories of ranges; [`DataError::NotFound`] exactly where there are none. It takes
-    /// no memory.
+    /// The locale's categories of ranges; [`DataError::NotFound`] if and only if there are none. It
+    /// takes no memory.
     fn load_ranges(&self, locale: &str) -> Result<PluralRanges, DataError>
         ensures { LoadsRanges (ranges self.now locale.now) result };
 }

@@ -13,8 +13,23 @@ use std::marker::Model;
 
 /// The categories that ranges of numbers have, by the categories of their starts and their ends (UTS 35
 /// Part 3, Plural Ranges): a map from pairs of categories to categories. A pair that is absent has its
-/// end's category. Two are equal where they are the same map. None of its calls but
+/// end's category. Tables are equal if they hold the same pairs. Of its calls only
 /// [`PluralRanges::to_json`] takes memory.
+///
+/// <!-- snippet crates/plural_base_tests/src/tests/ranges.rt:
+///      example "let mut ranges" to "holds!(rt; ranges.len()" of fn a_pair_has_the_category_that_was_put_last -->
+/// ```
+/// let mut ranges = PluralRanges::new();
+/// assert!(rt; ranges == PluralRanges::default());
+/// assert!(rt; ranges.is_empty());
+/// assert!(rt; ranges.insert(OTHER, ONE, FEW) == None);
+/// assert!(rt; ranges.get(OTHER, ONE) == Some(FEW));
+/// assert!(rt; ranges.get(ONE, OTHER) == None);
+/// assert!(rt; ranges.insert(OTHER, ONE, MANY) == Some(FEW));
+/// assert!(rt; ranges.insert(ONE, OTHER, OTHER) == None);
+/// assert!(rt; ranges.get(OTHER, ONE) == Some(MANY));
+/// assert!(rt; ranges.len() == 2);
+/// ```
 #[derive(Clone, Copy, Debug, PartialEq)]
 pub struct PluralRanges {
     rows: ByCategory<ByCategory<Option<RawPluralCategory>>>,
@@ -25,7 +40,7 @@ impl Model for PluralRanges {
     ghost use Rattle.plural_base.specs.declared.category.by_category.ByCategory.{ByCategory};
     ghost use Rattle.plural_base.specs.declared.category.raw.RawPluralCategory.{RawPluralCategory};
 
-    // What stands at each start is what stands at each end: the pair's category, where it has one.
+    // At each start, and there at each end: the pair's category, if it has one.
     ghost Value = { ByCategory (ByCategory (Option RawPluralCategory)) };
 
     ghost view = { λ ranges. ranges.rows };
@@ -34,7 +49,7 @@ impl Model for PluralRanges {
 }
 
 impl PluralRanges {
-    /// The map without a pair.
+    /// The table without pairs.
     pub fn new() -> PluralRanges
         ensures { result ≡ no_ranges }
     {
@@ -43,7 +58,7 @@ impl PluralRanges {
         }
     }
 
-    /// The category of a pair, where it has one.
+    /// The category of a pair, if it has one.
     #[inline]
     pub fn get(&self, start: RawPluralCategory, end: RawPluralCategory) -> Option<RawPluralCategory>
         ensures { result ≡ category_at self.now start end }
@@ -51,7 +66,7 @@ impl PluralRanges {
         self.rows.get(start).get(end)
     }
 
-    /// Gives a pair a category, and answers the one that it had before.
+    /// Gives a pair a category, and returns the one that it had before.
     pub fn insert(
         &mut self,
         start: RawPluralCategory,
@@ -71,7 +86,7 @@ impl PluralRanges {
         before
     }
 
-    /// How many pairs have a category, 36 at most.
+    /// How many pairs have a category; at most 36.
     pub fn len(&self) -> usize
         ensures value { result ≡ size_of self.now }
         ensures bound { result ≤ 36 }
@@ -102,7 +117,7 @@ impl PluralRanges {
     }
 }
 
-/// The map without a pair.
+/// The table without pairs.
 impl Default for PluralRanges {
     ghost is_default = { λ ranges. ranges ≡ no_ranges };
 

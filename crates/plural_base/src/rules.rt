@@ -18,7 +18,29 @@ use plural_runtime::{Rule, test_rule};
 use std::marker::Model;
 
 /// The rules of one language and type (UTS 35 Part 3, Language Plural Rules), which choose a number's
-/// category: the first of zero, one, two, few and many whose rule is there and true, else other.
+/// category: the first of zero, one, two, few and many whose rule is present and true, else other.
+///
+/// <!-- snippet crates/using/src/texts.rt: "let one" to "}" of fn print_czech -->
+/// ```
+/// let one = Some("i = 1 and v = 0 @integer 1");
+/// let few = Some("i = 2..4 and v = 0 @integer 2~4");
+/// let many = Some("v != 0 @decimal 0.0~1.5, 10.0, 100.0, …");
+/// let data = PluralRulesData::from_texts(alloc, None, one, None, few, many)?;
+/// let czech = PluralRules::from_data(data);
+/// for number in [1u32, 3, 5] {
+///     let category = czech.category_for(PluralOperands::from(number));
+///     println!(rt; "{number}: {category:?}")?;
+/// }
+/// ```
+///
+/// This prints
+///
+/// <!-- snippet crates/using/stdout: section texts -->
+/// ```text
+/// 1: One
+/// 3: Few
+/// 5: Other
+/// ```
 #[derive(Debug, Drop)]
 pub struct PluralRules<'data> {
     pub(crate) data: PluralRulesData<'data>,
@@ -37,7 +59,7 @@ impl<'data> Model for PluralRules<'data> {
 impl<'data> PluralRules<'data> {
     ghost use Rattle.plural_base.specs.FiveRules.{rules_of};
 
-    /// Rules that were handed in.
+    /// The rules of this data.
     pub fn from_data(rules: PluralRulesData<'data>) -> PluralRules<'data>
         ensures { result ≡ rules_of rules.entry }
     {
@@ -45,6 +67,14 @@ impl<'data> PluralRules<'data> {
     }
 
     /// The category of a number by its operands. It takes no memory.
+    ///
+    /// <!-- snippet crates/plural_base_tests/src/tests/exact.rt:
+    ///      example "let rules" to "holds!" of fn integers_of_64_bits_are_whole -->
+    /// ```
+    /// let rules = rules_of(alloc, "i % 3 = 2")?;
+    /// let operands = PluralOperands::from(2_000_000_000_000_000_000u64);
+    /// assert!(rt; rules.category_for(operands) == ONE);
+    /// ```
     // Inlined with the two below, the operands of an integer stay constants: a sixth of the instructions less.
     #[inline(always)]
     pub fn category_for(&self, operands: PluralOperands) -> PluralCategory
@@ -54,7 +84,7 @@ impl<'data> PluralRules<'data> {
         self.first_true(&operands)
     }
 
-    // The first category whose rule is there and true, else other.
+    // The first category whose rule is present and true, else other.
     #[inline(always)]
     fn first_true(&self, operands: &PluralOperands) -> PluralCategory
         ensures { result ≡ first_category (packed_truth operands.now) self.now }
@@ -74,8 +104,22 @@ impl<'data> PluralRules<'data> {
         }
     }
 
-    /// The categories that a number may have: those whose rule is there, from zero to many, then
+    /// The categories that a number may have: those whose rule is present, from zero to many, then
     /// other.
+    ///
+    /// <!-- snippet crates/plural_base_tests/src/tests/categories.rt:
+    ///      example body of fn categories_are_those_with_a_rule_and_other -->
+    /// ```
+    /// let (zero, few) = (Some("i = 0"), Some("n = 0"));
+    /// let data = PluralRulesData::from_texts(alloc, zero, None, None, few, None)?;
+    /// let mut categories = PluralRules::from_data(data).categories();
+    /// assert!(rt; categories.size_hint() == (3, Some(3)));
+    /// assert!(rt; categories.next() == Some(PluralCategory::Zero));
+    /// assert!(rt; categories.next() == Some(PluralCategory::Few));
+    /// assert!(rt; categories.len() == 1);
+    /// assert!(rt; categories.next() == Some(PluralCategory::Other));
+    /// assert!(rt; categories.next() == None);
+    /// ```
     pub fn categories(&self) -> Categories
         ensures there { result ≡ categories_of self.now }
         ensures last { (front : List PluralCategory) × (result ≡ front ++ Other ∷ []) }
@@ -84,7 +128,7 @@ impl<'data> PluralRules<'data> {
     }
 }
 
-// Whether a rule is there and true.
+// Whether a rule is present and true.
 #[inline(always)]
 fn is_true_of(rule: &Option<Rule<'_>>, operands: &PluralOperands) -> bool
     ensures { result ≡ passes (packed_truth operands.now) rule.now }

@@ -1,4 +1,4 @@
--- A reader of the bytes of packed elements, for the view of checked bytes, the laws and private contracts. Not a definition of the subject.
+-- Not a definition of the subject: a reader of the bytes of packed elements, for views of checked bytes, laws, private contracts.
 use Rattle.std.specs.Prelude.{◌≡◌, ◌==◌, ℕ, ◌/◌, ◌%◌, List, [], ◌∷◌, map, take, drop, Bool, false, ◌&&◌, nat_le, if◌then◌else◌}
 use Rattle.std.specs.Prelude.{nat_lt, IsTrue, Option, Some, None, unwrap_or, ⊤, ◌+◌, ◌++◌, length}
 use Rattle.std.proofs.Props.{props}
@@ -21,7 +21,7 @@ abbrev pub read_item : List ℕ → PackedItem
 read_item [] = record { key = 0; value = record { metadata = 0; text = [] } }
 read_item (byte ∷ text) = record { key = byte / 16; value = record { metadata = byte % 16; text = text } }
 
--- the packed elements that bytes hold, with their first byte and what stands behind it
+-- the packed elements that bytes hold, with their first byte and what follows it
 abbrev pub read_behind : ℕ → List ℕ → PackedElements
 read_behind first [] = record { default = record { metadata = first % 16; text = [] }; items = None }
 read_behind first (len ∷ bytes) =
@@ -31,7 +31,7 @@ read_behind first (len ∷ bytes) =
       items = Some (map read_item (items_in (drop len bytes)));
     }
 
--- the packed elements that bytes hold, if they are those of some
+-- the packed elements that bytes hold, if they are bytes of packed elements
 unfoldable pub read_elements : List ℕ → PackedElements
 read_elements [] = record { default = record { metadata = 0; text = [] }; items = None }
 read_elements (first ∷ bytes) = read_behind first bytes
@@ -40,7 +40,7 @@ read_elements (first ∷ bytes) = read_behind first bytes
 abbrev pub AreElements : List ℕ → Type 0
 AreElements bytes = ElementsBytes (read_elements bytes) bytes
 
--- ---- a fact that bytes have in one way at most
+-- ---- a fact that bytes have in at most one way
 
 CanPackItems-prop : (default : PackedValue) (items : Option (List PackedItem)) → IsProp (CanPackItems default items)
 CanPackItems-prop default None = hlevel props
@@ -60,7 +60,7 @@ HasPlaceFault bytes errors.Empty = bytes ≡ []
 HasPlaceFault bytes errors.Short = IsShort bytes
 HasPlaceFault bytes fault = ⊥
 
--- an item has a key of the seven, and a text that is UTF-8
+-- an item has one of the seven keys, and a text that is UTF-8
 abbrev pub is_item : List ℕ → Bool
 is_item [] = false
 is_item (byte ∷ text) = nat_le (byte / 16) 6 && is_utf8 text
@@ -85,7 +85,7 @@ pub record AreShown (parts : ElementsParts) (packed : PackedElements) : Type 0 w
   pub list : ListBytes (map item_bytes (items_of packed)) (unwrap_or parts.rest [])
   pub fit : AllByRecursion IsPackedItem (items_of packed)
 
--- the key of a category's value: other's is the default
+-- the key of a category's value; the value of other is the default
 abbrev pub category_key : PluralCategory → Option ℕ
 category_key Zero = Some 0
 category_key One = Some 1
@@ -94,13 +94,13 @@ category_key Few = Some 3
 category_key Many = Some 4
 category_key Other = None
 
--- ---- One walk over items.
+-- ---- One walk over items
 
 -- the value of a key, or else that of an item that has the key
 abbrev pub first_value : ℕ → Option PackedValue → PackedItem → Option PackedValue
 first_value key value item = if item.key == key then option_or value (Some item.value) else value
 
--- the values by key, and that of an item, unless its key has one already
+-- the values by key, and that of an item, unless its key has one
 abbrev pub with_item : Elements PackedValue → PackedItem → Elements PackedValue
 with_item e item = record {
   other = e.other;
@@ -113,13 +113,13 @@ with_item e item = record {
   explicit_one = first_value 6 e.explicit_one item;
 }
 
--- ---- The bytes of a default and of items.
+-- ---- The bytes of a default and of items
 
--- what stands before the default's text: its metadata alone, or bit 7 with the metadata and the length of the text
+-- what is before the default's text: its metadata alone, or bit 7 with the metadata and the length of the text
 abbrev pub head_with : PackedValue → List (List ℕ) → List ℕ
 head_with default [] = default.metadata ∷ []
 head_with default (item ∷ items) = (128 + default.metadata) ∷ length default.text ∷ []
 
--- the bytes of a default and the byte items beside it
+-- the bytes of a default and the byte items after it
 abbrev pub bytes_with_items : PackedValue → List (List ℕ) → List ℕ
 bytes_with_items default items = head_with default items ++ (default.text ++ list_bytes items)

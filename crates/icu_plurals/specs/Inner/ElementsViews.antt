@@ -1,4 +1,4 @@
--- What contracts see of packed elements, of their parts, and of values and items that are lent. Not a definition of the subject.
+-- What contracts see of packed elements, of their parts, and of borrowed values and items. Not a definition of the subject.
 use Rattle.std.specs.Prelude.{ℕ, List, ◌∷◌, Some, map, option_map}
 use Rattle.std.specs.Borrow.{Bor}
 use Rattle.icu_plurals.specs.declared.packed.PluralElementsPackedULE.{PluralElementsPackedULE}
@@ -15,7 +15,7 @@ use Rattle.icu_plurals.specs.Inner.ElementsReading.{read_elements, read_item}
 abbrev pub metadata_number : FourBitMetadata → ℕ
 metadata_number metadata = metadata.value
 
--- metadata and a text that is lent
+-- metadata and a borrowed text
 abbrev pub lent_value : FourBitMetadata × Bor (List ℕ) → PackedValue
 lent_value value = record { metadata = metadata_number value.0; text = value.1.now }
 
@@ -23,15 +23,15 @@ lent_value value = record { metadata = metadata_number value.0; text = value.1.n
 abbrev pub lent_elements : PluralElementsPackedULE → PackedElements
 lent_elements packed = read_elements packed.bytes.now
 
--- the values by key that a default and a list of items are
+-- the values by key of a default and a list of items
 abbrev pub lent_values : Values → Elements PackedValue
 lent_values values = elements_of (record { default = lent_value values.default; items = Some (map read_item values.items) })
 
--- the parts of bytes, lent from them
+-- the parts of bytes, borrowed from them
 abbrev pub lent_parts : Parts → ElementsParts
 lent_parts parts = record { first = parts.first; text = parts.text.now; rest = option_map (λ rest. rest.now) parts.rest }
 
--- the bytes of an item that lends its text
+-- the bytes of an item that borrows its text
 abbrev pub lent_item_bytes : Item → List ℕ
 lent_item_bytes item = item.first ∷ item.text.now
 

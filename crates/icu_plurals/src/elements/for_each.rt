@@ -1,4 +1,4 @@
-//! A closure called at the values.
+//! A closure called with the values.
 
 ghost use Rattle.std.specs.Prelude.{Ok, OnOk, IfErr};
 ghost use Rattle.std.specs.Fn.{CalledAt};
@@ -9,7 +9,17 @@ use super::PluralElements;
 
 impl<T> PluralElements<T> {
     /// Calls the closure for other, zero, one, two, few, many, explicit zero and explicit one, in this
-    /// order, where they are there.
+    /// order, if they are present. With `seen`, which notes the calls:
+    ///
+    /// <!-- snippet crates/icu_plurals_tests/src/tests/elements.rt: example body of fn absent_values_are_skipped -->
+    /// ```
+    /// let elements = PluralElements::new(11u8).with_one_value(Some(15));
+    /// let doubled = elements.map(|value| u32::from(value) * 2);
+    /// assert!(rt; values(&doubled) == [22, 22, 30, 22, 22, 22, 0, 0]);
+    /// let mut seen = Seen::refusing(0);
+    /// doubled.for_each(|value| seen.see(*value));
+    /// assert!(rt; (seen.calls, seen.values) == (2, [22, 30, 0, 0, 0, 0, 0, 0]));
+    /// ```
     pub fn for_each<F: FnMut(&T)>(&self, mut f: F)
         requires { F.IsAlwaysCallable f }
         ensures { (last : F) × VisitsEach (CalledAt F.FnMut) f (values_in_order self.now) last }
@@ -17,8 +27,19 @@ impl<T> PluralElements<T> {
         self.visit_all(&mut f);
     }
 
-    /// The same up to the first answer that is an `Err`, which is what the call answers then; the
-    /// closure isn't called again.
+    /// As [`PluralElements::for_each`] up to the first `Err` of the closure, which is then the result;
+    /// the closure isn't called again. With `seen`, which gives `Err(refused)` at call `refused`:
+    ///
+    /// <!-- snippet crates/icu_plurals_tests/src/tests/elements.rt:
+    ///      example "let answer = eight().try_for_each" to "holds!(rt; seen.calls" -->
+    /// ```
+    /// let answer = eight().try_for_each(|value| {
+    ///     seen.see(*value);
+    ///     seen.answer()
+    /// });
+    /// assert!(rt; answer == Err(refused));
+    /// assert!(rt; seen.calls == refused);
+    /// ```
     pub fn try_for_each<E, F: FnMut(&T) -> Result<(), E>>(&self, mut f: F) -> Result<(), E>
         requires { F.IsAlwaysCallable f }
         ensures ok { OnOk result ((last : F) × VisitsEach (λ p x y q. CalledAt F.FnMut p x (Ok y) q) f (values_in_order self.now) last) }
@@ -34,7 +55,7 @@ impl<T> PluralElements<T> {
         try_visit_place(&self.explicit_one, &mut f)
     }
 
-    // Calls at the values that are there, and no other.
+    // Calls with the values that are present, and no others.
     fn visit_all<F: FnMut(&T)>(&self, f: &mut F)
         requires { F.IsAlwaysCallable f.old }
         ensures { VisitsEach (CalledAt F.FnMut) f.old (values_in_order self.now) f.new }
@@ -50,7 +71,7 @@ impl<T> PluralElements<T> {
     }
 }
 
-// A call at the value, where one is there.
+// A call with the value, if present.
 fn visit_place<T, F: FnMut(&T)>(place: &Option<T>, f: &mut F)
     requires { F.IsAlwaysCallable f.old }
     ensures called { VisitsAt (CalledAt F.FnMut) f.old place.now f.new }
@@ -61,7 +82,7 @@ fn visit_place<T, F: FnMut(&T)>(place: &Option<T>, f: &mut F)
     }
 }
 
-// A call at the value, where one is there.
+// A call with the value, if present.
 fn try_visit_place<T, E, F: FnMut(&T) -> Result<(), E>>(
     place: &Option<T>,
     f: &mut F,

@@ -8,8 +8,16 @@ ghost use Rattle.icu_plurals.specs.ElementCalls.{CallsAt, CallsEach, Changes, Ch
 use super::PluralElements;
 
 impl<T> PluralElements<T> {
-    /// Calls the closure, which may change what it is called at, for other, zero, one, two, few, many,
-    /// explicit zero and explicit one, in this order, where they are there.
+    /// Calls the closure, which may change the value that it gets, for other, zero, one, two, few, many,
+    /// explicit zero and explicit one, in this order, if they are present. With `seen`, which notes the calls:
+    ///
+    /// <!-- snippet crates/icu_plurals_tests/src/tests/elements.rt: example "elements.for_each_mut" to "});" -->
+    /// ```
+    /// elements.for_each_mut(|value| {
+    ///     seen.see(*value);
+    ///     *value = value.saturating_add(100);
+    /// });
+    /// ```
     pub fn for_each_mut<F: FnMut(&mut T)>(&mut self, mut f: F)
         requires { F.IsAlwaysCallable f }
         ensures { (last : F) × CallsEach (Changes (CalledAtMut F.FnMut)) f (values_in_order self.old) (values_in_order self.new) last }
@@ -24,8 +32,19 @@ impl<T> PluralElements<T> {
         change_place(&mut self.explicit_one, &mut f);
     }
 
-    /// The same up to the first answer that is an `Err`, which is what the call answers then; the
-    /// closure isn't called again, and what it has changed before stays changed.
+    /// As [`PluralElements::for_each_mut`] up to the first `Err` of the closure, which is then the
+    /// result; the closure isn't called again, and what it has changed before stays changed.
+    ///
+    /// <!-- snippet crates/icu_plurals_tests/src/tests/elements.rt:
+    ///      example "let answer = elements.try_for_each_mut" to "holds!(rt; values" of fn calls_without_an_error_answer_ok -->
+    /// ```
+    /// let answer = elements.try_for_each_mut(|value| {
+    ///     *value = value.saturating_add(1);
+    ///     Ok::<(), ()>(())
+    /// });
+    /// assert!(rt; answer == Ok(()));
+    /// assert!(rt; values(&elements) == [11, 12, 13, 14, 15, 16, 17, 18]);
+    /// ```
     pub fn try_for_each_mut<E, F: FnMut(&mut T) -> Result<(), E>>(
         &mut self,
         mut f: F,
@@ -45,7 +64,7 @@ impl<T> PluralElements<T> {
     }
 }
 
-// A call at the value, where one is there.
+// A call with the value, if present.
 fn change_place<T, F: FnMut(&mut T)>(place: &mut Option<T>, f: &mut F)
     requires { F.IsAlwaysCallable f.old }
     ensures called { CallsAt (Changes (CalledAtMut F.FnMut)) f.old place.old place.new f.new }
@@ -56,7 +75,7 @@ fn change_place<T, F: FnMut(&mut T)>(place: &mut Option<T>, f: &mut F)
     }
 }
 
-// A call at the value, where one is there.
+// A call with the value, if present.
 fn try_change_place<T, E, F: FnMut(&mut T) -> Result<(), E>>(
     place: &mut Option<T>,
     f: &mut F,

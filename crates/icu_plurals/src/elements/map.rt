@@ -1,4 +1,4 @@
-//! Elements of a closure's answers.
+//! Elements of a closure's results.
 
 ghost use Rattle.std.specs.Prelude.{Ok, IfOk, IfErr};
 ghost use Rattle.icu_plurals.specs.Elements.{values_in_order};
@@ -7,8 +7,17 @@ ghost use Rattle.icu_plurals.specs.ElementCalls.{CallsAt, CallsEach, RefusesAt, 
 use super::PluralElements;
 
 impl<T> PluralElements<T> {
-    /// The closure's answers at the values, at the same keys. It is called for other, zero, one, two,
-    /// few, many, explicit zero and explicit one, in this order, where they are there.
+    /// The closure's results for the values, at the same keys. It is called for other, zero, one, two,
+    /// few, many, explicit zero and explicit one, in this order, if they are present. With `values`, which lists the
+    /// values as the accessors return them:
+    ///
+    /// <!-- snippet crates/icu_plurals_tests/src/tests/elements.rt:
+    ///      example "let elements" to "holds!" of fn absent_values_are_skipped -->
+    /// ```
+    /// let elements = PluralElements::new(11u8).with_one_value(Some(15));
+    /// let doubled = elements.map(|value| u32::from(value) * 2);
+    /// assert!(rt; values(&doubled) == [22, 22, 30, 22, 22, 22, 0, 0]);
+    /// ```
     pub fn map<B, F: FnMut(T) -> B>(self, mut f: F) -> PluralElements<B>
         requires { F.IsAlwaysCallable f }
         ensures { (last : F) × CallsEach (λ p x y q. F.step p x y q) f (values_in_order self) (values_in_order result) last }
@@ -25,8 +34,19 @@ impl<T> PluralElements<T> {
         }
     }
 
-    /// The same up to the first answer that is an `Err`, which is what the call answers then; the
+    /// As [`PluralElements::map`] up to the first `Err` of the closure, which is then the result; the
     /// closure isn't called again.
+    ///
+    /// <!-- snippet crates/icu_plurals_tests/src/tests/elements.rt: example fn lists -->
+    /// ```
+    /// fn lists(alloc: Global) -> Result<PluralElements<Vec<u32>>, AllocError> {
+    ///     eight().try_map(|value| {
+    ///         let mut list = Vec::new(alloc);
+    ///         list.push(value)?;
+    ///         Ok(list)
+    ///     })
+    /// }
+    /// ```
     pub fn try_map<B, E, F: FnMut(T) -> Result<B, E>>(
         self,
         mut f: F,
@@ -51,7 +71,7 @@ impl<T> PluralElements<T> {
     }
 }
 
-// The answer at the value, where one is there.
+// The result for the value, if present.
 fn map_place<T, B, F: FnMut(T) -> B>(place: Option<T>, f: &mut F) -> Option<B>
     requires { F.IsAlwaysCallable f.old }
     ensures called { CallsAt (λ p x y q. F.step p x y q) f.old place result f.new }
@@ -63,7 +83,7 @@ fn map_place<T, B, F: FnMut(T) -> B>(place: Option<T>, f: &mut F) -> Option<B>
     }
 }
 
-// The answer at the value, where one is there.
+// The result for the value, if present.
 fn try_map_place<T, B, E, F: FnMut(T) -> Result<B, E>>(
     place: Option<T>,
     f: &mut F,

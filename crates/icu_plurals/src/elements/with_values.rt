@@ -1,4 +1,4 @@
-//! Elements with another value at a key.
+//! Elements with a changed value at a key.
 
 ghost use Rattle.std.specs.Prelude.{◌≡◌};
 ghost use Rattle.icu_plurals.specs.Elements.{unless_equal};
@@ -6,7 +6,7 @@ ghost use Rattle.icu_plurals.specs.Elements.{unless_equal};
 use super::PluralElements;
 
 impl<T: PartialEq + Drop> PluralElements<T> {
-    /// The same with this value of zero; with none, where it is `None` or equals other's.
+    /// The same elements with this value of zero; without one, if it is `None` or equals that of other.
     pub fn with_zero_value(self, zero: Option<T>) -> PluralElements<T>
         ensures { result ≡ record self { zero = unless_equal T.eq self.other zero } }
     {
@@ -14,7 +14,19 @@ impl<T: PartialEq + Drop> PluralElements<T> {
         PluralElements { zero, ..self }
     }
 
-    /// The same with this value of one; with none, where it is `None` or equals other's.
+    /// The same elements with this value of one; without one, if it is `None` or equals that of other.
+    ///
+    /// <!-- snippet crates/icu_plurals_tests/src/tests/elements.rt: example body of fn a_value_that_equals_others_is_not_kept -->
+    /// ```
+    /// let same = PluralElements::new("abc").with_one_value(Some("abc"));
+    /// assert!(rt; same.try_into_other() == Some("abc"));
+    /// let another = PluralElements::new("abc").with_one_value(Some("def"));
+    /// assert!(rt; another.try_into_other() == None);
+    /// let none = PluralElements::new("abc")
+    ///     .with_one_value(Some("def"))
+    ///     .with_one_value(None);
+    /// assert!(rt; none.try_into_other() == Some("abc"));
+    /// ```
     pub fn with_one_value(self, one: Option<T>) -> PluralElements<T>
         ensures { result ≡ record self { one = unless_equal T.eq self.other one } }
     {
@@ -22,7 +34,7 @@ impl<T: PartialEq + Drop> PluralElements<T> {
         PluralElements { one, ..self }
     }
 
-    /// The same with this value of two; with none, where it is `None` or equals other's.
+    /// The same elements with this value of two; without one, if it is `None` or equals that of other.
     pub fn with_two_value(self, two: Option<T>) -> PluralElements<T>
         ensures { result ≡ record self { two = unless_equal T.eq self.other two } }
     {
@@ -30,7 +42,7 @@ impl<T: PartialEq + Drop> PluralElements<T> {
         PluralElements { two, ..self }
     }
 
-    /// The same with this value of few; with none, where it is `None` or equals other's.
+    /// The same elements with this value of few; without one, if it is `None` or equals that of other.
     pub fn with_few_value(self, few: Option<T>) -> PluralElements<T>
         ensures { result ≡ record self { few = unless_equal T.eq self.other few } }
     {
@@ -38,7 +50,7 @@ impl<T: PartialEq + Drop> PluralElements<T> {
         PluralElements { few, ..self }
     }
 
-    /// The same with this value of many; with none, where it is `None` or equals other's.
+    /// The same elements with this value of many; without one, if it is `None` or equals that of other.
     pub fn with_many_value(self, many: Option<T>) -> PluralElements<T>
         ensures { result ≡ record self { many = unless_equal T.eq self.other many } }
     {
@@ -46,7 +58,8 @@ impl<T: PartialEq + Drop> PluralElements<T> {
         PluralElements { many, ..self }
     }
 
-    /// The same with this value at exactly 0, also where it equals other's; with none, where it is `None`.
+    /// The same elements with this value for exactly 0, even if it equals that of other; without one, if it is
+    /// `None`.
     pub fn with_explicit_zero_value(self, explicit_zero: Option<T>) -> PluralElements<T>
         ensures { result ≡ record self { explicit_zero = explicit_zero } }
     {
@@ -56,7 +69,16 @@ impl<T: PartialEq + Drop> PluralElements<T> {
         }
     }
 
-    /// The same with this value at exactly 1, also where it equals other's; with none, where it is `None`.
+    /// The same elements with this value for exactly 1, even if it equals that of other; without one, if it is
+    /// `None`.
+    ///
+    /// <!-- snippet crates/icu_plurals_tests/src/tests/elements.rt: example body of fn an_explicit_value_is_kept -->
+    /// ```
+    /// let elements = PluralElements::new(1).with_explicit_one_value(Some(1));
+    /// assert!(rt; elements.explicit_one() == Some(&1));
+    /// assert!(rt; elements.explicit_zero() == None);
+    /// assert!(rt; elements.try_into_other() == None);
+    /// ```
     pub fn with_explicit_one_value(self, explicit_one: Option<T>) -> PluralElements<T>
         ensures { result ≡ record self { explicit_one = explicit_one } }
     {
@@ -67,7 +89,7 @@ impl<T: PartialEq + Drop> PluralElements<T> {
     }
 }
 
-// The value, unless it equals other's.
+// The value, unless it equals that of other.
 fn unless_equal<T: PartialEq + Drop>(value: Option<T>, other: &T) -> Option<T>
     ensures { result ≡ unless_equal T.eq other.now value }
 {

@@ -55,7 +55,7 @@ pub(crate) fn items_of<'a>(
     items
 }
 
-// Puts the item of a category's value, where it is there and differs from other's.
+// Puts the item of a category's value, if present and unlike that of other.
 fn push_category<'a>(
     items: &mut ArrayVec<Item<'a>, 7>,
     key: u8,
@@ -75,7 +75,7 @@ fn push_category<'a>(
     }
 }
 
-// Puts the item of an explicit value, where it is there.
+// Puts the item of an explicit value, if present.
 fn push_explicit<'a>(
     items: &mut ArrayVec<Item<'a>, 7>,
     key: u8,

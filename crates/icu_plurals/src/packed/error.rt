@@ -5,16 +5,16 @@ use std::error::Error;
 use std::fmt;
 
 /// Why bytes are no packed elements. The causes down to [`List`] are looked for in this order; then the
-/// first bad item is told, by the first of the last three that it meets.
+/// first bad item is named, with the first of the last three that it has.
 ///
 /// [`List`]: ElementsBytesError::List
 #[derive(Clone, Copy, Debug, PartialEq, Eq)]
 pub enum ElementsBytesError {
     /// There is no byte.
     Empty,
-    /// Items are said to follow, and the length of the default's text isn't there, or is more than the bytes that are.
+    /// Items are to follow, and the length of the default's text is missing, or is more than the bytes left.
     Short,
-    /// A bit of 4 to 6 of the first byte is set.
+    /// One of the bits 4 to 6 of the first byte is set.
     Padding,
     /// The default's text isn't UTF-8.
     DefaultText,
@@ -22,7 +22,7 @@ pub enum ElementsBytesError {
     List(ListError),
     /// The item at this place has no byte.
     ItemEmpty(usize),
-    /// The item at this place has a key above the last one.
+    /// The item at this place has a key above 6.
     Key(usize),
     /// The text of the item at this place isn't UTF-8.
     ItemText(usize),

@@ -1,4 +1,4 @@
-//! The items beside the default of packed elements.
+//! The items after the default of packed elements.
 
 ghost use Rattle.std.specs.Prelude.{◌≡◌, ◌/◌, ◌%◌, ◌<◌, ◌≤◌, length, MatchResult, IsOk, IsTrue, Err};
 ghost use Rattle.std.specs.Str.{is_utf8};

@@ -1,4 +1,4 @@
-//! The keys of the items beside the default of packed elements.
+//! The keys of the items after the default of packed elements.
 
 ghost use Rattle.std.specs.Prelude.{◌≡◌};
 ghost use Rattle.icu_plurals.specs.Inner.ElementsReading.{category_key};
@@ -19,7 +19,7 @@ pub(crate) const EXPLICIT_ZERO: u8 = 5;
 
 pub(crate) const EXPLICIT_ONE: u8 = 6;
 
-// The key of a category's value: other's is the default.
+// The key of a category's value; the value of other is the default.
 pub(crate) fn key_of(category: PluralCategory) -> Option<u8>
     ensures { result ≡ category_key category }
 {

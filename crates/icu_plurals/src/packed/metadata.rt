@@ -2,7 +2,16 @@
 
 ghost use Rattle.std.specs.Prelude.{◌<◌};
 
-/// Four bits that stand beside a text of packed elements. What they mean is left to their user.
+/// Four bits beside a text of packed elements. Their meaning is up to the user.
+///
+/// <!-- snippet crates/icu_plurals_tests/src/tests/packed.rt: example body of fn metadata_has_four_bits -->
+/// ```
+/// assert!(rt; FourBitMetadata::zero().get() == 0);
+/// assert!(rt; FourBitMetadata::try_from_byte(0) == Some(FourBitMetadata::zero()));
+/// assert!(rt; FourBitMetadata::try_from_byte(15).map(|most| most.get()) == Some(15));
+/// assert!(rt; FourBitMetadata::try_from_byte(16).is_none());
+/// assert!(rt; FourBitMetadata::try_from_byte(255).is_none());
+/// ```
 #[derive(Clone, Copy, Debug, PartialEq, Eq)]
 pub struct FourBitMetadata {
     value: u8,
@@ -13,7 +22,7 @@ impl FourBitMetadata {
     ghost use Rattle.std.specs.Prelude.{◌≡◌, ◌≤◌, ◌<◌, ◌%◌, ◌↔◌, IfSome, IsSome};
     ghost use Rattle.icu_plurals.specs.Inner.ElementsViews.{metadata_number};
 
-    /// The number as metadata, where it is at most 15.
+    /// The number as metadata, if it is at most 15.
     pub fn try_from_byte(byte: u8) -> Option<FourBitMetadata>
         ensures same { IfSome result (λ metadata. metadata_number metadata ≡ byte) }
         ensures found { IsSome result ↔ (byte ≤ 15) }
@@ -31,7 +40,7 @@ impl FourBitMetadata {
         FourBitMetadata { value: 0 }
     }
 
-    // What bits 0 to 3 of a byte say.
+    // The metadata in bits 0 to 3 of a byte.
     pub(crate) fn of_low_bits(byte: u8) -> FourBitMetadata
         ensures { metadata_number result ≡ byte % 16 }
     {

@@ -1,4 +1,4 @@
-//! Where the parts of packed elements stand, and whether they are good.
+//! Where the parts of packed elements are, and whether they are good.
 
 ghost use Rattle.std.specs.Prelude.{◌≡◌, MatchResult, IsOk, Err};
 ghost use Rattle.icu_plurals.specs.ElementsFaults.{ArePartsOf, HasPartsFault};
@@ -8,7 +8,7 @@ ghost use Rattle.icu_plurals.specs.Inner.ElementsViews.{lent_parts};
 use crate::packed::error::ElementsBytesError;
 use crate::packed::items::{check_items, is_text};
 
-// The first byte, the default's text, and what is left behind it where bit 7 of the first byte says that there are items.
+// The first byte, the default's text, and what is left after it if bit 7 of the first byte says that items follow.
 #[derive(Clone, Copy)]
 pub(crate) struct Parts<'a> {
     pub(crate) first: u8,

@@ -1,4 +1,4 @@
-//! A value of packed elements: it is read in place, found by its key, and put among others.
+//! A value of packed elements: read in place, found by its key, and put among others.
 
 ghost use Rattle.std.specs.Prelude.{◌≡◌, ◌%◌, ◌≤◌, IsTrue, Some, map, option_map};
 ghost use Rattle.std.specs.List.{list_all};
@@ -53,7 +53,7 @@ pub(crate) fn find_value<'a>(list: &PackedList<'a>, key: u8) -> Option<(FourBitM
     None
 }
 
-// Puts the value of a key, unless there is one already.
+// Puts the value of a key, unless one is present.
 pub(crate) fn put_value<'a>(
     elements: &mut PluralElements<(FourBitMetadata, &'a str)>,
     key: u8,
@@ -73,7 +73,7 @@ pub(crate) fn put_value<'a>(
     }
 }
 
-// Puts a value where there is none.
+// Puts a value, unless one is present.
 fn put_first<'a>(place: &mut Option<(FourBitMetadata, &'a str)>, value: (FourBitMetadata, &'a str))
     ensures { place.new ≡ option_or place.old (Some value.entry) }
 {

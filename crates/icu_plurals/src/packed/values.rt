@@ -14,7 +14,7 @@ use packed_list::laws::read_again;
 use plural_base::PluralCategory;
 use plural_reference::PluralOperands;
 
-// The default and the list of the items beside it, cut out of checked bytes.
+// The default and the list of the items after it, in checked bytes.
 #[derive(Drop)]
 pub(crate) struct Values<'a> {
     pub(crate) default: (FourBitMetadata, &'a str),
@@ -55,7 +55,7 @@ impl<'a> Values<'a> {
         elements
     }
 
-    // The explicit value at exactly 0 or 1, where it is there.
+    // The explicit value for exactly 0 or 1, if present.
     pub(crate) fn explicit_at(&self, op: PluralOperands) -> Option<(FourBitMetadata, &'a str)>
         ensures { option_map lent_value result ≡ explicit_at (lent_values self.now) op }
     {

@@ -6,7 +6,7 @@ use icu_plurals::{PluralElements, PluralOperands, PluralRules};
 use std::alloc::{AllocError, Global};
 use std::test::Fail;
 
-// The values that a closure was called at, and the call, from 1 on, that it refuses.
+// The values that a closure was called with, and the call, from 1 on, that it refuses.
 #[derive(Debug, Drop)]
 struct Seen {
     values: [u32; 8],
@@ -30,7 +30,7 @@ impl Seen {
         self.calls = self.calls.saturating_add(1);
     }
 
-    // What the last call answers.
+    // What the last call returns.
     fn answer(&self) -> Result<(), usize> {
         if self.calls == self.refused {
             Err(self.refused)
@@ -62,7 +62,7 @@ fn eight() -> PluralElements<u32> {
         .with_explicit_one_value(Some(17))
 }
 
-// What each reader answers, 0 where an explicit value isn't there.
+// What each reader returns, 0 if an explicit value is absent.
 fn values(elements: &PluralElements<u32>) -> [u32; 8] {
     [
         *elements.other(),
@@ -208,7 +208,7 @@ fn equality_looks_at_every_value(rt: HostRuntime) {
     }
 }
 
-// The rules that say one where i is 1.
+// The rule `i = 1` for one.
 fn one_rule(alloc: Global) -> Result<PluralRules<'static>, Fail> {
     let data = PluralRulesData::from_texts(alloc, None, Some("i = 1"), None, None, None)?;
     Ok(PluralRules::from_data(data))
@@ -257,7 +257,7 @@ fn a_clone_equals_its_source(rt: HostRuntime) -> Result<(), Fail> {
     Ok(())
 }
 
-// At most one growth is refused: the calls answer want of memory once at most, and answer again.
+// At most one growth is refused: out of memory is returned at most once, and the call made again succeeds.
 #[test]
 fn growth_of_clones_of_elements_may_be_refused(rt: HostRuntime) {
     let Ok(source) = lists(rt.alloc()).or_else(|_| lists(rt.alloc())) else {

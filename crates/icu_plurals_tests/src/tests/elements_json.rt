@@ -15,13 +15,13 @@ const EIGHT_TEXT: &str =
 const EIGHT: &[u8] =
     b"\x82\x01o\x07\0\x02\0\x04\0\x06\0\x08\0\x0a\0\x0c\0\x03z\x14a\x25b\x36c\x47d\x58e\x6ff";
 
-// The refusal of a text of JSON, if there is one.
+// The refusal of a text of JSON, if it is refused.
 fn refusal(alloc: Global, text: &str) -> Result<Option<JsonError>, Fail> {
     let value = Value::from_str(alloc, text)?;
     Ok(PluralElementsPackedCow::from_json(alloc, &value).err())
 }
 
-// A JSON object of elements: texts of so many bytes as other and as one.
+// A JSON object of elements: texts of this many bytes as other and as one.
 fn long_object(alloc: Global, count: usize) -> Result<String, AllocError> {
     let mut text = String::from_str(alloc, "{\"other\":[0,\"")?;
     for _ in 0..count {
@@ -119,7 +119,7 @@ fn form_is_told_before_what_is_too_long(rt: HostRuntime) -> Result<(), Fail> {
     Ok(())
 }
 
-// Where a growth is refused, reading answers want of memory, and answers again with memory.
+// If a growth is refused, reading returns out of memory; asked again with memory, it succeeds.
 #[test]
 fn growth_may_be_refused_in_reading_elements(rt: HostRuntime) {
     let mut refused = 0u8;
@@ -139,7 +139,7 @@ fn growth_may_be_refused_in_reading_elements(rt: HostRuntime) {
     holds!(rt; refused <= 1);
 }
 
-// The same of writing.
+// If a growth is refused, writing returns out of memory; asked again with memory, it succeeds.
 #[test]
 fn growth_may_be_refused_in_writing_elements(rt: HostRuntime) -> Result<(), Fail> {
     let elements = PluralElementsPackedCow::from_bytes(EIGHT)?;

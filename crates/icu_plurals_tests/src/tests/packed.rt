@@ -9,7 +9,7 @@ use std::test::Fail;
 // Other "items", one "item", explicit one "items".
 const ITEMS: &[u8] = b"\x80\x05items\x02\0\x05\0\x10item\x60items";
 
-// Other "a", one "b" and once more one "c".
+// Other "a", one "b" and again one "c".
 const ONE_TWICE: &[u8] = b"\x80\x01a\x02\0\x02\0\x10b\x10c";
 
 // The rule `i = 1 and v = 0` for one.
@@ -41,7 +41,7 @@ fn shown<'a>(value: &(FourBitMetadata, &'a str)) -> (u8, &'a str) {
     (value.0.get(), value.1)
 }
 
-// The same, and an empty value where there is none.
+// The metadata as a number, and the text; 0 and an empty text if the value is absent.
 fn shown_if_there<'a>(value: Option<&(FourBitMetadata, &'a str)>) -> (u8, &'a str) {
     match value {
         Some(value) => shown(value),
@@ -61,7 +61,7 @@ fn metadata_has_four_bits(rt: HostRuntime) {
 #[test]
 fn chooses_an_item_or_the_default(rt: HostRuntime) -> Result<(), Fail> {
     let rules = rules(rt.alloc())?;
-    // The bytes, and the metadata and the texts at 0, 1, 2 and 1.5.
+    // The bytes, and the metadata and the texts for 0, 1, 2 and 1.5.
     let rows: [(&[u8], [(u8, &str); 4]); 7] = [
         (b"\0abc", [(0, "abc"); 4]),
         (
@@ -113,7 +113,7 @@ fn decodes_the_first_of_a_key_and_equal_values(rt: HostRuntime) -> Result<(), Fa
     let twice = PluralElementsPackedULE::parse_bytes(ONE_TWICE)?.decode();
     holds!(rt; twice.one().1 == "b");
     holds!(rt; twice.two().1 == "a");
-    // One is there, though it is other's text.
+    // One is present, though its text is that of other.
     let equal = PluralElementsPackedULE::parse_bytes(b"\x80\x01a\x01\0\x10a")?;
     holds!(rt; equal.decode().try_into_other().is_none());
     let alone = PluralElementsPackedULE::parse_bytes(b"\x07abc")?;
@@ -172,8 +172,7 @@ fn refuses_broken_elements(rt: HostRuntime) {
     }
 }
 
-// What the first bytes of elements are: refused with a fault, or elements with a text at 1 and another one at 0, 2
-// and 1.5.
+// What the first bytes of elements are: refused with a fault, or elements with a text for 1 and one for 0, 2 and 1.5.
 #[derive(Clone, Copy)]
 enum Cut {
     Refused(ElementsBytesError),

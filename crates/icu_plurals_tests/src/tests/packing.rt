@@ -1,4 +1,4 @@
-//! Packing of elements, and packed elements that are owned or lent: worked bytes, sizes at the limits, growth.
+//! Packing of elements, and packed elements that are owned or borrowed: worked bytes, sizes at the limits, growth.
 
 use crate::tests::assertion::holds;
 use icu_plurals::provider::{
@@ -14,11 +14,11 @@ use std::test::Fail;
 // Other "items", one "item", explicit one "items".
 const ITEMS: &[u8] = b"\x80\x05items\x02\0\x05\0\x10item\x60items";
 
-// A value at each key, as `eight` gives them.
+// A value at each key, those of `eight`.
 const EIGHT: &[u8] =
     b"\x82\x01o\x07\0\x02\0\x04\0\x06\0\x08\0\x0a\0\x0c\0\x03z\x14a\x25b\x36c\x47d\x58e\x69f";
 
-// Metadata, 0 where the number is too large, and a text.
+// Metadata, 0 if the number is too large, and a text.
 fn value<'a>(pair: (u8, &'a str)) -> (FourBitMetadata, &'a str) {
     match FourBitMetadata::try_from_byte(pair.0) {
         Some(metadata) => (metadata, pair.1),
@@ -77,7 +77,7 @@ fn numbers() -> [PluralOperands; 4] {
     ]
 }
 
-// A text of so many bytes.
+// A text of this many bytes.
 fn long(alloc: Global, count: usize) -> Result<String, AllocError> {
     let mut text = String::with_capacity(alloc, count)?;
     for _ in 0..count {
@@ -104,7 +104,7 @@ fn packs_elements(rt: HostRuntime) -> Result<(), Fail> {
             Some((12, "z")),
             b"\x8f\x01x\x02\0\x02\0\x13y\x6cz",
         ),
-        // One equals other once its metadata, which is too large, is 0; in the last row it has another metadata.
+        // One equals other, since its metadata is too large and taken as 0; in the last row its metadata differs.
         ((0, "x"), Some((16, "x")), None, b"\0x"),
         ((0, "x"), Some((1, "x")), None, b"\x80\x01x\x01\0\x11x"),
     ];
@@ -204,7 +204,7 @@ fn a_start_behind_65535_is_refused(rt: HostRuntime) -> Result<(), Fail> {
     let last = Some((0, "b"));
     let refused = packed(rt.alloc(), (0, ""), Some(long), last).err();
     holds!(rt; refused == Some(ElementsPackError::StartLimit));
-    // The default is looked at first.
+    // The default is checked first.
     let refused = packed(rt.alloc(), long, Some((1, text.as_str())), last).err();
     holds!(rt; refused == Some(ElementsPackError::DefaultLimit));
     // The last item may be of any length.
@@ -272,7 +272,7 @@ fn lent_bytes_keep_their_metadata(rt: HostRuntime) -> Result<(), Fail> {
     Ok(())
 }
 
-// Where the growth is refused, the call answers want of memory, and answers again with memory.
+// If the growth is refused, the call returns out of memory; asked again with memory, it succeeds.
 #[test]
 fn growth_of_bytes_may_be_refused(rt: HostRuntime) {
     let mut refused = 0u8;
@@ -290,7 +290,7 @@ fn growth_of_bytes_may_be_refused(rt: HostRuntime) {
     holds!(rt; refused <= 1);
 }
 
-// The same of elements that own their bytes, and of a copy.
+// If a growth is refused, packing and copying return out of memory; asked again with memory, they succeed.
 #[test]
 fn growth_of_owned_elements_may_be_refused(rt: HostRuntime) -> Result<(), Fail> {
     let texts = welsh();

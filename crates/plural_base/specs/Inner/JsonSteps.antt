@@ -1,4 +1,4 @@
--- Not a definition of the subject: the error that the code makes of a rule's.
+-- Not a definition of the subject: the error that the code makes from a rule's.
 use Rattle.std.specs.Prelude.{Option, fold, Some, None, List, map, String, string_bytes}
 use Rattle.plural_runtime.specs.declared.error.RuleError.{RuleError}
 use Rattle.plural_runtime.specs.declared.error.RuleError.TheVariants as fault
@@ -16,7 +16,7 @@ use Rattle.plural_base.specs.declared.rules.data.PluralRulesData.{PluralRulesDat
 use Rattle.plural_base.specs.DocumentJson.{Rows}
 use Rattle.plural_base.specs.FiveRules.{FiveRules, rules_of}
 
--- want of memory names no category
+-- out of memory names no category
 abbrev pub refusal_of : Option PluralCategory → RuleError → JsonError
 refusal_of category (fault.Parse kind) = Rule category (fault.Parse kind)
 refusal_of category fault.StartLimit = Rule category fault.StartLimit

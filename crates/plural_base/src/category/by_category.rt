@@ -1,11 +1,11 @@
-//! A thing for each of the six categories.
+//! One value per category.
 
 ghost use Rattle.std.specs.Prelude.{◌≡◌};
 ghost use Rattle.plural_base.specs.Ranges.{at, each, put_at};
 
 use crate::category::raw::RawPluralCategory;
 
-// A thing for each category.
+// A value for each of the six categories.
 #[derive(Clone, Copy, Debug, PartialEq)]
 pub(crate) struct ByCategory<T> {
     pub(crate) other: T,
@@ -17,7 +17,7 @@ pub(crate) struct ByCategory<T> {
 }
 
 impl<T: Copy> ByCategory<T> {
-    // The same for each.
+    // One value for all six.
     pub(crate) fn all(thing: T) -> ByCategory<T>
         ensures { result ≡ each (λ category. thing) }
     {
@@ -31,7 +31,7 @@ impl<T: Copy> ByCategory<T> {
         }
     }
 
-    // That of a category.
+    // The value of a category.
     #[inline]
     pub(crate) fn get(&self, category: RawPluralCategory) -> T
         ensures { result ≡ at self.now category }
@@ -46,7 +46,7 @@ impl<T: Copy> ByCategory<T> {
         }
     }
 
-    // Puts that of a category.
+    // Sets the value of a category.
     pub(crate) fn set(&mut self, category: RawPluralCategory, thing: T)
         ensures { self.new ≡ put_at self.old category thing }
     {

@@ -8,6 +8,23 @@ use crate::category::PluralCategory;
 /// A plural category by its number, as data writes it.
 ///
 /// The order is that of the numbers.
+///
+/// <!-- snippet crates/plural_base_tests/src/tests/categories.rt:
+///      example "let rows" to "}" of fn numbers_are_those_of_the_raw_categories -->
+/// ```
+/// let rows = [
+///     (RawPluralCategory::Other, PluralCategory::Other),
+///     (RawPluralCategory::Zero, PluralCategory::Zero),
+///     (RawPluralCategory::One, PluralCategory::One),
+///     (RawPluralCategory::Two, PluralCategory::Two),
+///     (RawPluralCategory::Few, PluralCategory::Few),
+///     (RawPluralCategory::Many, PluralCategory::Many),
+/// ];
+/// for (number, (raw, category)) in rows.iter().enumerate() {
+///     assert!(rt; (*raw as usize) == number);
+///     assert!(rt; PluralCategory::from(*raw) == *category);
+/// }
+/// ```
 #[derive(Clone, Copy, Debug, PartialEq, Eq, PartialOrd, Ord, Hash)]
 pub enum RawPluralCategory {
     /// `other`.

@@ -1,4 +1,4 @@
-//! Why JSON values stand for nothing.
+//! Why JSON values are refused.
 
 use crate::category::PluralCategory;
 use crate::category::raw::RawPluralCategory;
@@ -8,23 +8,23 @@ use std::alloc::AllocError;
 use std::error::Error;
 use std::fmt;
 
-/// Why a JSON value stands for nothing, or can't be written.
+/// Why a JSON value is refused, or can't be written.
 #[derive(Clone, Copy, Debug, PartialEq, Eq)]
 pub enum JsonError {
-    /// A number that is no integer of 64 bits stands somewhere in the value.
+    /// The value holds a number that is no integer of 64 bits.
     Float,
     /// A part of the value is of another kind than its form asks for.
     Shape,
-    /// A text gives no rule, for this reason; the category, where the text is that of one. The
-    /// reason is never want of memory.
+    /// A text gives no rule, for this reason; with the category, if the text is under one. The
+    /// reason is never out of memory.
     Rule(Option<PluralCategory>, RuleError),
     /// A text or a byte names no range of two categories.
     RangeKey,
     /// The text of a range's category names none.
     RangeValue,
-    /// The elements can't be packed, for this reason. It is never want of memory.
+    /// The elements can't be packed, for this reason, which is never out of memory.
     Pack(ElementsPackError),
-    /// There is no memory for what is read or written.
+    /// Out of memory, for what is read or written.
     Memory,
 }
 

@@ -6,7 +6,7 @@ ghost use Rattle.serde_json.specs.Written.{has_float, items_have_float, members_
 
 use serde_json::{Map, Value};
 
-/// Whether a float stands anywhere in the value: a number for which `as_u64` and `as_i64` both answer `None`. It takes no memory.
+/// Whether the value holds a float: a number for which `as_u64` and `as_i64` both return `None`. It takes no memory.
 #[cycle(float)]
 pub fn holds_float(value: &Value) -> bool
     ensures { result ≡ has_float (view value.now) }
@@ -19,7 +19,7 @@ pub fn holds_float(value: &Value) -> bool
     }
 }
 
-// Whether one stands in some item.
+// Whether an item holds a float.
 #[cycle(float)]
 fn items_hold_float(items: &Vec<Value>) -> bool
     ensures { result ≡ items_have_float (items_view items.now.items) }
@@ -32,7 +32,7 @@ fn items_hold_float(items: &Vec<Value>) -> bool
     false
 }
 
-// Whether one stands in some member.
+// Whether a member holds a float.
 #[cycle(float)]
 fn members_hold_float(members: &Map<String, Value>) -> bool
     ensures { result ≡ members_have_float (members_view members.now.entries) }

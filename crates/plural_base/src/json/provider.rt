@@ -49,22 +49,40 @@ impl JsonProvider {
 
     /// The provider of a document: an object with an object from locales to rules, as
     /// [`PluralRulesData::from_json`] reads them, under each of `cardinal` and `ordinal`, and one to
-    /// ranges, as [`PluralRanges::from_json`] reads them, under `ranges`, or null or nothing where there
-    /// are none. Other keys are not looked at.
+    /// ranges, as [`PluralRanges::from_json`] reads them, under `ranges`. Each of the three may be null
+    /// or absent. Other keys aren't read.
     ///
-    /// [`JsonError::Float`] where a float stands anywhere in the document, else [`JsonError::Shape`] where
-    /// it is no object; else the refusal of the first place: cardinal before ordinal before ranges, in
-    /// each first [`JsonError::Shape`] where it is neither null nor an object, then its locales in the
-    /// order of their bytes, each as [`PluralRulesData::from_json`] or [`PluralRanges::from_json`] refuses
-    /// it. It takes memory; want of it is [`JsonError::Memory`].
+    /// <!-- snippet crates/using/src/json.rt: const DOCUMENT; fn provider -->
+    /// ```
+    /// const DOCUMENT: &str = r#"{
+    ///     "cardinal": {"en": {"one": "i = 1 and v = 0"}},
+    ///     "ordinal": {"en": {
+    ///         "one": "n % 10 = 1 and n % 100 != 11",
+    ///         "two": "n % 10 = 2 and n % 100 != 12",
+    ///         "few": "n % 10 = 3 and n % 100 != 13"
+    ///     }},
+    ///     "ranges": {"en": {"ranges": {"other--one": "other"}}}
+    /// }"#;
+    ///
+    /// pub(crate) fn provider(alloc: Global) -> anyhow::Result<JsonProvider> {
+    ///     let value = Value::from_str(alloc, DOCUMENT)?;
+    ///     Ok(JsonProvider::from_value(alloc, &value)?)
+    /// }
+    /// ```
+    ///
+    /// [`JsonError::Float`] if the document holds a float, else [`JsonError::Shape`] if it is no object;
+    /// else the first refusal: cardinal before ordinal before ranges, in each first [`JsonError::Shape`]
+    /// if it is neither null nor an object, then its locales in the order of their bytes, each as
+    /// [`PluralRulesData::from_json`] or [`PluralRanges::from_json`] refuses it. It takes memory; out of
+    /// memory is [`JsonError::Memory`].
     pub fn from_value(alloc: Global, value: &Value) -> Result<JsonProvider, JsonError>
         ensures answers { Answers (λ provider. provider) result (document_of_json (view value.now)) }
-        // A locale has rules exactly where its key is there, and they are those of the texts under it.
+        // A locale has rules if and only if its key is present, and they are those of the texts under it.
         ensures cardinal { IfOk result (λ provider. (locale : List ℕ) → IsReadAt (value_of_locale (codes "cardinal") locale (view value.now)) (found locale provider.cardinal)) }
         ensures ordinal { IfOk result (λ provider. (locale : List ℕ) → IsReadAt (value_of_locale (codes "ordinal") locale (view value.now)) (found locale provider.ordinal)) }
-        // A locale has ranges exactly where its key is there, and they are those that the value under it stands for.
+        // A locale has ranges if and only if its key is present, and they are those that the value under it means.
         ensures ranges { IfOk result (λ provider. (locale : List ℕ) → AreRangesAt (value_of_locale (codes "ranges") locale (view value.now)) (found locale provider.ranges)) }
-        // Both are looked for before memory is taken.
+        // Both are checked before memory is taken.
         ensures float { (result ≡ Err JsonError.Float) ↔ IsTrue (has_float (view value.now)) }
         ensures shape { IsFalse (has_float (view value.now)) → as_object (view value.now) ≡ None → result ≡ Err JsonError.Shape }
         ensures memory { (category : Option PluralCategory) → result ≢ Err (JsonError.Rule category RuleError.Memory) }

@@ -19,7 +19,7 @@ use std::alloc::{AllocError, Global};
 impl UnvalidatedPluralRange {
     /// The JSON value of the range, its text. It takes memory.
     ///
-    /// [`JsonError::RangeKey`] exactly where the byte names no range; want of memory is
+    /// [`JsonError::RangeKey`] if and only if the byte names no range; out of memory is
     /// [`JsonError::Memory`].
     pub fn to_json(self, alloc: Global) -> Result<Value, JsonError>
         ensures written { IfOk result (λ value. (start : Category) × (end : Category) × (self.0 ≡ range_byte start end) × (view value ≡ key_json start end)) }
@@ -34,8 +34,8 @@ impl UnvalidatedPluralRange {
 
     /// The range of a JSON value, which is its text. It takes no memory.
     ///
-    /// [`JsonError::Float`] where a float stands anywhere in the value, else [`JsonError::Shape`] where it
-    /// is no text, else [`JsonError::RangeKey`] where the text is that of no range.
+    /// [`JsonError::Float`] if the value holds a float, else [`JsonError::Shape`] if it is no text, else
+    /// [`JsonError::RangeKey`] if the text names no range.
     pub fn from_json(value: &Value) -> Result<UnvalidatedPluralRange, JsonError>
         ensures answers { result ≡ key_of_json (view value.now) }
         ensures no_memory { result ≢ Err JsonError.Memory }
@@ -51,6 +51,17 @@ impl PluralRanges {
     /// The JSON value of the ranges: an object with `ranges` alone, an object from the text of each
     /// range that has a category to the category's name. It takes memory; the only error is
     /// [`JsonError::Memory`].
+    ///
+    /// <!-- snippet crates/plural_base_tests/src/tests/ranges.rt:
+    ///      example "let mut two" to "holds!(rt; written.as_str() == wanted" of fn a_full_table_is_written_and_read -->
+    /// ```
+    /// let mut two = PluralRanges::new();
+    /// two.insert(ONE, RawPluralCategory::Two, FEW);
+    /// two.insert(FEW, MANY, OTHER);
+    /// let written = two.to_json(alloc)?.to_string(alloc)?;
+    /// let wanted = "{\"ranges\":{\"few--many\":\"other\",\"one--two\":\"few\"}}";
+    /// assert!(rt; written.as_str() == wanted);
+    /// ```
     pub fn to_json(&self, alloc: Global) -> Result<Value, JsonError>
         ensures written { IfOk result (λ value. IsJsonOfRanges (view value) self.now) }
         ensures memory { IfErr result (λ error. error ≡ JsonError.Memory) }
@@ -60,13 +71,20 @@ impl PluralRanges {
     }
 
     /// The ranges of a JSON value: an object with an object under `ranges`, from texts of ranges to names
-    /// of categories. Other keys are not looked at. It takes no memory.
+    /// of categories. Other keys aren't read. It takes no memory.
     ///
-    /// [`JsonError::Float`] where a float stands anywhere in the value, else [`JsonError::Shape`] where it
-    /// or what stands under `ranges` is no object; else the refusal of the first member, in the order of
-    /// the keys' bytes, key before value: [`JsonError::RangeKey`] where the key is the text of no range,
-    /// [`JsonError::Shape`] where the value is no text, [`JsonError::RangeValue`] where it is no
-    /// category's name.
+    /// [`JsonError::Float`] if the value holds a float, else [`JsonError::Shape`] if it or what is under
+    /// `ranges` is no object; else the refusal of the first member, in the order of the keys' bytes, key
+    /// before value: [`JsonError::RangeKey`] if the key names no range, [`JsonError::Shape`] if the value
+    /// is no text, [`JsonError::RangeValue`] if it is no category's name.
+    ///
+    /// With `full`, a table that has all 36 pairs:
+    ///
+    /// <!-- snippet crates/plural_base_tests/src/tests/ranges.rt: example "let written = full" to "holds!" -->
+    /// ```
+    /// let written = full.to_json(alloc)?;
+    /// assert!(rt; PluralRanges::from_json(&written) == Ok(full));
+    /// ```
     pub fn from_json(value: &Value) -> Result<PluralRanges, JsonError>
         ensures answers { result ≡ ranges_of_json (view value.now) }
         ensures no_memory { result ≢ Err JsonError.Memory }
@@ -91,7 +109,7 @@ fn read_key(value: &Value) -> Result<UnvalidatedPluralRange, JsonError>
     }
 }
 
-// The categories of ranges stand under a locale.
+// What a locale has under `ranges`.
 impl FromJson for PluralRanges {
     ghost use Rattle.plural_base.specs.declared.ranges.PluralRanges.{PluralRanges as Ranges};
 

@@ -17,14 +17,14 @@ use serde_json::{Map, Value};
 use std::alloc::{AllocError, Global};
 use std::collections::BTreeMap;
 
-// What a locale has in a document, which is read of a value without floats.
+// What a locale has in a document, read from a value without floats.
 pub(crate) trait FromJson: Drop {
-    // As what contracts see it.
+    // What contracts see it as.
     ghost Seen: { Type 0 };
 
     ghost seen: { Self → Seen };
 
-    // What a value stands for as one, or its refusal.
+    // What a value means as one, or its refusal.
     ghost meant: { Data → Stands Seen };
 
     fn read(alloc: Global, value: &Value) -> Result<Self, JsonError>
@@ -54,7 +54,7 @@ pub(crate) fn read_map<T: FromJson>(
     }
 }
 
-// What is read of each member, under its key.
+// What is read from each member, under its key.
 fn read_rows<T: FromJson>(
     alloc: Global,
     members: &Map<String, Value>,

@@ -27,19 +27,30 @@ impl PluralRulesData<'static> {
     ghost use Rattle.plural_base.specs.RulesJson.{rules_of_json};
 
     /// The rules of a JSON value: an object with a rule's text under each of `zero`, `one`, `two`,
-    /// `few` and `many`, or null or nothing where there is no rule. Other keys, `other` among them, are
-    /// not looked at.
+    /// `few` and `many`, or null or nothing if there is no rule. Other keys, `other` among them, aren't
+    /// read.
     ///
-    /// [`JsonError::Float`] where a float stands anywhere in the value, else [`JsonError::Shape`] where it
-    /// is no object; else the first of the five, in this order, that is refused: by
-    /// [`JsonError::Shape`] where it is neither null nor a text, by [`JsonError::Rule`] with its category
-    /// where the text gives no rule. It takes memory for each rule; want of it is
-    /// [`JsonError::Memory`].
+    /// <!-- snippet crates/plural_base_tests/src/tests/json.rt: example body of fn rules_are_read_and_written -->
+    /// ```
+    /// let value = Value::from_str(alloc, "{\"one\":\"i \\u003d 1\"}")?;
+    /// let rules = PluralRulesData::from_json(alloc, &value)?;
+    /// let one = Some("i = 1");
+    /// let wanted = PluralRulesData::from_texts(alloc, None, one, None, None, None)?;
+    /// assert!(rt; rules == wanted);
+    /// let written = rules.to_json(alloc)?.to_string(alloc)?;
+    /// let all_five = "{\"few\":null,\"many\":null,\"one\":\"i = 1\",\"two\":null,\"zero\":null}";
+    /// assert!(rt; written.as_str() == all_five);
+    /// ```
+    ///
+    /// [`JsonError::Float`] if the value holds a float, else [`JsonError::Shape`] if it is no object; else
+    /// the refusal of the first of the five, in this order, that is refused: [`JsonError::Shape`] if it is
+    /// neither null nor a text, [`JsonError::Rule`] with its category if the text gives no rule. It takes
+    /// memory for each rule; out of memory is [`JsonError::Memory`].
     pub fn from_json(alloc: Global, value: &Value) -> Result<PluralRulesData<'static>, JsonError>
         ensures answers { Answers rules_of result (rules_of_json (view value.now)) }
         // The rules are those of the texts under the five keys.
         ensures read { IfOk result (λ rules. AreRulesOf (texts_in (view value.now)) (rules_of rules)) }
-        // Both are looked for before memory is taken.
+        // Both are checked before memory is taken.
         ensures float { (result ≡ Err JsonError.Float) ↔ IsTrue (has_float (view value.now)) }
         ensures shape { IsFalse (has_float (view value.now)) → as_object (view value.now) ≡ None → result ≡ Err JsonError.Shape }
         ensures memory { (category : Option Category) → result ≢ Err (JsonError.Rule category RuleError.Memory) }
@@ -69,7 +80,7 @@ impl<'data> PluralRulesData<'data> {
     }
 }
 
-// Rules stand under a locale.
+// What a locale has under `cardinal` and `ordinal`.
 impl FromJson for PluralRulesData<'static> {
     ghost use Rattle.plural_base.specs.FiveRules.{FiveRules};
 
@@ -104,7 +115,7 @@ fn read_rules(alloc: Global, value: &Value) -> Result<PluralRulesData<'static>, 
     })
 }
 
-// The rule under the name of a category, if there is one.
+// The rule under the name of a category, if present.
 fn read_member(
     alloc: Global,
     value: &Value,
@@ -142,7 +153,7 @@ fn read_optional(
     Ok(Some(read_rule(alloc, value, Some(category))?))
 }
 
-// The value of a rule, null where there is none.
+// The value of a rule, null if there is none.
 fn write_optional(alloc: Global, rule: &Option<Rule<'_>>) -> Result<Value, JsonError>
     ensures written { IfOk result (λ value. view value ≡ optional_rule_json rule.now) }
     ensures memory { IfErr result (λ error. error ≡ JsonError.Memory) }

@@ -2,8 +2,8 @@
 
 ghost use Rattle.plural_base.specs.RangesJson.{WrittenRangesAreReadAgain};
 
-/// The JSON value that ranges are written as stands for the same ranges: [`PluralRanges::from_json`]
-/// gives back what [`PluralRanges::to_json`] wrote.
+/// The JSON value that ranges are written as means the same ranges: [`PluralRanges::from_json`]
+/// returns what [`PluralRanges::to_json`] wrote.
 ///
 /// [`PluralRanges::from_json`]: crate::PluralRanges::from_json
 /// [`PluralRanges::to_json`]: crate::PluralRanges::to_json

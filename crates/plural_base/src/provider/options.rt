@@ -1,4 +1,4 @@
-//! Which kind of rules is meant.
+//! The type of rules that is meant.
 
 ghost use Rattle.std.specs.Prelude.{◌≡◌, Some};
 
@@ -12,7 +12,16 @@ pub enum PluralRuleType {
     Ordinal,
 }
 
-/// Which rules are asked for. None is set by default.
+/// Which rules are asked for. By default no type is set.
+///
+/// <!-- snippet crates/plural_base_tests/src/tests/categories.rt: example body of fn options_name_a_type_or_none -->
+/// ```
+/// assert!(rt; PluralRuleType::default() == PluralRuleType::Cardinal);
+/// assert!(rt; PluralRulesOptions::default().rule_type == None);
+/// let options = PluralRulesOptions::default().with_type(PluralRuleType::Ordinal);
+/// assert!(rt; options.rule_type == Some(PluralRuleType::Ordinal));
+/// assert!(rt; PluralRulesOptions::from(PluralRuleType::Ordinal) == options);
+/// ```
 #[derive(Clone, Copy, Debug, Default, PartialEq, Eq)]
 pub struct PluralRulesOptions {
     /// The type of the rules; `None` means cardinal.

@@ -7,8 +7,29 @@ use crate::rules::PluralRules;
 impl<'data> PluralRules<'data> {
     ghost use Rattle.plural_base.specs.Providers.{Makes, of_type};
 
-    /// The rules of a locale, of the type of the options; none means cardinal. They are lent by the
-    /// provider. [`DataError::NotFound`] exactly where the provider has none. It takes no memory.
+    /// The rules of a locale, of the type of the options; no type means cardinal. They are borrowed
+    /// from the provider. [`DataError::NotFound`] if and only if it has none. It takes no memory.
+    ///
+    /// <!-- snippet crates/plural_base_tests/src/tests/provider.rt: example body of fn options_say_which_rules_are_loaded -->
+    /// ```
+    /// let provider = provider(alloc, DOCUMENT)?;
+    /// let two = PluralOperands::from(2u64);
+    /// let rows = [
+    ///     (PluralRulesOptions::default(), PluralCategory::Other),
+    ///     (
+    ///         PluralRulesOptions::from(PluralRuleType::Cardinal),
+    ///         PluralCategory::Other,
+    ///     ),
+    ///     (
+    ///         PluralRulesOptions::from(PluralRuleType::Ordinal),
+    ///         PluralCategory::Two,
+    ///     ),
+    /// ];
+    /// for (options, category) in rows {
+    ///     let rules = PluralRules::try_new_unstable(&provider, "a", options)?;
+    ///     assert!(rt; rules.category_for(two) == category);
+    /// }
+    /// ```
     pub fn try_new_unstable<P: PluralsProvider>(
         provider: &'data P,
         locale: &str,
@@ -26,8 +47,26 @@ impl<'data> PluralRules<'data> {
         }
     }
 
-    /// The rules of a locale for cardinal numbers, lent by the provider. [`DataError::NotFound`] exactly
-    /// where the provider has none. It takes no memory.
+    /// The rules of a locale for cardinal numbers, borrowed from the provider.
+    /// [`DataError::NotFound`] if and only if it has none. It takes no memory.
+    ///
+    /// <!-- snippet crates/using/src/english.rt: "let rules" to "}" of fn print_english -->
+    /// ```
+    /// let rules = PluralRules::try_new_cardinal_unstable(&english, "en")?;
+    /// let category = rules.category_for(PluralOperands::from(1u8));
+    /// println!(rt; "{category:?}")?;
+    /// if let Err(error) = PluralRules::try_new_cardinal_unstable(&english, "en-GB") {
+    ///     println!(rt; "{error}")?;
+    /// }
+    /// ```
+    ///
+    /// With a provider of `"en"` alone, this prints
+    ///
+    /// <!-- snippet crates/using/stdout: section english -->
+    /// ```text
+    /// One
+    /// locale not found
+    /// ```
     pub fn try_new_cardinal_unstable<P: PluralsProvider>(
         provider: &'data P,
         locale: &str,
@@ -37,8 +76,28 @@ impl<'data> PluralRules<'data> {
         Ok(PluralRules::from_data(provider.load_cardinal(locale)?))
     }
 
-    /// The rules of a locale for ordinal numbers, lent by the provider. [`DataError::NotFound`] exactly
-    /// where the provider has none. It takes no memory.
+    /// The rules of a locale for ordinal numbers, borrowed from the provider.
+    /// [`DataError::NotFound`] if and only if it has none. It takes no memory.
+    ///
+    /// <!-- snippet crates/using/src/json.rt: body of fn print_places -->
+    /// ```
+    /// let ordinal = PluralRules::try_new_ordinal_unstable(provider, "en")?;
+    /// for place in [1u32, 2, 3, 11, 22] {
+    ///     let category = ordinal.category_for(PluralOperands::from(place));
+    ///     println!(rt; "{place}: {category:?}")?;
+    /// }
+    /// ```
+    ///
+    /// In English this prints
+    ///
+    /// <!-- snippet crates/using/stdout: section json -->
+    /// ```text
+    /// 1: One
+    /// 2: Two
+    /// 3: Few
+    /// 11: Other
+    /// 22: Two
+    /// ```
     pub fn try_new_ordinal_unstable<P: PluralsProvider>(
         provider: &'data P,
         locale: &str,

@@ -10,15 +10,36 @@ use crate::category::PluralCategory;
 use crate::category::raw::RawPluralCategory;
 
 /// A range of numbers by the categories of its start and its end, in one byte (UTS 35 Part 3, Plural
-/// Ranges): 16 times the start's number, and the end's number, as [`RawPluralCategory`] counts them. A
+/// Ranges): 16 times the start's number, plus the end's number, as [`RawPluralCategory`] counts them. A
 /// byte with another number in it names no range.
 ///
 /// The order is that of the bytes.
+///
+/// <!-- snippet crates/plural_base_tests/src/tests/ranges.rt: example body of fn keys_are_ordered_by_their_bytes -->
+/// ```
+/// let low = UnvalidatedPluralRange::from_range(OTHER, MANY);
+/// let high = UnvalidatedPluralRange::from_range(ONE, OTHER);
+/// assert!(rt; low < high);
+/// assert!(rt; high < UnvalidatedPluralRange(255));
+/// ```
 #[derive(Clone, Copy, Debug, PartialEq, Eq, PartialOrd, Ord, Hash)]
 pub struct UnvalidatedPluralRange(pub u8);
 
 impl UnvalidatedPluralRange {
-    /// The byte of a start and an end.
+    /// The byte of a start and an end. With rows such as `one`, `other`, 32 and `"one--other"`:
+    ///
+    /// <!-- snippet crates/plural_base_tests/src/tests/ranges.rt:
+    ///      example "for (start, end, byte, text)" to "}" of fn a_range_has_a_byte_and_a_text -->
+    /// ```
+    /// for (start, end, byte, text) in rows {
+    ///     let range = UnvalidatedPluralRange::from_range(start, end);
+    ///     assert!(rt; range.0 == byte);
+    ///     assert!(rt; UnvalidatedPluralRange::from_text(text) == Some(range));
+    ///     let written = range.to_json(alloc)?;
+    ///     assert!(rt; written.as_str() == Some(text));
+    ///     assert!(rt; UnvalidatedPluralRange::from_json(&written) == Ok(range));
+    /// }
+    /// ```
     pub fn from_range(start: RawPluralCategory, end: RawPluralCategory) -> UnvalidatedPluralRange
         ensures { result ≡ range_key start end }
     {

@@ -17,8 +17,25 @@ use plural_reference::PluralOperands;
 use std::marker::Model;
 
 /// Rules and the categories of ranges, which choose a range's category by those of its start and its end
-/// (UTS 35 Part 3, Plural Ranges). Nobody checks that the start of a range is below its end, or that
-/// both are positive.
+/// (UTS 35 Part 3, Plural Ranges). The order of start and end isn't checked, nor that both are positive.
+///
+/// <!-- snippet crates/using/src/ranges.rt: body of fn print_ranges -->
+/// ```
+/// let english = PluralRulesWithRanges::try_new_cardinal_unstable(provider, "en")?;
+/// for (start, end) in [(0u8, 1u8), (1, 2)] {
+///     let start = PluralOperands::from(start);
+///     let end = PluralOperands::from(end);
+///     println!(rt; "{:?}", english.category_for_range(start, end))?;
+/// }
+/// ```
+///
+/// The ranges from 0 to 1 and from 1 to 2 have the categories
+///
+/// <!-- snippet crates/using/stdout: section ranges -->
+/// ```text
+/// Other
+/// Other
+/// ```
 #[derive(Debug, Drop)]
 pub struct PluralRulesWithRanges<R> {
     rules: R,
@@ -42,6 +59,19 @@ impl<'data, R: AsPluralRules<'data>> PluralRulesWithRanges<R> {
     }
 
     /// The category of a range of numbers, by the operands of its start and its end. It takes no memory.
+    ///
+    /// <!-- snippet crates/plural_base_tests/src/tests/ranges.rt: example fn cardinal -->
+    /// ```
+    /// fn cardinal(
+    ///     provider: &JsonProvider,
+    ///     locale: &str,
+    ///     start: u64,
+    ///     end: u64,
+    /// ) -> Result<PluralCategory, DataError> {
+    ///     let rules = PluralRulesWithRanges::try_new_cardinal_unstable(provider, locale)?;
+    ///     Ok(rules.category_for_range(PluralOperands::from(start), PluralOperands::from(end)))
+    /// }
+    /// ```
     pub fn category_for_range(&self, start: PluralOperands, end: PluralOperands) -> PluralCategory
         ensures { result ≡ resolved self.now.ranges
             (first_category (packed_truth start) (R.rules self.now.rules))
@@ -53,8 +83,15 @@ impl<'data, R: AsPluralRules<'data>> PluralRulesWithRanges<R> {
         self.resolve_range(start, end)
     }
 
-    /// The category of a range, by those of its start and its end: the pair's, where it has one, else the
+    /// The category of a range, by those of its start and its end: the pair's, if it has one, else the
     /// end's.
+    ///
+    /// <!-- snippet crates/plural_base_tests/src/tests/ranges.rt:
+    ///      example "let resolved = ranges.resolve_range(PluralCategory::Other" to "holds!" -->
+    /// ```
+    /// let resolved = ranges.resolve_range(PluralCategory::Other, PluralCategory::One);
+    /// assert!(rt; resolved == PluralCategory::Few);
+    /// ```
     pub fn resolve_range(&self, start: PluralCategory, end: PluralCategory) -> PluralCategory
         ensures { result ≡ resolved self.now.ranges start end }
     {
@@ -68,8 +105,19 @@ impl<'data, R: AsPluralRules<'data>> PluralRulesWithRanges<R> {
 
 impl<'data> PluralRulesWithRanges<PluralRules<'data>> {
     /// The rules of a locale, of the type of the options, and its ranges; no type means cardinal. The
-    /// rules are lent by the provider. [`DataError::NotFound`] exactly where the provider has no such
-    /// rules or no ranges. It takes no memory.
+    /// rules are borrowed from the provider. [`DataError::NotFound`] if and only if the provider has no
+    /// such rules or no ranges. It takes no memory.
+    ///
+    /// <!-- snippet crates/plural_base_tests/src/tests/ranges.rt: example fn zero_to_one -->
+    /// ```
+    /// fn zero_to_one(
+    ///     provider: &JsonProvider,
+    ///     options: PluralRulesOptions,
+    /// ) -> Result<PluralCategory, DataError> {
+    ///     let rules = PluralRulesWithRanges::try_new_unstable(provider, "a", options)?;
+    ///     Ok(rules.category_for_range(PluralOperands::from(0u64), PluralOperands::from(1u64)))
+    /// }
+    /// ```
     pub fn try_new_unstable<P: PluralsProvider>(
         provider: &'data P,
         locale: &str,
@@ -82,7 +130,8 @@ impl<'data> PluralRulesWithRanges<PluralRules<'data>> {
         PluralRulesWithRanges::try_new_with_rules_unstable(provider, locale, rules)
     }
 
-    /// The same of the rules for cardinal numbers.
+    /// The rules of a locale for cardinal numbers, and its ranges; otherwise as
+    /// [`PluralRulesWithRanges::try_new_unstable`].
     pub fn try_new_cardinal_unstable<P: PluralsProvider>(
         provider: &'data P,
         locale: &str,
@@ -93,7 +142,8 @@ impl<'data> PluralRulesWithRanges<PluralRules<'data>> {
         PluralRulesWithRanges::try_new_with_rules_unstable(provider, locale, rules)
     }
 
-    /// The same of the rules for ordinal numbers.
+    /// The rules of a locale for ordinal numbers, and its ranges; otherwise as
+    /// [`PluralRulesWithRanges::try_new_unstable`].
     pub fn try_new_ordinal_unstable<P: PluralsProvider>(
         provider: &'data P,
         locale: &str,
@@ -106,8 +156,20 @@ impl<'data> PluralRulesWithRanges<PluralRules<'data>> {
 }
 
 impl<R: Drop> PluralRulesWithRanges<R> {
-    /// These rules, and the ranges of a locale. Nobody checks that the rules are those of the locale.
-    /// [`DataError::NotFound`] exactly where the provider has no ranges. It takes no memory.
+    /// These rules, and the ranges of a locale. Whether the rules are those of the locale isn't checked.
+    /// [`DataError::NotFound`] if and only if the provider has no ranges. It takes no memory.
+    ///
+    /// <!-- snippet crates/using/src/named.rt: body of fn print_named_range -->
+    /// ```
+    /// let named = Named {
+    ///     name: "English",
+    ///     rules: PluralRules::try_new_cardinal_unstable(provider, "en")?,
+    /// };
+    /// println!(rt; "{}", named.name)?;
+    /// let ranges = PluralRulesWithRanges::try_new_with_rules_unstable(provider, "en", named)?;
+    /// let category = ranges.resolve_range(PluralCategory::Other, PluralCategory::One);
+    /// println!(rt; "{category:?}")?;
+    /// ```
     pub fn try_new_with_rules_unstable<P: PluralsProvider>(
         provider: &P,
         locale: &str,

@@ -1,12 +1,13 @@
-//! Whatever has plural rules.
+//! Types that have plural rules.
 
 use crate::rules::PluralRules;
 
-/// Whatever has plural rules: [`PluralRules`] themselves, or a reference to some.
+/// A type that has plural rules, as [`PluralRules`] itself or a reference to it.
 ///
 /// An implementation names its rules by the ghost member `rules`, a function from the value to five
-/// rules, as which [`PluralRules`] are seen. So rules with a name are rules by
+/// rules, as which [`PluralRules`] are seen. So a type that gives rules a name is
 ///
+/// <!-- snippet crates/using/src/named.rt: struct Named; impl AsPluralRules<'data> for Named<'data> -->
 /// ```
 /// #[derive(Drop)]
 /// pub struct Named<'data> {
@@ -29,7 +30,7 @@ pub trait AsPluralRules<'data> {
     // The rules that it has.
     ghost rules: { Self → FiveRules };
 
-    /// The rules, lent.
+    /// The rules, borrowed.
     fn as_plural_rules(&self) -> &PluralRules<'data>
         ensures { result.now ≡ rules self.now };
 }

@@ -38,7 +38,7 @@ impl Model for Categories {
 impl Categories {
     ghost use Rattle.plural_base.specs.FiveRules.{rules_of};
 
-    // Those whose rule is there, then other.
+    // Those whose rule is present, then other.
     pub(crate) fn of(rules: &PluralRulesData<'_>) -> Categories
         ensures { result ≡ categories_of (rules_of rules.now) }
     {
@@ -102,7 +102,7 @@ impl ExactSizeIterator for Categories {
     }
 }
 
-// How many categories a flag stands for.
+// How many categories a flag adds.
 fn count_of(is_there: bool) -> usize
     ensures value { (category : Category) → length (listed category is_there) ≡ result }
     ensures bound { result ≤ 1 }

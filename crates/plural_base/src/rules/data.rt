@@ -5,8 +5,19 @@ ghost use Rattle.std.specs.Prelude.{◌≡◌, IfOk};
 use plural_runtime::Rule;
 use std::alloc::AllocError;
 
-/// The rules of one language and type: one for each category but other, where the language has one.
-/// Other is what is left. Two are equal where their rules have the same bytes.
+/// The rules of one language and type: at most one for each category but other, which all remaining
+/// numbers have. Two are equal if their rules have the same bytes.
+///
+/// <!-- snippet crates/using/src/bytes.rt: "let one" to "let category" of fn print_stored_rule -->
+/// ```
+/// let one = Rule::parse_bytes(bytes)?;
+/// let data = PluralRulesData {
+///     one: Some(one),
+///     ..PluralRulesData::default()
+/// };
+/// let rules = PluralRules::from_data(data);
+/// let category = rules.category_for(PluralOperands::from(1u8));
+/// ```
 #[derive(Debug, Default, Drop, PartialEq)]
 pub struct PluralRulesData<'data> {
     /// The rule of `zero`.
@@ -22,7 +33,7 @@ pub struct PluralRulesData<'data> {
 }
 
 impl<'data> PluralRulesData<'data> {
-    /// The same rules, lent from these.
+    /// The same rules, borrowed from these.
     pub fn as_borrowed(&self) -> PluralRulesData<'_>
         ensures { result ≡ self.now }
     {
@@ -35,8 +46,7 @@ impl<'data> PluralRulesData<'data> {
         }
     }
 
-    /// The same rules again. It takes memory where a rule owns its bytes; the only error is want of
-    /// memory.
+    /// A copy of the rules. It takes memory if a rule owns its bytes; the only error is out of memory.
     pub fn try_clone(&self) -> Result<PluralRulesData<'data>, AllocError>
         ensures { IfOk result (λ copy. copy ≡ self.now) }
     {
@@ -50,7 +60,7 @@ impl<'data> PluralRulesData<'data> {
     }
 }
 
-// The same rule, if there is one, lent.
+// The same rule, if present, borrowed.
 fn borrowed<'a>(rule: &'a Option<Rule<'_>>) -> Option<Rule<'a>>
     ensures { result ≡ rule.now }
 {
@@ -60,7 +70,7 @@ fn borrowed<'a>(rule: &'a Option<Rule<'_>>) -> Option<Rule<'a>>
     }
 }
 
-// The same rule again, if there is one.
+// A copy of the rule, if present.
 fn cloned<'data>(rule: &Option<Rule<'data>>) -> Result<Option<Rule<'data>>, AllocError>
     ensures { IfOk result (λ copy. copy ≡ rule.now) }
 {

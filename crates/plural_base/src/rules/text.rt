@@ -18,11 +18,28 @@ use std::error::Error;
 use std::fmt;
 
 /// Which of five texts gives no rule, and why.
+///
+/// <!-- snippet crates/using/src/texts.rt: body of fn print_refusal -->
+/// ```
+/// let one = Some("i = 1");
+/// let few = Some("i 2..4");
+/// match PluralRulesData::from_texts(alloc, None, one, None, few, None) {
+///     Ok(_) => println!(rt; "rules")?,
+///     Err(error) => println!(rt; "{:?}: {}", error.category, error.error)?,
+/// }
+/// ```
+///
+/// This prints
+///
+/// <!-- snippet crates/using/stdout: section refused -->
+/// ```text
+/// Few: expected operator
+/// ```
 #[derive(Clone, Copy, Debug, PartialEq, Eq)]
 pub struct RulesTextError {
     /// The category whose text it is.
     pub category: PluralCategory,
-    /// Why it gives no rule; [`RuleError::Memory`] where memory ran out.
+    /// Why it gives no rule; [`RuleError::Memory`] if memory ran out.
     pub error: RuleError,
 }
 
@@ -43,12 +60,21 @@ impl PluralRulesData<'static> {
     ghost use Rattle.plural_base.specs.RuleTexts.{AreRulesOf, texts_of};
 
     /// The rules of texts as CLDR writes them (UTS 35 Part 3, Plural Rules Syntax), samples included,
-    /// looked at in the order zero, one, two, few, many. It takes memory for each rule.
+    /// read in the order zero, one, two, few, many. It takes memory for each rule.
     ///
-    /// The error names the first text that gives no rule; what stands behind it is not looked at. Its
-    /// cause is [`RuleError::Parse`] where the text has a fault, in its samples too;
-    /// [`RuleError::StartLimit`] where the packed rule would be too long; [`RuleError::Memory`] where
-    /// memory ran out.
+    /// <!-- snippet crates/plural_base_tests/src/tests/texts.rt:
+    ///      example "let one" to "let rules" of fn rules_of_four_forms_choose_as_languages_do -->
+    /// ```
+    /// let one = Some("n % 10 = 1 and n % 100 != 11");
+    /// let two = Some("n % 10 = 2 and n % 100 != 12");
+    /// let few = Some("n % 10 = 3 and n % 100 != 13");
+    /// let data = PluralRulesData::from_texts(alloc, None, one, two, few, None)?;
+    /// let rules = PluralRules::from_data(data);
+    /// ```
+    ///
+    /// The error names the first text that gives no rule; later texts aren't read. Its cause is
+    /// [`RuleError::Parse`] if the text or its samples have a fault, [`RuleError::StartLimit`] if the
+    /// packed rule would be too long, and [`RuleError::Memory`] if memory ran out.
     pub fn from_texts(
         alloc: Global,
         zero: Option<&str>,
@@ -62,7 +88,7 @@ impl PluralRulesData<'static> {
         ensures refused { let texts =
             texts_of zero.entry one.entry two.entry few.entry many.entry in
             IfErr result (λ e. IsFirstRefused texts e.category e.error) }
-        // The values of a text fit: this fault is one of trees made by hand.
+        // The values of a text fit: only trees made by hand have this fault.
         ensures fits { IfErr result (λ e. e.error ≢ RuleError.Parse ParseError.ValueTooLarge) }
     {
         Ok(PluralRulesData {
@@ -75,7 +101,7 @@ impl PluralRulesData<'static> {
     }
 }
 
-// The rule of a category's text, if there is one.
+// The rule of a category's text, if present.
 fn rule_of(
     alloc: Global,
     text: Option<&str>,

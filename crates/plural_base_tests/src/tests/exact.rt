@@ -9,7 +9,7 @@ const ONE: PluralCategory = PluralCategory::One;
 
 const OTHER: PluralCategory = PluralCategory::Other;
 
-// A text, so many zeros, and another text.
+// A text, a number of zeros, and another text.
 fn zeros_between(
     alloc: Global,
     front: &str,
@@ -25,7 +25,7 @@ fn zeros_between(
     Ok(text)
 }
 
-// The rules with one rule, of one.
+// Rules with a rule for one alone.
 fn rules_of(alloc: Global, one: &str) -> Result<PluralRules<'static>, RulesTextError> {
     let data = PluralRulesData::from_texts(alloc, None, Some(one), None, None, None)?;
     Ok(PluralRules::from_data(data))
@@ -39,7 +39,7 @@ fn decimal(alloc: Global, one: &str, number: &str) -> Result<(PluralCategory, bo
     Ok((category, rules.is_exact_for_decimal(&number)))
 }
 
-// The same of a compact decimal.
+// The category of a compact decimal, and whether it is exact.
 fn compact(alloc: Global, one: &str, number: &str) -> Result<(PluralCategory, bool), Fail> {
     let rules = rules_of(alloc, one)?;
     let number = CompactDecimal::from_str(alloc, number)?;

@@ -10,13 +10,13 @@ const OPERATOR: RuleError = RuleError::Parse(ParseError::ExpectedOperator);
 
 const SAMPLE_TYPE: RuleError = RuleError::Parse(ParseError::ExpectedSampleType);
 
-// The refusal of a text of JSON as one rule, if there is one.
+// The refusal of a text of JSON as one rule, if it is refused.
 fn rule_refusal(alloc: Global, text: &str) -> Result<Option<JsonError>, Fail> {
     let value = Value::from_str(alloc, text)?;
     Ok(rule_from_json(alloc, &value).err())
 }
 
-// The same as five rules.
+// The refusal of a text of JSON as five rules, if it is refused.
 fn refusal(alloc: Global, text: &str) -> Result<Option<JsonError>, Fail> {
     let value = Value::from_str(alloc, text)?;
     Ok(PluralRulesData::from_json(alloc, &value).err())
@@ -160,7 +160,7 @@ fn errors_print_their_texts(rt: HostRuntime) -> Result<(), Fail> {
     Ok(())
 }
 
-// Where a growth is refused, reading answers want of memory, and answers again with memory.
+// If a growth is refused, reading returns out of memory; asked again with memory, it succeeds.
 #[test]
 fn growth_may_be_refused_in_reading_rules(rt: HostRuntime) {
     let mut refused = 0u8;
@@ -181,7 +181,7 @@ fn growth_may_be_refused_in_reading_rules(rt: HostRuntime) {
     holds!(rt; refused <= 1);
 }
 
-// The same of writing.
+// If a growth is refused, writing returns out of memory; asked again with memory, it succeeds.
 #[test]
 fn growth_may_be_refused_in_writing_rules(rt: HostRuntime) {
     let mut refused = 0u8;

@@ -27,7 +27,7 @@ const MANY: Option<&str> = Some(
     "n % 10 = 0 or n % 10 = 5..9 or n % 100 = 11..14 @integer 0, 5~20, 100, 1000, 10000, 100000, 1000000, … @decimal 0.0, 5.0, 6.0, 7.0, 8.0, 10.0, 1000000.0, …",
 );
 
-// The same as a document.
+// Rules of that size in a document.
 const DOCUMENT: &str =
     "{\"ordinal\":{\"bn\":{\"one\":\"n = 1,5,7,8,9,10 @integer 1, 5, 7~10 @decimal 1.0, 5.0, 7.0, 8.0, 9.0, 10.0\",\"many\":\"n % 10 = 0 or n % 10 = 5..9 or n % 100 = 11..14 @integer 0, 5~20, 100, 1000, 10000, 100000, 1000000, … @decimal 0.0, 5.0, 6.0, 7.0, 8.0, 10.0, 1000000.0, …\"}}}";
 
@@ -69,7 +69,7 @@ fn a_document_of_whole_rules_is_read(rt: HostRuntime) -> Result<(), Fail> {
     Ok(())
 }
 
-// So many relations between two texts.
+// A number of relations between two texts.
 fn relations(alloc: Global, before: &str, count: usize, after: &str) -> Result<String, AllocError> {
     let mut text = String::from_str(alloc, before)?;
     text.push_str("i = 1")?;
@@ -80,7 +80,7 @@ fn relations(alloc: Global, before: &str, count: usize, after: &str) -> Result<S
     Ok(text)
 }
 
-// The refusal of one rule, of five and of a document with so many relations under `one`.
+// The refusal of one rule, of five and of a document with this number of relations under `one`.
 fn refusals(alloc: Global, count: usize) -> Result<[Option<JsonError>; 3], Fail> {
     let rule = Value::from_str(alloc, &relations(alloc, "\"", count, "\"")?)?;
     let rules = Value::from_str(alloc, &relations(alloc, "{\"one\":\"", count, "\"}")?)?;
@@ -93,7 +93,7 @@ fn refusals(alloc: Global, count: usize) -> Result<[Option<JsonError>; 3], Fail>
     ])
 }
 
-// The reason why so many relations give no rule.
+// The reason why this number of relations gives no rule.
 fn refusal_of_text(alloc: Global, count: usize) -> Result<Option<RuleError>, Fail> {
     let text = relations(alloc, "", count, "")?;
     let rules = PluralRulesData::from_texts(alloc, None, Some(&text), None, None, None);
@@ -111,7 +111,7 @@ fn a_rule_that_is_too_long_is_no_want_of_memory(rt: HostRuntime) -> Result<(), F
     Ok(())
 }
 
-// Where a growth is refused, reading and cloning answer want of memory, and answer again with memory.
+// If a growth is refused, reading and cloning return out of memory; asked again with memory, they succeed.
 #[test]
 fn growth_may_be_refused_in_whole_rules(rt: HostRuntime) {
     let mut refused = 0u8;
@@ -130,7 +130,7 @@ fn growth_may_be_refused_in_whole_rules(rt: HostRuntime) {
     holds!(rt; refused <= 1);
 }
 
-// The same of a document.
+// If a growth is refused, reading a document returns out of memory; asked again with memory, it succeeds.
 #[test]
 fn growth_may_be_refused_in_a_document_of_whole_rules(rt: HostRuntime) {
     let mut refused = 0u8;

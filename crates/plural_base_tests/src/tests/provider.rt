@@ -29,7 +29,7 @@ fn provider(alloc: Global, text: &str) -> Result<JsonProvider, Fail> {
     Ok(JsonProvider::from_value(alloc, &value)?)
 }
 
-// The refusal of a text of JSON, if there is one.
+// The refusal of a text of JSON, if it is refused.
 fn refusal(alloc: Global, text: &str) -> Result<Option<JsonError>, Fail> {
     let value = Value::from_str(alloc, text)?;
     Ok(JsonProvider::from_value(alloc, &value).err())
@@ -213,7 +213,7 @@ fn the_first_place_of_ranges_is_refused(rt: HostRuntime) -> Result<(), Fail> {
     Ok(())
 }
 
-// Where a growth is refused, reading answers want of memory, and answers again with memory.
+// If a growth is refused, reading returns out of memory; asked again with memory, it succeeds.
 #[test]
 fn growth_may_be_refused_in_reading_a_document(rt: HostRuntime) {
     let mut refused = 0u8;

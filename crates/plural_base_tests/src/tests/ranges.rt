@@ -211,7 +211,7 @@ fn rules(alloc: Global) -> Result<PluralRules<'static>, Fail> {
     Ok(PluralRules::from_data(data))
 }
 
-// One provider of rules and ranges.
+// A provider of rules and ranges.
 fn provider(alloc: Global) -> Result<JsonProvider, Fail> {
     let text = "{\"cardinal\":{\"a\":{\"one\":\"i = 1 and v = 0\"},\"b\":{}},
         \"ordinal\":{\"a\":{\"two\":\"n = 2\"}},
@@ -259,7 +259,7 @@ fn cardinal(
     Ok(rules.category_for_range(PluralOperands::from(start), PluralOperands::from(end)))
 }
 
-// The same under its ordinal rules.
+// The category of the range under the locale's ordinal rules and ranges.
 fn ordinal(
     provider: &JsonProvider,
     locale: &str,
@@ -316,7 +316,7 @@ fn given_rules_need_ranges(rt: HostRuntime) -> Result<(), Fail> {
     Ok(())
 }
 
-// Where a growth is refused, writing answers want of memory, and answers again with memory.
+// If a growth is refused, writing returns out of memory; asked again with memory, it succeeds.
 #[test]
 fn growth_may_be_refused_in_writing_ranges(rt: HostRuntime) {
     let mut ranges = PluralRanges::new();
@@ -335,7 +335,7 @@ fn growth_may_be_refused_in_writing_ranges(rt: HostRuntime) {
     holds!(rt; refused <= 1);
 }
 
-// The same of a range.
+// If a growth is refused, writing a range returns out of memory; asked again with memory, it succeeds.
 #[test]
 fn growth_may_be_refused_in_writing_a_range(rt: HostRuntime) {
     let range = UnvalidatedPluralRange::from_range(ONE, OTHER);

@@ -96,7 +96,7 @@ fn rules_of_six_forms_choose_as_languages_do(rt: HostRuntime) -> Result<(), Fail
     Ok(())
 }
 
-// The error that is answered, if one is.
+// The error, if one is returned.
 fn error_of(answer: Result<PluralRulesData<'static>, RulesTextError>) -> Option<RulesTextError> {
     match answer {
         Ok(_) => None,
@@ -147,7 +147,7 @@ fn lent_and_cloned_data_are_equal(rt: HostRuntime) -> Result<(), Fail> {
     Ok(())
 }
 
-// Where a growth is refused, the call answers want of memory, and answers again with memory.
+// If a growth is refused, the call returns out of memory; asked again with memory, it succeeds.
 #[test]
 fn refused_growth_is_want_of_memory(rt: HostRuntime) {
     let (one, many) = (Some("n = 1"), Some("n % 100 = 11..99 or n = 1000000"));

@@ -1,0 +1,39 @@
+//! Messages with a number in them.
+
+use icu_plurals::provider::PluralElementsPackedCow;
+use icu_plurals::{CompactDecimal, PluralElements, PluralRules};
+use plural_message::Message;
+use std::alloc::Global;
+
+// Prints messages with numbers as they are written.
+pub(crate) fn print_messages(
+    rt: &impl Print,
+    alloc: Global,
+    rules: &PluralRules<'_>,
+) -> anyhow::Result<()> {
+    let texts = PluralElements::new("{} files were copied")
+        .with_one_value(Some("{} file was copied"))
+        .with_explicit_zero_value(Some("no file was copied"));
+    let packed = PluralElementsPackedCow::from_elements(alloc, &texts)?;
+    let message = Message::new(packed.as_packed());
+    for number in ["0", "1", "1.5"] {
+        let text = message.format(alloc, number, rules)?;
+        println!(rt; "{text}")?;
+    }
+    Ok(())
+}
+
+// Prints a message with the marks of a language in its number.
+pub(crate) fn print_marks(
+    rt: &impl Print,
+    alloc: Global,
+    rules: &PluralRules<'_>,
+) -> anyhow::Result<()> {
+    let texts = PluralElements::new("{} files");
+    let packed = PluralElementsPackedCow::from_elements(alloc, &texts)?;
+    let message = Message::new(packed.as_packed());
+    let number = CompactDecimal::from_str(alloc, "1234567")?;
+    let text = message.format_number(alloc, &number, "1,234,567", rules)?;
+    println!(rt; "{text}")?;
+    Ok(())
+}

@@ -1,0 +1,32 @@
+//! Rules with a name, which serve wherever rules are asked for.
+
+use icu_plurals::{
+    AsPluralRules, JsonProvider, PluralCategory, PluralRules, PluralRulesWithRanges,
+};
+
+#[derive(Drop)]
+pub struct Named<'data> {
+    pub name: &'static str,
+    pub rules: PluralRules<'data>,
+}
+
+impl<'data> AsPluralRules<'data> for Named<'data> {
+    ghost rules = { λ named. named.rules };
+
+    fn as_plural_rules(&self) -> &PluralRules<'data> {
+        &self.rules
+    }
+}
+
+// Prints the category of a range by named rules.
+pub(crate) fn print_named_range(rt: &impl Print, provider: &JsonProvider) -> anyhow::Result<()> {
+    let named = Named {
+        name: "English",
+        rules: PluralRules::try_new_cardinal_unstable(provider, "en")?,
+    };
+    println!(rt; "{}", named.name)?;
+    let ranges = PluralRulesWithRanges::try_new_with_rules_unstable(provider, "en", named)?;
+    let category = ranges.resolve_range(PluralCategory::Other, PluralCategory::One);
+    println!(rt; "{category:?}")?;
+    Ok(())
+}

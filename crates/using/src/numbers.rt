@@ -1,0 +1,40 @@
+//! Written numbers: zeros, exponents, and any length.
+
+use icu_plurals::provider::PluralRulesData;
+use icu_plurals::{CompactDecimal, PluralRules};
+use std::alloc::Global;
+
+// The rules of French.
+fn french(alloc: Global) -> anyhow::Result<PluralRules<'static>> {
+    let one = Some("i = 0,1");
+    let many = Some("e = 0 and i != 0 and i % 1000000 = 0 and v = 0 or e != 0..5");
+    let data = PluralRulesData::from_texts(alloc, None, one, None, None, many)?;
+    Ok(PluralRules::from_data(data))
+}
+
+// Prints the categories of numbers as they are written.
+pub(crate) fn print_numbers(rt: &impl Print, alloc: Global) -> anyhow::Result<()> {
+    let rules = french(alloc)?;
+    for text in ["1", "1.50", "1000000", "1000000.0", "1.2c6", "-2"] {
+        let number = CompactDecimal::from_str(alloc, text)?;
+        let category = rules.category_for_compact(&number);
+        println!(rt; "{text}: {category:?}")?;
+    }
+    Ok(())
+}
+
+// Prints whether the categories are those of the numbers themselves.
+pub(crate) fn print_exactness(rt: &impl Print, alloc: Global) -> anyhow::Result<()> {
+    let rules = french(alloc)?;
+    for text in [
+        "100000000000000000000000000000",
+        "0.000000000000000001",
+        "0.0000000000000000001",
+    ] {
+        let number = CompactDecimal::from_str(alloc, text)?;
+        let category = rules.category_for_compact(&number);
+        let is_exact = rules.is_exact_for(&number);
+        println!(rt; "{text}: {category:?}, exact: {is_exact}")?;
+    }
+    Ok(())
+}

@@ -1,0 +1,14 @@
+//! Ranges of numbers.
+
+use icu_plurals::{JsonProvider, PluralOperands, PluralRulesWithRanges};
+
+// Prints the categories of two ranges in English: `0–1 items`, and `1–2 items`.
+pub(crate) fn print_ranges(rt: &impl Print, provider: &JsonProvider) -> anyhow::Result<()> {
+    let english = PluralRulesWithRanges::try_new_cardinal_unstable(provider, "en")?;
+    for (start, end) in [(0u8, 1u8), (1, 2)] {
+        let start = PluralOperands::from(start);
+        let end = PluralOperands::from(end);
+        println!(rt; "{:?}", english.category_for_range(start, end))?;
+    }
+    Ok(())
+}

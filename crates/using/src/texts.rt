@@ -1,0 +1,30 @@
+//! Rules from texts.
+
+use icu_plurals::provider::PluralRulesData;
+use icu_plurals::{PluralOperands, PluralRules};
+use std::alloc::Global;
+
+// Prints the categories that numbers have in Czech.
+pub(crate) fn print_czech(rt: &impl Print, alloc: Global) -> anyhow::Result<()> {
+    let one = Some("i = 1 and v = 0 @integer 1");
+    let few = Some("i = 2..4 and v = 0 @integer 2~4");
+    let many = Some("v != 0 @decimal 0.0~1.5, 10.0, 100.0, …");
+    let data = PluralRulesData::from_texts(alloc, None, one, None, few, many)?;
+    let czech = PluralRules::from_data(data);
+    for number in [1u32, 3, 5] {
+        let category = czech.category_for(PluralOperands::from(number));
+        println!(rt; "{number}: {category:?}")?;
+    }
+    Ok(())
+}
+
+// Prints why a text is refused.
+pub(crate) fn print_refusal(rt: &impl Print, alloc: Global) -> anyhow::Result<()> {
+    let one = Some("i = 1");
+    let few = Some("i 2..4");
+    match PluralRulesData::from_texts(alloc, None, one, None, few, None) {
+        Ok(_) => println!(rt; "rules")?,
+        Err(error) => println!(rt; "{:?}: {}", error.category, error.error)?,
+    }
+    Ok(())
+}
