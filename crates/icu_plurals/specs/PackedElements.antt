@@ -142,8 +142,7 @@ plain_value text = record { metadata = 0; text = text.now }
 abbrev pub fault_beside : PackedValue → Option (List PackedItem) → Option ElementsPackError
 fault_beside default None = None
 fault_beside default (Some items) =
-    if nat_lt 255 (length default.text) then Some DefaultLimit
-    else (if has_high_start (map item_bytes items) then Some StartLimit else None)
+    if nat_lt 255 (length default.text) then Some DefaultLimit else (if has_high_start (map item_bytes items) then Some StartLimit else None)
 
 abbrev pub pack_fault : PackedElements → Option ElementsPackError
 pack_fault packed = fault_beside packed.default packed.items

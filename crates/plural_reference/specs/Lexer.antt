@@ -89,13 +89,11 @@ pub data IsPiece (piece rest : List ℕ) (token : Option Token) : Type 0 where
   space : piece ≡ blank ∷ [] → token ≡ None → IsPiece piece rest token
   mark : (t : Token) → Contains marks (piece, t) → MayFollow piece rest → token ≡ Some t → IsPiece piece rest token
   keyword : (t : Token) → Contains keywords (piece, t) → token ≡ Some t → IsPiece piece rest token
-  number : IsDigitRun piece rest → digits_value 10 piece ≤ max_number → token ≡ Some (Number (digits_value 10 piece))
-      → IsPiece piece rest token
+  number : IsDigitRun piece rest → digits_value 10 piece ≤ max_number → token ≡ Some (Number (digits_value 10 piece)) → IsPiece piece rest token
   -- the four kinds of Junk
   unknown : (b : ℕ) → piece ≡ b ∷ [] → BeginsNone b → token ≡ Some Junk → IsPiece piece rest token
   too_large : IsDigitRun piece rest → max_number < digits_value 10 piece → token ≡ Some Junk → IsPiece piece rest token
-  broken : (begun : List ℕ) (next b : ℕ) → piece ≡ begun ++ b ∷ [] → IsBegun begun next → b ≢ next → token ≡ Some Junk
-      → IsPiece piece rest token
+  broken : (begun : List ℕ) (next b : ℕ) → piece ≡ begun ++ b ∷ [] → IsBegun begun next → b ≢ next → token ≡ Some Junk → IsPiece piece rest token
   cut_off : (next : ℕ) → IsBegun piece next → rest ≡ [] → token ≡ Some Junk → IsPiece piece rest token
 
 -- a piece, and the token that it gives
