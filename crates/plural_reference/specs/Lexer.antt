@@ -38,9 +38,8 @@ ellipsis = 0xe2 ∷ 0x80 ∷ 0xa6 ∷ []
 abbrev pub marks : List Word
 marks =
     (codes "n", Operand N) ∷ (codes "f", Operand F) ∷ (codes "t", Operand T) ∷ (codes "v", Operand V) ∷ (codes "w", Operand W)
-    ∷ (codes "c", Operand C)
-    ∷ (codes "i", Operand I) ∷ (codes "e", E) ∷ (codes "=", Operator Eq) ∷ (codes "0", Zero) ∷ (codes ".", Dot) ∷ (codes "..", DotDot)
-    ∷ (codes ",", Comma) ∷ (codes "%", Modulo) ∷ (codes "@", At) ∷ (codes "~", Tilde) ∷ []
+    ∷ (codes "c", Operand C) ∷ (codes "i", Operand I) ∷ (codes "e", E) ∷ (codes "=", Operator Eq) ∷ (codes "0", Zero) ∷ (codes ".", Dot)
+    ∷ (codes "..", DotDot) ∷ (codes ",", Comma) ∷ (codes "%", Modulo) ∷ (codes "@", At) ∷ (codes "~", Tilde) ∷ []
 
 -- the pieces that a wrong byte or the end of the text can break off
 abbrev pub keywords : List Word
