@@ -12,8 +12,8 @@ use Rattle.plurals_cli.specs.Steps.{After, HasNoFault, Then}
 use Rattle.plurals_cli.specs.declared.error.RunError.{RunError}
 use Rattle.plurals_cli.specs.declared.error.RunError.TheVariants.{Usage}
 
--- What is asked of a document, for a locale and a type: the category of a number or of the range of two, the rules, the element of
--- a number, or the message of a number with its word.
+-- What is asked of a document, for a locale and a type: the category of a number or of the range of two, the rules, the element
+-- of a number, or the message of a number with its word.
 pub data Lookup : Type 0 where
   number_category : List ℕ → PluralRuleType → CompactNumber → Lookup
   range_category : List ℕ → PluralRuleType → CompactNumber → CompactNumber → Lookup
