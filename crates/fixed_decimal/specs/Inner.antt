@@ -1,3 +1,3 @@
--- No definitions of the subject: readers and steps, of which views and private contracts speak.
+-- No definitions of the subject: readers and steps, for views and private contracts.
 pub mod UnsignedInside
 pub mod TextParts

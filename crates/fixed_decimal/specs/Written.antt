@@ -1,7 +1,7 @@
 -- Texts and the numbers that they write. A text is a list of bytes.
 --     WritesUnsigned text x      digits, digits `.` digits, or `.` digits; with no digit before the point, the
 --                                integer digit is 0
---     WritesDecimal text x      an unsigned decimal, behind a sign or not
+--     WritesDecimal text x      an unsigned decimal, after a sign or none
 --     WritesCompact text x      a decimal, then nothing, or `c` and one to three digits
 use Rattle.std.specs.Prelude.{ℕ, ◌≡◌, ◌<◌, ◌≤◌, ◌⊎◌, List, [], ◌∷◌, ◌++◌, length, codes}
 use Rattle.fixed_decimal.specs.declared.decimal.Decimal.{Decimal}
@@ -10,21 +10,21 @@ use Rattle.fixed_decimal.specs.Places.{Places, IsWritten, IsOverLimit}
 use Rattle.fixed_decimal.specs.declared.sign.Sign.{Sign}
 use Rattle.fixed_decimal.specs.declared.sign.Sign.TheVariants as sign
 
--- the decimal before the letter, and the exponent behind it
+-- the decimal before the letter, and the exponent after it
 pub record CompactNumber : Type 0 where
   pub significand : Decimal
   pub exponent : ℕ
 
 -- ---- Texts
 
--- the three ways in which the digits may stand
+-- the three forms of the digits
 abbrev pub StandsAs : List ℕ → Places → Type 0
 StandsAs text x =
     ((x.fraction ≡ []) × (text ≡ text_of x.whole))
     ⊎ ((0 < length x.fraction) × (text ≡ text_of x.whole ++ codes "." ++ text_of x.fraction))
     ⊎ ((0 < length x.fraction) × (x.whole ≡ 0 ∷ []) × (text ≡ codes "." ++ text_of x.fraction))
 
--- the digits stand in one of them
+-- the digits are in one of them
 pub record WritesUnsigned (text : List ℕ) (x : Places) : Type 0 where
   pub digits : IsWritten x
   pub form : StandsAs text x
@@ -39,7 +39,7 @@ sign_text sign.Positive = codes "+"
 abbrev pub WritesDecimal : List ℕ → Decimal → Type 0
 WritesDecimal text x = (digits : List ℕ) × WritesUnsigned digits x.absolute × (text ≡ sign_text x.sign ++ digits)
 
--- so many digits an exponent may have
+-- the most digits of an exponent
 abbrev pub most_exponent_digits : ℕ
 most_exponent_digits = 3
 
@@ -64,7 +64,7 @@ WritesCompact text x =
 abbrev pub IsCompactOverLimit : CompactNumber → Type 0
 IsCompactOverLimit x = IsOverLimit x.significand.absolute ⊎ (255 < x.exponent)
 
--- ---- The statements of the law `texts_write_one_number`: a text writes one number at most.
+-- ---- The statements of the law `texts_write_one_number`: a text writes at most one number.
 --     OneUnsigned, OneSigned, OneCompact      as an unsigned decimal, as a decimal, as a compact decimal
 
 abbrev pub OneUnsigned : Type 0

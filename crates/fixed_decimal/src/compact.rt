@@ -10,8 +10,15 @@ use crate::{Decimal, DecimalError, UnsignedDecimal};
 use std::alloc::Global;
 use std::marker::Model;
 
-/// A decimal and the power of ten that its text names behind a `c` (UTS 35 Part 3, Language Plural
-/// Rules, operands c and e).
+/// A decimal and a compact exponent: the power of ten after the `c` of its text (UTS 35 Part 3,
+/// Language Plural Rules, operands c and e).
+///
+/// <!-- snippet crates/fixed_decimal/src/tests.rt:
+/// example "let number = CompactDecimal::from_str" to "holds!" of fn a_compact_decimal_has_its_parts -->
+/// ```
+/// let number = CompactDecimal::from_str(alloc, "-1.00000020c6")?;
+/// assert!(rt; number.significand().sign == Sign::Negative);
+/// ```
 #[derive(Debug, Drop)]
 pub struct CompactDecimal {
     significand: Decimal,
@@ -25,10 +32,10 @@ impl Model for CompactDecimal {
 }
 
 impl CompactDecimal {
-    /// The number that a text writes: a decimal, then nothing, or `c` and one to three digits. All
-    /// of the text is judged before memory is taken: `Syntax` where it isn't of this form, `Limit`
-    /// where it has more than 32767 places on a side or an exponent above 255, and `Memory` where
-    /// there is none for the digits.
+    /// Returns the number that a text writes: a decimal, then nothing, or `c` and one to three digits.
+    /// The whole text is judged before anything is allocated: `Syntax` if it isn't of this form,
+    /// `Limit` if it has more than 32767 places on a side or an exponent above 255, and `Memory` if
+    /// the digits can't be allocated.
     pub fn from_str(alloc: Global, text: &str) -> Result<CompactDecimal, DecimalError>
         ensures number { IfOk result (λ x.
             WritesCompact text.now x
@@ -52,7 +59,7 @@ impl CompactDecimal {
         })
     }
 
-    /// The number of the two parts.
+    /// Returns the number of the two parts.
     pub fn from_parts(significand: Decimal, exponent: u8) -> CompactDecimal
         ensures { result ≡ record { significand = significand; exponent = exponent } }
     {
@@ -62,7 +69,7 @@ impl CompactDecimal {
         }
     }
 
-    /// The decimal before the `c`, not yet multiplied by the power of ten.
+    /// Returns the decimal before the `c`, not yet multiplied by the power of ten.
     #[inline]
     pub fn significand(&self) -> &Decimal
         ensures { result.now ≡ self.now.significand }
@@ -70,7 +77,7 @@ impl CompactDecimal {
         &self.significand
     }
 
-    /// The power of ten behind the `c`, and 0 where none is written.
+    /// Returns the power of ten after the `c`, and 0 if none is written.
     #[inline]
     pub fn exponent(&self) -> u8
         ensures { result ≡ self.now.exponent }

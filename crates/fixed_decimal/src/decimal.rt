@@ -14,16 +14,25 @@ use crate::{DecimalError, Sign, UnsignedDecimal};
 use std::alloc::Global;
 
 /// A written number with the sign that its text has.
+///
+/// <!-- snippet crates/fixed_decimal/src/tests.rt:
+/// example "let number = CompactDecimal::from_parts" to "holds!(rt; number.significand().sign == Sign::P"
+/// of fn a_compact_decimal_has_its_parts -->
+/// ```
+/// let number = CompactDecimal::from_parts(Decimal::from_str(alloc, "+2.5")?, 255);
+/// assert!(rt; number.exponent() == 255);
+/// assert!(rt; number.significand().sign == Sign::Positive);
+/// ```
 #[derive(Debug, Drop)]
 pub struct Decimal {
     /// The sign that is written.
     pub sign: Sign,
-    /// The digits behind the sign.
+    /// The digits after the sign.
     pub absolute: UnsignedDecimal,
 }
 
 impl Decimal {
-    /// The number that a text writes: an unsigned decimal, behind `+` or `-` or neither. The errors
+    /// Returns the number that a text writes: an unsigned decimal, after `+`, `-` or no sign. The errors
     /// are those of [`UnsignedDecimal::from_str`].
     pub fn from_str(alloc: Global, text: &str) -> Result<Decimal, DecimalError>
         ensures number { IfOk result (λ x. WritesDecimal text.now x × IsWithinLimit x.absolute) }
@@ -39,8 +48,8 @@ impl Decimal {
         })
     }
 
-    /// The number without leading zeros, and 0 as one digit, without a fraction; its sign is
-    /// `Negative` below 0, else `None`. `Memory` where there is none for the digits.
+    /// Returns the number without leading zeros, and 0 as one digit, without a fraction; its sign is
+    /// `Negative` below 0, else `None`. `Memory` if the digits can't be allocated.
     pub fn from_i128(alloc: Global, number: i128) -> Result<Decimal, DecimalError>
         ensures digits { IfOk result (λ x.
             IsNumeral x.absolute.whole (nat_abs number) × (x.absolute.fraction ≡ [])) }
@@ -72,7 +81,7 @@ impl Decimal {
     }
 }
 
-// The sign of a decimal's text within the limit, the digits behind it, and the place of the point.
+// The sign of a decimal's text within the limit, the digits after it, and the place of the point.
 pub(crate) fn parts_within(text: &[u8]) -> Result<(Sign, &[u8], usize), DecimalError>
     ensures parts { IfOk result (λ p.
         (text.now ≡ sign_text p.0 ++ p.1.now) × HasPointWithin p.1.now p.2) }

@@ -7,7 +7,7 @@ ghost use Rattle.fixed_decimal.specs.Inner.TextParts.{AreDigitBytes, IsDigitByte
 // The most places on one side of the point.
 pub(crate) const MOST_PLACES: u16 = 32767;
 
-// The end of the run of digits from an index on.
+// Returns the end of the run of digits from an index on.
 pub(crate) fn run_end(text: &[u8], from: usize) -> usize
     requires { from ≤ length text.now }
     ensures least { from ≤ result }
@@ -22,7 +22,7 @@ pub(crate) fn run_end(text: &[u8], from: usize) -> usize
     at
 }
 
-// The number that at most 18 digits write.
+// Returns the number that at most 18 digits write.
 #[inline]
 pub(crate) fn number_of_digits(digits: &[u8]) -> u64
     requires digits { AreDigits digits.now }

@@ -1,4 +1,4 @@
-//! Why a decimal can't be had.
+//! Why a decimal is refused.
 
 ghost use Rattle.std.specs.Prelude.{◌≡◌, Some};
 ghost use Rattle.fixed_decimal.specs.FixedDecimalErrors.{error_text};
@@ -8,10 +8,10 @@ use std::alloc::{AllocError, AllocFailed};
 use std::error::Error;
 use std::fmt;
 
-/// Why a text is no decimal, or a decimal can't be had.
+/// Why a text is no decimal, or no decimal is made.
 #[derive(Clone, Copy, Debug, PartialEq, Eq)]
 pub enum DecimalError {
-    /// The text isn't a decimal's.
+    /// The text isn't that of a decimal.
     Syntax,
     /// More than 32767 integer places, more than 32767 fraction places, or an exponent above 255.
     Limit,
@@ -33,7 +33,7 @@ impl fmt::Display for DecimalError {
 
 impl Error for DecimalError {}
 
-/// `Memory`: what takes memory was refused it.
+/// `Memory`: an allocation failed.
 impl From<AllocError> for DecimalError {
     ghost from_gives = { λ _ e. e ≡ Memory };
 
@@ -42,7 +42,7 @@ impl From<AllocError> for DecimalError {
     }
 }
 
-/// `Memory`: what takes memory was refused it, and gave a value back.
+/// `Memory`: an allocation failed, and gave a value back.
 impl<T: Drop> From<AllocFailed<T>> for DecimalError {
     ghost from_gives = { λ _ e. e ≡ Memory };
 

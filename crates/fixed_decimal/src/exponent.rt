@@ -11,7 +11,7 @@ use crate::digits::run_end;
 // The most digits of an exponent.
 const MOST_DIGITS: usize = 3;
 
-// The text before the exponent, and the exponent: 0 where none is written.
+// The text before the exponent, and the exponent: 0 if none is written.
 pub(crate) fn split_exponent(text: &[u8]) -> Option<(&[u8], u16)>
     ensures found { IfSome result (λ p.
         (rest : List ℕ) × HasExponent rest p.1 × (text.now ≡ p.0.now ++ rest)) }
@@ -23,7 +23,7 @@ pub(crate) fn split_exponent(text: &[u8]) -> Option<(&[u8], u16)>
     Some((front, exponent_of(rest)?))
 }
 
-// Where an exponent begins that is no longer than it may be: at the first `c` of the last bytes.
+// Where an exponent of at most three digits begins: at the first `c` of the last bytes.
 fn exponent_start(text: &[u8]) -> usize
     ensures most { result ≤ length text.now }
     ensures before { (k : ℕ)
@@ -37,7 +37,7 @@ fn exponent_start(text: &[u8]) -> usize
     at
 }
 
-// The exponent that is written so, and 0 for no text.
+// The exponent that a text writes, and 0 for the empty text.
 fn exponent_of(text: &[u8]) -> Option<u16>
     ensures { (e : ℕ) → (result ≡ Some e) ↔ HasExponent text.now e }
 {

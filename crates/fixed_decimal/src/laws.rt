@@ -1,9 +1,9 @@
-//! What holds of the texts of decimals, whichever they are.
+//! What holds of the texts of all decimals.
 
 ghost use Rattle.fixed_decimal.specs.Digits.{ReadAlike};
 ghost use Rattle.fixed_decimal.specs.Written.{OneUnsigned, OneSigned, OneCompact};
 
-/// A text writes one number at most: it determines the sign, every place and the exponent.
+/// A text writes at most one number: it determines the sign, every place and the exponent.
 pub fn texts_write_one_number()
     ensures unsigned { OneUnsigned }
     ensures signed { OneSigned }

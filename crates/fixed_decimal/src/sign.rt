@@ -15,7 +15,7 @@ pub enum Sign {
     Positive,
 }
 
-// The sign that a text begins with, and what stands behind it.
+// The sign that a text begins with, and what follows it.
 pub(crate) fn split_sign(text: &[u8]) -> (Sign, &[u8])
     ensures form { text.now ≡ sign_text result.0 ++ result.1.now }
     ensures only { (s : Sign) (digits : List ℕ)

@@ -1,4 +1,4 @@
-//! The digits that a text writes before and behind its point, and the span of those that are kept.
+//! The digits that a text writes before and after its point, and the span of those that are stored.
 
 ghost use Rattle.std.specs.Prelude.{◌≡◌, ◌≢◌, ◌+◌, ◌-◌, ◌<◌, ◌≤◌, ◌++◌, length, take, drop, slice_index, IfOk};
 ghost use Rattle.smallvec.specs.SmallVec.{small_vec_len, HasRoomFor};
@@ -7,11 +7,11 @@ ghost use Rattle.fixed_decimal.specs.Inner.TextParts.{AllDigitBytes, AreZeroByte
 use smallvec::SmallVec;
 use std::alloc::{AllocError, Global};
 
-// The most digits that are kept in the number itself, and take no memory.
+// The most digits that are stored in the number itself, without an allocation.
 pub(crate) const INLINE_DIGITS: usize = 16;
 
-// How many zeros stand before the first other digit. The zero in place of no integer digits is one of
-// them.
+// How many zeros are before the first other digit, counting the one that is written for no integer
+// digits.
 pub(crate) fn zeros_before(whole: &[u8], fraction: &[u8]) -> usize
     requires whole { AllDigitBytes whole.now }
     requires fraction { AllDigitBytes fraction.now }
@@ -29,7 +29,7 @@ pub(crate) fn zeros_before(whole: &[u8], fraction: &[u8]) -> usize
     }
 }
 
-// The end of what stands before the last zeros, from an index on.
+// The end of what is before the last zeros, from an index on.
 pub(crate) fn end_before_zeros(whole: &[u8], fraction: &[u8], from: usize) -> usize
     requires whole { AllDigitBytes whole.now }
     requires fraction { AllDigitBytes fraction.now }
@@ -75,7 +75,7 @@ pub(crate) fn digits_between(
     Ok(digits)
 }
 
-// Appends the digits of a text. There is room for them.
+// Appends the digits of a text, for which there is room.
 fn push_digits(digits: &mut SmallVec<u8, INLINE_DIGITS>, text: &[u8])
     requires text { AllDigitBytes text.now }
     requires room { HasRoomFor digits.old (length text.now) }
@@ -100,7 +100,7 @@ fn zeros_at_front(text: &[u8]) -> usize
     at
 }
 
-// The end of what stands before the last bytes that are zeros.
+// The end of what is before the last bytes that are zeros.
 fn end_before_last_zeros(text: &[u8]) -> usize
     ensures most { result ≤ length text.now }
     ensures zeros { AreZeroBytes text.now result (length text.now) }

@@ -1,7 +1,7 @@
 mod assertion;
 
 // What no clause says: the values of worked texts, sizes at and over the limits, and that calls
-// succeed where there is memory.
+// succeed if there is memory.
 use crate::tests::assertion::holds;
 use crate::{CompactDecimal, Decimal, DecimalError, Sign, UnsignedDecimal};
 use std::alloc::{AllocError, Global};
@@ -19,7 +19,7 @@ fn is_written(number: &UnsignedDecimal, range: (i16, i16), digits: &str) -> bool
     number.magnitude_range() == range && at == range.0.saturating_sub(1)
 }
 
-// So many copies of a text.
+// As many copies of a text.
 fn repeated(alloc: Global, text: &str, count: usize) -> Result<String, AllocError> {
     let mut all = String::new(alloc);
     for _ in 0..count {
@@ -322,7 +322,7 @@ fn an_exponent_moves_places_to_the_left_of_the_point(rt: HostRuntime) -> Result<
     Ok(())
 }
 
-// The answer of two equal calls of which one may be refused its growth.
+// The result of two equal calls, one of which may run out of memory.
 fn either<T: Drop>(
     first: Result<T, DecimalError>,
     second: Result<T, DecimalError>,

@@ -16,7 +16,16 @@ use std::alloc::{AllocError, Global};
 use std::marker::Model;
 
 /// A written number without a sign: its integer digits, at least one, and its fraction digits. All
-/// written zeros count. Only the digits from the first to the last that isn't zero take memory.
+/// written zeros count. Only the digits from the first to the last that isn't zero are stored.
+///
+/// <!-- snippet crates/fixed_decimal/src/tests.rt:
+/// example "let number = UnsignedDecimal::from_str" to "}" of fn outside_the_places_each_digit_is_zero -->
+/// ```
+/// let number = UnsignedDecimal::from_str(alloc, "98.76")?;
+/// for magnitude in [i16::MIN, -32767, -4, -3, 2, 3, 32766, i16::MAX] {
+///     assert!(rt; number.digit_at(magnitude) == 0);
+/// }
+/// ```
 #[derive(Debug, Drop)]
 pub struct UnsignedDecimal {
     whole_places: u16,
@@ -37,10 +46,10 @@ impl Model for UnsignedDecimal {
 }
 
 impl UnsignedDecimal {
-    /// The number that a text without a sign writes: digits, digits `.` digits, or `.` digits. All
-    /// of the text is judged before memory is taken: `Syntax` where it isn't of this form, `Limit`
-    /// where it has more than 32767 places on a side, and `Memory` where there is none for the
-    /// digits.
+    /// Returns the number that a text without a sign writes: digits, digits `.` digits, or `.` digits.
+    /// The whole text is judged before anything is allocated: `Syntax` if it isn't of this form,
+    /// `Limit` if it has more than 32767 places on a side, and `Memory` if the digits can't be
+    /// allocated.
     pub fn from_str(alloc: Global, text: &str) -> Result<UnsignedDecimal, DecimalError>
         ensures number { IfOk result (λ x. WritesUnsigned text.now x × IsWithinLimit x) }
         ensures syntax { (result ≡ Err DecimalError.Syntax)
@@ -53,8 +62,8 @@ impl UnsignedDecimal {
         Ok(UnsignedDecimal::from_point(alloc, digits, point)?)
     }
 
-    /// The number without leading zeros, and 0 as one digit; it has no fraction. `Memory` where
-    /// there is none for the digits.
+    /// Returns the number without leading zeros, and 0 as one digit; it has no fraction. `Memory` if
+    /// the digits can't be allocated.
     pub fn from_u128(alloc: Global, number: u128) -> Result<UnsignedDecimal, DecimalError>
         ensures digits { IfOk result (λ x. IsNumeral x.whole number × (x.fraction ≡ [])) }
         ensures only_memory { IfErr result (λ e. e ≡ DecimalError.Memory) }
@@ -64,7 +73,7 @@ impl UnsignedDecimal {
         Ok(UnsignedDecimal::from_digits(alloc, digits, &[])?)
     }
 
-    // The number with these digits before and behind the point.
+    // The number with these digits before and after the point.
     pub(crate) fn from_digits(
         alloc: Global,
         whole: &[u8],
@@ -87,7 +96,7 @@ impl UnsignedDecimal {
         })
     }
 
-    // The number of a text whose point stands there.
+    // The number of a text with its point at an index.
     pub(crate) fn from_point(
         alloc: Global,
         text: &[u8],
@@ -101,7 +110,7 @@ impl UnsignedDecimal {
         UnsignedDecimal::from_digits(alloc, whole, fraction)
     }
 
-    /// The digit at `10^magnitude`, and 0 outside the written places.
+    /// Returns the digit at `10^magnitude`, and 0 outside the written places.
     #[inline]
     pub fn digit_at(&self, magnitude: i16) -> u8
         ensures digit { result ≡ digit_at self.now magnitude }
@@ -118,7 +127,7 @@ impl UnsignedDecimal {
         }
     }
 
-    // The digit at an index among all written ones, and 0 past their end.
+    // The digit at an index among all written ones, and 0 after the last.
     #[inline]
     fn digit(&self, index: usize) -> u8
         ensures { result ≡ slice_index (self.now.whole ++ self.now.fraction) index }
@@ -134,7 +143,7 @@ impl UnsignedDecimal {
             .unwrap_or(0)
     }
 
-    /// The lowest and the highest power of ten that has a written place: minus the count of
+    /// Returns the lowest and the highest power of ten that has a written place: minus the count of
     /// fraction digits, and the count of integer digits minus 1.
     #[inline]
     pub fn magnitude_range(&self) -> (i16, i16)
@@ -149,8 +158,24 @@ impl UnsignedDecimal {
         )
     }
 
-    /// How many integer places and how many fraction places are written once the point has moved to the
-    /// right by so many places, as a compact exponent moves it.
+    /// Returns how many integer places and how many fraction places are written after the point has
+    /// moved to the right by `exponent` places, as a compact exponent moves it.
+    ///
+    /// <!-- snippet crates/fixed_decimal/src/tests.rt:
+    /// example "let rows" to "}" of fn an_exponent_moves_places_to_the_left_of_the_point -->
+    /// ```
+    /// let rows = [
+    ///     ("12.340", 0, (2, 3)),
+    ///     ("12.340", 2, (4, 1)),
+    ///     ("12.340", 3, (5, 0)),
+    ///     ("12.340", 4, (6, 0)),
+    ///     ("0", 255, (256, 0)),
+    /// ];
+    /// for (text, exponent, places) in rows {
+    ///     let decimal = UnsignedDecimal::from_str(alloc, text)?;
+    ///     assert!(rt; decimal.places_after(exponent) == places);
+    /// }
+    /// ```
     #[inline]
     pub fn places_after(&self, exponent: u8) -> (usize, usize)
         ensures whole { result.0 ≡ length (shift_right exponent self.now).whole }
@@ -163,10 +188,10 @@ impl UnsignedDecimal {
         )
     }
 
-    /// The number that up to 18 digits write, from a place on: the first number of the answer, times
-    /// ten to the power of the second. Places count from the first integer digit at 0, and past the
-    /// last written place each digit is 0. The zeros behind the kept digits aren't read but counted,
-    /// and both numbers are 0 where no kept digit stands.
+    /// Returns the number that up to 18 digits write, from a place on, as a number and the power of ten
+    /// that it is multiplied by. Places count from the first integer digit at 0, and after the last
+    /// written place each digit is 0. The zeros after the stored digits aren't read but counted, and
+    /// both numbers are 0 if no stored digit is among those asked for.
     #[inline]
     pub fn number_from(&self, place: usize, count: usize) -> (u64, usize)
         requires few { count ≤ 18 }
@@ -187,8 +212,8 @@ impl UnsignedDecimal {
         )
     }
 
-    /// Whether a digit at `10^magnitude` or above isn't 0. It looks at no digit: the kept digits begin
-    /// with one that isn't 0.
+    /// Returns whether a digit at `10^magnitude` or above isn't 0. It reads no digit: the stored digits
+    /// begin with one that isn't 0.
     #[inline]
     pub fn has_digit_from(&self, magnitude: i16) -> bool
         ensures { IsTrue result ↔ HasDigitFrom self.now magnitude }
@@ -206,10 +231,26 @@ impl UnsignedDecimal {
         }
     }
 
-    /// Moves the point to the right by so many places, or to the left where the number is negative.
-    /// Where no fraction digit is left, a 0 comes behind the integer digits; where no integer digit
-    /// is left, the single digit 0 stands there. `Limit` where a side would have more than 32767
-    /// places; the number is then unchanged. It takes no memory.
+    /// Moves the point to the right by `places`, or to the left if that is negative. If no fraction
+    /// digit is left, a 0 is added after the integer digits; if no integer digit is left, the single
+    /// digit 0 takes its place. `Limit` if a side would have more than 32767 places; the number is
+    /// then unchanged. It allocates nothing.
+    ///
+    /// <!-- snippet crates/fixed_decimal/src/tests.rt: example "let rows" to "}" of fn a_shift_reaches_the_last_place -->
+    /// ```
+    /// let rows = [
+    ///     ("1", 32766, (0, 32766), 32766, 1),
+    ///     ("5", -32767, (-32767, 0), -32767, 5),
+    /// ];
+    /// for (text, places, range, magnitude, digit) in rows {
+    ///     let mut number = UnsignedDecimal::from_str(alloc, text)?;
+    ///     assert!(rt; number.multiply_pow10(places) == Ok(()));
+    ///     assert!(rt; number.magnitude_range() == range);
+    ///     assert!(rt; number.digit_at(magnitude) == digit);
+    ///     assert!(rt; number.digit_at(magnitude / 2) == 0);
+    ///     assert!(rt; number.digit_at(0) == 0);
+    /// }
+    /// ```
     pub fn multiply_pow10(&mut self, places: i16) -> Result<(), DecimalError>
         ensures shifted { OnOk result (self.new ≡ shift places self.old) }
         ensures limit { (result ≡ Err DecimalError.Limit) ↔ IsOverLimit (shift places self.old) }
@@ -223,7 +264,7 @@ impl UnsignedDecimal {
         }
     }
 
-    // The point goes to the right.
+    // Moves the point to the right.
     fn move_right(&mut self, by: u16) -> Result<(), DecimalError>
         ensures shifted { OnOk result (self.new ≡ shift_right by self.old) }
         ensures limit { OnErr result (IsOverLimit (shift_right by self.old)) }
@@ -239,7 +280,7 @@ impl UnsignedDecimal {
         Ok(())
     }
 
-    // The point goes to the left.
+    // Moves the point to the left.
     fn move_left(&mut self, by: u16) -> Result<(), DecimalError>
         ensures shifted { OnOk result (self.new ≡ shift_left by self.old) }
         ensures limit { OnErr result (IsOverLimit (shift_left by self.old)) }

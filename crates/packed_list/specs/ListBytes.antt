@@ -5,7 +5,7 @@ use Rattle.std.specs.Borrow.{Bor}
 use Rattle.packed_list.specs.declared.error.ListError.{ListError}
 use Rattle.packed_list.specs.declared.error.ListError.TheVariants.{Header, ZeroCount, Start}
 
--- the lists that references lend
+-- the lists that are borrowed
 abbrev pub lent : List (Bor (List ℕ)) → List (List ℕ)
 lent items = map (λ (item : Bor (List ℕ)). item.now) items
 
@@ -52,15 +52,15 @@ abbrev pub start_at : List ℕ → ℕ → ℕ
 start_at bytes zero = 0
 start_at bytes (suc k) = two_byte_number bytes (2 * suc k)
 
--- there is one byte, or a count of 2 or more and fewer bytes than the count and the starts take
+-- one byte, or a count of 2 or more and fewer bytes than the count and the starts take
 abbrev pub HasShortHeader : List ℕ → Type 0
 HasShortHeader bytes = (length bytes ≡ 1) ⊎ ((2 ≤ two_byte_number bytes 0) × (length bytes < 2 * two_byte_number bytes 0))
 
--- the count is there and is 0
+-- the count is present and is 0
 abbrev pub HasZeroCount : List ℕ → Type 0
 HasZeroCount bytes = (2 ≤ length bytes) × (two_byte_number bytes 0 ≡ 0)
 
--- the header is there, and some start lies below the one before it or above the length of the data
+-- the header is present, and some start is below the previous one or above the length of the data
 pub record HasBadStart (bytes : List ℕ) : Type 0 where
   pub header : 2 * two_byte_number bytes 0 ≤ length bytes
   pub item : ℕ

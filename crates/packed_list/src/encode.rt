@@ -1,4 +1,4 @@
-//! Packs byte items into the bytes of a list.
+//! Packs byte items as the bytes of a list.
 
 ghost use Rattle.std.specs.Prelude.{◌≡◌, ◌↔◌, ◌<◌, ◌≤◌, Err, IfOk, IsTrue, length};
 ghost use Rattle.packed_list.specs.ListBytes.{ListBytes, has_high_start, lent};
@@ -9,11 +9,20 @@ use crate::writer::ListWriter;
 use std::alloc::Global;
 
 impl<'a> PackedList<'a> {
-    /// The bytes of the items, made by one allocation.
+    /// Returns the bytes of the items, made by one allocation.
     ///
-    /// Refused are, looked for in this order: more than 65535 items ([`PackError::CountLimit`]); an item
-    /// that would start behind place 65535 ([`PackError::StartLimit`]); want of memory
-    /// ([`PackError::Memory`]).
+    /// The errors, in the order in which they are looked for: more than 65535 items
+    /// ([`PackError::CountLimit`]); an item that would start after place 65535
+    /// ([`PackError::StartLimit`]); out of memory ([`PackError::Memory`]).
+    ///
+    /// <!-- snippet crates/packed_list/src/tests.rt: "match PackedList::encode" to "}" of fn packs_three -->
+    /// ```
+    /// match PackedList::encode(alloc, &[b"ab", b"", b"cd"]) {
+    ///     Ok(bytes) => Some(bytes.as_slice() == THREE_ITEMS),
+    ///     Err(PackError::Memory) => None,
+    ///     Err(_) => Some(false),
+    /// }
+    /// ```
     pub fn encode(alloc: Global, items: &[&[u8]]) -> Result<Vec<u8>, PackError>
         ensures ok { IfOk result (λ bytes. ListBytes (lent items.now) bytes.items) }
         ensures count_limit { (result ≡ Err PackError.CountLimit) ↔ (65535 < length items.now) }

@@ -7,11 +7,11 @@ use std::fmt;
 /// Why bytes are no packed list.
 #[derive(Clone, Copy, Debug, PartialEq, Eq)]
 pub enum ListError {
-    /// There is one byte, or fewer bytes than the count of items asks for.
+    /// There is one byte, or fewer bytes than the count of items needs.
     Header,
-    /// The count of items is there and is 0: the empty list is no byte.
+    /// The count of items is present and is 0: the empty list is no byte.
     ZeroCount,
-    /// An item starts before the one ahead of it, or behind the end of the data.
+    /// An item starts before the previous one, or after the end of the data.
     Start,
 }
 
@@ -35,11 +35,11 @@ impl Error for ListError {}
 /// Why items can't be packed.
 #[derive(Clone, Copy, Debug, PartialEq, Eq)]
 pub enum PackError {
-    /// There are more than 65535 items.
+    /// The items are more than 65535.
     CountLimit,
-    /// An item would start behind place 65535 of the data.
+    /// An item would start after place 65535 of the data.
     StartLimit,
-    /// There is no memory for the bytes.
+    /// The bytes can't be allocated.
     Memory,
 }
 

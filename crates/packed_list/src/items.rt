@@ -7,11 +7,11 @@ use crate::list::PackedList;
 use crate::starts::part;
 use std::marker::Model;
 
-/// The items of a list that are left, each lent from the bytes of the list.
+/// The items of a list that are left, each borrowed from the bytes of the list.
 #[derive(Debug, Drop)]
 pub struct Items<'a> {
     list: PackedList<'a>,
-    // How many items there are and their data, so that the header isn't read for each.
+    // The count of the items and their data, so that the header isn't read for each.
     count: usize,
     content: &'a [u8],
     next: usize,
@@ -70,7 +70,7 @@ impl<'a> Iterator for Items<'a> {
         Some(item)
     }
 
-    // Exact: as many items as are left.
+    // Exact: the count of the items that are left.
     #[inline]
     fn size_hint(&self) -> (usize, Option<usize>)
         ensures exact { result ≡ (length self.now, Some (length self.now)) }

@@ -1,22 +1,22 @@
-//! What a packed list is made from: items that tell how many bytes they take and write them.
+//! What a packed list is made from: items that know their length in bytes and write themselves.
 
 ghost use Rattle.std.specs.Prelude.{◌≡◌, ◌+◌, ◌++◌, ◌^◌, ◌<◌, MatchOption, OnOk, [], ◌∷◌, length};
 
 use std::alloc::AllocError;
 
-/// An item of a list that is to be packed. It tells how many bytes it takes, and writes them.
+/// An item of a list that is to be packed. It knows its length in bytes, and writes them.
 pub trait ByteItem: Copy {
     ghost use Rattle.std.specs.Prelude.{ℕ, List};
 
     /// The bytes of the item.
     ghost item_bytes: { Self → List ℕ };
 
-    /// How many bytes it takes.
+    /// Returns how many bytes it takes.
     fn byte_count(&self) -> usize
         ensures count { result ≡ length (item_bytes self.now) }
         ensures room { result < 2 ^ 63 + 65536 };
 
-    /// Writes its bytes after those that are there.
+    /// Appends its bytes.
     fn write_to(&self, bytes: &mut Vec<u8>) -> Result<(), AllocError>
         ensures { OnOk result (bytes.new.items ≡ bytes.old.items ++ item_bytes self.now) };
 }
@@ -31,7 +31,7 @@ pub trait ByteItems: Copy {
     /// The items that are left.
     ghost items: { Self → List (List ℕ) };
 
-    /// The first item that is left.
+    /// Takes the first item that is left.
     fn next_item(&mut self) -> Option<Self::Item>
         ensures { MatchOption result (items self.old ≡ []) (λ item. items self.old ≡ Self.Item.item_bytes item ∷ items self.new) };
 }

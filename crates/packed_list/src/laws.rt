@@ -5,12 +5,12 @@ ghost use Rattle.std.specs.List.{AllByRecursion};
 ghost use Rattle.packed_list.specs.ListBytes.{ListBytes};
 ghost use Rattle.packed_list.specs.Inner.ListReading.{AreBytes, items_in};
 
-/// Packed lists are the same bytes exactly if they are the same items.
+/// Packed lists have the same bytes if and only if they have the same items.
 pub fn one_encoding()
     ensures { (items others : List (List ℕ)) (a b : List ℕ) → ListBytes items a → ListBytes others b → (a ≡ b) ↔ (items ≡ others) }
 {}
 
-/// What the reader of bytes gives is the list that they are packed from.
+/// The reader of bytes gives the list that they are packed from.
 pub fn read_again()
     ensures { (items : List (List ℕ)) (bytes : List ℕ) → ListBytes items bytes → items_in bytes ≡ items }
 {}

@@ -1,4 +1,4 @@
-//! Lists of byte items, packed one after another behind a small header.
+//! Lists of byte items, packed one after another after a small header.
 #![tactic(auto)]
 
 mod encode;

@@ -1,4 +1,4 @@
-//! A list of byte items, lent from the bytes that it is packed in.
+//! A list of byte items, borrowed from the bytes that it is packed in.
 
 ghost use Rattle.std.specs.Prelude.{◌≡◌, ◌↔◌, ◌+◌, ◌<◌, ◌==◌, ℕ, List, length, slice_get, IfOk, Ok, Err, Some, option_map, unwrap_or};
 ghost use Rattle.std.specs.List.{concat};
@@ -10,11 +10,21 @@ use crate::items::Items;
 use crate::starts::{are_starts, number, part};
 use std::marker::Model;
 
-/// A list of byte items, lent from the bytes that it is packed in.
+/// A list of byte items, borrowed from the bytes that it is packed in.
 ///
-/// The empty list is no byte. Else the bytes are the count of items (at most 65535), where each item but
-/// the first starts (at most 65535, counted from the first byte of the data), each number in two bytes
+/// The empty list is no byte. Otherwise the bytes are the count of items (at most 65535), where each item
+/// but the first starts (at most 65535, counted from the first byte of the data), each number in two bytes
 /// with the low byte first, and then the items without gaps.
+///
+/// <!-- snippet crates/packed_list/src/tests.rt:
+/// const THREE_ITEMS; example "let list" to "holds!(rt; list.as_bytes()" of fn gives_the_items_and_their_starts -->
+/// ```
+/// const THREE_ITEMS: &[u8] = b"\x03\x00\x02\x00\x02\x00abcd";
+///
+/// let list = PackedList::parse_bytes(THREE_ITEMS)?;
+/// assert!(rt; list.len() == 3);
+/// assert!(rt; list.as_bytes() == THREE_ITEMS);
+/// ```
 #[derive(Debug, Drop)]
 pub struct PackedList<'a> {
     bytes: &'a [u8],
@@ -32,11 +42,22 @@ impl<'a> Model for PackedList<'a> {
 }
 
 impl<'a> PackedList<'a> {
-    /// Reads bytes as a packed list. It takes no memory.
+    /// Reads bytes as a packed list. It allocates nothing.
     ///
-    /// Refused are, looked for in this order: one byte, or fewer bytes than the count and the starts take
-    /// ([`ListError::Header`]); a count of 0 ([`ListError::ZeroCount`]); a start that falls or lies behind
-    /// the data ([`ListError::Start`]).
+    /// The errors, in the order in which they are looked for: one byte, or fewer bytes than the count and the
+    /// starts take ([`ListError::Header`]); a count of 0 ([`ListError::ZeroCount`]); a start that is below the
+    /// previous one or after the data ([`ListError::Start`]).
+    ///
+    /// <!-- snippet crates/packed_list/src/tests.rt:
+    /// example "let list" to "}" of fn the_last_items_of_a_beginning_are_empty -->
+    /// ```
+    /// let list = PackedList::parse_bytes(&THREE_ITEMS[..8])?;
+    /// let expected: [&[u8]; 3] = [b"ab", b"", b""];
+    /// assert!(rt; list.len() == 3);
+    /// for (place, item) in expected.iter().enumerate() {
+    ///     assert!(rt; list.get(place) == Some(*item));
+    /// }
+    /// ```
     pub fn parse_bytes(bytes: &'a [u8]) -> Result<PackedList<'a>, ListError>
         ensures ok { IfOk result (λ list. ListBytes list bytes.now) }
         ensures accepted { (items : List (List ℕ)) → ListBytes items bytes.now → result ≡ Ok items }
@@ -61,8 +82,8 @@ impl<'a> PackedList<'a> {
         Ok(PackedList::from_checked(bytes))
     }
 
-    /// The list in bytes that are known to be one, without a look at them. Such bytes are those that [`parse_bytes`] took,
-    /// [`as_bytes`] lends or [`encode`] gave ([`read_again`]).
+    /// Returns the list in bytes that are known to be one, without reading them. Such bytes were taken by [`parse_bytes`],
+    /// or returned by [`as_bytes`] or [`encode`] ([`read_again`]).
     ///
     /// [`parse_bytes`]: PackedList::parse_bytes
     /// [`as_bytes`]: PackedList::as_bytes
@@ -76,7 +97,7 @@ impl<'a> PackedList<'a> {
         PackedList { bytes }
     }
 
-    /// The bytes that the list is packed in.
+    /// Returns the bytes that the list is packed in.
     #[inline]
     pub fn as_bytes(&self) -> &'a [u8]
         ensures { ListBytes self.now result.now }
@@ -84,7 +105,7 @@ impl<'a> PackedList<'a> {
         self.bytes
     }
 
-    /// How many items there are.
+    /// Returns the number of items.
     #[inline]
     pub fn len(&self) -> usize
         ensures { result ≡ length self.now }
@@ -96,7 +117,7 @@ impl<'a> PackedList<'a> {
         }
     }
 
-    /// Whether there is no item.
+    /// Returns whether the list has no item.
     #[inline]
     pub fn is_empty(&self) -> bool
         ensures { result ≡ (length self.now == 0) }
@@ -104,7 +125,7 @@ impl<'a> PackedList<'a> {
         self.len() == 0
     }
 
-    /// Where the item at a place starts, counted from the first byte of the data; the first one starts at 0.
+    /// Returns where the item at a place starts, counted from the first byte of the data; the first one starts at 0.
     #[inline]
     pub fn start(&self, index: usize) -> Option<usize>
         ensures { result ≡ slice_get (item_starts self.now) index }
@@ -115,7 +136,7 @@ impl<'a> PackedList<'a> {
         Some(self.place(index))
     }
 
-    /// The item at a place.
+    /// Returns the item at a place.
     #[inline]
     pub fn get(&self, index: usize) -> Option<&'a [u8]>
         ensures { option_map (λ item. item.now) result ≡ slice_get self.now index }
@@ -127,7 +148,7 @@ impl<'a> PackedList<'a> {
         }
     }
 
-    /// The items, from the first one on.
+    /// Returns the items, from the first one on.
     #[inline]
     pub fn iter(&self) -> Items<'a>
         ensures { result ≡ self.now }
@@ -135,7 +156,7 @@ impl<'a> PackedList<'a> {
         Items::of(PackedList { bytes: self.bytes })
     }
 
-    // The items, without what stands before them.
+    // The items, without the header.
     #[inline]
     pub(crate) fn data(&self) -> &'a [u8]
         ensures { result.now ≡ concat self.now }
@@ -166,7 +187,7 @@ impl<'a> PackedList<'a> {
         self.end_in(index, self.len(), self.data())
     }
 
-    // The same, where the count of items and their data are known.
+    // As `end`, if the count of items and their data are known.
     #[inline]
     pub(crate) fn end_in(&self, index: usize, count: usize, content: &[u8]) -> usize
         requires index { index < length self.now }

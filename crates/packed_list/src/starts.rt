@@ -24,7 +24,7 @@ pub(crate) fn part(bytes: &[u8], from: usize, to: usize) -> &[u8]
     &bytes[from..to]
 }
 
-// Whether no start lies below the one before it or above the length of the data.
+// Whether no start is below the previous one or above the length of the data.
 pub(crate) fn are_starts(bytes: &[u8], count: usize) -> bool
     requires count { count ≡ two_byte_number bytes.now 0 }
     requires some { 0 < count }

@@ -8,7 +8,7 @@ use std::test::Fail;
 // The list of `ab`, the empty item and `cd`.
 const THREE_ITEMS: &[u8] = b"\x03\x00\x02\x00\x02\x00abcd";
 
-// What reading bytes answers, in a word.
+// The result of reading bytes, in a word.
 fn answer(bytes: &[u8]) -> &'static str {
     match PackedList::parse_bytes(bytes) {
         Ok(_) => "list",
@@ -56,7 +56,7 @@ fn refuses_hostile_bytes(rt: HostRuntime) {
 
 #[test]
 fn answers_at_every_beginning(rt: HostRuntime) {
-    // How many bytes are no list for want of a header, and how many for a start behind the data.
+    // How many bytes are refused for a short header, and how many for a start after the data.
     let cases: [(&[u8], usize, usize); 4] = [
         (THREE_ITEMS, 6, 8),
         (b"\x02\x00\x05\x00\x01", 4, 6),
@@ -128,7 +128,7 @@ fn packs_at_most_65535_items(rt: HostRuntime) -> Result<(), Fail> {
     Ok(())
 }
 
-// Whether packing gives the three items, or there was no memory.
+// Whether packing gives the three items, or `None` if memory ran out.
 fn packs_three(alloc: Global) -> Option<bool> {
     match PackedList::encode(alloc, &[b"ab", b"", b"cd"]) {
         Ok(bytes) => Some(bytes.as_slice() == THREE_ITEMS),

@@ -10,7 +10,7 @@ use crate::items_to_pack::{ByteItem, ByteItems};
 use std::alloc::{AllocError, Global};
 use std::marker::Model;
 
-/// Items that can be packed, with how many they are and how many bytes they take.
+/// Items that can be packed, with their count and their length in bytes.
 #[derive(Drop)]
 pub struct ListWriter<I: ByteItems> {
     items: I,
@@ -37,10 +37,10 @@ impl<I: ByteItems> Model for ListWriter<I> {
 }
 
 impl<I: ByteItems> ListWriter<I> {
-    /// Adds up what the items take. It takes no memory.
+    /// Adds up the lengths of the items. It allocates nothing.
     ///
-    /// Refused are, looked for in this order: more than 65535 items ([`PackError::CountLimit`]); an item that would start
-    /// after place 65535 of the data ([`PackError::StartLimit`]).
+    /// The errors, in the order in which they are looked for: more than 65535 items ([`PackError::CountLimit`]); an item
+    /// that would start after place 65535 of the data ([`PackError::StartLimit`]).
     pub fn new(items: I) -> Result<ListWriter<I>, PackError>
         ensures ok { IfOk result (λ list. list ≡ I.items items) }
         ensures can_pack { IfOk result (λ _. CanPack (I.items items)) }
@@ -59,7 +59,7 @@ impl<I: ByteItems> ListWriter<I> {
         }
     }
 
-    /// How many bytes the list takes.
+    /// Returns how many bytes the list takes.
     pub fn byte_count(&self) -> usize
         ensures count { result ≡ length (list_bytes self.now) }
         ensures can_pack { CanPack self.now }
@@ -68,7 +68,7 @@ impl<I: ByteItems> ListWriter<I> {
         2 * self.count + self.total
     }
 
-    /// Writes the list after the bytes that are there.
+    /// Appends the list to the bytes.
     pub fn write_to(&self, bytes: &mut Vec<u8>) -> Result<(), AllocError>
         ensures { OnOk result (bytes.new.items ≡ bytes.old.items ++ list_bytes self.now) }
     {
@@ -82,7 +82,7 @@ impl<I: ByteItems> ListWriter<I> {
         push_items(bytes, self.items)
     }
 
-    /// The bytes of the list, made by one allocation.
+    /// Returns the bytes of the list, made by one allocation.
     pub fn to_bytes(&self, alloc: Global) -> Result<Vec<u8>, AllocError>
         ensures { IfOk result (λ bytes. ListBytes self.now bytes.items) }
     {
@@ -92,7 +92,7 @@ impl<I: ByteItems> ListWriter<I> {
     }
 }
 
-// How many items there are and how long their data is, if they can be packed.
+// The count of the items and the length of their data, if they can be packed.
 fn sizes<I: ByteItems>(items: I) -> Option<(usize, usize)>
     ensures some { IfSome result (λ sizes. CanPack (I.items items)) }
     ensures count { IfSome result (λ sizes. sizes.0 ≡ length (I.items items)) }
@@ -113,7 +113,7 @@ fn sizes<I: ByteItems>(items: I) -> Option<(usize, usize)>
     Some((count, start))
 }
 
-// Whether there are more than 65535 items.
+// Whether the items are more than 65535.
 #[cold]
 fn is_many<I: ByteItems>(items: I) -> bool
     ensures { IsTrue result ↔ (65535 < length (I.items items)) }
@@ -137,7 +137,7 @@ fn is_high(start: usize) -> bool
     start > 65535
 }
 
-// Writes a number as two bytes, low byte first, where there is room for them.
+// Writes a number as two bytes, low byte first, for which there is room.
 #[inline]
 fn push_number(bytes: &mut Vec<u8>, n: usize)
     requires small { n ≤ 65535 }
@@ -150,7 +150,7 @@ fn push_number(bytes: &mut Vec<u8>, n: usize)
     bytes.push_reserved((n / 256) as u8);
 }
 
-// Writes where each item starts, if the first one starts at a given place, where there is room for two bytes each.
+// Writes where each item starts, if the first one starts at a given place. There is room for two bytes each.
 fn push_starts<I: ByteItems>(bytes: &mut Vec<u8>, place: usize, items: I)
     requires low { IsFalse (list_any (λ start. nat_lt 65535 start) (starts_from place (I.items items))) }
     requires room { vec_len bytes.old + 2 * length (I.items items) ≤ vec_capacity bytes.old }

@@ -16,7 +16,7 @@ impl<'data> PluralRules<'data> {
     ///
     /// <!-- snippet crates/plural_base_tests/src/tests/exact.rt: example fn decimal -->
     /// ```
-    /// fn decimal(alloc: Global, one: &str, number: &str) -> Result<(PluralCategory, bool), Fail> {
+    /// fn decimal(alloc: Global, one: &str, number: &str) -> anyhow::Result<(PluralCategory, bool)> {
     ///     let rules = rules_of(alloc, one)?;
     ///     let number = Decimal::from_str(alloc, number)?;
     ///     let category = rules.category_for_decimal(&number);

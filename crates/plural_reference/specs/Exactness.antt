@@ -10,15 +10,15 @@ use Rattle.std.specs.List.{AllByRecursion}
 use Rattle.fixed_decimal.specs.Digits.{value_of}
 use Rattle.fixed_decimal.specs.Places.{Places, shift_right}
 
--- the number is so many parts of 10 ^ v
+-- the number in parts of 10 ^ v
 abbrev pub parts : Operands → ℕ
 parts number = number.i * 10 ^ number.v + number.f
 
--- the whole number that so many parts are, each one of `unit`, if they are one
+-- `count` divided by `unit`, if that is a whole number
 abbrev pub whole_of : ℕ → ℕ → Option ℕ
 whole_of unit count = if count % unit == 0 then Some (count / unit) else None
 
--- The value of an operand by a modulus, 0 being none. n has one where the number, or what the modulus leaves of it, is
+-- The value of an operand by a modulus, 0 being none. n has one if the number, or its remainder by the modulus, is
 -- whole; the others are whole numbers.
 abbrev pub exact_value : Operand → ℕ → Operands → Option ℕ
 exact_value N modulus number = whole_of (10 ^ number.v) (remainder (modulus * 10 ^ number.v) (parts number))
@@ -30,7 +30,7 @@ exact_value T modulus number = Some (remainder modulus number.t)
 exact_value C modulus number = Some (remainder modulus number.c)
 exact_value E modulus number = Some (remainder modulus number.c)
 
--- `=` is true where the value is in the list, `!=` where it isn't
+-- `=` is true if the value is in the list, `!=` if it isn't
 abbrev pub exact_relation_truth : Operands → RelationMeaning → Bool
 exact_relation_truth number relation =
     under relation.operator (holds_value relation.ranges (exact_value relation.operand relation.modulus number))
@@ -53,7 +53,7 @@ pub record IsBoundedAt (y : Places) (moduli : List ℕ) : Type 0 where
   pub fraction : length y.fraction ≤ kept_places
   pub whole : (length y.whole ≤ kept_places) ⊎ ((kept_limit ≤ value_of y.whole) × AllDivide moduli kept_limit)
 
--- the same of a number's digits after the shift by its exponent
+-- the digits of the number, shifted by its exponent, are within the bound
 abbrev pub IsWithinBound : Places → ℕ → List ℕ → Type 0
 IsWithinBound x e moduli = IsBoundedAt (shift_right e x) moduli
 

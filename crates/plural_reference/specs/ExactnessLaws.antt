@@ -20,21 +20,21 @@ pub record IsKept (x : Places) (e : ℕ) (moduli : List ℕ) (kept exact : Opera
   pub are_kept : AreKept x e kept
   pub are_exact : AreExact x e exact
 
--- a relation is true of the kept operands exactly if it is true of the exact ones
+-- a relation is true of the kept operands if and only if it is true of the exact ones
 abbrev pub RelationsAgree : Type 0
 RelationsAgree =
     (x : Places) (e : ℕ) (moduli : List ℕ) (kept exact : Operands) (relation : RelationMeaning)
     → IsKept x e moduli kept exact → IsAdmitted moduli relation
     → relation_truth kept relation ≡ exact_relation_truth exact relation
 
--- the same of groups of relations
+-- so are groups of relations
 abbrev pub GroupsAgree : Type 0
 GroupsAgree =
     (x : Places) (e : ℕ) (moduli : List ℕ) (kept exact : Operands) (groups : List (List RelationMeaning))
     → IsKept x e moduli kept exact → AllByRecursion (AllByRecursion (IsAdmitted moduli)) groups
     → is_true_of (relation_truth kept) groups ≡ is_true_of (exact_relation_truth exact) groups
 
--- the same of a condition
+-- so is a condition
 abbrev pub ConditionsAgree : Type 0
 ConditionsAgree =
     (x : Places) (e : ℕ) (moduli : List ℕ) (kept exact : Operands) (condition : Condition)
@@ -44,8 +44,8 @@ ConditionsAgree =
 
 -- ---- Whole numbers
 
--- The exact value of n is in ranges exactly if some whole number of the ranges is the number, or what the modulus leaves of
--- it: the number is so many parts of 10 ^ v.
+-- The exact value of n is in ranges if and only if some whole number of the ranges is the number, or its remainder by the
+-- modulus. Both are compared in parts of 10 ^ v.
 abbrev pub HoldsWholeNumbers : Type 0
 HoldsWholeNumbers =
     (ranges : List (ℕ × ℕ)) (modulus : ℕ) (o : Operands)
@@ -54,13 +54,13 @@ HoldsWholeNumbers =
 
 -- ---- The bound
 
--- the point moved e places to the right: so many more integer places, and fewer fraction places
+-- the point moved e places to the right: e more integer places, and fewer fraction places
 abbrev pub ShiftedPlaces : Type 0
 ShiftedPlaces =
     (x : Places) (e : ℕ)
     → (length (shift_right e x).whole ≡ length x.whole + e) × (length (shift_right e x).fraction ≡ length x.fraction - e)
 
--- the integer digits then write at least 10 ^ n exactly if a digit that isn't 0 stands at 10 ^ (n - e) or above
+-- the integer digits then write at least 10 ^ n if and only if some digit at 10 ^ (n - e) or above isn't 0
 abbrev pub LongValue : Type 0
 LongValue =
     (x : Places) (e n : ℕ) → IsWritten x → (10 ^ n ≤ value_of (shift_right e x).whole) ↔ HasDigitFrom x (pos n -ℤ pos e)
@@ -69,11 +69,11 @@ LongValue =
 abbrev pub IsTwice : Places → Type 0
 IsTwice x = IsNumeral x.whole (2 * kept_limit) × (x.fraction ≡ [])
 
--- `i % m = r`, where r is what m leaves of 2 * 10 ^ 18
+-- `i % m = r`, where r is the remainder of 2 * 10 ^ 18 by m
 abbrev pub left_of_twice : ℕ → RelationMeaning
 left_of_twice m = let r = 2 * kept_limit % m in record { operand = I; modulus = m; operator = Eq; ranges = (r, r) ∷ [] }
 
--- a modulus that doesn't divide 10 ^ 18 tells the exact 2 * 10 ^ 18 from what is kept of it
+-- a modulus that doesn't divide 10 ^ 18 tells the exact 2 * 10 ^ 18 from its kept part
 abbrev pub BoundIsWidest : Type 0
 BoundIsWidest =
     (m : ℕ) (x : Places) (kept exact : Operands) → 0 < m → ¬ (m ∣ kept_limit)

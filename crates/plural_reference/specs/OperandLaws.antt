@@ -10,7 +10,7 @@ use Rattle.plural_reference.specs.ReadingLaws.{ThereIsOne}
 abbrev pub SameBelowLimit : Type 0
 SameBelowLimit = (n : ℕ) → n < kept_limit → of_wide n ≡ of_whole n
 
--- from there on both integer parts are at least 10 ^ 18, and leave the same by it
+-- from there on both integer parts are at least 10 ^ 18, and have the same remainder by it
 abbrev pub CongruentFromLimit : Type 0
 CongruentFromLimit = (n : ℕ) → kept_limit ≤ n →
     (kept_limit ≤ (of_wide n).i)
@@ -24,18 +24,18 @@ AllIsKept = (x : Places) (e : ℕ) (o : Operands) → IsWritten x →
     → length (shift_right e x).fraction ≤ kept_places
     → AreKept x e o ↔ AreExact x e o
 
--- a number has one list of kept operands, and one of exact ones
+-- a number has exactly one list of kept operands, and one of exact ones
 abbrev pub OneKept : Type 0
 OneKept = (x : Places) (e : ℕ) → ThereIsOne (AreKept x e)
 
 abbrev pub OneExact : Type 0
 OneExact = (x : Places) (e : ℕ) → ThereIsOne (AreExact x e)
 
--- a text names one list of operands at most
+-- a text names at most one list of operands
 abbrev pub OneNamed : Type 0
 OneNamed = (text : List ℕ) (x y : Operands) → WritesOperands text x → WritesOperands text y → x ≡ y
 
--- the exact operands tell the number: i * 10 ^ v + f is what all its digits write
+-- the exact operands determine the number: i * 10 ^ v + f is what all its digits write
 abbrev pub TellTheNumber : Type 0
 TellTheNumber = (x : Places) (e : ℕ) (o : Operands) → AreExact x e o →
     (parts o ≡ all_digits_value (shift_right e x)) × (o.v ≡ length (shift_right e x).fraction)

@@ -1,7 +1,7 @@
 -- Texts that name operands.
---     WritesOperands text o      an optional `-`; a count; perhaps `.` and digits; perhaps `e` and a count
---     ReadsOperands text r      what reading the text answers
--- A count is digits, perhaps behind a `+`. All of the integer part is kept, and nothing is moved by the exponent.
+--     WritesOperands text o      an optional `-`; a count; optionally `.` and digits; optionally `e` and a count
+--     ReadsOperands text r      the result of reading the text
+-- A count is digits, which may follow a `+`. All of the integer part is kept, and nothing is moved by the exponent.
 use Rattle.std.specs.Prelude.{◌≡◌, ◌≢◌, ℕ, ◌<◌, ◌^◌, ◌⊎◌, List, [], ◌++◌, length, codes, Result, Ok, Err}
 use Rattle.fixed_decimal.specs.Digits.{AreDigits, value_of, text_of}
 use Rattle.plural_reference.specs.Operands.{Operands, HasFraction}
@@ -14,7 +14,7 @@ pub record IsWord (ds : List ℕ) : Type 0 where
   pub digits : AreDigits ds
   pub below : value_of ds < 2 ^ 64
 
--- digits, perhaps behind a `+`
+-- digits, which may follow a `+`
 abbrev pub WritesCount : List ℕ → ℕ → Type 0
 WritesCount text n =
     (ds : List ℕ) × IsWord ds × (value_of ds ≡ n) × ((text ≡ text_of ds) ⊎ (text ≡ codes "+" ++ text_of ds))

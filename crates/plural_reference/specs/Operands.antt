@@ -21,15 +21,15 @@ pub record Operands : Type 0 where
 abbrev pub of_whole : ℕ → Operands
 of_whole n = record { i = n; v = 0; w = 0; f = 0; t = 0; c = 0 }
 
--- so many digits are kept on each side of the point
+-- the most digits that are kept on each side of the point
 abbrev pub kept_places : ℕ
 kept_places = 18
 
--- the least number of more digits; such a number keeps what its last digits write, and this besides
+-- the least number with more digits; of such a number what its last digits write is kept, plus this
 abbrev pub kept_limit : ℕ
 kept_limit = 10 ^ kept_places
 
--- the same below 10 ^ 18; from there on i has the last 18 digits, and 10 ^ 18 besides
+-- of_whole below 10 ^ 18; from there on i is what the last 18 digits write, plus 10 ^ 18
 abbrev pub of_wide : ℕ → Operands
 of_wide n = of_whole (if nat_lt n kept_limit then n else n % kept_limit + kept_limit)
 
@@ -38,8 +38,8 @@ of_wide n = of_whole (if nat_lt n kept_limit then n else n % kept_limit + kept_l
 --     AreExact x e o      the exact operands, whatever the number's length
 --     AreKept x e o      the kept operands: the last 18 integer digits and the first 18 fraction digits count
 
--- The fraction digits that are shown are so many, and write this number. w is the least count of them with the number
--- divisible by 10 ^ (shown - w), and t is what that division gives.
+-- The count of the fraction digits that are shown, and the number that they write. w is the least count of them with the number
+-- divisible by 10 ^ (shown - w), and t is the quotient.
 pub record HasFraction (o : Operands) (shown written : ℕ) : Type 0 where
   pub v : o.v ≡ shown
   pub f : o.f ≡ written
@@ -49,11 +49,11 @@ pub record HasFraction (o : Operands) (shown written : ℕ) : Type 0 where
 
 -- ---- Exact operands
 
--- the whole number that all digits write: the number itself is so many parts of 10 ^ (count of its fraction digits)
+-- the whole number that all digits write: the number itself is that many parts of 10 ^ (count of its fraction digits)
 abbrev pub all_digits_value : Places → ℕ
 all_digits_value y = value_of (y.whole ++ y.fraction)
 
--- of the digits as they stand, and an exponent
+-- of the digits as they are, and an exponent
 pub record IsExactAt (y : Places) (e : ℕ) (o : Operands) : Type 0 where
   pub i : o.i ≡ all_digits_value y / 10 ^ length y.fraction
   pub fraction : HasFraction o (length y.fraction) (all_digits_value y % 10 ^ length y.fraction)
@@ -64,12 +64,12 @@ AreExact x e o = IsExactAt (shift_right e x) e o
 
 -- ---- Kept operands
 
--- the number that at most 18 digits write; of more, what the last 18 write, and 10 ^ 18 besides
+-- the number that at most 18 digits write; of more, what the last 18 write, plus 10 ^ 18
 abbrev pub kept_whole : List ℕ → ℕ
 kept_whole ds =
     if nat_le (length ds) kept_places then value_of ds else value_of (drop (length ds - kept_places) ds) + kept_limit
 
--- of the digits as they stand, and an exponent
+-- of the digits as they are, and an exponent
 pub record IsKeptAt (y : Places) (e : ℕ) (o : Operands) : Type 0 where
   pub i : o.i ≡ kept_whole y.whole
   pub fraction : HasFraction o (length (take kept_places y.fraction)) (value_of (take kept_places y.fraction))

@@ -1,4 +1,4 @@
--- The grammar of conditions over tokens (UTS 35 Part 3, Plural Rules Syntax), what is read of a list of tokens, and which
+-- The grammar of conditions over tokens (UTS 35 Part 3, Plural Rules Syntax), what is read from a list of tokens, and which
 -- fault it has.
 use Rattle.std.specs.Prelude.{◌≡◌, ◌⊎◌, List, [], ◌∷◌, ◌++◌, Option, Some, None, IfSome, is_some, if◌then◌else◌}
 use Rattle.std.specs.Option.{option_and_then}
@@ -44,7 +44,7 @@ IsItem tokens (items.Value v) = (t : Token) × (tokens ≡ t ∷ []) × (value_o
 IsItem tokens (items.Range a b) =
     (t : Token) × (u : Token) × (tokens ≡ t ∷ DotDot ∷ u ∷ []) × (value_of t ≡ Some a) × (value_of u ≡ Some b)
 
--- a modulus that is there, or none
+-- a modulus that is present, or none
 abbrev pub IsModulus : List Token → Option Value → Type 0
 IsModulus tokens None = tokens ≡ []
 IsModulus tokens (Some m) = (t : Token) × (tokens ≡ Modulo ∷ t ∷ []) × (value_of t ≡ Some m)
@@ -105,7 +105,7 @@ Reads tokens c = (rest : List Token) × ReadsUpTo tokens c rest
 
 -- ---- faults
 
--- where a beginning of the tokens waits for another
+-- where a beginning of the tokens waits for another token
 pub data Place : Type 0 where
   start : Place
   after_or : Place
@@ -129,17 +129,17 @@ IsAfterOperand tokens =
     (before : List Token) × (t : Token) × (o : operand.Operand)
     × (tokens ≡ before ++ t ∷ []) × IsBeforeOperand before × (operand_of t ≡ Some o)
 
--- Modulo behind an operand is the last token
+-- Modulo after an operand is the last token
 abbrev pub IsAfterModulo : List Token → Type 0
 IsAfterModulo tokens = (before : List Token) × (tokens ≡ before ++ Modulo ∷ []) × IsAfterOperand before
 
--- a whole modulus stands last
+-- a whole modulus is last
 abbrev pub IsAfterModulus : List Token → Type 0
 IsAfterModulus tokens =
     (before : List Token) × (t : Token) × (v : Value)
     × (tokens ≡ before ++ t ∷ []) × IsAfterModulo before × (value_of t ≡ Some v)
 
--- after an operator, after Comma, or after DotDot behind a single value
+-- after an operator, after Comma, or after DotDot that follows a single value
 abbrev pub IsBeforeValue : List Token → Type 0
 IsBeforeValue tokens =
     ((before : List Token) × (o : operator.Operator)
@@ -157,18 +157,18 @@ Waits after_modulo tokens = IsAfterModulo tokens
 Waits after_modulus tokens = IsAfterModulus tokens
 Waits before_value tokens = IsBeforeValue tokens
 
--- the fault where an operand is wanted, by the fault at the end or at At
+-- the fault where an operand is expected, by the fault at the end or at At
 abbrev pub operand_fault : Option ParseError → Option Token → Option ParseError
 operand_fault at_end None = at_end
 operand_fault at_end (Some At) = at_end
 operand_fault at_end (Some t) = if is_some (operand_of t) then None else Some ExpectedOperand
 
--- the fault where an operator is wanted
+-- the fault where an operator is expected
 abbrev pub operator_fault : Option Token → Option ParseError
 operator_fault (Some (Operator o)) = None
 operator_fault _ = Some ExpectedOperator
 
--- the fault where a value is wanted
+-- the fault where a value is expected
 abbrev pub value_fault : Option Token → Option ParseError
 value_fault None = Some ExpectedValue
 value_fault (Some t) = if is_some (value_of t) then None else Some ExpectedValue

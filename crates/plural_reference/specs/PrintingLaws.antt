@@ -1,4 +1,4 @@
--- What is printed is read as what it was printed from.
+-- A printed text is read as what it was printed from.
 use Rattle.std.specs.Prelude.{◌≡◌, ◌≢◌, ◌≤◌, ◌++◌, ℕ, List, [], None, All, IfSome}
 use Rattle.std.specs.Char.{IsAsciiDigit}
 use Rattle.std.specs.Str.Parse.{digits_value}
@@ -53,7 +53,7 @@ ConditionsPrintBack = (text : List ℕ) (c : Condition) → TextReads Reads text
 
 -- ---- rules
 
--- digits of a text with no digit before or behind them
+-- digits of a text with no digit before or after them
 pub record IsRunIn (run text : List ℕ) : Type 0 where
   pub before : List ℕ
   pub after : List ℕ
@@ -66,11 +66,11 @@ pub record IsRunIn (run text : List ℕ) : Type 0 where
 abbrev pub HasSmallRuns : DecimalValue → Type 0
 HasSmallRuns text = (run : List ℕ) → IsRunIn run text → digits_value 10 run ≤ max_number
 
--- the same of each sample of a list
+-- each sample of the list has small runs
 abbrev pub ListHasSmallRuns : SampleList → Type 0
 ListHasSmallRuns l = All (λ r. HasSmallRuns r.lower_val × IfSome r.upper_val HasSmallRuns) l.sample_ranges
 
--- the same of each sample of a rule
+-- each sample of the rule has small runs
 abbrev pub RuleHasSmallRuns : Rule → Type 0
 RuleHasSmallRuns r = IfSome r.samples (λ s. IfSome s.integer ListHasSmallRuns × IfSome s.decimal ListHasSmallRuns)
 

@@ -1,4 +1,4 @@
--- What a call that reads may answer.
+-- What a call that reads may return.
 use Rattle.std.specs.Prelude.{◌≡◌, ◌⊎◌, List, ℕ, Result, Ok, Err}
 use Rattle.plural_reference.specs.declared.error.ParseError.{ParseError}
 use Rattle.plural_reference.specs.declared.error.ReadError.{ReadError}
@@ -6,21 +6,21 @@ use Rattle.plural_reference.specs.declared.error.ReadError.TheVariants.{Parse, M
 use Rattle.plural_reference.specs.declared.token.Token.{Token}
 use Rattle.plural_reference.specs.Lexer.{AreTokensOf}
 
--- the answer is this one, unless memory ran out
+-- the result is this one, unless memory ran out
 abbrev pub AnswersUnlessMemory : {A : Type 0} → Result A ReadError → Result A ReadError → Type 0
 AnswersUnlessMemory r answer = (r ≡ answer) ⊎ (r ≡ Err Memory)
 
--- the fault that is answered is there, want of memory aside
+-- the error is a fault that the text has, or out of memory
 abbrev pub IsFault : (ParseError → Type 0) → ReadError → Type 0
 IsFault Fault (Parse kind) = Fault kind
 IsFault Fault Memory = Unit {0}
 
--- what is answered has been read, or the fault is there, want of memory aside
+-- what is returned has been read, or the error is such a fault or out of memory
 abbrev pub IsAnswer : {A : Type 0} → (A → Type 0) → (ParseError → Type 0) → Result A ReadError → Type 0
 IsAnswer Read Fault (Ok x) = Read x
 IsAnswer Read Fault (Err e) = IsFault Fault e
 
--- x is answered exactly if it is read from the tokens, and a kind exactly if it is their fault, want of memory aside
+-- x is returned if and only if it is read from the tokens, and a fault if and only if they have it, out of memory aside
 pub record AnswersExactly {A : Type 0} (Read : List Token → A → Type 0) (Fault : List Token → ParseError → Type 0) (text : List ℕ) (r : Result A ReadError) : Type 0 where
   pub only : (tokens : List Token) → AreTokensOf text tokens → IsAnswer (Read tokens) (Fault tokens) r
   pub read : (tokens : List Token) (x : A) → AreTokensOf text tokens → Read tokens x → AnswersUnlessMemory r (Ok x)

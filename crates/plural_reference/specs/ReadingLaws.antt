@@ -1,4 +1,4 @@
--- What is read of a text is determined.
+-- What a text is read as is determined.
 use Rattle.std.specs.Prelude.{◌≡◌, ◌⊎◌, ◌↔◌, ℕ, List, Ok, Err}
 use Rattle.plural_reference.specs.declared.ast.Condition.{Condition}
 use Rattle.plural_reference.specs.declared.error.ParseError.{ParseError}
@@ -8,7 +8,7 @@ use Rattle.plural_reference.specs.Parser.{Reads, Faulty}
 use Rattle.plural_reference.specs.Samples.{ReadsRule, ReadsCondition, FaultyRule}
 use Rattle.plural_reference.specs.Inner.RuleReader.{condition_of_text}
 
--- there is one thing of this kind, and no other
+-- exactly one value is of this kind
 abbrev pub ThereIsOne : {A : Type 0} → (A → Type 0) → Type 0
 ThereIsOne {A = A} Is = (x : A) × Is x × ((y : A) → Is y → y ≡ x)
 
@@ -20,17 +20,17 @@ HaveOneCut = (text : List ℕ) → ThereIsOne (IsCut text)
 abbrev pub HaveOneListOfTokens : Type 0
 HaveOneListOfTokens = (text : List ℕ) → ThereIsOne (AreTokensOf text)
 
--- one thing is read of the tokens and they have no fault, or they have one fault and nothing is read
+-- one value is read from the tokens and they have no fault, or they have one fault and nothing is read
 abbrev pub HasOneReading : {A : Type 0} → (List Token → A → Type 0) → (List Token → ParseError → Type 0) → List Token → Type 0
 HasOneReading {A = A} Read Fault tokens =
     (ThereIsOne (Read tokens) × ((kind : ParseError) → ¬ (Fault tokens kind)))
     ⊎ (ThereIsOne (Fault tokens) × ((x : A) → ¬ (Read tokens x)))
 
--- of every list of tokens one condition is read, or it has one fault
+-- from every list of tokens one condition is read, or it has one fault
 abbrev pub HaveOneReading : Type 0
 HaveOneReading = (tokens : List Token) → HasOneReading Reads Faulty tokens
 
--- of every list of tokens one rule is read, or it has one fault
+-- from every list of tokens one rule is read, or it has one fault
 abbrev pub HaveOneRule : Type 0
 HaveOneRule = (tokens : List Token) → HasOneReading ReadsRule FaultyRule tokens
 

@@ -1,4 +1,4 @@
--- The grammar of samples over tokens (UTS 35 Part 3, Samples), what is read of the tokens after a condition, and which
+-- The grammar of samples over tokens (UTS 35 Part 3, Samples), what is read from the tokens after a condition, and which
 -- fault they have.
 use Rattle.std.specs.Prelude.{◌≡◌, ◌≢◌, ◌⊎◌, ℕ, List, [], ◌∷◌, ◌++◌, Bool, true, false, Option, Some, None, IfSome, IsSome, IsSomeAnd, fold, unwrap_or, ◌==◌, ◌||◌, if◌then◌else◌, codes}
 use Rattle.std.specs.Option.{option_and_then}
@@ -71,7 +71,7 @@ token_text E = codes "e"
 token_text (Operand C) = codes "c"
 token_text _ = []
 
--- a sample, whose text joins the texts of its tokens
+-- a sample, whose text is the texts of its tokens joined
 abbrev pub IsSample : List Token → DecimalValue → Type 0
 IsSample tokens text = (s : SampleParts) × IsSampleOf tokens s × (text ≡ flat_map token_text tokens)
 
@@ -108,7 +108,7 @@ AreSections tokens (s ∷ ss) =
     (list : List Token) × (rest : List Token)
     × (tokens ≡ At ∷ s.type ∷ (list ++ rest)) × IsSampleType s.type × IsSampleList list s.list × AreSections rest ss
 
--- a list takes the place of an earlier one of its type
+-- a list replaces an earlier one of its type
 abbrev pub with_list : Token → SampleList → samples.Samples → samples.Samples
 with_list Integer list old = record { integer = Some list; decimal = old.decimal }
 with_list Decimal list old = record { integer = old.integer; decimal = Some list }
@@ -121,7 +121,7 @@ samples_of (s ∷ ss) = Some (fold (λ old new. with_list new.type new.list old)
 
 -- ---- reading
 
--- the last range, where no ellipsis is behind it
+-- the last range, if no ellipsis follows it
 abbrev pub open_range : List Section → Option SampleRange
 open_range sections = option_and_then (λ s. if s.list.ellipsis then None else last s.list.sample_ranges) (last sections)
 
@@ -180,21 +180,21 @@ SectionsThen Here more tokens =
     (spelled : List Token) × (sections : List Section)
     × (tokens ≡ spelled ++ more) × AreSections spelled sections × Here sections
 
--- At behind sections
+-- At after sections
 abbrev pub IsAfterAt : List Token → Type 0
 IsAfterAt tokens = SectionsThen (λ _. Unit {0}) (At ∷ []) tokens
 
--- a sample is awaited: after a type, or after Tilde behind a single sample
+-- a sample is awaited: after a type, or after Tilde that follows a single sample
 abbrev pub IsBeforeSample : List Token → Type 0
 IsBeforeSample tokens =
     ((type : Token) × IsSampleType type × SectionsThen (λ _. Unit {0}) (At ∷ type ∷ []) tokens)
     ⊎ SectionsThen (λ sections. ContinuesSamples sections Tilde) (Tilde ∷ []) tokens
 
--- Comma behind a list without an ellipsis
+-- Comma after a list without an ellipsis
 abbrev pub IsAfterComma : List Token → Type 0
 IsAfterComma tokens = SectionsThen (λ sections. ContinuesSamples sections Comma) (Comma ∷ []) tokens
 
--- behind E or C, in an empty sample or in one that can take it
+-- after E or C, in an empty sample or in one that can take it
 abbrev pub IsAfterMark : List Token → Type 0
 IsAfterMark tokens =
     (mark : Token) × IsExponentMark mark
@@ -208,13 +208,13 @@ WaitsInSamples before_sample tokens = IsBeforeSample tokens
 WaitsInSamples after_comma tokens = IsAfterComma tokens
 WaitsInSamples after_mark tokens = IsAfterMark tokens
 
--- the fault where a type is wanted
+-- the fault where a type is expected
 abbrev pub type_fault : Option Token → Option ParseError
 type_fault (Some Integer) = None
 type_fault (Some Decimal) = None
 type_fault _ = Some ExpectedSampleType
 
--- the fault where a sample is wanted
+-- the fault where a sample is expected
 abbrev pub sample_fault : Option Token → Option ParseError
 sample_fault (Some Dot) = None
 sample_fault (Some E) = None
@@ -241,7 +241,7 @@ FaultyInSamples tokens kind =
 abbrev pub ReadsRule : List Token → Rule → Type 0
 ReadsRule tokens rule = (rest : List Token) × ReadsUpTo tokens rule.condition rest × ReadsSamples rest rule.samples
 
--- of the tokens a rule with this condition is read
+-- a rule with this condition is read from the tokens
 abbrev pub ReadsCondition : List Token → Condition → Type 0
 ReadsCondition tokens condition = (rule : Rule) × ReadsRule tokens rule × (rule.condition ≡ condition)
 

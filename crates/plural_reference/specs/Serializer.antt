@@ -27,7 +27,7 @@ joined separator text [] = []
 joined separator text (x ∷ []) = text x
 joined separator text (x ∷ y ∷ ys) = text x ++ separator ++ joined separator text (y ∷ ys)
 
--- the text before that of a part that is there, or nothing
+-- the text before that of a part that is present, or nothing
 abbrev pub prefixed : {A : Type 0} → List ℕ → (A → List ℕ) → Option A → List ℕ
 prefixed before text None = []
 prefixed before text (Some x) = before ++ text x
@@ -77,7 +77,7 @@ and_condition_text c = joined (codes " and ") relation_text c.0
 abbrev pub condition_text : Condition → List ℕ
 condition_text c = joined (codes " or ") and_condition_text c.0
 
--- a sample's text stands as it is
+-- a sample's text as it is
 abbrev pub sample_text : DecimalValue → List ℕ
 sample_text s = s
 
@@ -85,7 +85,7 @@ sample_text s = s
 abbrev pub sample_range_text : SampleRange → List ℕ
 sample_range_text r = sample_text r.lower_val ++ prefixed (codes "~") sample_text r.upper_val
 
--- `, …` where there is an ellipsis
+-- `, …` if the list has an ellipsis
 abbrev pub ellipsis_text : Bool → List ℕ
 ellipsis_text false = []
 ellipsis_text true = codes ", " ++ ellipsis
@@ -94,10 +94,10 @@ ellipsis_text true = codes ", " ++ ellipsis
 abbrev pub sample_list_text : SampleList → List ℕ
 sample_list_text l = joined (codes ", ") sample_range_text l.sample_ranges ++ ellipsis_text l.ellipsis
 
--- the list of integers and the list of decimals, each behind its name, where they are there
+-- the list of integers and the list of decimals, each after its name, as far as they are present
 abbrev pub samples_text : Samples → List ℕ
 samples_text s = prefixed (codes " @integer ") sample_list_text s.integer ++ prefixed (codes " @decimal ") sample_list_text s.decimal
 
--- the condition, then the samples where there are any
+-- the condition, then the samples if the rule has any
 abbrev pub rule_text : Rule → List ℕ
 rule_text r = condition_text r.condition ++ prefixed [] samples_text r.samples

@@ -17,7 +17,7 @@ use Rattle.plural_reference.specs.declared.ast.Expression.{Expression}
 
 -- ---- A value in ranges
 
--- a range holds what lies between its ends; nothing, where the first end is above the second
+-- a range holds the values between its ends, the ends included; none, if the first end is above the second
 abbrev pub range_holds : ℕ → ℕ × ℕ → Bool
 range_holds value range = nat_le range.0 value && nat_le value range.1
 
@@ -25,14 +25,14 @@ range_holds value range = nat_le range.0 value && nat_le value range.1
 abbrev pub is_in_ranges : List (ℕ × ℕ) → ℕ → Bool
 is_in_ranges ranges value = list_any (range_holds value) ranges
 
--- the same of a value that may be absent: it is in no list then
+-- the list holds a value that may be absent: then it doesn't
 abbrev pub holds_value : List (ℕ × ℕ) → Option ℕ → Bool
 holds_value ranges None = false
 holds_value ranges (Some value) = is_in_ranges ranges value
 
 -- ---- The value of an operand
 
--- the operand's value at six operand numbers: n is i, and has no value where w isn't 0
+-- the operand's value at six operand numbers: n is i, and has no value if w isn't 0
 abbrev pub operand_value : Operand → Operands → Option ℕ
 operand_value N number = if number.w == 0 then Some number.i else None
 operand_value I number = Some number.i
@@ -43,7 +43,7 @@ operand_value T number = Some number.t
 operand_value C number = Some number.c
 operand_value E number = Some number.c
 
--- what a modulus leaves of a value; 0 is no modulus
+-- the remainder of a value by a modulus; 0 is no modulus
 abbrev pub remainder : ℕ → ℕ → ℕ
 remainder modulus value = if modulus == 0 then value else (value % modulus)
 
@@ -108,12 +108,12 @@ groups_of condition = map (λ group. group.0) condition.0
 
 -- ---- When a condition, as a tree, is true at six operand numbers.
 
--- a modulus is there and is 0
+-- a modulus is present and is 0
 abbrev pub is_zero_modulus : Option Value → Bool
 is_zero_modulus None = false
 is_zero_modulus (Some modulus) = modulus.0 == 0
 
--- the value of an expression: there is none of n where w isn't 0, and none by a modulus 0
+-- the value of an expression: none of n if w isn't 0, and none by a modulus 0
 abbrev pub tree_value : Operands → Expression → Option ℕ
 tree_value number expression =
     if is_zero_modulus expression.modulus then None

@@ -2,6 +2,22 @@
 //!
 //! Each list is a [`Sequence`] of its parts; the fields are public, so a tree can be made by hand: `RangeList(items.into())` of a
 //! `Vec` of items.
+//!
+//! <!-- snippet crates/plural_reference_tests/src/tests/printing.rt: example fn condition_of -->
+//! ```
+//! fn condition_of(alloc: Global, item: RangeListItem) -> anyhow::Result<Condition> {
+//!     let relation = Relation {
+//!         expression: Expression {
+//!             operand: Operand::I,
+//!             modulus: None,
+//!         },
+//!         operator: Operator::Eq,
+//!         range_list: RangeList(vec![in alloc; item]?.into()),
+//!     };
+//!     let group = AndCondition(vec![in alloc; relation]?.into());
+//!     Ok(Condition(vec![in alloc; group]?.into()))
+//! }
+//! ```
 
 mod clones;
 
@@ -21,24 +37,24 @@ use std::marker::Model;
 pub struct Rule {
     /// When the rule is true.
     pub condition: Condition,
-    /// The samples behind the condition, where there is a list of them.
+    /// The samples after the condition, if there is a list of them.
     pub samples: Option<Samples>,
 }
 
-/// And-conditions joined by `or`: true where one of them is true, or where there is none.
+/// And-conditions joined by `or`: true if one of them is true, or if there is none.
 #[derive(Debug, PartialEq, Drop)]
 pub struct Condition(pub Sequence<AndCondition>);
 
-/// Relations joined by `and`: true where all of them are.
+/// Relations joined by `and`: true if all of them are.
 #[derive(Debug, PartialEq, Drop)]
 pub struct AndCondition(pub Sequence<Relation>);
 
 /// An expression compared with ranges: `n % 10 = 3..4, 9`.
 #[derive(Debug, PartialEq, Drop)]
 pub struct Relation {
-    /// What is compared.
+    /// The expression whose value is compared.
     pub expression: Expression,
-    /// Whether its value is to be in the ranges.
+    /// Whether its value has to be in the ranges.
     pub operator: Operator,
     /// The ranges.
     pub range_list: RangeList,
@@ -56,7 +72,7 @@ pub enum Operator {
 impl Operator {
     ghost use Rattle.plural_reference.specs.Serializer.{operator_text};
 
-    /// The sign as it is written: `=` or `!=`.
+    /// Returns the sign as it is written: `=` or `!=`.
     #[inline]
     pub fn as_str(self) -> &'static str
         ensures { result.now ≡ operator_text self }
@@ -73,7 +89,7 @@ impl Operator {
 pub struct Expression {
     /// The operand.
     pub operand: Operand,
-    /// What the operand is divided by, where the remainder is compared.
+    /// The divisor, if a remainder is compared.
     pub modulus: Option<Value>,
 }
 
@@ -101,7 +117,7 @@ pub enum Operand {
 impl Operand {
     ghost use Rattle.plural_reference.specs.Serializer.{operand_text};
 
-    /// The letter as it is written: `n`, `i`, `v`, `w`, `f`, `t`, `c` or `e`.
+    /// Returns the letter as it is written: `n`, `i`, `v`, `w`, `f`, `t`, `c` or `e`.
     #[inline]
     pub fn as_str(self) -> &'static str
         ensures { result.now ≡ operand_text self }
@@ -126,14 +142,22 @@ pub struct RangeList(pub Sequence<RangeListItem>);
 /// A range or a single value.
 #[derive(Debug, PartialEq, Drop)]
 pub enum RangeListItem {
-    /// The values from the first to the second, both ends included; none, where the first is above
-    /// the second.
+    /// The values from the first to the second, both included; none if the first is above the
+    /// second.
     Range(Value, Value),
     /// A single value.
     Value(Value),
 }
 
 /// A value of a relation. A text gives 0 to 4294967295; a tree that was made by hand may hold more.
+///
+/// <!-- snippet crates/plural_reference_tests/src/tests/trees.rt:
+/// example "holds!(rt; Value::from" to "holds!(rt; u32::try_from(&Value(4294967296)" of fn turns_values_into_numbers -->
+/// ```
+/// assert!(rt; Value::from(4294967295) == Value(4294967295));
+/// assert!(rt; u32::try_from(&Value(4294967295)) == Ok(4294967295));
+/// assert!(rt; u32::try_from(&Value(4294967296)) == Err(ParseError::ValueTooLarge));
+/// ```
 #[derive(Debug, PartialEq, PartialOrd, Drop)]
 pub struct Value(pub u64);
 
@@ -159,9 +183,9 @@ impl TryFrom<&Value> for u32 {
 /// The samples of a rule (UTS 35 Part 3, Samples): `@integer 1 @decimal 1.0~1.5, …`.
 #[derive(Debug, PartialEq, Drop)]
 pub struct Samples {
-    /// The list behind `@integer`.
+    /// The list after `@integer`.
     pub integer: Option<SampleList>,
-    /// The list behind `@decimal`.
+    /// The list after `@decimal`.
     pub decimal: Option<SampleList>,
 }
 
@@ -170,7 +194,7 @@ pub struct Samples {
 pub struct SampleList {
     /// Its ranges and single samples.
     pub sample_ranges: Sequence<SampleRange>,
-    /// Whether `…` ends the list: there are samples beyond it.
+    /// Whether `…` ends the list: more samples exist than it has.
     pub ellipsis: bool,
 }
 

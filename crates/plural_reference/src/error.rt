@@ -8,21 +8,21 @@ use std::alloc::{AllocError, AllocFailed};
 use std::error::Error;
 use std::fmt;
 
-/// Why a text is no rule: what is wanted at the first place where the text doesn't go on as a rule
-/// (UTS 35 Part 3, Plural Rules Syntax).
+/// Why a text is no rule: what is expected at the first place where the text doesn't continue as a
+/// rule (UTS 35 Part 3, Plural Rules Syntax).
 #[derive(Clone, Copy, Debug, PartialEq, Eq)]
 pub enum ParseError {
-    /// An and-condition behind `or`, where the text or the condition ends.
+    /// An and-condition after `or`, if the text or the condition ends.
     ExpectedAndCondition,
-    /// A relation behind `and`, where the text or the condition ends.
+    /// A relation after `and`, if the text or the condition ends.
     ExpectedRelation,
-    /// `=` or `!=` behind an operand or a modulus.
+    /// `=` or `!=` after an operand or a modulus.
     ExpectedOperator,
-    /// An operand at the start, behind `or` or behind `and`, where another token stands.
+    /// An operand at the start, after `or` or after `and`, if there is another token.
     ExpectedOperand,
     /// A number: of a modulus, of a range, or of a sample or its exponent.
     ExpectedValue,
-    /// `integer` or `decimal` behind `@`.
+    /// `integer` or `decimal` after `@`.
     ExpectedSampleType,
     /// A value above 4294967295. No text gives it, since the lexer takes such a number for
     /// [`Token::Junk`](crate::Token::Junk): only a tree that was made by hand has one.
@@ -48,12 +48,12 @@ impl fmt::Display for ParseError {
 impl Error for ParseError {}
 
 /// Why [`parse`](crate::parse), [`parse_without_samples`](crate::parse_without_samples) and
-/// [`parse_condition`](crate::parse_condition) answer no tree.
+/// [`parse_condition`](crate::parse_condition) return no tree.
 #[derive(Clone, Copy, Debug, PartialEq, Eq)]
 pub enum ReadError {
     /// The text is no rule.
     Parse(ParseError),
-    /// A growth was refused.
+    /// An allocation failed.
     Memory,
 }
 
@@ -94,11 +94,11 @@ impl From<ParseError> for ReadError {
     }
 }
 
-/// Why a byte begins or continues no token. No public call answers it: the lexer gives
-/// [`Token::Junk`](crate::Token::Junk) in its place.
+/// Why a byte begins or continues no token. No public call returns it: the lexer gives
+/// [`Token::Junk`](crate::Token::Junk) instead.
 #[derive(Clone, Copy, Debug)]
 pub enum LexerError {
-    /// The byte that a begun keyword wants.
+    /// The byte that continues a begun keyword.
     ExpectedByte(u8),
     /// A byte that begins no token.
     UnknownToken(u8),

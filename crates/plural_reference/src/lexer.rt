@@ -9,9 +9,18 @@ use crate::ast;
 use crate::token::Token;
 use std::marker::Model;
 
-/// The tokens of a text, one at a time: at most one for each byte, and none for good behind the last.
-/// It takes no memory, and refuses nothing: what is no piece of a rule is [`Token::Junk`]. Contracts see
-/// the list of the tokens that are left.
+/// The tokens of a text, one at a time: at most one for each byte, and after the last always `None`.
+/// It allocates nothing, and refuses nothing: what is no piece of a rule is [`Token::Junk`]. Contracts
+/// see the list of the tokens that are left.
+///
+/// <!-- snippet crates/plural_reference_tests/src/tests/tokens.rt:
+/// example "let mut lexer" to "holds!(rt; lexer.next() == None" of fn gives_no_token_behind_the_last -->
+/// ```
+/// let mut lexer = Lexer::new(b"i 1 ");
+/// assert!(rt; lexer.next() == Some(Token::Operand(Operand::I)));
+/// assert!(rt; lexer.next() == Some(Token::Number(1)));
+/// assert!(rt; lexer.next() == None);
+/// ```
 #[derive(Debug, Drop)]
 pub struct Lexer<'l> {
     rest: &'l [u8],
@@ -28,8 +37,8 @@ impl<'l> Model for Lexer<'l> {
 }
 
 impl<'l> Lexer<'l> {
-    /// The tokens of a text. Spaces give no token. A number takes all digits that follow, and is Junk
-    /// above 4294967295; a keyword that breaks off is one Junk with the byte that doesn't fit.
+    /// Returns the tokens of a text. Spaces give no token. A number takes all digits that follow, and is
+    /// Junk above 4294967295; a keyword that breaks off is one Junk with the byte that doesn't fit.
     #[inline]
     pub fn new(text: &'l [u8]) -> Self
         ensures tokens { AreTokensOf text.now result }
@@ -60,7 +69,7 @@ impl<'l> Iterator for Lexer<'l> {
     }
 }
 
-// The bytes behind the space that mostly follows a token: so it doesn't come to the table of pieces.
+// The bytes after the space that mostly follows a token: so it isn't looked up in the table of pieces.
 #[inline]
 #[tactic(auto, unfolding(crate::specs::Inner::Scan::tokens_from))]
 fn behind_space(text: &[u8]) -> &[u8]
@@ -72,7 +81,7 @@ fn behind_space(text: &[u8]) -> &[u8]
     }
 }
 
-// The token that the byte begins, and the bytes behind it.
+// The token that the byte begins, and the bytes after it.
 #[inline]
 #[tactic(auto, using(crate::proofs::tokens::Alone::i_alone, crate::proofs::tokens::Alone::point_alone), unfolding(crate::specs::Inner::Scan::tokens_from))]
 fn token_at(first: u8, rest: &[u8]) -> (Token, &[u8])
@@ -111,7 +120,7 @@ fn token_at(first: u8, rest: &[u8]) -> (Token, &[u8])
     }
 }
 
-// The bytes behind the first, where that is the byte. (`strip_prefix` says so by a comparison of lists, which `token_at` would
+// The bytes after the first, if that is the byte. (`strip_prefix` says so by a comparison of lists, which `token_at` would
 // have to open for each of its bytes.)
 #[inline]
 fn strip_byte(text: &[u8], byte: u8) -> Option<&[u8]>
@@ -123,7 +132,7 @@ fn strip_byte(text: &[u8], byte: u8) -> Option<&[u8]>
     }
 }
 
-// The token of a keyword, where these bytes of it are still awaited, and the bytes behind it.
+// The token of a keyword, if these bytes of it are still awaited, and the bytes after it.
 #[tactic(auto, unfolding(crate::specs::Inner::Scan::tokens_from))]
 fn keyword<'a>(expected: &[u8], token: Token, text: &'a [u8]) -> (Token, &'a [u8])
     ensures { keyword_tokens expected.now token text.now ≡ result.0 ∷ tokens_of result.1.now }
@@ -141,7 +150,7 @@ fn keyword<'a>(expected: &[u8], token: Token, text: &'a [u8]) -> (Token, &'a [u8
     (token, rest)
 }
 
-// The token of the number that begins with the digit, and the bytes behind it.
+// The token of the number that begins with the digit, and the bytes after it.
 #[tactic(auto, unfolding(crate::specs::Inner::Scan::tokens_from))]
 fn number(first: u8, text: &[u8]) -> (Token, &[u8])
     requires low { 49 ≤ first }
@@ -163,7 +172,7 @@ fn number(first: u8, text: &[u8]) -> (Token, &[u8])
     }
 }
 
-// A number with one more digit, or none where it is too large.
+// A number with one more digit, or none if it is too large.
 #[inline]
 fn pushed(value: Option<u32>, digit: u8) -> Option<u32>
     ensures { (n : ℕ) → value ≡ bounded n → result ≡ bounded (n * 10 + digit) }

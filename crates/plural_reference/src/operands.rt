@@ -19,9 +19,15 @@ use std::marker::Model;
 /// digits as a number, with and without the trailing zeros; and `c`, the compact exponent.
 ///
 /// They come from integers, from decimals, from texts and from [`RawPluralOperands`]. No conversion
-/// takes memory. Of a decimal at most 18 places on each side of the point are kept; what is kept of
-/// a longer number is said at [`PluralOperands::from_significand_and_exponent`]. `==` compares all
-/// six; the default is 0 for each, the operands of the number 0.
+/// allocates. Of a decimal at most 18 places on each side of the point are kept, as told at
+/// [`PluralOperands::from_significand_and_exponent`]. `==` compares all six; the default is 0 for each,
+/// the operands of the number 0.
+///
+/// <!-- snippet crates/plural_reference_tests/src/tests/truth.rt:
+/// example "holds!(rt; PluralOperands" to "holds!(rt; PluralOperands" of fn tells_the_value_of_each_operand -->
+/// ```
+/// assert!(rt; PluralOperands::from(7u32).value(Operand::N) == Some(7));
+/// ```
 ///
 /// [`RawPluralOperands`]: crate::RawPluralOperands
 #[derive(Clone, Copy, Debug, PartialEq, Default)]
@@ -45,7 +51,7 @@ impl Model for PluralOperands {
 }
 
 impl PluralOperands {
-    /// Whether they are those of the whole number 0: no fraction digit is shown, and there is no
+    /// Returns whether they are those of the whole number 0: no fraction digit is shown, and there is no
     /// exponent.
     #[inline]
     pub fn is_exactly_zero(self) -> bool
@@ -54,7 +60,7 @@ impl PluralOperands {
         self == PluralOperands::from(0u64)
     }
 
-    /// Whether they are those of the whole number 1: no fraction digit is shown, and there is no
+    /// Returns whether they are those of the whole number 1: no fraction digit is shown, and there is no
     /// exponent.
     #[inline]
     pub fn is_exactly_one(self) -> bool

@@ -25,12 +25,22 @@ use crate::token::Token;
 use std::alloc::Global;
 use std::marker::Model;
 
-/// The condition of a rule (UTS 35 Part 3, Plural Rules Syntax). It is read from the longest beginning of
-/// the text that is one; what follows it is ignored, samples too. A text that is empty or begins with `@`
-/// is the empty condition.
+/// Reads the condition of a rule (UTS 35 Part 3, Plural Rules Syntax) from the longest beginning of the text
+/// that is one; what follows it is ignored, samples too. A text that is empty or begins with `@` is the
+/// empty condition.
 ///
-/// It refuses a text by the [`ParseError`] of the first place where the condition doesn't go on, or for
-/// want of memory, which is taken for the tree alone.
+/// The error is the [`ParseError`] of the first place where the condition doesn't continue, or out of
+/// memory; only the tree is allocated.
+///
+/// <!-- snippet crates/plural_reference_tests/src/tests/reading.rt:
+/// example "let values" to "holds!" of fn reads_long_lists_of_values -->
+/// ```
+/// let values = [1, 5, 7, 8, 9, 10];
+/// let read = parse_condition(alloc, b"n = 1,5,7,8,9,10")?;
+/// let group = read.0.get(0).ok_or("no and-condition")?;
+/// let items = &group.0.get(0).ok_or("no relation")?.range_list.0;
+/// assert!(rt; items.len() == values.len());
+/// ```
 #[tactic(auto, using(crate::proofs::reading::Answered::condition_answers))]
 pub fn parse_condition(alloc: Global, text: &[u8]) -> Result<Condition, ReadError>
     ensures { AnswersExactly Reads Faulty text.now result }
@@ -39,11 +49,19 @@ pub fn parse_condition(alloc: Global, text: &[u8]) -> Result<Condition, ReadErro
     parser.condition(alloc)
 }
 
-/// A rule: its condition as by [`parse_condition`], and the samples behind it (UTS 35 Part 3, Samples).
-/// Of several lists of one type the last is kept, and what follows the samples is ignored.
+/// Reads a rule: its condition as by [`parse_condition`], and the samples after it (UTS 35 Part 3, Samples).
+/// Of several lists of one type the last counts, and what follows the samples is ignored.
 ///
-/// It refuses a text by the [`ParseError`] of its condition, or else of its samples, or for want of
-/// memory, which is taken for the tree alone.
+/// The error is the [`ParseError`] of its condition, or else of its samples, or out of memory; only the
+/// tree is allocated.
+///
+/// <!-- snippet crates/plural_reference_tests/src/tests/printing.rt: example fn samples_of -->
+/// ```
+/// fn samples_of(alloc: Global, text: &str) -> anyhow::Result<Samples> {
+///     let rule = parse(alloc, text.as_bytes())?;
+///     Ok(rule.samples.ok_or("no samples")?)
+/// }
+/// ```
 pub fn parse(alloc: Global, text: &[u8]) -> Result<Rule, ReadError>
     ensures { AnswersExactly ReadsRule FaultyRule text.now result }
 {
@@ -53,10 +71,9 @@ pub fn parse(alloc: Global, text: &[u8]) -> Result<Rule, ReadError>
     Ok(Rule { condition, samples })
 }
 
-/// The condition of a rule, as by [`parse`]: the samples behind it are checked and left out.
+/// Reads the condition of a rule, as by [`parse`]: the samples after it are checked and left out.
 ///
-/// It refuses the texts that [`parse`] refuses, by the same [`ParseError`], or for want of memory, which is taken for the
-/// condition alone.
+/// The error is that of [`parse`], or out of memory; only the condition is allocated.
 pub fn parse_without_samples(alloc: Global, text: &[u8]) -> Result<Condition, ReadError>
     ensures { AnswersExactly ReadsCondition FaultyRule text.now result }
 {
@@ -66,7 +83,7 @@ pub fn parse_without_samples(alloc: Global, text: &[u8]) -> Result<Condition, Re
     Ok(condition)
 }
 
-// The tokens that are left, the first of them at hand.
+// The tokens that are left, the first of them read already.
 #[derive(Drop)]
 struct Parser<'p> {
     ahead: Option<Token>,

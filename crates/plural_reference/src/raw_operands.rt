@@ -6,6 +6,19 @@ use crate::operands::PluralOperands;
 
 /// The operands of a number (UTS 35 Part 3, Plural Operand Meanings), each to be set by hand: any
 /// values are allowed, also those of no number.
+///
+/// <!-- snippet crates/plural_reference_tests/src/tests/truth.rt:
+/// "let half" to "});" of fn knows_no_whole_number_at_a_fraction -->
+/// ```
+/// let half = PluralOperands::from(RawPluralOperands {
+///     i: 1,
+///     v: 1,
+///     w: 1,
+///     f: 5,
+///     t: 5,
+///     c: 0,
+/// });
+/// ```
 #[derive(Debug, Drop)]
 pub struct RawPluralOperands {
     /// The integer part.

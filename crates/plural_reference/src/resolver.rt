@@ -9,11 +9,27 @@ use crate::ast::{
 };
 use crate::operands::PluralOperands;
 
-/// Whether the condition is true of the operands: it has no and-condition, or all relations of one
-/// of them are true (UTS 35 Part 3, Plural Rules Syntax).
+/// Returns whether the condition is true of the operands: it has no and-condition, or all relations of
+/// one of them are true (UTS 35 Part 3, Plural Rules Syntax).
 ///
-/// A relation on `n` where the fraction isn't zero, and one by a modulus 0, is false under `=` and
+/// A relation on `n` at a fraction that isn't zero, and one by a modulus 0, is false under `=` and
 /// under `!=`. A range whose start is above its end holds nothing.
+///
+/// Rows of a condition, a number, and whether the one is true of the other:
+///
+/// <!-- snippet crates/plural_reference_tests/src/tests/truth.rt:
+/// example "("i = 1 and v = 0", 1" to "("i = 1 and v = 0", 2" of fn tells_when_a_condition_is_true; example "for (text"
+/// to "}" of fn tells_when_a_condition_is_true -->
+/// ```
+/// ("i = 1 and v = 0", 1, true),
+/// ("i = 1 and v = 0", 2, false),
+///
+/// for (text, number, want) in table {
+///     let condition = parse_condition(alloc, text.as_bytes())?;
+///     let operands = PluralOperands::from(number as u32);
+///     assert!(rt; test_condition(&condition, &operands) == want);
+/// }
+/// ```
 pub fn test_condition(condition: &Condition, operands: &PluralOperands) -> bool
     ensures { result ≡ tree_truth operands.now condition.now }
 {
@@ -41,7 +57,7 @@ fn test_and_condition(group: &AndCondition, operands: &PluralOperands) -> bool
         .all(|relation| test_relation(relation, operands))
 }
 
-// Whether the relation is true: never, where its expression has no value.
+// Whether the relation is true: never, if its expression has no value.
 fn test_relation(relation: &Relation, operands: &PluralOperands) -> bool
     ensures { result ≡ tree_relation_truth operands.now relation.now }
 {
@@ -65,7 +81,7 @@ fn calculate_expression(expression: &Expression, operands: &PluralOperands) -> O
     }
 }
 
-// Whether the value is one of the list, or lies between the ends of one of its ranges.
+// Whether the value is one of the list, or is between the ends of one of its ranges.
 fn contains(list: &RangeList, value: u64) -> bool
     ensures { result ≡ is_in_ranges (ranges_of list.now) value }
 {

@@ -14,7 +14,20 @@ use std::ops::Index;
 use std::slice::Iter;
 use std::vec::IntoIter;
 
-/// A `Vec`, seen by contracts as the list of its elements. `From` makes it of a `Vec` and gives the `Vec` back, without memory.
+/// A `Vec`, seen by contracts as the list of its elements. `From` makes it from a `Vec` and gives the `Vec` back, without
+/// an allocation.
+///
+/// <!-- snippet crates/plural_reference_tests/src/tests/trees.rt:
+/// example "let list = RangeList" to "holds!(rt; list.0[1]" of fn lists_of_a_tree_are_read_like_a_vec -->
+/// ```
+/// let list = RangeList(vec![in alloc;
+///     RangeListItem::Range(Value(3), Value(4)),
+///     RangeListItem::Value(Value(9)),
+/// ]?
+/// .into());
+/// assert!(rt; list.0.len() == 2 && !list.0.is_empty());
+/// assert!(rt; list.0[1] == RangeListItem::Value(Value(9)));
+/// ```
 #[derive(Debug, Drop)]
 pub struct Sequence<T>(pub Vec<T>);
 
@@ -57,7 +70,7 @@ impl<T> From<Sequence<T>> for Vec<T> {
 }
 
 impl<T> Sequence<T> {
-    /// The elements.
+    /// Returns the elements.
     #[inline]
     pub fn as_slice(&self) -> &[T]
         ensures { result.now ≡ self.now }
@@ -65,7 +78,7 @@ impl<T> Sequence<T> {
         self.0.as_slice()
     }
 
-    /// How many elements there are.
+    /// Returns the number of elements.
     #[inline]
     pub fn len(&self) -> usize
         ensures { result ≡ length self.now }
@@ -73,7 +86,7 @@ impl<T> Sequence<T> {
         self.0.len()
     }
 
-    /// Whether there is no element.
+    /// Returns whether the list has no element.
     #[inline]
     pub fn is_empty(&self) -> bool
         ensures { result ≡ (length self.now == 0) }
@@ -81,7 +94,7 @@ impl<T> Sequence<T> {
         self.0.is_empty()
     }
 
-    /// The element at a place, counted from 0.
+    /// Returns the element at a place, counted from 0.
     #[inline]
     pub fn get(&self, index: usize) -> Option<&T>
         ensures { option_copied result ≡ slice_get self.now index }
@@ -89,7 +102,7 @@ impl<T> Sequence<T> {
         self.as_slice().get(index)
     }
 
-    /// The elements, from the first one on.
+    /// Returns the elements, from the first one on.
     #[inline]
     pub fn iter(&self) -> Iter<'_, T>
         ensures rest { iter_rest result ≡ self.now }
@@ -100,7 +113,7 @@ impl<T> Sequence<T> {
     }
 }
 
-/// The element at a place, counted from 0. The place is one of the list.
+/// The element at a place of the list, counted from 0.
 impl<T> Index<usize> for Sequence<T> {
     type Output = T;
 

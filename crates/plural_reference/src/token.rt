@@ -11,7 +11,7 @@ pub enum Token {
     Operator(ast::Operator),
     /// A run of digits that begins with 1 to 9, of a value from 1 to 4294967295.
     Number(u32),
-    /// The digit `0` where no number goes on.
+    /// The digit `0`, unless it continues a number.
     Zero,
     /// `.`.
     Dot,

@@ -1,4 +1,4 @@
-//! What no clause says: worked values, printed texts, refusing writers, refused growth.
+//! What no clause says: worked values, printed texts, writers that refuse, allocations that fail.
 
 mod assertion;
 mod errors;

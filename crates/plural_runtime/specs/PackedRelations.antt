@@ -14,7 +14,7 @@ use Rattle.plural_runtime.specs.declared.error.RuleBytesError.{RuleBytesError}
 use Rattle.plural_runtime.specs.declared.error.RuleBytesError.TheVariants as errors
 use Rattle.std.specs.Cmp.Lexicographic.{pointwise}
 
--- a relation of a packed rule: how it is joined to the one before it, and what it says
+-- a relation of a packed rule: how it is joined to the previous one, and what it says
 pub record PackedRelation : Type 0 where
   pub and_or : AndOr
   pub meaning : RelationMeaning
@@ -34,7 +34,7 @@ abbrev pub cut_before : AndOr → List (List PackedRelation) → List (List Pack
 cut_before And groups = groups
 cut_before Or groups = [] ∷ groups
 
--- the relations cut before each one marked Or: the first group is what stands before the first of these, and may be empty
+-- the relations cut before each one marked Or: the first group is what is before the first of these, and may be empty
 abbrev pub groups : List PackedRelation → List (List PackedRelation)
 groups [] = [] ∷ []
 groups (relation ∷ relations) = cut_before relation.and_or (at_front relation (groups relations))
@@ -93,7 +93,7 @@ pub record RuleBytes (relations : List PackedRelation) (bytes : List ℕ) : Type
 
 -- ---- What is wrong with the items of a packed list that is no rule.
 
--- so many bytes are whole ranges
+-- a count of bytes is that of whole ranges
 abbrev pub is_whole : ℕ → Bool
 is_whole n = n % range_length == 0
 
@@ -115,12 +115,12 @@ abbrev pub or_else : Option RuleBytesError → Option RuleBytesError → Option 
 or_else None other = other
 or_else (Some fault) other = Some fault
 
--- what is wrong with the first bad item, if there is one; the first item stands at the given place
+-- what is wrong with the first bad item, if there is one; the first item is at the given place
 abbrev pub first_relation_fault : ℕ → List (List ℕ) → Option RuleBytesError
 first_relation_fault place [] = None
 first_relation_fault place (item ∷ items) = or_else (relation_fault place item) (first_relation_fault (place + 1) items)
 
--- ---- When two packed relations are the same.
+-- ---- When two packed relations are equal.
 
 -- what a relation is made of, as numbers: its mark, its operator, its operand, its modulus and both ends of its ranges
 abbrev pub relation_numbers : PackedRelation → List ℕ
@@ -128,6 +128,6 @@ relation_numbers relation =
     and_or_bit relation.and_or ∷ operator_bit relation.meaning.operator ∷ operand_number relation.meaning.operand ∷ relation.meaning.modulus
     ∷ flat_map (λ range. range.0 ∷ range.1 ∷ []) relation.meaning.ranges
 
--- all of these are equal
+-- all of these numbers are equal
 abbrev pub is_same_relation : PackedRelation → PackedRelation → Bool
 is_same_relation relation other = pointwise nat_eq (relation_numbers relation) (relation_numbers other)

@@ -54,7 +54,7 @@ is_large_modulus (Some modulus) = is_large modulus
 abbrev pub is_large_relation : Relation → Bool
 is_large_relation relation = is_large_modulus relation.expression.modulus || list_any is_large_item relation.range_list.0
 
--- whether some value of a tree is
+-- whether some value of a tree is above what four bytes hold
 unfoldable pub has_large_value : Condition → Bool
 has_large_value condition = list_any (λ group. list_any is_large_relation group.0) condition.0
 
@@ -91,18 +91,18 @@ unpacked_groups (relation ∷ relations) = map (map unpacked_relation) (groups (
 unfoldable pub unpacked : List PackedRelation → Condition
 unpacked relations = condition_of_groups (unpacked_groups relations)
 
--- ---- Where a rule and its tree are true alike
+-- ---- When a rule and its tree are true alike
 
 -- a relation tests that n isn't in its list
 abbrev pub is_negated_n : Operator → Operand → Bool
 is_negated_n NotEq N = true
 is_negated_n _ _ = false
 
--- no relation does
+-- no relation of a rule does so
 abbrev pub has_no_negated_n : List PackedRelation → Bool
 has_no_negated_n relations = list_all (λ relation. not (is_negated_n relation.meaning.operator relation.meaning.operand)) relations
 
--- ---- What packing a tree answers.
+-- ---- The result of packing a tree.
 
 -- the relations of a tree, or why it can't be packed: a value above 32 bits anywhere in it, else a start above 65535
 unfoldable pub packing : Condition → Result (List PackedRelation) RuleError
@@ -110,6 +110,6 @@ packing condition =
     if has_large_value condition then Err (Parse ValueTooLarge)
     else (if has_high_start (map relation_bytes (packed condition)) then Err StartLimit else Ok (packed condition))
 
--- this is answered, or want of memory
+-- this is the result, or out of memory
 abbrev pub Packs : Condition → Result (List PackedRelation) RuleError → Type 0
 Packs condition result = (result ≡ packing condition) ⊎ (result ≡ Err Memory)

@@ -5,7 +5,7 @@ use Rattle.plural_reference.specs.Operands.{Operands}
 use Rattle.plural_reference.specs.Truth.{relation_truth, some_group, is_in_ranges, operand_value, remainder, RelationMeaning}
 use Rattle.plural_runtime.specs.PackedRelations.{PackedRelation, groups}
 
--- a relation is true: a modulus 0 is none, and a relation on n where w isn't 0 is in no list
+-- a relation is true: a modulus 0 is none, and n has no value if w isn't 0, and so is in no list
 abbrev pub is_true_at : Operands → PackedRelation → Bool
 is_true_at number relation = relation_truth number relation.meaning
 
@@ -32,7 +32,7 @@ with_earlier members = with_earlier_from [] members
 abbrev pub needed_of_list : List (ℕ × ℕ) → ℕ → ℕ
 needed_of_list ranges value = count_by (λ at. not (is_in_ranges at.0 value)) (with_earlier ranges)
 
--- without a value there are none
+-- without a value none is needed
 abbrev pub needed_of_value : List (ℕ × ℕ) → Option ℕ → ℕ
 needed_of_value ranges None = 0
 needed_of_value ranges (Some value) = needed_of_list ranges value

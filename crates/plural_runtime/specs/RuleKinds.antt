@@ -18,7 +18,7 @@ use Rattle.plural_runtime.specs.declared.first_byte.AndOrPolarityOperand.{AndOrP
 use Rattle.plural_runtime.specs.PackedRelations.{first_byte}
 use Rattle.plural_runtime.specs.PackedTree.{is_large_item}
 
--- the operator that a polarity stands for
+-- the operator of a polarity
 abbrev pub operator_of : Polarity → Operator
 operator_of Positive = Eq
 operator_of Negative = NotEq
@@ -62,7 +62,7 @@ abbrev pub item_of : RangeOrValue → RangeListItem
 item_of (Range start end) = items.Range (record { 0 = start }) (record { 0 = end })
 item_of (Value value) = items.Value (record { 0 = value })
 
--- an item of a tree is taken exactly if its values fit 32 bits
+-- an item of a tree is taken if and only if its values fit 32 bits
 abbrev pub ItemGives : RangeListItem → Result RangeOrValue ParseError → Type 0
 ItemGives item (Ok range) = IsFalse (is_large_item item) × (item_of range ≡ item)
 ItemGives item (Err fault) = IsTrue (is_large_item item) × (fault ≡ ValueTooLarge)

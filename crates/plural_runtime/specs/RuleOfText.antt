@@ -1,8 +1,8 @@
 -- What a text gives as a rule: the relations that its condition is packed to, or the reason why it gives none.
---     IsPackedFrom text answer      the text is read, and packing answers this
+--     IsPackedFrom text answer      the text is read, and this is the result of packing it
 --     TextGives text answer      the text gives this, by the grammar
 --     rule_of_text text      what the text gives, by a reader
--- The two say the same (`laws::texts_give_one_answer`).
+-- The last two agree (`laws::texts_give_one_answer`).
 use Rattle.std.specs.Prelude.{◌≡◌, ◌⊎◌, ◌↔◌, ℕ, List, Result, Ok, Err}
 use Rattle.plural_reference.specs.declared.ast.Condition.{Condition}
 use Rattle.plural_reference.specs.declared.error.ParseError.{ParseError}
@@ -14,21 +14,21 @@ use Rattle.plural_runtime.specs.declared.error.RuleError.TheVariants.{Parse}
 use Rattle.plural_runtime.specs.PackedRelations.{PackedRelation}
 use Rattle.plural_runtime.specs.PackedTree.{packing}
 
--- the text is read as a condition, and this is what packing it answers
+-- the text is read as a condition, and this is the result of packing it
 abbrev pub IsPackedFrom : List ℕ → Result (List PackedRelation) RuleError → Type 0
 IsPackedFrom text answer = (condition : Condition) × TextReads ReadsCondition text condition × (answer ≡ packing condition)
 
--- the same, or the text has this fault
+-- this is the result of packing the text, or the text has this fault
 abbrev pub TextGives : List ℕ → Result (List PackedRelation) RuleError → Type 0
 TextGives text answer = IsPackedFrom text answer ⊎ ((kind : ParseError) × TextFaulty FaultyRule text kind × (answer ≡ Err (Parse kind)))
 
--- ---- The same as a function
+-- ---- By a function
 
--- the relations of a rule, or why there is none
+-- the relations of a rule, or why the text gives none
 abbrev pub RuleAnswer : Type 0
 RuleAnswer = Result (List PackedRelation) RuleError
 
--- what packing answers of the condition that was read; else the fault
+-- the result of packing the condition that was read; otherwise the fault
 abbrev pub packing_of : Result Condition ParseError → RuleAnswer
 packing_of (Ok condition) = packing condition
 packing_of (Err kind) = Err (Parse kind)
@@ -37,6 +37,6 @@ packing_of (Err kind) = Err (Parse kind)
 unfoldable pub rule_of_text : List ℕ → RuleAnswer
 rule_of_text text = packing_of (condition_of_text text)
 
--- every text gives one answer, and no other: that of the function
+-- every text gives exactly one result: that of the function
 abbrev pub TextsGiveOneAnswer : Type 0
 TextsGiveOneAnswer = (text : List ℕ) (answer : RuleAnswer) → TextGives text answer ↔ (answer ≡ rule_of_text text)

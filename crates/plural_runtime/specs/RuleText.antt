@@ -15,7 +15,7 @@ use Rattle.plural_reference.specs.Lexer.{TextReads}
 use Rattle.plural_reference.specs.Samples.{ReadsRule}
 use Rattle.plural_runtime.specs.PackedTree.{unpacked, packing}
 
--- what stands before a relation, which may be the first
+-- the text before a relation, which may be the first
 abbrev pub mark_text : Bool → AndOr → List ℕ
 mark_text is_first Or = codes " or "
 mark_text is_first And = if is_first then [] else codes " and "
@@ -37,7 +37,7 @@ ranges_shown ranges = joined (codes ", ") (λ range. range_shown (range_or_value
 abbrev pub relation_shown : RelationMeaning → List ℕ
 relation_shown relation = (operand_text relation.operand ++ modulus_text relation.modulus) ++ (operator_shown relation.operator ++ ranges_shown relation.ranges)
 
--- the relations behind the first one
+-- the relations after the first one
 abbrev pub others_shown : List PackedRelation → List ℕ
 others_shown [] = []
 others_shown (relation ∷ relations) = (mark_text false relation.and_or ++ relation_shown relation.meaning) ++ others_shown relations
@@ -48,7 +48,8 @@ relations_shown (relation ∷ relations) = (mark_text true relation.and_or ++ re
 
 -- ---- Rules that are packed from texts, printed and packed again.
 
--- of a rule that is read from a text and packs, the text that is printed is read as the tree of the packed rule, and that tree packs to the same relations
+-- if a rule that is read from a text packs, its printed text is read as the tree of the packed rule, and that tree packs to
+-- the same relations
 abbrev pub PrintedRulesPackAgain : Type 0
 PrintedRulesPackAgain = (text : List ℕ) (rule : TreeRule) (relations : List PackedRelation) → TextReads ReadsRule text rule → packing rule.condition ≡ Ok relations →
     TextReads ReadsRule (condition_text (unpacked relations)) (record { condition = unpacked relations; samples = None }) × (packing (unpacked relations) ≡ Ok relations)

@@ -14,7 +14,7 @@ use crate::relation::Relation;
 use crate::rule::Rule;
 use std::fmt;
 
-/// The text of the rule's tree, as `n % 10 = 3..4, 9 and n % 100 != 10..19 or n = 0`. It takes no memory.
+/// The text of the rule's tree, as `n % 10 = 3..4, 9 and n % 100 != 10..19 or n = 0`. It allocates nothing.
 ///
 /// A rule without relations has the empty text; one whose first relation is marked Or begins with ` or `.
 impl<'data> fmt::Display for Rule<'data> {
@@ -41,7 +41,7 @@ fn write_relations<W: fmt::Write>(rule: &Rule<'_>, f: &mut fmt::Formatter<W>) ->
     Ok(())
 }
 
-// Prints a relation, and before it what joins it to the one before.
+// Prints a relation, and before it the word that joins it to the previous one.
 fn write_next<W: fmt::Write>(
     is_first: bool,
     relation: &Relation<'_>,
@@ -54,7 +54,7 @@ fn write_next<W: fmt::Write>(
     write_relation(relation, f)
 }
 
-// What joins a relation to the one before.
+// What joins a relation to the previous one.
 fn mark(is_first: bool, and_or: AndOr) -> &'static str
     ensures { result.now ≡ mark_text is_first and_or }
 {
@@ -72,7 +72,7 @@ fn write_relation<W: fmt::Write>(relation: &Relation<'_>, f: &mut fmt::Formatter
     write_list(relation, f)
 }
 
-// Prints an operand, and a modulus where it isn't 0.
+// Prints an operand, and a modulus unless it is 0.
 fn write_expression<W: fmt::Write>(
     operand: Operand,
     modulo: u32,
@@ -84,7 +84,7 @@ fn write_expression<W: fmt::Write>(
     write_modulus(modulo, f)
 }
 
-// Prints a modulus where it isn't 0.
+// Prints a modulus unless it is 0.
 fn write_modulus<W: fmt::Write>(modulo: u32, f: &mut fmt::Formatter<W>) -> fmt::Result
     ensures { DisplaysOnOk W.write_str_gives f.old result (Some (modulus_text modulo)) f.new }
 {
@@ -113,7 +113,7 @@ fn write_sign<W: fmt::Write>(polarity: Polarity, f: &mut fmt::Formatter<W>) -> f
     f.write_str(" ")
 }
 
-// Prints the ranges of a relation with a comma between each two.
+// Prints the ranges of a relation with commas between them.
 fn write_ranges<W: fmt::Write>(relation: &Relation<'_>, f: &mut fmt::Formatter<W>) -> fmt::Result
     ensures { DisplaysOnOk W.write_str_gives f.old result (Some (ranges_shown (lent_relation relation.now).meaning.ranges)) f.new }
 {
@@ -125,7 +125,7 @@ fn write_ranges<W: fmt::Write>(relation: &Relation<'_>, f: &mut fmt::Formatter<W
     Ok(())
 }
 
-// Prints a range, and a comma before it if it isn't the first.
+// Prints a range, and a comma before it unless it is the first.
 fn write_next_range<W: fmt::Write>(
     is_first: bool,
     range: RangeOrValue,

@@ -10,7 +10,7 @@ use std::fmt;
 pub enum RuleBytesError {
     /// They are no packed list.
     List(ListError),
-    /// The length of the item at this place isn't 5 and a multiple of 8.
+    /// The length of the item at this place isn't 5 plus a multiple of 8.
     ItemLength(usize),
     /// The first byte of the item at this place names no operand.
     Operand(usize),
@@ -38,9 +38,9 @@ impl Error for RuleBytesError {}
 pub enum RuleError {
     /// The text is no rule, or a value of the tree is above 4294967295 (`ParseError::ValueTooLarge`).
     Parse(ParseError),
-    /// A relation would start behind place 65535 of the data.
+    /// A relation would start after place 65535 of the data.
     StartLimit,
-    /// There is no memory for the bytes.
+    /// The bytes can't be allocated.
     Memory,
 }
 

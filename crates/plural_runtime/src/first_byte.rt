@@ -6,20 +6,34 @@ ghost use Rattle.plural_runtime.specs.Inner.RuleReading.{and_or_in, operand_in, 
 
 use crate::kinds::{AndOr, Operand, Polarity};
 
-/// What a relation's first byte says: bit 7 is 1 for And, bit 6 is 1 for Positive, and bits 0 to 5 number
-/// the operand, from 0 for N to 7 for E.
+/// The meaning of a relation's first byte: bit 7 is 1 for And, bit 6 is 1 for Positive, and bits 0 to 5
+/// number the operand, from 0 for N to 7 for E.
+///
+/// <!-- snippet crates/plural_runtime_tests/src/tests/kinds.rt:
+/// example "let parts"
+/// to "holds!(rt; AndOrPolarityOperand::from_unaligned(0xc8)" of fn first_bytes_and_ranges_have_their_layout -->
+/// ```
+/// let parts = AndOrPolarityOperand {
+///     and_or: AndOr::And,
+///     polarity: Polarity::Positive,
+///     operand: Operand::N,
+/// };
+/// assert!(rt; parts.to_unaligned() == 0xc0);
+/// assert!(rt; AndOrPolarityOperand::from_unaligned(0xc0) == Some(parts));
+/// assert!(rt; AndOrPolarityOperand::from_unaligned(0xc8) == None);
+/// ```
 #[derive(Clone, Copy, Debug, PartialEq, Eq)]
 pub struct AndOrPolarityOperand {
-    /// How the relation is joined to the one before it.
+    /// How the relation is joined to the previous one.
     pub and_or: AndOr,
-    /// Whether the value is to be in the list.
+    /// Whether the value has to be in the list.
     pub polarity: Polarity,
-    /// What of a number it looks at.
+    /// Which operand it tests.
     pub operand: Operand,
 }
 
 impl AndOrPolarityOperand {
-    /// The three as one byte.
+    /// Returns the three as one byte.
     pub fn to_unaligned(self) -> u8
         ensures { result ≡ byte_of self }
     {
@@ -34,7 +48,7 @@ impl AndOrPolarityOperand {
         and_or + polarity + self.operand as u8
     }
 
-    /// The three of a byte, where its bits 0 to 5 number an operand.
+    /// Returns the three of a byte, or `None` unless its bits 0 to 5 number an operand.
     pub fn from_unaligned(byte: u8) -> Option<AndOrPolarityOperand>
         ensures parts { IfSome result (λ parts. byte ≡ byte_of parts) }
         ensures found { (parts : AndOrPolarityOperand) → byte ≡ byte_of parts → result ≡ Some parts }
@@ -48,7 +62,7 @@ impl AndOrPolarityOperand {
     }
 }
 
-// What bit 7 of a byte says.
+// The meaning of bit 7 of a byte.
 #[inline]
 pub(crate) fn and_or_of(byte: u8) -> AndOr
     ensures { result ≡ and_or_in byte }
@@ -56,7 +70,7 @@ pub(crate) fn and_or_of(byte: u8) -> AndOr
     if byte < 128 { AndOr::Or } else { AndOr::And }
 }
 
-// What bit 6 says.
+// The meaning of bit 6.
 #[inline]
 pub(crate) fn polarity_of(byte: u8) -> Polarity
     ensures { operator_of result ≡ operator_in byte }
@@ -68,7 +82,7 @@ pub(crate) fn polarity_of(byte: u8) -> Polarity
     }
 }
 
-// What bits 0 to 5 say.
+// The meaning of bits 0 to 5.
 #[inline]
 pub(crate) fn operand_of(byte: u8) -> Option<Operand>
     ensures operand { option_map tree_operand_of result ≡ operand_in byte }

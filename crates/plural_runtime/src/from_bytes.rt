@@ -12,11 +12,27 @@ use packed_list::laws::{item_bytes, read_again};
 use packed_list::{ListError, PackedList};
 
 impl<'data> Rule<'data> {
-    /// Reads bytes as a rule. It takes no memory.
+    /// Reads bytes as a rule. It allocates nothing.
     ///
-    /// Refused are bytes that are no packed list ([`RuleBytesError::List`]), else the first bad item: its
-    /// length isn't 5 and a multiple of 8 ([`RuleBytesError::ItemLength`]), or its first byte names no operand
-    /// ([`RuleBytesError::Operand`]).
+    /// The error is that the bytes are no packed list ([`RuleBytesError::List`]), or the fault of the first bad
+    /// item: its length isn't 5 plus a multiple of 8 ([`RuleBytesError::ItemLength`]), or its first byte names
+    /// no operand ([`RuleBytesError::Operand`]).
+    ///
+    /// Rows of refused bytes and their fault:
+    ///
+    /// <!-- snippet crates/plural_runtime_tests/src/tests/bytes.rt:
+    /// example "(b"\x01\0", RuleBytesError" to "(b"\x01\0\xc8" of fn refuses_hostile_bytes; example "for (bytes"
+    /// to "}" of fn refuses_hostile_bytes -->
+    /// ```
+    /// (b"\x01\0", RuleBytesError::ItemLength(0)),
+    /// (b"\x03\0\x02\0\x02\0abcd", RuleBytesError::ItemLength(0)),
+    /// (b"\x01\0\xc8\0\0\0\0", RuleBytesError::Operand(0)),
+    ///
+    /// for (bytes, fault) in rows {
+    ///     let refused = Rule::parse_bytes(bytes);
+    ///     assert!(rt; matches!(refused, Err(found) if found == fault));
+    /// }
+    /// ```
     pub fn parse_bytes(bytes: &'data [u8]) -> Result<Rule<'data>, RuleBytesError>
         ensures ok { IfOk result (λ rule. RuleBytes rule bytes.now) }
         ensures accepted { (relations : List PackedRelation) → RuleBytes relations bytes.now → result ≡ Ok relations }

@@ -13,12 +13,19 @@ use std::alloc::Global;
 impl Rule<'static> {
     /// Reads a text as a rule, and packs its condition (UTS 35 Part 3, Plural Rules Syntax).
     ///
-    /// The samples are checked and left out: a fault in them refuses the text too. What `parse` refuses is
-    /// [`RuleError::Parse`] with its fault; [`RuleError::StartLimit`] and [`RuleError::Memory`] are those of
-    /// [`Rule::try_from`].
+    /// The samples are checked and left out: a fault in them refuses the text too. The error is
+    /// [`RuleError::Parse`] with the fault that `parse` finds, or [`RuleError::StartLimit`] or
+    /// [`RuleError::Memory`] as of [`Rule::try_from`].
+    ///
+    /// <!-- snippet crates/plural_runtime_tests/src/tests/kinds.rt:
+    /// example "let rule" to "holds!" of fn a_simple_rule_is_one_relation -->
+    /// ```
+    /// let rule = Rule::from_str(alloc, "i = 1")?;
+    /// assert!(rt; rule.len() == 1);
+    /// ```
     pub fn from_str(alloc: Global, text: &str) -> Result<Rule<'static>, RuleError>
         ensures gives { TextGives text.now result ⊎ (result ≡ Err RuleError.Memory) }
-        // The values of a text fit: this fault is one of trees made by hand.
+        // The values of a text fit: only trees made by hand have this fault.
         ensures fits { result ≢ Err (RuleError.Parse ParseError.ValueTooLarge) }
     {
         one_list_of_tokens();

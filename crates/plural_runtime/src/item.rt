@@ -14,7 +14,7 @@ pub(crate) const HEAD_LENGTH: usize = 5;
 // How many bytes a range has: both its ends.
 pub(crate) const RANGE_LENGTH: usize = 8;
 
-// How the relation of an item is joined to the one before it.
+// How the relation of an item is joined to the previous one.
 #[inline]
 #[tactic(auto, unfolding(crate::specs::Inner::RuleReading::relation_in))]
 pub(crate) fn and_or_at(item: &[u8]) -> AndOr
@@ -24,7 +24,7 @@ pub(crate) fn and_or_at(item: &[u8]) -> AndOr
     and_or_of(item[0])
 }
 
-// Whether the value is to be in the list of an item.
+// Whether the value has to be in the list of an item.
 #[inline]
 #[tactic(auto, unfolding(crate::specs::Inner::RuleReading::relation_in))]
 pub(crate) fn polarity_at(item: &[u8]) -> Polarity
@@ -34,7 +34,7 @@ pub(crate) fn polarity_at(item: &[u8]) -> Polarity
     polarity_of(item[0])
 }
 
-// What of a number the relation of an item looks at.
+// Which operand the relation of an item tests.
 #[inline]
 #[tactic(auto, unfolding(crate::specs::Inner::RuleReading::relation_in))]
 pub(crate) fn operand_at(item: &[u8]) -> Operand

@@ -7,16 +7,16 @@ ghost use Rattle.plural_runtime.specs.PackedTree.{unpacked_modulus};
 
 use plural_reference::ast;
 
-/// How a relation is joined to the one before it.
+/// How a relation is joined to the previous one.
 #[derive(Clone, Copy, Debug, PartialEq, Eq)]
 pub enum AndOr {
     /// It begins a new group.
     Or,
-    /// It goes on in the group of the one before it.
+    /// It continues the group of the previous one.
     And,
 }
 
-/// Whether the value is to be in the list (`=`) or outside it (`!=`).
+/// Whether the value has to be in the list (`=`) or outside it (`!=`).
 #[derive(Clone, Copy, Debug, PartialEq, Eq)]
 pub enum Polarity {
     /// Outside the list.
@@ -25,7 +25,7 @@ pub enum Polarity {
     Positive,
 }
 
-/// What of a number a relation looks at (UTS 35 Part 3, Plural Operand Meanings).
+/// What a relation tests of a number (UTS 35 Part 3, Plural Operand Meanings).
 #[derive(Clone, Copy, Debug, PartialEq, Eq)]
 pub enum Operand {
     /// The absolute value.
@@ -34,11 +34,11 @@ pub enum Operand {
     I,
     /// How many fraction digits are visible.
     V,
-    /// How many of them there are without trailing zeros.
+    /// How many fraction digits are visible, without trailing zeros.
     W,
     /// The visible fraction digits as a number.
     F,
-    /// The same without trailing zeros.
+    /// The visible fraction digits as a number, without trailing zeros.
     T,
     /// The compact exponent.
     C,
@@ -105,7 +105,7 @@ impl From<Operand> for ast::Operand {
 }
 
 impl Polarity {
-    // Its operator as it is written.
+    // Returns its operator as it is written.
     #[inline]
     pub(crate) fn as_str(self) -> &'static str
         ensures { result.now ≡ operator_text (operator_of self) }
@@ -115,7 +115,7 @@ impl Polarity {
 }
 
 impl Operand {
-    // Its letter as it is written.
+    // Returns its letter as it is written.
     #[inline]
     pub(crate) fn as_str(self) -> &'static str
         ensures { result.now ≡ operand_text (tree_operand_of self) }
@@ -123,7 +123,16 @@ impl Operand {
         ast::Operand::from(self).as_str()
     }
 
-    /// The expression of the operand, with the modulus where it isn't 0.
+    /// Returns the expression of the operand, with the modulus unless it is 0.
+    ///
+    /// <!-- snippet crates/plural_runtime_tests/src/tests/kinds.rt:
+    /// example "let plain" to "holds!(rt; reduced" of fn a_modulus_0_is_none -->
+    /// ```
+    /// let plain = Operand::I.with_modulo(0);
+    /// assert!(rt; plain.operand == ast::Operand::I && plain.modulus == None);
+    /// let reduced = Operand::I.with_modulo(10);
+    /// assert!(rt; reduced.modulus == Some(ast::Value(10)));
+    /// ```
     pub fn with_modulo(self, modulo: u32) -> ast::Expression
         ensures operand { result.operand ≡ tree_operand_of self }
         ensures modulus { result.modulus ≡ unpacked_modulus modulo }

@@ -16,7 +16,7 @@ use plural_reference::laws::printing::{
 };
 use plural_reference::laws::reading::texts_are_read;
 
-/// Rules are the same bytes exactly if they are the same relations.
+/// Rules have the same bytes if and only if they have the same relations.
 pub fn one_encoding()
     ensures { (relations others : List PackedRelation) (a b : List ℕ) → RuleBytes relations a → RuleBytes others b
         → (a ≡ b) ↔ (relations ≡ others) }
@@ -24,7 +24,7 @@ pub fn one_encoding()
     read_again();
 }
 
-/// What the reader of bytes gives is the rule that they are packed from.
+/// The reader of bytes gives the rule that they are packed from.
 pub fn relations_read_again()
     ensures { (relations : List PackedRelation) (bytes : List ℕ) → RuleBytes relations bytes → relations_in bytes ≡ relations }
 {
@@ -36,19 +36,19 @@ pub fn packs_again()
     ensures { (relations : List PackedRelation) → packed (unpacked relations) ≡ relations }
 {}
 
-/// No more ranges are needed than there are.
+/// At most all ranges are needed.
 pub fn at_most_all()
     ensures { (number : Operands) (relations : List PackedRelation) → needed_ranges number relations ≤ range_count relations }
 {}
 
-/// A rule is true exactly where its tree is, if the fraction is zero or no relation tests `n` with `!=`.
+/// A rule is true if and only if its tree is, provided that the fraction is zero or no relation tests `n` with `!=`.
 pub fn truths_agree()
     ensures { (number : Operands) (relations : List PackedRelation) → (number.w ≡ 0) ⊎ IsTrue (has_no_negated_n relations)
         → tree_truth number (unpacked relations) ≡ packed_truth number relations }
 {}
 
-/// A rule that is packed from a text, printed, read and packed again is the same: the text that is printed is read as the
-/// tree of the rule, and that tree packs to its relations. Equal relations are equal bytes ([`one_encoding`]).
+/// A rule that is packed from a text, printed, read and packed again is the same: the printed text is read as the tree of
+/// the rule, and that tree packs to its relations. Equal relations have equal bytes ([`one_encoding`]).
 pub fn printed_rules_pack_again()
     ensures { PrintedRulesPackAgain }
 {
@@ -56,8 +56,8 @@ pub fn printed_rules_pack_again()
     spellable_conditions_print_back();
 }
 
-/// Every text gives one answer as a rule, and no other: the relations that its condition is packed to, or the reason why it
-/// gives none. It is a function of the text.
+/// Every text gives exactly one result as a rule: the relations that its condition is packed to, or the reason why it gives
+/// none. It is a function of the text.
 pub fn texts_give_one_answer()
     ensures { TextsGiveOneAnswer }
 {

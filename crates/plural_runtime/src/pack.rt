@@ -18,12 +18,20 @@ impl Rule<'static> {
     /// Packs a tree. Its samples are left out.
     ///
     /// The first relation of each and-condition after the first place is marked Or, all others And. An empty
-    /// and-condition after the first place vanishes, and a modulus that isn't there is 0.
+    /// and-condition after the first place vanishes, and an absent modulus is 0.
     ///
-    /// Refused are a value above 4294967295 anywhere in the tree ([`RuleError::Parse`] of
-    /// `ParseError::ValueTooLarge`), else a relation that would start behind place 65535
-    /// ([`RuleError::StartLimit`]), as where there are more than 65535; want of memory is
-    /// [`RuleError::Memory`].
+    /// The errors: a value above 4294967295 anywhere in the tree ([`RuleError::Parse`] of
+    /// `ParseError::ValueTooLarge`), otherwise a relation that would start after place 65535
+    /// ([`RuleError::StartLimit`]), as one of more than 65535 relations does; out of memory
+    /// ([`RuleError::Memory`]).
+    ///
+    /// <!-- snippet crates/plural_runtime_tests/src/tests/bytes.rt:
+    /// example "let tree" to "holds!" of fn prints_a_last_relation_without_ranges -->
+    /// ```
+    /// let tree = rule.to_ast(alloc)?;
+    /// let again = Rule::try_from(alloc, &tree)?;
+    /// assert!(rt; again == rule);
+    /// ```
     pub fn try_from(alloc: Global, rule: &ast::Rule) -> Result<Rule<'static>, RuleError>
         ensures packs { Packs rule.now.condition result }
         ensures value_too_large { (result ≡ Err (RuleError.Parse ParseError.ValueTooLarge)) ↔ IsTrue (has_large_value rule.now.condition) }
@@ -69,7 +77,7 @@ fn has_large_value(condition: &ast::Condition) -> bool
         .any(|group| has_large_relation(group))
 }
 
-// The same of an and-condition.
+// Whether some value of an and-condition is.
 fn has_large_relation(group: &ast::AndCondition) -> bool
     ensures { result ≡ list_any is_large_relation group.now.0 }
 {
@@ -80,14 +88,14 @@ fn has_large_relation(group: &ast::AndCondition) -> bool
         .any(|relation| is_large_relation(relation))
 }
 
-// The same of a relation.
+// Whether some value of a relation is.
 fn is_large_relation(relation: &ast::Relation) -> bool
     ensures { result ≡ is_large_relation relation.now }
 {
     is_large_modulus(&relation.expression) || has_large_item(&relation.range_list)
 }
 
-// The same of an expression.
+// Whether the modulus of an expression is.
 fn is_large_modulus(expression: &ast::Expression) -> bool
     ensures { result ≡ is_large_modulus expression.now.modulus }
 {
@@ -97,14 +105,14 @@ fn is_large_modulus(expression: &ast::Expression) -> bool
     }
 }
 
-// The same of a list of ranges.
+// Whether some value of a list of ranges is.
 fn has_large_item(list: &ast::RangeList) -> bool
     ensures { result ≡ list_any is_large_item list.now.0 }
 {
     list.0.as_slice().iter().any(|item| is_large_item(item))
 }
 
-// The same of a range.
+// Whether an end of a range is.
 fn is_large_item(item: &ast::RangeListItem) -> bool
     ensures { result ≡ is_large_item item.now }
 {
@@ -121,8 +129,8 @@ fn is_large(value: &ast::Value) -> bool
     value.0 > 4294967295
 }
 
-// The relations of a tree as a list that can be packed, if none of them starts after place 65535. Where there are more
-// than 65535 of them, one does.
+// The relations of a tree as a list that can be packed, if none of them starts after place 65535. If they are more than
+// 65535, one does.
 fn list_of(condition: &ast::Condition) -> Option<ListWriter<TreeRelations<'_>>>
     ensures ok { IfSome result (λ list. list ≡ map relation_bytes (packed condition.now)) }
     ensures low { IfSome result (λ _. IsFalse (has_high_start (map relation_bytes (packed condition.now)))) }

@@ -8,6 +8,15 @@ ghost use Rattle.plural_runtime.specs.RuleKinds.{ends, item_of, ItemGives, range
 use plural_reference::{ParseError, ast};
 
 /// A range of values with both its ends, or one value. A range whose start is above its end holds nothing.
+///
+/// <!-- snippet crates/plural_runtime_tests/src/tests/kinds.rt:
+/// example "let equal_ends" to "holds!(rt; RangeOrValue" of fn ranges_are_those_of_trees -->
+/// ```
+/// let equal_ends = RangeOrValue::Range(2, 2);
+/// let item = ast::RangeListItem::from(equal_ends);
+/// assert!(rt; item == ast::RangeListItem::Range(ast::Value(2), ast::Value(2)));
+/// assert!(rt; RangeOrValue::try_from(&item) == Ok(equal_ends));
+/// ```
 #[derive(Clone, Copy, Debug, PartialEq, Eq)]
 pub enum RangeOrValue {
     /// From the first value to the second one, both included.
@@ -29,7 +38,7 @@ impl From<RangeOrValue> for ast::RangeListItem {
     }
 }
 
-/// Refused with `ParseError::ValueTooLarge` is an item with a value above 4294967295.
+/// `ParseError::ValueTooLarge` for an item with a value above 4294967295.
 impl<'a> TryFrom<&'a ast::RangeListItem> for RangeOrValue {
     type Error = ParseError;
 
@@ -46,7 +55,7 @@ impl<'a> TryFrom<&'a ast::RangeListItem> for RangeOrValue {
 }
 
 impl RangeOrValue {
-    /// Both ends as four bytes each, low byte first. Those of a value are equal.
+    /// Returns both ends as four bytes each, low byte first. Those of a value are equal.
     pub fn to_unaligned(self) -> [u8; 8]
         ensures { result ≡ range_bytes (ends self) }
     {
@@ -59,7 +68,7 @@ impl RangeOrValue {
         [a, b, c, d, e, f, g, h]
     }
 
-    /// The range of two ends of four bytes each, low byte first, or the value where they are equal.
+    /// Returns the range of two ends of four bytes each, low byte first, or the value if they are equal.
     pub fn from_unaligned(bytes: [u8; 8]) -> RangeOrValue
         ensures bytes { range_bytes (ends result) ≡ bytes }
         ensures value { result ≡ range_or_value (ends result) }
@@ -69,7 +78,7 @@ impl RangeOrValue {
     }
 }
 
-// Read for the proof alone: eight bytes are those of the range that they hold.
+// Only for the proof: eight bytes are those of the range that they hold.
 fn spelled(bytes: &[u8])
     requires { length bytes.now ≡ range_length }
     ensures { range_bytes (range_in bytes.now) ≡ bytes.now }

@@ -32,7 +32,7 @@ impl<'a> Model for Ranges<'a> {
 }
 
 impl<'a> Ranges<'a> {
-    // The ranges that stand in bytes.
+    // The ranges that bytes hold.
     #[inline]
     pub(crate) fn of(bytes: &'a [u8]) -> Ranges<'a>
         requires { IsTrue (is_whole (length bytes.now)) }

@@ -18,8 +18,20 @@ pub struct RelationULE<'a> {
     ghost checked: { IsTrue (is_relation bytes.now) },
 }
 
-/// A relation, with its ranges lent from the bytes of an item. Relations are equal if their mark, polarity, operand,
-/// modulus and ranges are.
+/// A relation, with its ranges borrowed from the bytes of an item. Relations are equal if their mark, polarity,
+/// operand, modulus and ranges are.
+///
+/// <!-- snippet crates/plural_runtime_tests/src/tests/kinds.rt:
+/// example "let relation = item" to "holds!(rt; relation.range(0)" of fn a_simple_rule_is_one_relation -->
+/// ```
+/// let relation = item.as_relation();
+/// assert!(rt; relation.and_or() == AndOr::And);
+/// assert!(rt; relation.polarity() == Polarity::Positive);
+/// assert!(rt; relation.operand() == Operand::I);
+/// assert!(rt; relation.modulo() == 0);
+/// assert!(rt; relation.len() == 1);
+/// assert!(rt; relation.range(0) == Some(RangeOrValue::Value(1)));
+/// ```
 #[derive(Clone, Copy, Debug)]
 pub struct Relation<'a> {
     kind: AndOrPolarityOperand,
@@ -43,7 +55,7 @@ impl<'a> RelationULE<'a> {
         RelationULE { bytes }
     }
 
-    /// The bytes of the item: the first byte, the modulus and the ranges.
+    /// Returns the bytes of the item: the first byte, the modulus and the ranges.
     #[inline]
     pub fn as_bytes(&self) -> &'a [u8]
         ensures { result.now ≡ relation_bytes (item_relation self.now) }
@@ -51,7 +63,7 @@ impl<'a> RelationULE<'a> {
         spelled(self.bytes)
     }
 
-    /// The relation that the bytes hold.
+    /// Returns the relation that the bytes hold.
     #[inline]
     pub fn as_relation(&self) -> Relation<'a>
         ensures { lent_relation result ≡ item_relation self.now }
@@ -74,7 +86,7 @@ impl<'a> Relation<'a> {
     ghost use Rattle.plural_runtime.specs.RuleKinds.{operator_of, range_or_value, tree_operand_of};
     ghost use Rattle.plural_runtime.specs.Inner.RuleViews.{lent_relation};
 
-    /// How it is joined to the one before it.
+    /// Returns how it is joined to the previous one.
     #[inline]
     pub fn and_or(&self) -> AndOr
         ensures { result ≡ (lent_relation self.now).and_or }
@@ -82,7 +94,7 @@ impl<'a> Relation<'a> {
         self.kind.and_or
     }
 
-    /// Whether the value is to be in the list.
+    /// Returns whether the value has to be in the list.
     #[inline]
     pub fn polarity(&self) -> Polarity
         ensures { operator_of result ≡ (lent_relation self.now).meaning.operator }
@@ -90,7 +102,7 @@ impl<'a> Relation<'a> {
         self.kind.polarity
     }
 
-    /// What of a number it looks at.
+    /// Returns which operand it tests.
     #[inline]
     pub fn operand(&self) -> Operand
         ensures { tree_operand_of result ≡ (lent_relation self.now).meaning.operand }
@@ -98,7 +110,7 @@ impl<'a> Relation<'a> {
         self.kind.operand
     }
 
-    /// The modulus, or 0 where there is none.
+    /// Returns the modulus, or 0 if there is none.
     #[inline]
     pub fn modulo(&self) -> u32
         ensures { result ≡ (lent_relation self.now).meaning.modulus }
@@ -106,7 +118,7 @@ impl<'a> Relation<'a> {
         self.modulo
     }
 
-    /// How many ranges it has.
+    /// Returns the number of ranges.
     #[inline]
     pub fn len(&self) -> usize
         ensures { result ≡ length (lent_relation self.now).meaning.ranges }
@@ -114,7 +126,7 @@ impl<'a> Relation<'a> {
         self.ranges.len() / RANGE_LENGTH
     }
 
-    /// Whether it has no range.
+    /// Returns whether it has no range.
     #[inline]
     pub fn is_empty(&self) -> bool
         ensures { result ≡ (length (lent_relation self.now).meaning.ranges == 0) }
@@ -122,7 +134,7 @@ impl<'a> Relation<'a> {
         self.len() == 0
     }
 
-    /// The range at a place. Equal ends are a value.
+    /// Returns the range at a place. Equal ends are a value.
     #[inline]
     pub fn range(&self, index: usize) -> Option<RangeOrValue>
         ensures { result ≡ option_map range_or_value (slice_get (lent_relation self.now).meaning.ranges index) }
@@ -177,14 +189,14 @@ impl<'a> Eq for Relation<'a> {
     ghost laws = { on_equiv (λ relation. relation_numbers (lent_relation relation)) nat_list_eq_equiv };
 }
 
-// Whether mark, polarity and operand are the same.
+// Whether mark, polarity and operand are equal.
 fn same_kind(kind: AndOrPolarityOperand, other: AndOrPolarityOperand) -> bool
     ensures { IsTrue result ↔ (kind ≡ other) }
 {
     kind == other
 }
 
-// Whether two lists of ranges are the same: they are if their bytes are.
+// Whether two lists of ranges are equal: they are if and only if their bytes are.
 fn same_ranges(ranges: &[u8], others: &[u8]) -> bool
     requires ranges { IsTrue (is_whole (length ranges.now)) }
     requires others { IsTrue (is_whole (length others.now)) }

@@ -56,7 +56,7 @@ impl<'a> Iterator for Relations<'a> {
         Some(RelationULE::from_checked(item))
     }
 
-    // Exact: as many relations as are left.
+    // Exact: the count of the relations that are left.
     #[inline]
     fn size_hint(&self) -> (usize, Option<usize>)
         ensures exact { result ≡ (length self.now, Some (length self.now)) }

@@ -14,11 +14,20 @@ use crate::rule::Rule;
 use crate::steps::{Counter, Steps, Uncounted};
 use plural_reference::{PluralOperands, ast};
 
-/// Whether the rule is true of the operands: all relations of one of its groups are (UTS 35 Part 3, Plural Rules
-/// Syntax). A rule without relations is true, and so is one whose first relation is marked Or.
+/// Returns whether the rule is true of the operands: all relations of one of its groups are (UTS 35 Part 3, Plural
+/// Rules Syntax). A rule without relations is true, and so is one whose first relation is marked Or.
 ///
-/// A relation on `n` where the fraction isn't zero is in no list: false under `=`, true under `!=`. A modulus 0 is
-/// none. It takes no memory.
+/// A relation on `n` at a fraction that isn't zero is in no list: false under `=`, true under `!=`. A modulus 0 is
+/// none. It allocates nothing.
+///
+/// <!-- snippet crates/plural_runtime_tests/src/tests/kinds.rt:
+/// example "let rule" to "let rule" of fn a_simple_rule_is_one_relation; example "holds!(rt; test_rule"
+/// to "holds!(rt; test_rule" of fn a_simple_rule_is_one_relation -->
+/// ```
+/// let rule = Rule::from_str(alloc, "i = 1")?;
+///
+/// assert!(rt; test_rule(&rule, &PluralOperands::from(1u8)));
+/// ```
 #[inline]
 pub fn test_rule(rule: &Rule<'_>, operands: &PluralOperands) -> bool
     ensures { result ≡ packed_truth operands.now rule.now }
@@ -26,16 +35,26 @@ pub fn test_rule(rule: &Rule<'_>, operands: &PluralOperands) -> bool
     is_true(rule, operands, &mut Uncounted)
 }
 
-/// The same, with one step for each range that is needed to tell, and no other.
+/// [`test_rule`], with exactly one step for each range that is needed to tell.
 ///
 /// A range is needed if no earlier group is true, all earlier relations of its group are, its operand isn't `n`
-/// where the fraction isn't zero, and no earlier range of its list holds the value.
+/// at a fraction that isn't zero, and no earlier range of its list holds the value.
+///
+/// <!-- snippet crates/plural_runtime_tests/src/tests/truth.rt: example "let rule" to "}" of fn a_count_goes_on -->
+/// ```
+/// let rule = Rule::from_str(alloc, "i = 1..2, 4")?;
+/// let mut steps = Steps::new();
+/// for (number, count) in [(4u8, 2), (1, 3), (9, 5)] {
+///     let _answer = test_rule_counted(&rule, &PluralOperands::from(number), &mut steps);
+///     assert!(rt; steps.count() == count);
+/// }
+/// ```
 pub fn test_rule_counted(rule: &Rule<'_>, operands: &PluralOperands, steps: &mut Steps) -> bool
     ensures answer { result ≡ packed_truth operands.now rule.now }
     ensures count { steps.new ≡ min (steps.old + needed_ranges operands.now rule.now) 18446744073709551615 }
     ensures at_most { steps.new ≤ steps.old + range_count rule.now }
 {
-    // Read for the proof: that the count so far is one of 64 bits.
+    // Only for the proof: shows that the count so far fits 64 bits.
     let _before = steps.count();
     at_most_all();
     is_true(rule, operands, steps)
@@ -94,7 +113,7 @@ fn is_in_list<C: Counter>(item: &[u8], operands: &PluralOperands, counter: &mut 
     }
 }
 
-// The value of an item's operand: none of n where the fraction isn't zero.
+// The value of an item's operand: none of n if the fraction isn't zero.
 #[inline]
 fn value_at(item: &[u8], operands: &PluralOperands) -> Option<u64>
     requires { IsTrue (is_relation item.now) }
@@ -103,7 +122,7 @@ fn value_at(item: &[u8], operands: &PluralOperands) -> Option<u64>
     operands.value(ast::Operand::from(operand_at(item)))
 }
 
-// What a modulus leaves of a value.
+// The remainder of a value by a modulus.
 #[inline]
 fn reduced(modulo: u32, value: u64) -> u64
     ensures { result ≡ remainder modulo value }
@@ -115,7 +134,7 @@ fn reduced(modulo: u32, value: u64) -> u64
     }
 }
 
-// Whether some range holds the value. None is read behind the first that does.
+// Whether some range holds the value. None after the first that does is read.
 #[inline]
 fn any_holds<C: Counter>(value: u64, ranges: &[u8], counter: &mut C) -> bool
     requires { IsTrue (is_whole (length ranges.now)) }

@@ -15,10 +15,19 @@ use std::alloc::AllocError;
 use std::borrow::CowSlice;
 use std::marker::Model;
 
-/// A plural rule, as checked bytes that are lent or owned.
+/// A plural rule, as checked bytes that are borrowed or owned.
 ///
 /// The bytes are a packed list, each item of which is a relation: its first byte, its modulus (0 for none) and
 /// both ends of its ranges, each number in four bytes with the low byte first.
+///
+/// <!-- snippet crates/using/src/bytes.rt: "let packed" to "let one" of fn print_stored_rule -->
+/// ```
+/// let packed = Rule::from_str(alloc, "i = 1 and v = 0")?;
+/// let bytes = packed.as_bytes();
+/// println!(rt; "{} bytes", bytes.len())?;
+///
+/// let one = Rule::parse_bytes(bytes)?;
+/// ```
 #[derive(Debug, Drop)]
 pub struct Rule<'data> {
     bytes: CowSlice<'data, u8>,
@@ -49,7 +58,7 @@ impl<'data> Rule<'data> {
         }
     }
 
-    // The same of owned bytes.
+    // The rule in owned bytes that are known to be one.
     pub(crate) fn owned(bytes: Vec<u8>) -> Rule<'data>
         requires { IsRule bytes.items }
         ensures { RuleBytes result bytes.items }
@@ -59,7 +68,7 @@ impl<'data> Rule<'data> {
         }
     }
 
-    /// The bytes of the rule.
+    /// Returns the bytes of the rule.
     #[inline]
     pub fn as_bytes(&self) -> &[u8]
         ensures { RuleBytes self.now result.now }
@@ -67,7 +76,7 @@ impl<'data> Rule<'data> {
         self.bytes.as_slice()
     }
 
-    /// How many relations it has.
+    /// Returns the number of relations.
     #[inline]
     pub fn len(&self) -> usize
         ensures { result ≡ length self.now }
@@ -75,7 +84,7 @@ impl<'data> Rule<'data> {
         self.list().len()
     }
 
-    /// Whether it has no relation.
+    /// Returns whether it has no relation.
     #[inline]
     pub fn is_empty(&self) -> bool
         ensures { result ≡ (length self.now == 0) }
@@ -83,7 +92,7 @@ impl<'data> Rule<'data> {
         self.len() == 0
     }
 
-    /// The relation at a place.
+    /// Returns the relation at a place.
     #[inline]
     pub fn get(&self, index: usize) -> Option<RelationULE<'_>>
         ensures { option_map item_relation result ≡ slice_get self.now index }
@@ -93,7 +102,7 @@ impl<'data> Rule<'data> {
         Some(RelationULE::from_checked(item))
     }
 
-    /// The relations, from the first one on.
+    /// Returns the relations, from the first one on.
     #[inline]
     pub fn iter(&self) -> Relations<'_>
         ensures { result ≡ self.now }
@@ -101,7 +110,7 @@ impl<'data> Rule<'data> {
         Relations::of(self.list().iter())
     }
 
-    /// The same rule, lent from this one.
+    /// Returns the same rule, borrowed from this one.
     pub fn as_borrowed(&self) -> Rule<'_>
         ensures { result ≡ self.now }
     {
@@ -110,7 +119,7 @@ impl<'data> Rule<'data> {
         }
     }
 
-    /// A rule of the same bytes: lent where this one is lent, else a copy. Its only fault is want of memory.
+    /// Returns a rule of the same bytes: borrowed if this one is borrowed, otherwise a copy. The only error is out of memory.
     pub fn try_clone(&self) -> Result<Rule<'data>, AllocError>
         ensures { IfOk result (λ rule. rule ≡ self.now) }
     {

@@ -17,14 +17,14 @@ impl Model for Steps {
 }
 
 impl Steps {
-    /// No step yet.
+    /// Returns a count of no step.
     pub fn new() -> Steps
         ensures { result ≡ 0 }
     {
         Steps { count: 0 }
     }
 
-    /// How many steps were counted.
+    /// Returns how many steps were counted.
     pub fn count(&self) -> u64
         ensures { result ≡ self.now }
     {

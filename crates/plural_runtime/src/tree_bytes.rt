@@ -97,7 +97,7 @@ impl<'a> ByteItem for TreeRelation<'a> {
     }
 }
 
-// What stands before the ranges of a relation: its first byte and its modulus.
+// The bytes before the ranges of a relation: its first byte and its modulus.
 fn head_of(and_or: AndOr, relation: &ast::Relation) -> [u8; HEAD_LENGTH]
     ensures { result ≡ first_byte and_or relation.now.operator relation.now.expression.operand ∷ to_le_bytes w32 (modulus_of relation.now.expression.modulus) }
 {

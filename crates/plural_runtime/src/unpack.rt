@@ -13,9 +13,20 @@ use std::alloc::{AllocError, Global};
 use std::mem;
 
 impl<'data> Rule<'data> {
-    /// The tree of the rule, without samples. Its only fault is want of memory.
+    /// Returns the tree of the rule, without samples. The only error is out of memory.
     ///
     /// Each relation marked Or begins a new and-condition. Equal ends come back as a value, a modulus 0 as none.
+    ///
+    /// <!-- snippet crates/plural_runtime_tests/src/tests/texts.rt:
+    /// const LONG_RULE; example "let rule" to "holds!" of fn a_condition_comes_back -->
+    /// ```
+    /// const LONG_RULE: &str = "n % 10 = 3..4, 9 and n % 100 != 10..19, 70..79, 90..99 or n = 0";
+    ///
+    /// let rule = Rule::from_str(alloc, LONG_RULE)?;
+    /// let tree = rule.to_ast(alloc)?;
+    /// let condition = parse_condition(alloc, LONG_RULE.as_bytes())?;
+    /// assert!(rt; tree.condition == condition);
+    /// ```
     pub fn to_ast(&self, alloc: Global) -> Result<ast::Rule, AllocError>
         ensures condition { IfOk result (λ tree. tree.condition ≡ unpacked self.now) }
         ensures samples { IfOk result (λ tree. tree.samples ≡ None) }
@@ -45,7 +56,7 @@ fn condition_of(alloc: Global, rule: &Rule<'_>) -> Result<ast::Condition, AllocE
     Ok(ast::Condition(Sequence(groups)))
 }
 
-// At Or the open group is done.
+// At Or the open group is complete.
 fn close_group(
     alloc: Global,
     and_or: AndOr,

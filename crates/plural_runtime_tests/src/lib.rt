@@ -1,4 +1,4 @@
-//! Tests of `plural_runtime`, of what no clause says. They stand apart so that the crate isn't proved once more for them.
+//! Tests of `plural_runtime`, of what no clause says. They are apart so that the crate isn't proved again for them.
 #![tactic(auto)]
 
 #[cfg(test)]

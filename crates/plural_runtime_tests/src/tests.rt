@@ -1,5 +1,5 @@
-//! Tests of what no clause says: worked rules with their bytes, their texts and their answers, and that each call
-//! succeeds where there is memory.
+//! Tests of what no clause says: worked rules with their bytes, their texts and their truth, and that each call
+//! succeeds if there is memory.
 
 mod assertion;
 mod bytes;

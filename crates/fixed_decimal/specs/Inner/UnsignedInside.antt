@@ -1,7 +1,7 @@
--- Not a definition of the subject: how an unsigned decimal is kept, as the digits from the highest nonzero one to the
--- lowest nonzero one, and how many zeros stand before them among the written places.
---     places_of a      the number that is kept so
---     IsSpan a      what holds of each number that is kept
+-- Not a definition of the subject: how an unsigned decimal is stored, as the digits from the highest nonzero one to the
+-- lowest nonzero one, and how many zeros are before them among the written places.
+--     places_of a      the number that is stored so
+--     IsSpan a      what holds of each stored number
 use Rattle.std.specs.Prelude.{◌≢◌, ℕ, ◌+◌, ◌-◌, ◌<◌, ◌≤◌, List, ◌++◌, length, take, drop, replicate, slice_index}
 use Rattle.fixed_decimal.specs.Digits.{AreDigits}
 use Rattle.fixed_decimal.specs.Places.{Places, most_places}

@@ -6,7 +6,7 @@ use Rattle.packed_list.specs.ListBytes.{ListBytes, two_byte_number, start_at}
 abbrev pub AreBytes : List ℕ → Type 0
 AreBytes bytes = (i : ℕ) → slice_index bytes i < 256
 
--- the numbers in the first so many pairs of bytes
+-- the numbers in the first n pairs of bytes
 abbrev pub numbers : ℕ → List ℕ → List ℕ
 numbers (suc n) (low ∷ high ∷ bytes) = (low + 256 * high) ∷ numbers n bytes
 numbers _ _ = []

@@ -1,16 +1,16 @@
--- Not a definition of the subject: the parts of a text of operands, of which private contracts speak.
+-- Not a definition of the subject: the parts of a text of operands, for private contracts.
 use Rattle.std.specs.Prelude.{ℕ, List, [], ◌∷◌, ◌++◌, ◌≡◌, ◌==◌, if◌then◌else◌, length, Option, Some, None}
 use Rattle.std.specs.Char.{IsAsciiDigit}
 use Rattle.fixed_decimal.specs.Digits.{value_of, text_of}
 use Rattle.plural_reference.specs.Operands.{Operands, HasFraction}
 use Rattle.plural_reference.specs.OperandText.{IsWord, WritesCount, WritesExponent}
 
--- the answer is what the text writes, or none where it writes nothing
+-- the result is what the text writes, or none if it writes nothing
 abbrev pub Answers : {A : Type 0} → (A → Type 0) → Option A → Type 0
 Answers Writes (Some a) = Writes a
 Answers {A} Writes None = (a : A) → ¬ (Writes a)
 
--- what stands behind a sign, or the whole text where it hasn't that sign
+-- the text after a sign, or the whole text if it hasn't that sign
 abbrev pub without_sign : ℕ → List ℕ → List ℕ
 without_sign sign [] = []
 without_sign sign (b ∷ bytes) = if b == sign then bytes else (b ∷ bytes)
@@ -26,11 +26,11 @@ pub record HasWord (text ds rest : List ℕ) : Type 0 where
   pub spelled : text ≡ text_of ds ++ rest
   pub whole : BeginsWithNoDigit rest
 
--- the same perhaps behind a `+`, and the number that the digits write
+-- digits that may follow a `+`, the number that they write, and the rest
 abbrev pub HasCount : List ℕ → ℕ → List ℕ → Type 0
 HasCount text n rest = (front : List ℕ) × WritesCount front n × (text ≡ front ++ rest) × BeginsWithNoDigit rest
 
--- behind an integer and its point: digits and perhaps an exponent
+-- after an integer and its point: digits and optionally an exponent
 abbrev pub WritesBehindPoint : ℕ → List ℕ → Operands → Type 0
 WritesBehindPoint i text o =
     (ds rest : List ℕ)

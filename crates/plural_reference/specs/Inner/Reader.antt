@@ -1,5 +1,5 @@
--- Not a definition of the subject: a reader of conditions, token by token. The parser's private contracts cite it; that it
--- answers what the grammar says is proved.
+-- Not a definition of the subject: a reader of conditions, token by token, for the parser's private contracts. That it
+-- returns what the grammar says is proved.
 use Rattle.std.specs.Prelude.{List, [], ◌∷◌, ◌++◌, Option, Some, None, Result, Ok, Err, ◌≡◌, ◌≢◌}
 use Rattle.plural_reference.specs.declared.ast.AndCondition.{AndCondition}
 use Rattle.plural_reference.specs.declared.ast.Condition.{Condition}
@@ -47,7 +47,7 @@ relation_of o xs = record { expression = o.expression; operator = o.operator; ra
 abbrev pub with_relation : Before → Relation → Before
 with_relation b r = record { groups = b.groups; relations = b.relations ++ r ∷ [] }
 
--- the same, where the group ends
+-- the group ends
 abbrev pub with_group : Before → Before
 with_group b = record { groups = b.groups ++ (record { 0 = b.relations }) ∷ []; relations = [] }
 
@@ -67,28 +67,28 @@ no_operand [] [] = finish (record { 0 = [] })
 no_operand (g ∷ gs) [] = refuse ExpectedAndCondition
 no_operand gs (r ∷ rs) = refuse ExpectedRelation
 
--- the token where an operand is awaited
+-- the token at which an operand is awaited
 abbrev pub operand_move : Option operand.Operand → Token → Before → Move
 operand_move (Some o) t b = go (after_operand b o)
 operand_move None At b = no_operand b.groups b.relations
 operand_move None _ b = refuse ExpectedOperand
 
--- where a value is
+-- the token at which a value is awaited
 abbrev pub value_move : Option Value → (Value → State) → Move
 value_move None next = refuse ExpectedValue
 value_move (Some v) next = go (next v)
 
--- where an operator is
+-- the token at which an operator is awaited
 abbrev pub operator_move : Token → Before → Expression → Move
 operator_move (Operator op) b e = go (before_item (record { before = b; expression = e; operator = op }) [])
 operator_move _ b e = refuse ExpectedOperator
 
--- dots behind an item
+-- dots after an item
 abbrev pub dots_move : Opened → List RangeListItem → RangeListItem → Move
 dots_move o xs (items.Value v) = go (before_end o xs v)
 dots_move o xs (items.Range a b) = finish (ended_condition (with_relation o.before (relation_of o (xs ++ (items.Range a b) ∷ []))))
 
--- a token behind an item
+-- a token after an item
 abbrev pub item_move : Opened → List RangeListItem → RangeListItem → Token → Move
 item_move o xs x And = go (before_operand (with_relation o.before (relation_of o (xs ++ x ∷ []))))
 item_move o xs x Or = go (before_operand (with_group (with_relation o.before (relation_of o (xs ++ x ∷ [])))))
@@ -96,7 +96,7 @@ item_move o xs x Comma = go (before_item o (xs ++ x ∷ []))
 item_move o xs x DotDot = dots_move o xs x
 item_move o xs x _ = finish (ended_condition (with_relation o.before (relation_of o (xs ++ x ∷ []))))
 
--- a token behind an operand
+-- a token after an operand
 abbrev pub operand_next : Token → Before → operand.Operand → Move
 operand_next Modulo b o = go (after_modulo b o)
 operand_next t b o = operator_move t b (record { operand = o; modulus = None })
@@ -111,7 +111,7 @@ step (before_item o xs) t = value_move (value_of t) (λ v. after_item o xs (item
 step (after_item o xs x) t = item_move o xs x t
 step (before_end o xs v) t = value_move (value_of t) (λ w. after_item o xs (items.Range v w))
 
--- where the tokens end
+-- what the end of the tokens does
 abbrev pub at_end : State → Move
 at_end (before_operand b) = no_operand b.groups b.relations
 at_end (after_operand b o) = refuse ExpectedOperator
@@ -131,7 +131,7 @@ proceed (go s) rest next = next s
 proceed (finish c) rest next = Ok (c, rest)
 proceed (refuse e) rest next = Err e
 
--- what the reader answers from a state on
+-- what the reader returns from a state on
 unfoldable pub run : State → List Token → Outcome
 run s [] = proceed (at_end s) [] (λ _. Err ExpectedValue)
 run s (t ∷ ts) = proceed (step s t) (t ∷ ts) (λ next. run next ts)
@@ -171,12 +171,12 @@ pub record Completes (from : State) (old : List Token) (b : Before) (new : List 
   pub no_dots : NoDots item new
   pub no_comma : first new ≢ Some Comma
 
--- an optional part: it is there, or no operand begins it and nothing is taken
+-- an optional part: it is present, or no operand begins it and nothing is taken
 abbrev pub ReadsOption : {A : Type 0} → (List Token → A → List Token → Type 0) → List Token → Option A → List Token → Type 0
 ReadsOption Read old None new = IsUnconditional old × (new ≡ old)
 ReadsOption Read old (Some x) new = Read old x new
 
--- an expression is read wherever an operand is awaited: an operator behind it leads to the items, and any other token is a fault
+-- an expression is read wherever an operand is awaited: an operator after it leads to the items, and any other token is a fault
 pub record ReadsExpression (old : List Token) (e : Expression) (new : List Token) : Type 0 where
   pub goes_on : (b : Before) (op : operator.Operator) (rest : List Token) → new ≡ token.Operator op ∷ rest → run (before_operand b) old ≡ run (before_item (record { before = b; expression = e; operator = op }) []) rest
   pub stops : (b : Before) → operator_fault (first new) ≡ Some ExpectedOperator → run (before_operand b) old ≡ Err ExpectedOperator
@@ -207,15 +207,15 @@ pub record ReadsGroups (old : List Token) (groups : List AndCondition) (new : Li
   pub completes : Completes begin old before new
   pub groups_are : groups ≡ before.groups ++ (record { 0 = before.relations }) ∷ []
 
--- behind these groups
+-- after these groups
 abbrev pub before_group : List AndCondition → State
 before_group groups = before_operand (record { groups = groups; relations = [] })
 
--- a group is read behind any others
+-- a group is read after any others
 abbrev pub ReadsGroup : List Token → AndCondition → List Token → Type 0
 ReadsGroup old c new = (groups : List AndCondition) → Completes (before_group groups) old (record { groups = groups; relations = c.0 }) new
 
--- a group is read behind any others, and no relation follows it
+-- a group is read after any others, and no relation follows it
 abbrev pub ReadsWholeGroup : List Token → AndCondition → List Token → Type 0
 ReadsWholeGroup old c new = ReadsGroup old c new × (first new ≢ Some And)
 
@@ -227,14 +227,14 @@ ReadsRelation old r new = (b : Before) → Completes (before_operand b) old (wit
 abbrev pub FailsAtItem : List Token → ParseError → Type 0
 FailsAtItem old e = (o : Opened) (xs : List RangeListItem) → run (before_item o xs) old ≡ Err e
 
--- the same wherever a list of items is awaited
+-- the reader stops with this fault wherever a list of items is awaited
 abbrev pub FailsAtItems : List Token → ParseError → Type 0
 FailsAtItems old e = (o : Opened) → run (before_item o []) old ≡ Err e
 
--- the same wherever an operand is awaited
+-- the reader stops with this fault wherever an operand is awaited
 abbrev pub FailsAtOperand : List Token → ParseError → Type 0
 FailsAtOperand old e = (b : Before) → run (before_operand b) old ≡ Err e
 
--- the same wherever a group is awaited
+-- the reader stops with this fault wherever a group is awaited
 abbrev pub FailsAtGroup : List Token → ParseError → Type 0
 FailsAtGroup old e = (groups : List AndCondition) → run (before_group groups) old ≡ Err e

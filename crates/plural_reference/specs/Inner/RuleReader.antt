@@ -1,5 +1,5 @@
 -- Not a definition of the subject: a reader of rules, made of the readers of tokens, of conditions and of samples. Definitions
--- of crates above cite it where a text's condition is wanted as a function; that it gives what the grammar says is the law
+-- of crates above cite it to have a text's condition as a function; that it gives what the grammar says is the law
 -- `texts_are_read`.
 use Rattle.std.specs.Prelude.{ℕ, List, [], Result, Ok, Err}
 use Rattle.plural_reference.specs.declared.ast.Condition.{Condition}
@@ -15,7 +15,7 @@ use Rattle.plural_reference.specs.Inner.SampleReader.{after_sections, run_sample
 abbrev pub RuleOutcome : Type 0
 RuleOutcome = Result Rule ParseError
 
--- the condition with the samples that are read behind it
+-- the condition with the samples that are read after it
 abbrev pub with_samples : Condition → SampleOutcome → RuleOutcome
 with_samples c (Ok (sections, rest)) = Ok (record { condition = c; samples = samples_of sections })
 with_samples c (Err kind) = Err kind

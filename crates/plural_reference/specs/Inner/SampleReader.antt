@@ -1,5 +1,5 @@
--- Not a definition of the subject: a reader of samples, token by token. The parser's private contracts cite it; that it
--- answers what the grammar says is proved.
+-- Not a definition of the subject: a reader of samples, token by token, for the parser's private contracts. That it
+-- returns what the grammar says is proved.
 use Rattle.std.specs.Prelude.{Bool, true, false, List, [], ◌∷◌, ◌++◌, Option, Some, None, Result, Ok, Err, ◌||◌, cond, ◌≡◌, ◌≢◌, ◌⊎◌, ℕ, IfSome, unwrap_or}
 use Rattle.plural_reference.specs.declared.ast.Operand.TheVariants.{C}
 use Rattle.plural_reference.specs.declared.ast.DecimalValue.{DecimalValue}
@@ -55,7 +55,7 @@ pub data SampleMove : Type 0 where
   ends : List Section → SampleMove
   refuses : ParseError → SampleMove
 
--- the token where a sample is awaited
+-- the token at which a sample is awaited
 abbrev pub sample_move : Partial → Token → SampleMove
 sample_move p Zero = goes (in_sample p (token_text Zero))
 sample_move p (Number n) = goes (in_sample p (token_text (Number n)))
@@ -64,7 +64,7 @@ sample_move p E = goes (behind_mark p (token_text E))
 sample_move p (Operand C) = goes (behind_mark p (token_text (Operand C)))
 sample_move p _ = refuses ExpectedValue
 
--- behind a comma
+-- after a comma
 abbrev pub comma_move : Partial → Token → SampleMove
 comma_move p Ellipsis = goes (after_sections (with_sections p p.ranges true))
 comma_move p t = sample_move p t
@@ -73,12 +73,12 @@ comma_move p t = sample_move p t
 abbrev pub joins : Bool → SampleState → Partial → DecimalValue → SampleMove
 joins full next p text = cond full (ends (with_sections p (ranges_with p text) false)) (goes next)
 
--- Tilde behind a sample
+-- Tilde after a sample
 abbrev pub tilde_move : Option DecimalValue → Partial → DecimalValue → SampleMove
 tilde_move None p text = goes (awaits_sample (record p { lower = Some text }))
 tilde_move (Some lower) p text = ends (with_sections p (ranges_with p text) false)
 
--- the token behind a part of a sample
+-- the token after a part of a sample
 abbrev pub in_move : Partial → DecimalValue → Token → SampleMove
 in_move p text Zero = joins (has_exponent text) (in_sample p (text ++ token_text Zero)) p text
 in_move p text (Number n) = joins (has_exponent text) (in_sample p (text ++ token_text (Number n))) p text
@@ -90,19 +90,19 @@ in_move p text Comma = goes (behind_comma (record p { ranges = ranges_with p tex
 in_move p text At = goes (behind_at (with_sections p (ranges_with p text) false))
 in_move p text _ = ends (with_sections p (ranges_with p text) false)
 
--- behind the mark of an exponent
+-- after the mark of an exponent
 abbrev pub mark_move : Partial → DecimalValue → Token → SampleMove
 mark_move p text Zero = goes (in_sample p (text ++ token_text Zero))
 mark_move p text (Number n) = goes (in_sample p (text ++ token_text (Number n)))
 mark_move p text _ = refuses ExpectedValue
 
--- behind At
+-- after At
 abbrev pub at_move : List Section → Token → SampleMove
 at_move sections Integer = goes (awaits_sample (begin_list sections Integer))
 at_move sections Decimal = goes (awaits_sample (begin_list sections Decimal))
 at_move sections _ = refuses ExpectedSampleType
 
--- behind whole sections
+-- after whole sections
 abbrev pub section_move : List Section → Token → SampleMove
 section_move sections At = goes (behind_at sections)
 section_move sections _ = ends sections
@@ -135,7 +135,7 @@ sample_proceed (goes s) rest next = next s
 sample_proceed (ends sections) rest next = Ok (sections, rest)
 sample_proceed (refuses e) rest next = Err e
 
--- what the reader answers from a state on
+-- what the reader returns from a state on
 unfoldable pub run_samples : SampleState → List Token → SampleOutcome
 run_samples s [] = sample_proceed (samples_at_end s) [] (λ _. Err ExpectedValue)
 run_samples s (t ∷ ts) = sample_proceed (sample_step s t) (t ∷ ts) (λ next. run_samples next ts)
@@ -143,12 +143,12 @@ run_samples s (t ∷ ts) = sample_proceed (sample_step s t) (t ∷ ts) (λ next.
 -- ---- Not a definition of the subject: what the parts of the parser do that read samples, as steps of the reader of samples.
 -- Their private contracts cite it, and no public clause does.
 
--- what is stored is what is read, where samples are kept
+-- what is stored is what is read, if samples are stored
 abbrev pub IsStored : {A : Type 0} → Bool → A → A → Type 0
 IsStored true stored read = stored ≡ read
 IsStored false stored read = Unit {0}
 
--- something is read, and it is what is stored where samples are kept
+-- something is read, and it is what is stored if samples are
 abbrev pub ReadsStored : {A : Type 0} → Bool → (List Token → A → List Token → Type 0) → List Token → A → List Token → Type 0
 ReadsStored {A = A} keeps Read old stored new = (read : A) × IsStored keeps stored read × Read old read new
 
@@ -157,11 +157,11 @@ abbrev pub type_token : SampleType → Token
 type_token types.Integer = Integer
 type_token types.Decimal = Decimal
 
--- the samples with one list more
+-- the samples with one more list
 abbrev pub joined_list : Option samples.Samples → Section → Option samples.Samples
 joined_list old s = Some (with_list s.type s.list (unwrap_or old (record { integer = None; decimal = None })))
 
--- where a sample stands whose text so far is this
+-- the state in a sample whose text so far is this
 abbrev pub sample_at : Partial → DecimalValue → SampleState
 sample_at p [] = awaits_sample p
 sample_at p (b ∷ bs) = in_sample p (b ∷ bs)
@@ -198,7 +198,7 @@ pub record JoinsExponent (before : DecimalValue) (old : List Token) (after : Dec
   pub run_is : (p : Partial) → run_samples (sample_at p before) old ≡ run_samples (in_sample p after) new
   pub a_mark : has_exponent after ≡ true
 
--- there is an exponent, or no mark of one comes next
+-- an exponent joins the text, or no mark of one comes next
 abbrev pub ReadsExponent : DecimalValue → List Token → DecimalValue → List Token → Type 0
 ReadsExponent before old after new = ((after ≡ before) × (new ≡ old) × NoMark old) ⊎ JoinsExponent before old after new
 
@@ -230,7 +230,7 @@ pub record ReadsRanges (old : List Token) (ranges : List SampleRange) (new : Lis
   pub whole : IfSome (first new) (λ t. ¬ (Takes text t))
   pub no_tilde : lower ≡ None → first new ≢ Some Tilde
 
--- a list is read behind any sections, and ends
+-- a list is read after any sections, and ends
 abbrev pub ReadsSampleList : List Token → SampleList → List Token → Type 0
 ReadsSampleList old list new =
     (sections : List Section) (type : Token)
@@ -252,15 +252,15 @@ pub record ReadsAllSamples (old : List Token) (samples : Option samples.Samples)
 abbrev pub FailsInSample : DecimalValue → List Token → ParseError → Type 0
 FailsInSample before old e = (p : Partial) → run_samples (sample_at p before) old ≡ Err e
 
--- the same wherever a sample is awaited
+-- the reader stops with this fault wherever a sample is awaited
 abbrev pub FailsAtSample : List Token → ParseError → Type 0
 FailsAtSample old e = (p : Partial) → run_samples (awaits_sample p) old ≡ Err e
 
--- the same wherever a range is awaited
+-- the reader stops with this fault wherever a range is awaited
 abbrev pub FailsAtRange : List Token → ParseError → Type 0
 FailsAtRange old e = (p : Partial) → p.lower ≡ None → run_samples (awaits_sample p) old ≡ Err e
 
--- the same wherever a list is awaited
+-- the reader stops with this fault wherever a list is awaited
 abbrev pub FailsAtList : List Token → ParseError → Type 0
 FailsAtList old e = (sections : List Section) (type : Token) → run_samples (awaits_sample (begin_list sections type)) old ≡ Err e
 

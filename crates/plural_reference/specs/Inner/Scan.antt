@@ -1,5 +1,5 @@
--- Not a definition of the subject: the tokens of a text, byte by byte. The view of the lexer and its private contracts
--- cite it; that these are the tokens of the text's pieces is proved.
+-- Not a definition of the subject: the tokens of a text, byte by byte, for the view of the lexer and its private contracts.
+-- That these are the tokens of the text's pieces is proved.
 use Rattle.std.specs.Prelude.{ℕ, ◌+◌, ◌*◌, List, [], ◌∷◌, ◌++◌, Option, Some, None, nat_eq, cond, nat_le, codes}
 use Rattle.std.specs.Str.{byte}
 use Rattle.std.specs.Char.{is_ascii_digit, digit_value}
@@ -9,7 +9,7 @@ use Rattle.plural_reference.specs.declared.token.Token.{Token}
 use Rattle.plural_reference.specs.declared.token.Token.TheVariants.{Operand, Operator, Number, Zero, Dot, DotDot, Comma, Or, And, Modulo, Junk, At, Decimal, Integer, Ellipsis, Tilde, E}
 use Rattle.plural_reference.specs.Lexer.{blank, max_number}
 
--- where the bytes so far stand in a piece
+-- which part of a piece the bytes so far are
 pub data Scan : Type 0 where
   between : Scan
   in_keyword : ℕ → List ℕ → Token → Scan
@@ -27,7 +27,7 @@ abbrev pub awaits : List ℕ → Token → Scan
 awaits [] t = between
 awaits (k ∷ ks) t = in_keyword k ks t
 
--- the first bytes of the pieces but spaces and numbers
+-- the first bytes of all pieces except spaces and numbers
 abbrev pub piece_starts : List (ℕ × Start)
 piece_starts =
     (byte "n", gives (Operand N)) ∷ (byte "f", gives (Operand F)) ∷ (byte "t", gives (Operand T)) ∷ (byte "v", gives (Operand V))
@@ -46,7 +46,7 @@ abbrev pub start_move : Start → ScanMove
 start_move (gives t) = (t ∷ [], between)
 start_move (opens s) = ([], s)
 
--- the same by a table: a byte that isn't in it is Junk
+-- what a byte does by a table: one that isn't in it is Junk
 abbrev pub look_up : ℕ → List (ℕ × Start) → ScanMove
 look_up b [] = (Junk ∷ [], between)
 look_up b (s ∷ ss) = cond (nat_eq b s.0) (start_move s.1) (look_up b ss)
@@ -95,11 +95,11 @@ tokens_from s (b ∷ bs) = let m = scan_step s b in m.0 ++ tokens_from m.1 bs
 abbrev pub tokens_of : List ℕ → List Token
 tokens_of text = tokens_from between text
 
--- the tokens where these bytes of a keyword are still awaited
+-- the tokens while these bytes of a keyword are still awaited
 abbrev pub keyword_tokens : List ℕ → Token → List ℕ → List Token
 keyword_tokens [] t rest = t ∷ tokens_of rest
 keyword_tokens (k ∷ ks) t rest = tokens_from (in_keyword k ks t) rest
 
--- the number, where a token holds it
+-- the number, if a token holds it
 abbrev pub bounded : ℕ → Option ℕ
 bounded n = cond (nat_le n max_number) (Some n) None

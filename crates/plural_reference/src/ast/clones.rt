@@ -11,7 +11,7 @@ use crate::sequence::Sequence;
 use std::alloc::AllocError;
 
 impl Rule {
-    /// A clone, equal to the rule. `Err` is want of memory alone.
+    /// Returns a clone, equal to the rule. The only error is out of memory.
     pub fn try_clone(&self) -> Result<Self, AllocError>
         ensures { IfOk result (λ x. x ≡ self.now) }
     {
@@ -23,7 +23,7 @@ impl Rule {
 }
 
 impl Condition {
-    /// A clone, equal to the condition. `Err` is want of memory alone.
+    /// Returns a clone, equal to the condition. The only error is out of memory.
     pub fn try_clone(&self) -> Result<Self, AllocError>
         ensures { IfOk result (λ x. x ≡ self.now) }
     {
@@ -32,7 +32,7 @@ impl Condition {
 }
 
 impl AndCondition {
-    /// A clone, equal to the and-condition. `Err` is want of memory alone.
+    /// Returns a clone, equal to the and-condition. The only error is out of memory.
     pub fn try_clone(&self) -> Result<Self, AllocError>
         ensures { IfOk result (λ x. x ≡ self.now) }
     {
@@ -41,7 +41,7 @@ impl AndCondition {
 }
 
 impl Relation {
-    /// A clone, equal to the relation. `Err` is want of memory alone.
+    /// Returns a clone, equal to the relation. The only error is out of memory.
     pub fn try_clone(&self) -> Result<Self, AllocError>
         ensures { IfOk result (λ x. x ≡ self.now) }
     {
@@ -54,7 +54,7 @@ impl Relation {
 }
 
 impl Expression {
-    /// A clone, equal to the expression. It takes no memory, so it is always there.
+    /// Returns a clone, equal to the expression. It allocates nothing, so it is always `Ok`.
     pub fn try_clone(&self) -> Result<Self, AllocError>
         ensures { result ≡ Ok self.now }
     {
@@ -66,7 +66,7 @@ impl Expression {
 }
 
 impl RangeList {
-    /// A clone, equal to the list. `Err` is want of memory alone.
+    /// Returns a clone, equal to the list. The only error is out of memory.
     pub fn try_clone(&self) -> Result<Self, AllocError>
         ensures { IfOk result (λ x. x ≡ self.now) }
     {
@@ -75,7 +75,7 @@ impl RangeList {
 }
 
 impl RangeListItem {
-    /// A clone, equal to the item. It takes no memory, so it is always there.
+    /// Returns a clone, equal to the item. It allocates nothing, so it is always `Ok`.
     pub fn try_clone(&self) -> Result<Self, AllocError>
         ensures { result ≡ Ok self.now }
     {
@@ -89,7 +89,7 @@ impl RangeListItem {
 }
 
 impl Value {
-    /// A clone, equal to the value. It takes no memory, so it is always there.
+    /// Returns a clone, equal to the value. It allocates nothing, so it is always `Ok`.
     pub fn try_clone(&self) -> Result<Self, AllocError>
         ensures { result ≡ Ok self.now }
     {
@@ -98,7 +98,7 @@ impl Value {
 }
 
 impl Samples {
-    /// A clone, equal to the samples. `Err` is want of memory alone.
+    /// Returns a clone, equal to the samples. The only error is out of memory.
     pub fn try_clone(&self) -> Result<Self, AllocError>
         ensures { IfOk result (λ x. x ≡ self.now) }
     {
@@ -110,7 +110,7 @@ impl Samples {
 }
 
 impl SampleList {
-    /// A clone, equal to the list. `Err` is want of memory alone.
+    /// Returns a clone, equal to the list. The only error is out of memory.
     pub fn try_clone(&self) -> Result<Self, AllocError>
         ensures { IfOk result (λ x. x ≡ self.now) }
     {
@@ -122,7 +122,7 @@ impl SampleList {
 }
 
 impl SampleRange {
-    /// A clone, equal to the range. `Err` is want of memory alone.
+    /// Returns a clone, equal to the range. The only error is out of memory.
     pub fn try_clone(&self) -> Result<Self, AllocError>
         ensures { IfOk result (λ x. x ≡ self.now) }
     {
@@ -134,7 +134,7 @@ impl SampleRange {
 }
 
 impl DecimalValue {
-    /// A clone, equal to the sample. `Err` is want of memory alone.
+    /// Returns a clone, equal to the sample. The only error is out of memory.
     pub fn try_clone(&self) -> Result<Self, AllocError>
         ensures { IfOk result (λ x. x ≡ self.now) }
     {
@@ -142,7 +142,7 @@ impl DecimalValue {
     }
 }
 
-// What stands in lists and options of a tree. Generic code reaches a method by a trait alone, so each impl hands on to the
+// A part of a tree that lists and options hold. Generic code reaches a method only by a trait, so each impl calls the
 // public `try_clone` of its type.
 trait Cloned: Drop {
     fn cloned(&self) -> Result<Self, AllocError>

@@ -2,9 +2,9 @@
 
 ghost use Rattle.plural_reference.specs.ExactnessLaws.{RelationsAgree, GroupsAgree, ConditionsAgree, HoldsWholeNumbers, ShiftedPlaces, LongValue, BoundIsWidest};
 
-/// Within the bound a relation is true of the operands that are kept of a number, as packed rules
-/// are asked (`test_rule`, `category_for`), exactly if it is true of the exact number; so are groups
-/// of relations and conditions. The moduli on n and i are those of the bound, 0 aside, and ranges
+/// Within the bound a relation is true of the kept operands of a number, as packed rules are asked
+/// (`test_rule`, `category_for`), if and only if it is true of the exact number; so are groups of
+/// relations and conditions. The moduli on n and i are those of the bound, 0 aside, and ranges
 /// end below `10^18`. [`test_condition`] differs: n at a fraction and a modulus 0 are false under
 /// `!=` too.
 ///
@@ -15,20 +15,20 @@ pub fn kept_operands_agree()
     ensures conditions { ConditionsAgree }
 {}
 
-/// A relation on `n` speaks of whole numbers: its ranges hold the exact number exactly if the
-/// number, or what the modulus leaves of it, is a whole number of them.
+/// A relation on `n` is about whole numbers: its ranges hold the exact number if and only if the
+/// number, or its remainder by the modulus, is a whole number in them.
 pub fn ranges_hold_whole_numbers()
     ensures { HoldsWholeNumbers }
 {}
 
-/// What the bound asks of a shifted number, told by the places and digits before the shift.
+/// What the bound requires of a shifted number, by the places and digits before the shift.
 pub fn bound_before_the_shift()
     ensures places { ShiftedPlaces }
     ensures value { LongValue }
 {}
 
 /// The bound on moduli is the widest: each modulus that doesn't divide `10^18` tells `2 * 10^18` from
-/// what is kept of it.
+/// its kept part.
 pub fn bound_is_widest()
     ensures { BoundIsWidest }
 {}

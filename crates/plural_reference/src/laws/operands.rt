@@ -1,4 +1,4 @@
-//! What holds of the operands of numbers, whichever they are.
+//! What holds of the operands of all numbers.
 
 ghost use Rattle.std.specs.Prelude.{◌≡◌, nat_abs};
 ghost use Rattle.plural_reference.specs.Operands.{of_whole, of_wide};
@@ -7,7 +7,7 @@ ghost use Rattle.plural_reference.specs.OperandLaws.{SameBelowLimit, CongruentFr
 use crate::operands::PluralOperands;
 
 /// An integer has the same operands at 64 and at 128 bits below `10^18`; from there on both integer
-/// parts are at least `10^18` and congruent by it.
+/// parts are at least `10^18` and congruent modulo `10^18`.
 pub fn integers_of_every_width()
     ensures below { SameBelowLimit }
     ensures above { CongruentFromLimit }
@@ -22,7 +22,7 @@ pub fn signed_as_absolute(number: i64) -> (PluralOperands, PluralOperands)
     (PluralOperands::from(number), PluralOperands::from(absolute))
 }
 
-/// The same at 128 bits.
+/// [`signed_as_absolute`] at 128 bits.
 pub fn wide_signed_as_absolute(number: i128) -> (PluralOperands, PluralOperands)
     ensures same { result.0 ≡ result.1 }
     ensures signed { result.0 ≡ of_wide (nat_abs number) }
@@ -36,18 +36,18 @@ pub fn short_numbers_are_exact()
     ensures { AllIsKept }
 {}
 
-/// A number has one list of kept operands, and one of exact ones.
+/// A number has exactly one list of kept operands, and one of exact ones.
 pub fn one_list_of_operands()
     ensures kept { OneKept }
     ensures exact { OneExact }
 {}
 
-/// A text names one list of operands at most.
+/// A text names at most one list of operands.
 pub fn texts_name_one_list()
     ensures { OneNamed }
 {}
 
-/// The exact operands tell the number.
+/// The exact operands determine the number.
 pub fn operands_tell_the_number()
     ensures { TellTheNumber }
 {}

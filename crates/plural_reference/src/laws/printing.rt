@@ -1,4 +1,4 @@
-//! What is printed is read as what it was printed from.
+//! A printed text is read as what it was printed from.
 
 ghost use Rattle.plural_reference.specs.PrintingLaws.{ConditionsOfTextsAreSpellable, SpellableConditionsPrintBack, ConditionsPrintBack, RulesPrintBack};
 

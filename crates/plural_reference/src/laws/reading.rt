@@ -1,4 +1,4 @@
-//! What is read of a text is determined.
+//! What a text is read as is determined.
 
 ghost use Rattle.plural_reference.specs.ReadingLaws.{HaveOneCut, HaveOneListOfTokens, HaveOneReading, HaveOneRule, TextsAreRead};
 
@@ -12,18 +12,18 @@ pub fn one_list_of_tokens()
     ensures { HaveOneListOfTokens }
 {}
 
-/// Of every list of tokens exactly one condition is read, or it has exactly one fault.
+/// From every list of tokens exactly one condition is read, or it has exactly one fault.
 pub fn one_reading()
     ensures { HaveOneReading }
 {}
 
-/// Of every list of tokens exactly one rule is read, or it has exactly one fault.
+/// From every list of tokens exactly one rule is read, or it has exactly one fault.
 pub fn one_rule()
     ensures { HaveOneRule }
 {}
 
-/// What a text gives as a rule's condition, or as its fault, is what a reader gives that is a function of the text: readers of
-/// documents are stated by it.
+/// The condition of the rule that a text is, or the text's fault, is what a reader gives that is a function of the text:
+/// readers of documents are stated by it.
 pub fn texts_are_read()
     ensures { TextsAreRead }
 {}

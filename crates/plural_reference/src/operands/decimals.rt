@@ -9,11 +9,29 @@ use crate::operands::kept::{KEPT_LIMIT, KEPT_PLACES, power_of_ten};
 use fixed_decimal::{CompactDecimal, Decimal, UnsignedDecimal};
 
 impl PluralOperands {
-    /// The operands of a number times a power of ten, which is their compact exponent.
+    /// Returns the operands of a number times a power of ten, which is their compact exponent.
     ///
-    /// The point goes to the right by `exponent` places first. Where the integer part then has more
+    /// First the point moves to the right by `exponent` places. If the integer part then has more
     /// than 18 written places, leading zeros counted, `i` is the value of its last 18 digits plus
-    /// `10^18`. Of the fraction the first 18 places count. No more than 36 digits are read.
+    /// `10^18`. Of the fraction the first 18 places count. At most 36 digits are read.
+    ///
+    /// Rows of a number and its operands i, v, w, f, t and c:
+    ///
+    /// <!-- snippet crates/plural_reference_tests/src/tests/operands.rt:
+    /// example "("1.00000020c6"" to "("1c0"" of fn a_compact_decimal_moves_its_point; example "for (text"
+    /// to "}" of fn a_compact_decimal_moves_its_point -->
+    /// ```
+    /// ("1.00000020c6", six(1_000_000, 2, 1, 20, 2, 6)),
+    /// ("1c0", six(1, 0, 0, 0, 0, 0)),
+    ///
+    /// for (text, want) in rows {
+    ///     let number = CompactDecimal::from_str(alloc, text)?;
+    ///     assert!(rt; PluralOperands::from(&number) == want);
+    ///     let absolute = &number.significand().absolute;
+    ///     let exponent = number.exponent();
+    ///     assert!(rt; PluralOperands::from_significand_and_exponent(absolute, exponent) == want);
+    /// }
+    /// ```
     pub fn from_significand_and_exponent(
         significand: &UnsignedDecimal,
         exponent: u8,
@@ -36,7 +54,7 @@ impl PluralOperands {
     }
 }
 
-/// As [`PluralOperands::from_significand_and_exponent`] with the exponent 0.
+/// [`PluralOperands::from_significand_and_exponent`] with the exponent 0.
 impl From<&UnsignedDecimal> for PluralOperands {
     ghost from_gives = { λ x o. AreKept x.now 0 o × IsWritten x.now };
 
@@ -46,7 +64,7 @@ impl From<&UnsignedDecimal> for PluralOperands {
     }
 }
 
-/// Those of the digits: the sign has no effect.
+/// The operands of the digits: the sign has no effect.
 impl From<&Decimal> for PluralOperands {
     ghost from_gives = { λ x o. AreKept x.now.absolute 0 o × IsWritten x.now.absolute };
 
@@ -56,7 +74,7 @@ impl From<&Decimal> for PluralOperands {
     }
 }
 
-/// As [`PluralOperands::from_significand_and_exponent`] of the two parts: the sign has no effect.
+/// [`PluralOperands::from_significand_and_exponent`] of the two parts: the sign has no effect.
 impl From<&CompactDecimal> for PluralOperands {
     ghost from_gives = { λ x o.
         AreKept x.now.significand.absolute x.now.exponent o × IsWritten x.now.significand.absolute };

@@ -11,7 +11,7 @@ use std::num::ParseIntError;
 /// Why a text names no operands.
 #[derive(Clone, Copy, Debug, PartialEq, Eq)]
 pub enum OperandsError {
-    /// The text has no byte.
+    /// The text is empty.
     Empty,
     /// The text isn't one of operands, or one of its numbers is above 18446744073709551615.
     Invalid,

@@ -63,7 +63,7 @@ impl From<usize> for PluralOperands {
     }
 }
 
-/// Those of the number below `10^18`; from there on `i` is its last 18 digits plus `10^18`.
+/// The operands of the number below `10^18`; from there on `i` is its last 18 digits plus `10^18`.
 impl From<u128> for PluralOperands {
     ghost from_gives = { λ n o. o ≡ of_wide n };
 
@@ -78,7 +78,7 @@ impl From<u128> for PluralOperands {
     }
 }
 
-/// Those of the absolute value: the sign has no effect.
+/// The operands of the absolute value: the sign has no effect.
 impl From<i8> for PluralOperands {
     ghost from_gives = { λ z o. o ≡ of_whole (nat_abs z) };
 
@@ -88,7 +88,7 @@ impl From<i8> for PluralOperands {
     }
 }
 
-/// Those of the absolute value: the sign has no effect.
+/// The operands of the absolute value: the sign has no effect.
 impl From<i16> for PluralOperands {
     ghost from_gives = { λ z o. o ≡ of_whole (nat_abs z) };
 
@@ -98,7 +98,7 @@ impl From<i16> for PluralOperands {
     }
 }
 
-/// Those of the absolute value: the sign has no effect.
+/// The operands of the absolute value: the sign has no effect.
 impl From<i32> for PluralOperands {
     ghost from_gives = { λ z o. o ≡ of_whole (nat_abs z) };
 
@@ -108,7 +108,7 @@ impl From<i32> for PluralOperands {
     }
 }
 
-/// Those of the absolute value: the sign has no effect.
+/// The operands of the absolute value: the sign has no effect.
 impl From<i64> for PluralOperands {
     ghost from_gives = { λ z o. o ≡ of_whole (nat_abs z) };
 
@@ -118,7 +118,7 @@ impl From<i64> for PluralOperands {
     }
 }
 
-/// Those of the absolute value: the sign has no effect.
+/// The operands of the absolute value: the sign has no effect.
 impl From<isize> for PluralOperands {
     ghost from_gives = { λ z o. o ≡ of_whole (nat_abs z) };
 
@@ -128,7 +128,7 @@ impl From<isize> for PluralOperands {
     }
 }
 
-/// Those of the absolute value, as of a `u128`.
+/// The operands of the absolute value, as of a `u128`.
 impl From<i128> for PluralOperands {
     ghost from_gives = { λ z o. o ≡ of_wide (nat_abs z) };
 

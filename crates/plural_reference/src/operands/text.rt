@@ -8,12 +8,18 @@ ghost use Rattle.plural_reference.specs.Inner.OperandReader.{Answers, HasCount, 
 use crate::operands::{OperandsError, PluralOperands};
 use std::str::FromStr;
 
-/// Reads an optional `-`, an integer, perhaps `.` and a fraction, and perhaps `e` and an exponent.
+/// Reads an optional `-`, an integer, optionally `.` and a fraction, and optionally `e` and an exponent.
 ///
-/// The integer and the exponent are digits, perhaps behind a `+`; the fraction is digits. Each is at
+/// The integer and the exponent are digits, which may follow a `+`; the fraction is digits. Each is at
 /// most 18446744073709551615 as a number. The sign has no effect, all of the integer is kept, and
 /// nothing is moved by the exponent. `Empty` for the empty text, `Invalid` for every other text that
-/// isn't of this form. It takes no memory.
+/// isn't of this form. It allocates nothing.
+///
+/// <!-- snippet crates/plural_reference_tests/src/tests/operands.rt:
+/// example "holds!(rt; """ to "holds!(rt; """ of fn another_text_names_none -->
+/// ```
+/// assert!(rt; "".parse::<PluralOperands>() == Err(OperandsError::Empty));
+/// ```
 impl FromStr for PluralOperands {
     type Err = OperandsError;
 
@@ -42,7 +48,7 @@ fn read_unsigned(text: &[u8]) -> Option<PluralOperands>
     }
 }
 
-// The same, behind an integer and its point.
+// As `read_unsigned`, after an integer and its point.
 #[inline]
 fn read_fraction(i: u64, text: &[u8]) -> Option<PluralOperands>
     ensures { Answers (WritesBehindPoint i text.now) result }
@@ -63,7 +69,7 @@ fn read_exponent(text: &[u8]) -> Option<usize>
     }
 }
 
-// A count, behind which the text ends.
+// A count that ends the text.
 fn read_last_count(text: &[u8]) -> Option<usize>
     ensures { Answers (WritesCount text.now) result }
 {
@@ -75,7 +81,7 @@ fn read_last_count(text: &[u8]) -> Option<usize>
     }
 }
 
-// The count at the front, digits perhaps behind a `+`, and the rest.
+// The count at the front, digits that may follow a `+`, and the rest.
 #[inline]
 fn read_count(text: &[u8]) -> Option<(u64, &[u8])>
     ensures found { IfSome result (λ r. HasCount text.now r.0 r.1.now) }
@@ -85,7 +91,7 @@ fn read_count(text: &[u8]) -> Option<(u64, &[u8])>
     Some((number, rest))
 }
 
-// What stands behind a sign, or the whole text where it hasn't that sign.
+// The text after a sign, or the whole text if it hasn't that sign.
 #[inline]
 fn behind_sign(sign: u8, text: &[u8]) -> &[u8]
     ensures { result.now ≡ without_sign sign text.now }
@@ -119,7 +125,7 @@ fn read_digits(text: &[u8]) -> Option<(u64, usize, &[u8])>
     Some((number, count, rest))
 }
 
-// A number with one more digit, where 64 bits hold it.
+// A number with one more digit, if it fits 64 bits.
 #[inline]
 fn with_digit(number: u64, digit: u8) -> Option<u64>
     ensures some { IfSome result (λ n. n ≡ number * 10 + digit) }

@@ -1,4 +1,4 @@
-//! What becomes of samples as they are read (UTS 35 Part 3, Samples).
+//! What is done with samples as they are read (UTS 35 Part 3, Samples).
 
 ghost use Rattle.std.specs.Prelude.{◌≡◌, ◌∷◌, ◌++◌, [], true, false, IfOk, OnOk, string_bytes};
 ghost use Rattle.std.specs.Fmt.{decimal};
@@ -11,7 +11,7 @@ use std::alloc::{AllocError, Global};
 // Room for the text of a sample: CLDR's have at most 12 bytes.
 const TEXT_ROOM: usize = 16;
 
-// Takes the texts and ranges of samples, and keeps them or leaves them out: then the texts and lists that it was given stay empty.
+// Takes the texts and ranges of samples, and stores them or leaves them out: then the texts and lists that it gets stay empty.
 pub(super) trait Sink {
     ghost use Rattle.std.specs.Prelude.{Bool};
 
@@ -34,7 +34,7 @@ pub(super) trait Sink {
         ensures { OnOk result (IsStored keeps ranges.new.items (ranges.old.items ++ range ∷ [])) };
 }
 
-// Keeps the samples.
+// Stores the samples.
 pub(super) struct Kept;
 
 impl Sink for Kept {
@@ -63,7 +63,7 @@ impl Sink for Kept {
     }
 }
 
-// Leaves the samples out, and takes no memory.
+// Leaves the samples out, and allocates nothing.
 pub(super) struct LeftOut;
 
 impl Sink for LeftOut {

@@ -1,4 +1,4 @@
-//! The parts of a rule that print themselves, one after another or behind a prefix.
+//! The parts of a rule that print themselves, one after another or after a prefix.
 #![tactic(auto, using(crate::proofs::printing::Writes::one_call, crate::proofs::printing::Writes::then_writes))]
 
 ghost use Rattle.std.specs.Prelude.{◌≡◌, ℕ, List, OnOk};
@@ -35,7 +35,7 @@ pub(super) fn serialize_joined<P: Part, W: fmt::Write>(
     Ok(())
 }
 
-// The prefix and then the part, where there is one.
+// The prefix and then the part, if there is one.
 pub(super) fn serialize_prefixed<P: Part, W: fmt::Write>(
     prefix: &str,
     part: Option<&P>,

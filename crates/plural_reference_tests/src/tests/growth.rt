@@ -1,4 +1,4 @@
-//! Each growth refused in turn: these run under `rt try --test --fail-alloc N` for each N, and with memory too.
+//! Each allocation fails in turn: these run under `rt try --test --fail-alloc N` for each N, and with memory too.
 
 use crate::tests::assertion::holds;
 use crate::tests::{BENGALI_ONE, FRENCH_MANY, RUSSIAN_FEW};
@@ -10,7 +10,7 @@ use plural_reference::{
 use std::alloc::Global;
 use std::fmt;
 
-// A rule of the text, asked for again where memory ran out: one growth at most is refused.
+// A rule of the text, read again if memory ran out: at most one allocation fails.
 fn rule_of(alloc: Global, text: &str) -> Result<Rule, ReadError> {
     match parse(alloc, text.as_bytes()) {
         Err(ReadError::Memory) => parse(alloc, text.as_bytes()),
@@ -18,7 +18,7 @@ fn rule_of(alloc: Global, text: &str) -> Result<Rule, ReadError> {
     }
 }
 
-// The same of a condition.
+// A condition of the text, read again if memory ran out.
 fn condition_of(alloc: Global, text: &str) -> Result<Condition, ReadError> {
     match parse_condition(alloc, text.as_bytes()) {
         Err(ReadError::Memory) => parse_condition(alloc, text.as_bytes()),
@@ -26,7 +26,7 @@ fn condition_of(alloc: Global, text: &str) -> Result<Condition, ReadError> {
     }
 }
 
-// The same of a rule without its samples.
+// A rule of the text without its samples, read again if memory ran out.
 fn condition_of_rule(alloc: Global, text: &str) -> Result<Condition, ReadError> {
     match parse_without_samples(alloc, text.as_bytes()) {
         Err(ReadError::Memory) => parse_without_samples(alloc, text.as_bytes()),
@@ -98,7 +98,7 @@ fn growth_of_rules_without_samples_may_be_refused(rt: HostRuntime) {
     }
 }
 
-// No growth is asked for here, so none is refused.
+// Nothing is allocated here, so no allocation fails.
 #[test]
 fn samples_that_are_left_out_take_no_memory(rt: HostRuntime) {
     for text in [

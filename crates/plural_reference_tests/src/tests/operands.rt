@@ -11,7 +11,7 @@ fn six(i: u64, v: usize, w: usize, f: u64, t: u64, c: usize) -> PluralOperands {
     PluralOperands::from(RawPluralOperands { i, v, w, f, t, c })
 }
 
-// So many copies of a digit between two other texts.
+// As many copies of a digit, between two other texts.
 fn long_text(
     alloc: Global,
     before: &str,

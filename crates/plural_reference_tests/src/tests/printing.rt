@@ -156,7 +156,7 @@ fn joined_digits_may_be_too_long_to_be_read_again(rt: HostRuntime) -> Result<(),
     Ok(())
 }
 
-// Takes so many pieces, and refuses all behind them.
+// Takes a number of pieces, and refuses all after them.
 #[derive(Drop)]
 struct Refusing {
     text: String,

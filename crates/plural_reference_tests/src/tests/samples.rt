@@ -7,7 +7,7 @@ use plural_reference::{ParseError, ReadError, parse, parse_condition, parse_with
 use std::alloc::Global;
 use std::test::Fail;
 
-// The ranges of a list, each behind a bar, and a star for an ellipsis.
+// The ranges of a list, each after a bar, and a star for an ellipsis.
 fn shown(alloc: Global, list: &Option<SampleList>) -> Result<String, Fail> {
     let mut text = String::new(alloc);
     let Some(list) = list else {

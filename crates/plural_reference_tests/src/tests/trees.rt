@@ -9,7 +9,7 @@ use plural_reference::{ParseError, parse};
 use std::process::Abort;
 use std::test::Fail;
 
-// The relation and its parts, each equal to its clone.
+// The relation and its parts are equal to their clones.
 fn clones_relation(rt: &impl Abort, relation: &Relation) -> Result<(), Fail> {
     holds!(rt; relation.try_clone()? == *relation);
     holds!(rt; relation.expression.try_clone()? == relation.expression);
@@ -20,7 +20,7 @@ fn clones_relation(rt: &impl Abort, relation: &Relation) -> Result<(), Fail> {
     Ok(())
 }
 
-// The same of an and-condition.
+// The and-condition and its relations are equal to their clones.
 fn clones_group(rt: &impl Abort, group: &AndCondition) -> Result<(), Fail> {
     holds!(rt; group.try_clone()? == *group);
     for relation in &group.0 {
@@ -49,7 +49,7 @@ fn clones_equal_what_is_cloned(rt: HostRuntime) -> Result<(), Fail> {
     Ok(())
 }
 
-// The same of a list of samples that has an ellipsis.
+// A list of samples that has an ellipsis, and its parts, are equal to their clones.
 fn clones_list(rt: &impl Abort, list: &SampleList) -> Result<(), Fail> {
     holds!(rt; list.try_clone()? == *list);
     holds!(rt; list.try_clone()?.ellipsis);

@@ -39,7 +39,7 @@ fn tells_when_a_condition_is_true(rt: HostRuntime) -> Result<(), Fail> {
     Ok(())
 }
 
-// At 1.5: `n` has no value, so both operators are false; and at 1.0 it has.
+// At 1.5 `n` has no value, so both operators are false; at 1.0 it has one.
 #[test]
 fn knows_no_whole_number_at_a_fraction(rt: HostRuntime) -> Result<(), Fail> {
     let table = [

@@ -9,20 +9,20 @@ use Rattle.plural_runtime.specs.declared.kinds.AndOr.{AndOr}
 use Rattle.plural_runtime.specs.declared.kinds.AndOr.TheVariants.{And, Or}
 use Rattle.plural_runtime.specs.PackedRelations.{PackedRelation, head_length, RuleBytes}
 
--- what bit 7 of a byte says
+-- the meaning of bit 7 of a byte
 abbrev pub and_or_in : ℕ → AndOr
 and_or_in byte = if nat_lt byte 128 then Or else And
 
--- what bit 6 says
+-- the meaning of bit 6
 abbrev pub operator_in : ℕ → Operator
 operator_in byte = if nat_lt (byte % 128) 64 then NotEq else Eq
 
--- the operand of a number, if it is at most 7
+-- the operand with a number, if that is at most 7
 abbrev pub operand_numbered : ℕ → Option Operand
 operand_numbered n =
     if n == 0 then Some N else (if n == 1 then Some I else (if n == 2 then Some V else (if n == 3 then Some W else (if n == 4 then Some F else (if n == 5 then Some T else (if n == 6 then Some C else (if n == 7 then Some E else None)))))))
 
--- what bits 0 to 5 say
+-- the meaning of bits 0 to 5
 abbrev pub operand_in : ℕ → Option Operand
 operand_in byte = operand_numbered (byte % 64)
 

@@ -1,4 +1,4 @@
--- What contracts see of lent relations. Not a definition of the subject.
+-- What contracts see of borrowed relations. Not a definition of the subject.
 use Rattle.plural_runtime.specs.declared.relation.RelationULE.{RelationULE}
 use Rattle.plural_runtime.specs.declared.relation.Relation.{Relation}
 use Rattle.plural_runtime.specs.PackedRelations.{PackedRelation}
@@ -9,7 +9,7 @@ use Rattle.plural_runtime.specs.Inner.RuleReading.{relation_in, ranges_in}
 abbrev pub item_relation : RelationULE → PackedRelation
 item_relation item = relation_in item.bytes.now
 
--- the relation that is lent
+-- the relation that is borrowed
 abbrev pub lent_relation : Relation → PackedRelation
 lent_relation relation = record {
   and_or = relation.kind.and_or;

@@ -1,4 +1,4 @@
--- Not a definition of the subject: the groups of a tree while it is made, of which private contracts speak.
+-- Not a definition of the subject: the groups of a tree while it is made, for private contracts.
 use Rattle.std.specs.Prelude.{List, [], ◌∷◌, ◌++◌, map, flat_map}
 use Rattle.plural_reference.specs.declared.ast.Relation.{Relation}
 use Rattle.plural_runtime.specs.declared.kinds.AndOr.{AndOr}
@@ -17,7 +17,7 @@ abbrev pub open_before : AndOr → List Relation → List Relation
 open_before And group = group
 open_before Or group = []
 
--- ---- Not a definition of the subject: the relations of a tree that are left while it is packed, of which private contracts speak.
+-- ---- Not a definition of the subject: the relations of a tree that are left while it is packed, for private contracts.
 
 -- those of the and-condition that is open, and those of the others
 abbrev pub relations_left : TreeRelations → List PackedRelation

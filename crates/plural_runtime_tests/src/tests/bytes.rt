@@ -17,7 +17,7 @@ fn one_and_a_half() -> PluralOperands {
     })
 }
 
-// What a rule answers at 0, 1, 2 and 1.5.
+// Whether a rule is true at 0, 1, 2 and 1.5.
 fn answers(rule: &Rule<'_>) -> [bool; 4] {
     [
         test_rule(rule, &PluralOperands::from(0u8)),
@@ -47,7 +47,7 @@ fn refuses_hostile_bytes(rt: HostRuntime) {
     }
 }
 
-// What the first bytes of a rule are: refused with a fault, or a rule with its answers.
+// What the first bytes of a rule are: refused with a fault, or a rule that is true or not at the four numbers.
 #[derive(Clone, Copy)]
 enum Cut {
     Refused(RuleBytesError),

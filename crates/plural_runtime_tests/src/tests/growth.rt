@@ -3,7 +3,7 @@ use crate::tests::assertion::holds;
 use plural_runtime::{Rule, RuleError};
 use std::alloc::Global;
 
-// Whether a text packs to bytes, or there was no memory.
+// Whether a text packs to bytes, or `None` if memory ran out.
 fn packs(alloc: Global, text: &str, bytes: &[u8]) -> Option<bool> {
     match Rule::from_str(alloc, text) {
         Ok(rule) => Some(rule.as_bytes() == bytes),
@@ -31,7 +31,7 @@ fn packs_again_after_want_of_memory(rt: HostRuntime) {
     }
 }
 
-// Whether the tree of a rule packs to it again, or there was no memory.
+// Whether the tree of a rule packs to it again, or `None` if memory ran out.
 fn tree_packs(alloc: Global, rule: &Rule<'_>) -> Option<bool> {
     let Ok(tree) = rule.to_ast(alloc) else {
         return None;

@@ -72,7 +72,7 @@ fn refuses_texts(rt: HostRuntime) {
     }
 }
 
-// The text of so many relations `i = 1`, joined by `and`.
+// The text of a number of relations `i = 1`, joined by `and`.
 fn many_relations(alloc: Global, count: usize) -> Result<String, Fail> {
     let mut text = String::new(alloc);
     for place in 0..count {
@@ -91,7 +91,7 @@ fn packs_up_to_the_last_start(rt: HostRuntime) -> Result<(), Fail> {
     holds!(rt; Rule::from_str(alloc, &most).is_ok());
     let more = many_relations(alloc, 5043)?;
     holds!(rt; matches!(Rule::from_str(alloc, &more), Err(RuleError::StartLimit)));
-    // A value above 32 bits comes before a start.
+    // A value above 32 bits is reported before a start.
     let mut tree = Rule::from_str(alloc, &most)
         .expect(&rt, "a rule")
         .to_ast(alloc)?;

@@ -14,7 +14,7 @@ fn with_fraction(i: u64, digit: u64) -> PluralOperands {
     })
 }
 
-// The answer of a counted walk with its steps, where the walk without a count answers the same.
+// The result of a counted walk with its steps, if the walk without a count has the same result.
 fn counted(rule: &Rule<'_>, operands: &PluralOperands) -> Option<(bool, u64)> {
     let mut steps = Steps::new();
     let answer = test_rule_counted(rule, operands, &mut steps);
