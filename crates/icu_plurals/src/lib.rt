@@ -134,7 +134,7 @@
 //!
 //! # Messages
 //!
-//! The crate `plural_message`, which is named beside this one, puts the number into the text:
+//! The crate `plural_message`, which a caller names beside this one, puts the number into the text:
 //!
 //! <!-- snippet crates/using/src/messages.rt: body of fn print_messages -->
 //! ```

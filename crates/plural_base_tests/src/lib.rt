@@ -1,4 +1,4 @@
-//! Tests of `plural_base`, of what no clause says. They have their own crate so that `plural_base` isn't proved again for them.
+//! Tests of `plural_base`, of what no clause says. They are apart so that the crate isn't proved again for them.
 #![tactic(auto)]
 
 #[cfg(test)]

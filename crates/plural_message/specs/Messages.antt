@@ -7,39 +7,38 @@ use Rattle.icu_plurals.specs.Written.{CompactNumber, WritesCompact}
 use Rattle.icu_plurals.specs.Places.{Places}
 use Rattle.icu_plurals.specs.PackedElements.{PackedValue}
 
--- what stands for the number in an element's text
+-- the number's place in an element's text
 abbrev pub placeholder : List ℕ
 placeholder = codes "{}"
 
--- the pieces, with a text between each two
+-- the pieces, with a text between any two
 abbrev pub joined_by : List ℕ → List (List ℕ) → List ℕ
 joined_by separator pieces = join_by (λ piece. piece) separator pieces
 
--- The text is cut at its `{}` into pieces in which there is none, and the pieces are joined by the number's text.
+-- The text is cut at its `{}` into pieces without one, and the pieces are joined by the number's text.
 pub record IsFilling (number text filled : List ℕ) : Type 0 where
   pub pieces : List (List ℕ)
   pub uncut : AllByRecursion (λ piece. ¬ (HasSubslice piece placeholder)) pieces
   pub cut : text ≡ joined_by placeholder pieces
   pub filled_is : filled ≡ joined_by number pieces
 
--- ---- Every text is filled in one way.
+-- ---- Every text is filled in exactly one way
 
--- a number's text gives one filling of an element's text
+-- a number's text gives exactly one filling of an element's text
 abbrev pub OneFilling : Type 0
 OneFilling =
     (number text : List ℕ) → (filled : List ℕ) × IsFilling number text filled
     × ((other : List ℕ) → IsFilling number text other → other ≡ filled)
 
--- ---- The message of a number: the text of the element that the number has, with a text that stands for the number in it.
+-- ---- The message of a number: the text of the element that the number has, filled by a text for the number.
 --     IsMessageWith IsChosen x text message      the filling by this text of the element that the number x has
---     IsMessageOf IsChosen number message      the same where the text is the number's own: it writes the number
+--     IsMessageOf IsChosen number message      the filling by the number's own text, which writes the number
 
--- Of the elements one is chosen for the number's digits and its exponent, and the message is the element's text, filled by the
--- given one.
+-- An element is chosen for the number's digits and its exponent, and the message is the element's text, filled by the given text.
 abbrev pub IsMessageWith : (Places → ℕ → PackedValue → Type 0) → CompactNumber → List ℕ → List ℕ → Type 0
 IsMessageWith IsChosen x text message =
     (element : PackedValue) × IsChosen x.significand.absolute x.exponent element × IsFilling text element.text message
 
--- The number's text writes a number, and the message is that number's with this text.
+-- The text writes a number, and the message is the one of that number with this text.
 abbrev pub IsMessageOf : (Places → ℕ → PackedValue → Type 0) → List ℕ → List ℕ → Type 0
 IsMessageOf IsChosen number message = (x : CompactNumber) × WritesCompact number x × IsMessageWith IsChosen x number message

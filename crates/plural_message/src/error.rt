@@ -5,12 +5,26 @@ use std::alloc::AllocError;
 use std::error::Error;
 use std::fmt;
 
-/// Why there is no message of a number.
+/// Why there is no message for a number.
+///
+/// <!-- snippet crates/plural_message/src/tests.rt: example "let rows" to "}" of fn what_is_no_number_has_no_message -->
+/// ```
+/// let rows = [
+///     ("x", DecimalError::Syntax),
+///     ("", DecimalError::Syntax),
+///     ("1c0256", DecimalError::Syntax),
+///     ("1c256", DecimalError::Limit),
+/// ];
+/// for (number, fault) in rows {
+///     let answer = message.format(alloc, number, &rules);
+///     assert!(rt; answer.err() == Some(MessageError::Number(fault)));
+/// }
+/// ```
 #[derive(Clone, Copy, Debug, PartialEq, Eq)]
 pub enum MessageError {
-    /// The number's text isn't one, or is over a limit. It is never want of memory.
+    /// The text is no number, or is over a limit. It is never out of memory.
     Number(DecimalError),
-    /// There is no memory for the number or for the message.
+    /// Out of memory, for the number or for the message.
     Memory,
 }
 
@@ -30,7 +44,7 @@ impl fmt::Display for MessageError {
 
 impl Error for MessageError {}
 
-/// `Number`, but `Memory` where memory was wanting.
+/// `Number`, but `Memory` if memory ran out.
 impl From<DecimalError> for MessageError {
     ghost use Rattle.std.specs.Prelude.{◌≡◌};
     ghost use Rattle.plural_message.specs.PluralMessageErrors.{number_error};

@@ -2,7 +2,7 @@
 
 ghost use Rattle.plural_message.specs.Messages.{OneFilling};
 
-/// A number's text gives one filling of an element's text.
+/// A number's text gives exactly one filling of an element's text.
 pub fn one_filling()
     ensures { OneFilling }
 {}

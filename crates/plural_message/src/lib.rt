@@ -1,5 +1,37 @@
-//! Messages with a number in them: the text of an element, chosen by the number's plural category, with
-//! the number in the place of each `{}`.
+//! Messages with a number in them: the text for the number's plural category, with the number in the place
+//! of each `{}`.
+//!
+//! <!-- snippet crates/hello_plurals/src/main.rt: imports; fn main -->
+//! ```
+//! use icu_plurals::provider::{PluralElementsPackedCow, PluralRulesData};
+//! use icu_plurals::{PluralElements, PluralRules};
+//! use plural_message::Message;
+//!
+//! fn main(rt: HostRuntime) -> anyhow::Result<()> {
+//!     let alloc = rt.alloc();
+//!     let one = Some("i = 1 and v = 0");
+//!     let data = PluralRulesData::from_texts(alloc, None, one, None, None, None)?;
+//!     let rules = PluralRules::from_data(data);
+//!     let texts = PluralElements::new("{} items").with_one_value(Some("{} item"));
+//!     let packed = PluralElementsPackedCow::from_elements(alloc, &texts)?;
+//!     let message = Message::new(packed.as_packed());
+//!     for number in ["0", "1", "1.0", "2"] {
+//!         let text = message.format(alloc, number, &rules)?;
+//!         println!(rt; "{text}")?;
+//!     }
+//!     Ok(())
+//! }
+//! ```
+//!
+//! prints
+//!
+//! <!-- snippet crates/hello_plurals/stdout -->
+//! ```text
+//! 0 items
+//! 1 item
+//! 1.0 items
+//! 2 items
+//! ```
 #![tactic(auto)]
 
 mod error;

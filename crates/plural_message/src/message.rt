@@ -16,7 +16,29 @@ use icu_plurals::{PluralOperands, PluralRules};
 use std::alloc::{AllocError, Global};
 use std::marker::Model;
 
-/// A text for each plural category, and for exactly 0 and exactly 1, in which `{}` stands for the number.
+/// A text for each plural category, and for exactly 0 and exactly 1, in which `{}` marks the number's place.
+///
+/// <!-- snippet crates/using/src/messages.rt: body of fn print_messages -->
+/// ```
+/// let texts = PluralElements::new("{} files were copied")
+///     .with_one_value(Some("{} file was copied"))
+///     .with_explicit_zero_value(Some("no file was copied"));
+/// let packed = PluralElementsPackedCow::from_elements(alloc, &texts)?;
+/// let message = Message::new(packed.as_packed());
+/// for number in ["0", "1", "1.5"] {
+///     let text = message.format(alloc, number, rules)?;
+///     println!(rt; "{text}")?;
+/// }
+/// ```
+///
+/// In English this prints
+///
+/// <!-- snippet crates/using/stdout: section messages -->
+/// ```text
+/// no file was copied
+/// 1 file was copied
+/// 1.5 files were copied
+/// ```
 #[derive(Debug, Drop)]
 pub struct Message<'a> {
     elements: PluralElementsPackedULE<'a>,
@@ -33,7 +55,7 @@ impl<'a> Model for Message<'a> {
 }
 
 impl<'a> Message<'a> {
-    /// The message with these texts. Their metadata isn't looked at.
+    /// The message with these texts. Their metadata isn't used.
     pub fn new(elements: PluralElementsPackedULE<'a>) -> Message<'a>
         ensures { result ≡ elements_of (lent_elements elements.entry) }
     {
@@ -45,8 +67,28 @@ impl<'a> Message<'a> {
     /// text each `{}`, from the left, is replaced by the number's text as it was given. There is no escape
     /// for `{}`. The message takes memory.
     ///
-    /// The errors: [`MessageError::Number`] with `Syntax` where the number's text is none, and with `Limit`
-    /// where it is over a limit; [`MessageError::Memory`] where memory ran out.
+    /// With elements for `{} item` and `{} items`, and others with `none` for exactly 0:
+    ///
+    /// <!-- snippet crates/plural_message/src/tests.rt:
+    ///      example "let rows" to "}" of fn the_number_chooses_the_text_that_it_stands_in -->
+    /// ```
+    /// let rows = [
+    ///     (ITEMS, "1", "1 item"),
+    ///     (ITEMS, "1.0", "1.0 items"),
+    ///     (ITEMS, "1c6", "1c6 items"),
+    ///     (ITEMS, "-1", "-1 item"),
+    ///     (NONE_AT_ZERO, "0", "none"),
+    ///     (NONE_AT_ZERO, "0.0", "0.0 items"),
+    /// ];
+    /// for (elements, number, text) in rows {
+    ///     let message = Message::new(PluralElementsPackedULE::parse_bytes(elements)?);
+    ///     let filled = message.format(alloc, number, &rules)?;
+    ///     assert!(rt; filled.as_str() == text);
+    /// }
+    /// ```
+    ///
+    /// The errors: [`MessageError::Number`] with `Syntax` if the text is no number, and with `Limit` if it is
+    /// over a limit; [`MessageError::Memory`] if memory ran out.
     pub fn format(
         &self,
         alloc: Global,
@@ -65,11 +107,25 @@ impl<'a> Message<'a> {
         Ok(self.format_number(alloc, &compact, number, rules)?)
     }
 
-    /// The message for a number that was read already, and a text that is to stand for it: as it was written, or
-    /// in the digits and marks of a locale. The number's operands and the rules choose an element, as for
+    /// The message for a number that was read already, with a text to show for it: as it was written, or in
+    /// the digits and marks of a locale. The number's operands and the rules choose an element, as for
     /// [`Message::format`], and in the element's text each `{}`, from the left, is replaced by the given text.
-    /// Whether the text writes the number isn't looked at. The message takes memory, and the only error is
-    /// that there is none.
+    /// Whether the text writes the number isn't checked. The message takes memory; the only error is out of
+    /// memory.
+    ///
+    /// <!-- snippet crates/using/src/messages.rt: "let number" to "println" of fn print_marks -->
+    /// ```
+    /// let number = CompactDecimal::from_str(alloc, "1234567")?;
+    /// let text = message.format_number(alloc, &number, "1,234,567", rules)?;
+    /// println!(rt; "{text}")?;
+    /// ```
+    ///
+    /// With the text `{} files` this prints
+    ///
+    /// <!-- snippet crates/using/stdout: section marks -->
+    /// ```text
+    /// 1,234,567 files
+    /// ```
     pub fn format_number(
         &self,
         alloc: Global,

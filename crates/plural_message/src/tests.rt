@@ -1,4 +1,4 @@
-//! What no clause says: worked messages, and that there is one where there is memory.
+//! What no clause says: worked messages, and that there is one if there is memory.
 
 mod assertion;
 
@@ -16,7 +16,7 @@ const ITEMS: &[u8] = b"\x80\x08{} items\x01\0\x10{} item";
 // Other "{} items", explicit zero "none".
 const NONE_AT_ZERO: &[u8] = b"\x80\x08{} items\x01\0\x50none";
 
-// Rules with one alone.
+// Rules with a rule for one alone.
 fn rules(alloc: Global, one: &str) -> Result<PluralRules<'static>, RulesTextError> {
     let rules = PluralRulesData::from_texts(alloc, None, Some(one), None, None, None)?;
     Ok(PluralRules::from_data(rules))
@@ -131,7 +131,7 @@ fn what_is_no_number_has_no_message(rt: HostRuntime) -> Result<(), Fail> {
     Ok(())
 }
 
-// At most one growth is refused: the call answers want of memory once at most, and answers again.
+// At most one growth is refused: out of memory is returned at most once, and the call made again succeeds.
 #[test]
 fn growth_of_a_message_may_be_refused(rt: HostRuntime) -> Result<(), Fail> {
     let one = "i = 1 and v = 0";

@@ -1,4 +1,4 @@
--- What the program answers to the words of its command line and its input, and what it reads and writes.
+-- The program's answer to the words of its command line and its input, and what it reads and writes.
 --     AnswersQuery query input answer      the answer to what is asked
 --     AnswersWords words input answer      the answer to the words and the input
 use Rattle.std.specs.Prelude.{◌≡◌, ℕ, ◌+◌, List, [], ◌∷◌, ◌++◌, Bool, Option, Some, None, Result, Ok, Err, ⊤, codes, if◌then◌else◌, length}
@@ -19,13 +19,13 @@ use Rattle.plurals_cli.specs.declared.error.RunError.TheVariants.{Usage, Read, T
 abbrev pub truth_line : Bool → List ℕ
 truth_line holds = (if holds then codes "true" else codes "false") ++ 10 ∷ []
 
--- a text of what is given, or the fault for which nothing is given
+-- a text for what is given, or the fault because of which nothing is
 abbrev pub AnswersFrom : {A : Type 0} → (A → List ℕ → Type 0) → Result A RunError → Result (List ℕ) RunError → Type 0
 AnswersFrom IsText (Ok given) (Ok text) = IsText given text
 AnswersFrom IsText (Ok given) (Err fault) = ⊥
 AnswersFrom IsText (Err fault) answer = answer ≡ Err fault
 
--- what a document answers: a line, or the fault of what it has for the locale
+-- the answer of a document: a line, or the fault of what it has for the locale
 abbrev pub AnswersLookup : Lookup → WholeDocument → Result (List ℕ) RunError → Type 0
 AnswersLookup (number_category locale type x) document = AnswersFrom (IsCategoryLine x) (rules_for type locale document)
 AnswersLookup (range_category locale type x y) document = AnswersFrom (IsRangeLine x y) (ranged_for type locale document)
@@ -44,13 +44,13 @@ AnswersWords words input = Then (Asks words) (λ query. AnswersQuery query input
 
 -- ---- What is read and written
 
--- the input is what the reader has left, where that is known
+-- the input is what the reader has left, if that is known
 abbrev pub IsInput : Option (List ℕ) → List ℕ → Type 0
 IsInput None input = ⊤
 IsInput (Some left) input = input ≡ left
 
--- What was answered, and what the writer took: the answer's text and nothing else, or the answer's fault and nothing at all. Want
--- of memory, a failed read and a failed write come from outside; only the last may have let something out.
+-- The result, and what the writer took: the answer's text and nothing else, or the answer's fault and nothing at all. Out of
+-- memory, a failed read and a failed write come from outside; only after the last may a part have been written.
 abbrev pub IsAnswered : (Result (List ℕ) RunError → Type 0) → Option (List ℕ) → Option (List ℕ) → Result ⊤ RunError → Type 0
 IsAnswered IsAnswer old new (Ok _) = (text : List ℕ) × IsAnswer (Ok text) × Appends old new text
 IsAnswered IsAnswer old new (Err Memory) = Keeps old new
@@ -58,15 +58,15 @@ IsAnswered IsAnswer old new (Err Read) = Keeps old new
 IsAnswered IsAnswer old new (Err Write) = (text : List ℕ) × IsAnswer (Ok text)
 IsAnswered IsAnswer old new (Err fault) = IsAnswer (Err fault) × Keeps old new
 
--- What was read: all of the input; of one that is too long a byte more than it may have. Where the reader failed, or memory was
--- wanting, it may be anything.
+-- What was read: all of the input; if it is too long, up to one byte past the limit; if the reader failed or memory ran out,
+-- anything.
 abbrev pub IsRead : {A : Type 0} → Option (List ℕ) → Option (List ℕ) → Result A RunError → Type 0
 IsRead old new (Err Read) = ⊤
 IsRead old new (Err Memory) = ⊤
 IsRead old new (Err TooLong) = (bytes : List ℕ) × Consumes old new bytes × (length bytes ≡ most_bytes + 1)
 IsRead old new result = IsAtEnd new
 
--- the reader isn't blamed
+-- no read error is returned
 abbrev pub IsNotRead : {A : Type 0} → Result A RunError → Type 0
 IsNotRead (Err Read) = ⊥
 IsNotRead result = ⊤

@@ -17,20 +17,20 @@ pub data Command : Type 0 where
 abbrev pub type_of : List ℕ → Option PluralRuleType
 type_of word = if bytes_eq word (codes "cardinal") then Some Cardinal else (if bytes_eq word (codes "ordinal") then Some Ordinal else None)
 
--- a command and two words behind it
+-- a command and two words after it
 abbrev pub of_two : List ℕ → List ℕ → List ℕ → Option Command
 of_two command first second =
     if bytes_eq command (codes "test") then Some (test first second)
     else (if bytes_eq command (codes "print") then option_map (print first) (type_of second) else None)
 
--- a command and three words behind it
+-- a command and three words after it
 abbrev pub of_three : List ℕ → List ℕ → List ℕ → List ℕ → Option Command
 of_three command locale type number =
     if bytes_eq command (codes "category") then option_map (λ t. category locale t number) (type_of type)
     else (if bytes_eq command (codes "select") then option_map (λ t. select locale t number) (type_of type)
     else (if bytes_eq command (codes "message") then option_map (λ t. message locale t number) (type_of type) else None))
 
--- a command and four words behind it
+-- a command and four words after it
 abbrev pub of_four : List ℕ → List ℕ → List ℕ → List ℕ → List ℕ → Option Command
 of_four command locale type start end =
     if bytes_eq command (codes "range") then option_map (λ t. range locale t start end) (type_of type) else None

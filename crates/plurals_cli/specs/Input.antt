@@ -1,4 +1,4 @@
--- The document that an input is, and what it has for a locale (docs/JSON.md).
+-- The document that an input writes, and what it has for a locale (docs/JSON.md).
 use Rattle.std.specs.Prelude.{ℕ, List, length, Option, Some, None, Result, Ok, Err, nat_lt, if◌then◌else◌, codes}
 use Rattle.std.specs.Str.{is_utf8}
 use Rattle.serde_json.specs.Data.{Data}
@@ -19,7 +19,7 @@ use Rattle.plurals_cli.specs.declared.error.RunError.TheVariants.{TooLong, Json,
 
 -- ---- The document
 
--- a document: its JSON value, and the maps of rules and of ranges that the value stands for
+-- a document: its JSON value, and the maps of rules and of ranges that the value means
 pub record WholeDocument : Type 0 where
   pub value : Data
   pub maps : Maps
@@ -43,11 +43,11 @@ document_with value = do
 abbrev pub document_of : List ℕ → Result WholeDocument RunError
 document_of bytes = or_fault Json (json_of bytes) >>= document_with
 
--- so many bytes an input may have
+-- the most bytes that an input may have
 abbrev pub most_bytes : ℕ
 most_bytes = 4194304
 
--- the document of an input, whose length comes first
+-- the document of an input, whose length is checked first
 abbrev pub document_in : List ℕ → Result WholeDocument RunError
 document_in input = if nat_lt most_bytes (length input) then Err TooLong else document_of input
 

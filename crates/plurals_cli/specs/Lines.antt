@@ -19,7 +19,7 @@ use Rattle.plural_message.specs.Messages.{IsMessageWith}
 abbrev pub line : List ℕ → List ℕ
 line text = text ++ 10 ∷ []
 
--- The category of a number: that of the operands that are kept of it, and within the exactness bound that of the number itself
+-- The category of a number: the one that its kept operands choose, and within the exactness bound that of the number itself
 -- (docs/EXACTNESS.md).
 abbrev pub IsCategoryOf : CompactNumber → FiveRules → PluralCategory → Type 0
 IsCategoryOf x rules category =
@@ -30,19 +30,19 @@ IsCategoryOf x rules category =
 abbrev pub IsCategoryLine : CompactNumber → FiveRules → List ℕ → Type 0
 IsCategoryLine x rules text = (category : PluralCategory) × (text ≡ line (name_of category)) × IsCategoryOf x rules category
 
--- The line with the name of the category of a range: that which the ranges have for the categories of its start and its end, else
--- the end's.
+-- The line with the name of the category of a range: the one that the ranges have for the categories of its start and its end,
+-- else the end's.
 abbrev pub IsRangeLine : CompactNumber → CompactNumber → RangedRules → List ℕ → Type 0
 IsRangeLine x y ranged text =
     (start : PluralCategory) × (end : PluralCategory) × (text ≡ line (name_of (resolved ranged.ranges start end)))
     × IsCategoryOf x ranged.rules start × IsCategoryOf y ranged.rules end
 
--- a rule that is there is a line: its category's name, a colon, a space and its text
+-- a rule, if present, is a line: its category's name, a colon, a space and its text
 abbrev pub rule_line : PluralCategory → Option (List PackedRelation) → List ℕ
 rule_line category None = []
 rule_line category (Some rule) = name_of category ++ codes ": " ++ condition_text (unpacked rule) ++ codes "\n"
 
--- the rules that are there, from zero to many
+-- the rules that are present, from zero to many
 abbrev pub rule_lines : FiveRules → List ℕ
 rule_lines rules =
     rule_line Zero rules.zero ++ rule_line One rules.one ++ rule_line Two rules.two ++ rule_line Few rules.few ++ rule_line Many rules.many
@@ -52,8 +52,8 @@ AreRuleLines rules text = text ≡ rule_lines rules
 
 -- ---- The lines that are printed of elements
 
--- The element that a number chooses: that of the operands that are kept of it, and within the exactness bound that of the number
--- itself (docs/EXACTNESS.md).
+-- The element of a number: the one that its kept operands choose, and within the exactness bound that of the number itself
+-- (docs/EXACTNESS.md).
 abbrev pub IsElementOf : CompactNumber → RuledElements → PackedValue → Type 0
 IsElementOf x given element =
     IsKeptElement (elements_of given.elements) given.rules x.significand.absolute x.exponent element

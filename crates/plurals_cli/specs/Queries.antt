@@ -1,6 +1,6 @@
--- What the words of a command line ask: a command, its condition and its numbers read.
---     Query, Lookup      what may be asked, and of it what is asked of a document
---     Asks words asked      the words ask this, or have this fault, which is the first
+-- What the words of a command line ask for: a command, its condition and its numbers read.
+--     Query, Lookup      what may be asked for, and the part of it that a document answers
+--     Asks words asked      the words ask for this, or have this as their first fault
 --     NeedsInput words      they have no fault, and ask something of a document
 use Rattle.std.specs.Prelude.{◌≡◌, ℕ, List, Option, Some, None, Result, Ok, Err, ⊤}
 use Rattle.icu_plurals.specs.declared.PluralRuleType.{PluralRuleType}
@@ -12,8 +12,8 @@ use Rattle.plurals_cli.specs.Steps.{After, HasNoFault, Then}
 use Rattle.plurals_cli.specs.declared.error.RunError.{RunError}
 use Rattle.plurals_cli.specs.declared.error.RunError.TheVariants.{Usage}
 
--- What is asked of a document, for a locale and a type: the category of a number or of the range of two, the rules, the element of a
--- number, or the message of a number with its word.
+-- What is asked of a document, for a locale and a type: the category of a number or of the range of two, the rules, the element
+-- of a number, or the message of a number with its word.
 pub data Lookup : Type 0 where
   number_category : List ℕ → PluralRuleType → CompactNumber → Lookup
   range_category : List ℕ → PluralRuleType → CompactNumber → CompactNumber → Lookup
@@ -26,12 +26,12 @@ pub data Query : Type 0 where
   truth : Tree → ℕ → Query
   of_document : Lookup → Query
 
--- this is asked
+-- this is asked for
 abbrev pub IsAsked : Query → Result Query RunError → Type 0
 IsAsked query asked = asked ≡ Ok query
 
--- What a command asks, or the first fault of its words: a condition's comes before an integer's, a start's before an end's. Words
--- that are no command have theirs.
+-- What a command asks for, or the first fault of its words: a condition's comes before an integer's, a start's before an end's.
+-- Words that are no command have a fault of their own.
 abbrev pub CommandAsks : Option Command → Result Query RunError → Type 0
 CommandAsks None = λ asked. asked ≡ Err Usage
 CommandAsks (Some (test condition integer)) =
@@ -46,7 +46,7 @@ CommandAsks (Some (select locale type number)) =
 CommandAsks (Some (message locale type number)) =
     Then (ReadsNumberWord number) (λ x. IsAsked (of_document (number_message locale type x number)))
 
--- what the words ask, or their first fault
+-- what the words ask for, or their first fault
 abbrev pub Asks : List (List ℕ) → Result Query RunError → Type 0
 Asks words = CommandAsks (command_of words)
 
@@ -56,6 +56,6 @@ AsksDocument None = ⊥
 AsksDocument (Some (test condition integer)) = ⊥
 AsksDocument (Some command) = ⊤
 
--- the answer depends on the input: it isn't that of the words alone
+-- the answer depends on the input, not on the words alone
 abbrev pub NeedsInput : List (List ℕ) → Type 0
 NeedsInput words = AsksDocument (command_of words) × HasNoFault (Asks words)

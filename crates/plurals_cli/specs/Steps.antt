@@ -1,8 +1,8 @@
--- One step after another: a fault of the first is the answer.
+-- One step after another: a fault of the first is the result.
 --     value >>= next      of values
 --     After Next value      a value, then a relation
 --     Then First Next      two relations
---     HasNoFault Is      no fault is an answer
+--     HasNoFault Is      no fault is a result
 use Rattle.std.specs.Prelude.{◌≡◌, Option, Some, None, Result, Ok, Err}
 use Rattle.plurals_cli.specs.declared.error.RunError.{RunError}
 
@@ -12,17 +12,17 @@ abbrev pub ◌>>=◌ : {A B : Type 0} → Result A RunError → (A → Result B 
 (Ok x) >>= next = next x
 (Err fault) >>= next = Err fault
 
--- the thing, or this fault where there is none
+-- the value if present, else this fault
 abbrev pub or_fault : {A : Type 0} → RunError → Option A → Result A RunError
 or_fault fault None = Err fault
 or_fault fault (Some x) = Ok x
 
--- what is answered after a value
+-- the result after a value
 abbrev pub After : {A B : Type 0} → (A → Result B RunError → Type 0) → Result A RunError → Result B RunError → Type 0
 After Next (Ok x) answer = Next x answer
 After Next (Err fault) answer = answer ≡ Err fault
 
--- what is answered after something that is answered itself
+-- the result after a first result
 abbrev pub Then : {A B : Type 0} → (Result A RunError → Type 0) → (A → Result B RunError → Type 0) → Result B RunError → Type 0
 Then {A} First Next answer = (first : Result A RunError) × First first × After Next first answer
 

@@ -1,4 +1,4 @@
-//! The text that answers what is asked.
+//! The answer to what is asked of a document.
 
 ghost use Rattle.plurals_cli.specs.Answer.{AnswersLookup};
 ghost use Rattle.plurals_cli.specs.Input.{document_of};
@@ -17,7 +17,7 @@ use crate::select_command::element_line;
 use std::alloc::Global;
 use std::borrow::CowStr;
 
-// What the document of the bytes answers.
+// The answer of the document that the bytes write.
 pub(crate) fn text_in(
     alloc: Global,
     bytes: &[u8],
@@ -29,7 +29,7 @@ pub(crate) fn text_in(
     text_of(alloc, &document, lookup)
 }
 
-// What a document answers.
+// The answer of a document.
 fn text_of(
     alloc: Global,
     document: &Document,

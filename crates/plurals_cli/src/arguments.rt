@@ -7,7 +7,7 @@ use std::env::FillError;
 use std::io::ErrorKind;
 use std::rt::Env;
 
-// What stands after the first argument.
+// The arguments after the first one.
 #[derive(Drop)]
 struct AfterName<'a, E> {
     all: &'a E,
@@ -30,8 +30,7 @@ impl<'a, E: Env> Env for AfterName<'a, E> {
     }
 }
 
-// The words after the program's name, at which nothing looks: a path may be any bytes. A word that isn't UTF-8 is part of no
-// command.
+// The words after the program's name, which isn't read: a path may be any bytes. A word that isn't UTF-8 is part of no command.
 pub(crate) fn arguments<E: Env>(alloc: Global, all: &E) -> Result<Vec<String>, RunError> {
     match env::args(&(AfterName { all }, alloc)) {
         Ok(found) => match found.collect::<Vec<String>>(alloc) {

@@ -35,7 +35,7 @@ pub(crate) fn command_of<'a>(words: &[&'a str]) -> Option<Command<'a>>
     }
 }
 
-// A command with two words behind it.
+// A command with two words after it.
 fn of_two<'a>(command: &str, first: &'a str, second: &'a str) -> Option<Command<'a>>
     ensures { option_map command_view result ≡ of_two command.now first.now second.now }
 {
@@ -48,7 +48,7 @@ fn of_two<'a>(command: &str, first: &'a str, second: &'a str) -> Option<Command<
     }
 }
 
-// A command with three words behind it.
+// A command with three words after it.
 fn of_three<'a>(
     command: &str,
     locale: &'a str,
@@ -68,7 +68,7 @@ fn of_three<'a>(
     }
 }
 
-// A command with four words behind it.
+// A command with four words after it.
 fn of_four<'a>(
     command: &str,
     locale: &'a str,

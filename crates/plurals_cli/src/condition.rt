@@ -13,7 +13,7 @@ use std::alloc::Global;
 pub(crate) fn condition(alloc: Global, word: &str) -> Result<Condition, RunError>
     ensures { Gives (λ tree. tree) (ReadsConditionWord word.now) result }
 {
-    // The answer is that of the word's tokens, of which there is one list.
+    // The result is that of the word's tokens, which are one list.
     one_list_of_tokens();
     match parse_condition(alloc, word.as_bytes()) {
         Ok(condition) => Ok(condition),

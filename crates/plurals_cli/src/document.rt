@@ -1,4 +1,4 @@
-//! The document that an input is, and the rules and ranges that it has for a locale.
+//! The document that an input writes, and the rules and ranges that it has for a locale.
 
 ghost use Rattle.serde_json.specs.View.{view};
 ghost use Rattle.icu_plurals.specs.DocumentJson.{document_of_json};
@@ -50,7 +50,7 @@ fn value_of(alloc: Global, bytes: &[u8]) -> Result<Value, RunError>
     }
 }
 
-// The maps that a JSON value stands for.
+// The maps that a JSON value means.
 fn maps_of(alloc: Global, value: &Value) -> Result<JsonProvider, RunError>
     ensures { GivesValue (λ maps. maps) (or_bad (document_of_json (view value.now))) result }
 {
@@ -79,7 +79,7 @@ pub(crate) fn rules_for<'a>(
     }
 }
 
-// The same with the ranges that the document has for the locale.
+// The rules of a type and the ranges that the document has for a locale.
 pub(crate) fn ranged_for<'a>(
     document: &'a Document,
     locale: &str,

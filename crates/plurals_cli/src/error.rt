@@ -13,7 +13,7 @@ const USAGE: &str =
 /// Why the program fails. Faults are looked for in this order.
 #[derive(Debug, Drop, Error)]
 pub enum RunError {
-    /// The words are no command with its count of words, or name no type.
+    /// The words are no command, are too few or too many for it, or name no type.
     #[error("{}", USAGE)]
     Usage,
     /// The condition can't be read.
@@ -37,10 +37,10 @@ pub enum RunError {
     /// The document has no rules of the type for the locale, or no ranges that are asked for.
     #[error("locale not found")]
     Locale,
-    /// The writer failed; how much went out isn't told.
+    /// The writer failed; part of the answer may have been written.
     #[error("cannot write output")]
     Write,
-    /// There was no memory. Nothing was written.
+    /// Out of memory. Nothing was written.
     #[error("out of memory")]
     Memory,
 }

@@ -9,7 +9,7 @@ use crate::error::RunError;
 use std::alloc::Global;
 use std::io::{ErrorKind, Read};
 
-// So many bytes an input may have.
+// The most bytes that an input may have.
 const MOST_BYTES: usize = 4_194_304;
 
 // Why there is no input.
@@ -20,7 +20,7 @@ enum InputError {
     Memory,
 }
 
-// The input: all that the reader has left. Of what is too long, one byte more is read than it may have.
+// The input: all that the reader has left. If it is too long, it is read to one byte past the limit.
 pub(crate) fn read_input<R: Read>(alloc: Global, reader: &mut R) -> Result<Vec<u8>, RunError>
     ensures input { GivesInput (R.remaining reader.old) result }
     ensures read { IsRead (R.remaining reader.old) (R.remaining reader.new) result }

@@ -29,7 +29,7 @@ use std::process::ExitCode;
 #[cfg(test)]
 mod tests;
 
-// Answers the words of the command line.
+// Writes the answer to the words of the command line.
 fn answer_words(rt: &HostRuntime) -> Result<(), RunError> {
     let owned = arguments(rt.alloc(), rt)?;
     let Ok(words) = owned

@@ -33,7 +33,7 @@ pub(crate) fn rule_lines(
     }
 }
 
-// The lines of the rules that are there, from zero to many.
+// The lines of the rules that are present, from zero to many.
 fn lines_of(alloc: Global, rules: &PluralRulesData<'_>) -> Result<String, AllocError>
     ensures { IfOk result (λ lines. string_bytes lines ≡ rule_lines (data_of rules.now)) }
 {
@@ -46,7 +46,7 @@ fn lines_of(alloc: Global, rules: &PluralRulesData<'_>) -> Result<String, AllocE
     Ok(lines)
 }
 
-// Appends the line of a rule that is there.
+// Appends the line of a rule, if present.
 fn push_rule(
     alloc: Global,
     lines: &mut String,

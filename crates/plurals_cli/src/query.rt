@@ -1,4 +1,4 @@
-//! What the words of a command line ask.
+//! What the words of a command line ask for.
 
 ghost use Rattle.std.specs.Prelude.{map, Some};
 ghost use Rattle.plurals_cli.specs.Commands.{command_of};
@@ -38,7 +38,7 @@ pub(crate) enum Lookup<'a> {
     Message(&'a str, PluralRuleType, CompactDecimal, &'a str),
 }
 
-// What the words ask.
+// What the words ask for.
 pub(crate) fn query_of<'a>(alloc: Global, words: &[&'a str]) -> Result<Query<'a>, RunError>
     ensures { GivesQuery (command_of (map (λ w. w.now) words.now)) result }
 {
@@ -48,7 +48,7 @@ pub(crate) fn query_of<'a>(alloc: Global, words: &[&'a str]) -> Result<Query<'a>
     }
 }
 
-// What a command asks: its condition and its numbers are read, the first word first.
+// What a command asks for: its condition and its numbers are read, the first word first.
 fn read_words<'a>(alloc: Global, command: Command<'a>) -> Result<Query<'a>, RunError>
     ensures { GivesQuery (Some (command_view command.entry)) result }
 {

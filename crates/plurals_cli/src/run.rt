@@ -1,4 +1,4 @@
-//! Answers the words of a command line.
+//! Runs the words of a command line.
 
 ghost use Rattle.std.specs.Prelude.{◌≡◌, List, ℕ, map};
 ghost use Rattle.plurals_cli.specs.Answer.{AnswersQuery, AnswersWords, IsAnswered, IsInput, IsNotRead, IsRead};
@@ -17,31 +17,34 @@ use std::io::{Read, Write};
 
 /// Writes the answer to the words of a command, and nothing else.
 ///
-/// `test CONDITION INTEGER` answers whether the condition (UTS 35 Part 3, Plural Rules Syntax) is true
-/// of the integer; it reads nothing. `category LOCALE TYPE NUMBER` answers the name of the number's
-/// category (UTS 35 Part 3, Language Plural Rules) by the rules that the input, a JSON document, has for
-/// the locale and the type; `range LOCALE TYPE START END` the name of the category of the numbers' range
-/// (UTS 35 Part 3, Plural Ranges) by these rules and the locale's ranges; `print LOCALE TYPE` a line for
-/// each of these rules; `select LOCALE TYPE NUMBER` the text of the document's element that the number
-/// chooses by these rules, and `message LOCALE TYPE NUMBER` the same with the word of the number in the
-/// place of each `{}`. They read the input to its end, or to the first byte that is too many. All take
-/// memory.
+/// | Words | Answer |
+/// |---|---|
+/// | `test CONDITION INTEGER` | whether the condition is true of the integer (UTS 35 Part 3, Plural Rules Syntax) |
+/// | `category LOCALE TYPE NUMBER` | the name of the number's category (Language Plural Rules) |
+/// | `range LOCALE TYPE START END` | the name of the category of the numbers' range (Plural Ranges) |
+/// | `print LOCALE TYPE` | a line for each rule |
+/// | `select LOCALE TYPE NUMBER` | the text of the element that the number chooses |
+/// | `message LOCALE TYPE NUMBER` | this text with the word of the number in the place of each `{}` |
 ///
-/// The errors, in the order in which they are looked for: [`RunError::Usage`] where the words are no
-/// command; [`RunError::Condition`] where the condition can't be read; [`RunError::Number`] where the
-/// integer or the number is out of form, or above its limit; of the input [`RunError::Read`] where the
-/// reader failed, [`RunError::TooLong`] above 4194304 bytes, [`RunError::Json`] where it is no JSON
-/// text, [`RunError::Document`] where it is no document, or has no elements that are asked for, and
-/// [`RunError::Locale`] where the locale has no rules of the type, or no ranges that are asked for;
-/// [`RunError::Write`] where the writer failed; [`RunError::Memory`] where memory ran out. Nothing was
-/// written then, a failed write aside.
+/// `test` reads nothing. The others take the rules and ranges of the locale and the type, and the
+/// elements, from the input, a JSON document; they read it to its end, or to one byte past the limit.
+/// All take memory.
+///
+/// The errors, in the order in which they are looked for: [`RunError::Usage`] if the words are no
+/// command; [`RunError::Condition`] if the condition can't be read; [`RunError::Number`] if the integer
+/// or the number is out of form, or above its limit; of the input [`RunError::Read`] if the reader
+/// failed, [`RunError::TooLong`] above 4194304 bytes, [`RunError::Json`] if it is no JSON text,
+/// [`RunError::Document`] if it is no document, or has no elements that are asked for, and
+/// [`RunError::Locale`] if the locale has no rules of the type, or no ranges that are asked for;
+/// [`RunError::Write`] if the writer failed; [`RunError::Memory`] if memory ran out. After an error
+/// nothing was written, except by a failed write.
 pub fn run<R: Read, W: Write>(
     alloc: Global,
     words: &[&str],
     reader: &mut R,
     writer: &mut W,
 ) -> Result<(), RunError>
-    // The answer is that of some input, which is what the reader had left, where that is known.
+    // The answer is that of some input, which is what the reader had left, if that is known.
     ensures answers { (input : List ℕ) × IsInput (R.remaining reader.old) input
         × IsAnswered (AnswersWords (map (λ w. w.now) words.now) input) (W.contents writer.old) (W.contents writer.new) result }
     ensures reads { NeedsInput (map (λ w. w.now) words.now) → IsRead (R.remaining reader.old) (R.remaining reader.new) result }
@@ -72,7 +75,7 @@ fn answer<R: Read>(
     }
 }
 
-// What the document that the reader gives answers.
+// The answer of the document that the reader gives.
 fn looked_up<R: Read>(
     alloc: Global,
     lookup: &Lookup<'_>,

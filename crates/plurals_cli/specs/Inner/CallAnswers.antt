@@ -1,4 +1,4 @@
--- Not a definition of the subject: what private calls answer.
+-- Not a definition of the subject: what private calls return.
 use Rattle.std.specs.Prelude.{◌≡◌, ℕ, List, Option, Result, Ok, Err, ⊤}
 use Rattle.std.specs.Cow.{cow_str_bytes}
 use Rattle.std.specs.declared.alloc.Global.{Global}
@@ -13,34 +13,34 @@ use Rattle.plurals_cli.specs.declared.error.RunError.{RunError}
 use Rattle.plurals_cli.specs.declared.error.RunError.TheVariants.{Read, Write, Memory}
 use Rattle.plurals_cli.specs.declared.query.Query.{Query as CodeQuery}
 
--- ---- Answers
+-- ---- Results
 
--- a fault of this kind, or want of memory; nothing is read or written
+-- a fault of this kind, or out of memory; nothing is read or written
 abbrev pub GivesFault : (RunError → Type 0) → RunError → Type 0
 GivesFault IsFault Memory = ⊤
 GivesFault IsFault Read = ⊥
 GivesFault IsFault Write = ⊥
 GivesFault IsFault fault = IsFault fault
 
--- the answer, seen so, or want of memory
+-- the result, seen so, or out of memory
 abbrev pub Gives : {A B : Type 0} → (A → B) → (Result B RunError → Type 0) → Result A RunError → Type 0
 Gives seen IsAnswer (Ok x) = IsAnswer (Ok (seen x))
 Gives seen IsAnswer (Err e) = GivesFault (λ fault. IsAnswer (Err fault)) e
 
--- the same where there is one answer
+-- as `Gives`, with one possible result
 abbrev pub GivesValue : {A B : Type 0} → (A → B) → Result B RunError → Result A RunError → Type 0
 GivesValue seen value = Gives seen (λ answer. value ≡ answer)
 
 -- ---- Texts
 
--- a text that is lent or owned
+-- a borrowed or owned text
 abbrev pub Text : Type 0
 Text = CowStr Global
 
 abbrev pub GivesText : (Result (List ℕ) RunError → Type 0) → Result Text RunError → Type 0
 GivesText = Gives cow_str_bytes
 
--- the same of a call that reads, and may fail at it
+-- as `GivesText`, of a call that reads, and may fail at it
 abbrev pub GivesAfterReading : (Result (List ℕ) RunError → Type 0) → Result Text RunError → Type 0
 GivesAfterReading IsAnswer (Err Read) = ⊤
 GivesAfterReading IsAnswer result = GivesText IsAnswer result
@@ -57,12 +57,12 @@ abbrev pub IsOfDocument : Query → Type 0
 IsOfDocument (truth condition n) = ⊥
 IsOfDocument (of_document lookup) = ⊤
 
--- a command that asks this asks it of a document, and has no fault then, or doesn't
+-- a command that asks for this asks a document and has no fault, or doesn't ask one
 abbrev pub IsOfKind : Option Command → Query → Type 0
 IsOfKind command (truth condition n) = ¬ (AsksDocument command)
 IsOfKind command (of_document lookup) = AsksDocument command × HasNoFault (CommandAsks command)
 
--- what a command asks, or the fault of its words
+-- what a command asks for, or the fault of its words
 abbrev pub GivesQuery : Option Command → Result CodeQuery RunError → Type 0
 GivesQuery command (Ok query) = CommandAsks command (Ok (query_view query)) × IsOfKind command (query_view query)
 GivesQuery command (Err e) = GivesFault (λ fault. CommandAsks command (Err fault)) e

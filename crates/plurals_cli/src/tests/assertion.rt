@@ -13,7 +13,7 @@ pub fn fail_unless(rt: &impl Abort, holds: bool, condition: &str, row: &str)
     assert!(rt; holds, "{row}: {condition}");
 }
 
-/// The same for a row that isn't named by a text.
+/// [`fail_unless`] for a row that isn't named by a text.
 pub fn fail_unless_at(rt: &impl Abort, holds: bool, condition: &str, row: &impl Debug)
     ensures { IsTrue holds }
 {

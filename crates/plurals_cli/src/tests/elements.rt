@@ -6,7 +6,7 @@ use std::alloc::Global;
 use std::process::Abort;
 use std::test::Fail;
 
-// These texts have no place for a number.
+// These texts have no `{}`.
 #[test]
 fn elements_are_chosen(rt: HostRuntime) {
     let table = "$ a|cardinal|1
@@ -141,7 +141,7 @@ fn elements_stand_between_the_maps_and_the_locale(rt: HostRuntime) {
     documents_hold(&rt, rt.alloc(), &lines, table)
 }
 
-// What `select` and `message` give for a text of so many `x` as other's, and with it `y` as one's if asked.
+// What `select` and `message` give for a text of this many `x` for other, and with it `y` for one if the end has it.
 fn long_default_gives(
     rt: &impl Abort,
     alloc: Global,

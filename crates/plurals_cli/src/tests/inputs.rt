@@ -10,7 +10,7 @@ use std::test::Fail;
 // The most bytes that an input may have.
 const MOST: usize = 4_194_304;
 
-// A reader with a text and so many spaces after it, which then fails, or is at its end.
+// A reader with a text and a number of spaces after it, which then fails, or is at its end.
 #[derive(Drop)]
 pub(crate) struct Input<'a> {
     text: &'a [u8],
@@ -34,7 +34,7 @@ impl<'a> Read for Input<'a> {
 }
 
 impl<'a> Input<'a> {
-    // The text, or where there is none a reader that fails at each call.
+    // A reader of the text; if it is absent, one that fails at each call.
     pub(crate) fn of(text: Option<&'a [u8]>) -> Input<'a> {
         Input {
             text: text.unwrap_or(b""),
@@ -111,7 +111,7 @@ $ a|cardinal|1
         numbers,
         None,
     );
-    // The start is looked at before the end.
+    // The start is checked before the end.
     let ranges = "$ a|cardinal|x|1
 1: bad number
 $ a|cardinal|1|x

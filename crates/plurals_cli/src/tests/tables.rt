@@ -1,4 +1,4 @@
-//! Tables of commands with what is answered to them.
+//! Tables of commands with their answers.
 
 use crate::error::RunError;
 use crate::run::run;
@@ -44,8 +44,8 @@ pub(crate) fn is_told(fault: &RunError, line: &str) -> bool {
     awaits_fault(writer, fault)
 }
 
-// Whether the words give this answer over the reader: what is printed, or the status and the text of a fault. None where
-// memory ran out and nothing was written.
+// Whether the words give this answer over the reader: what is printed, or the status and the text of a fault. None if memory
+// ran out and nothing was written.
 pub(crate) fn gives<R: Read>(
     alloc: Global,
     words: &[&str],
@@ -62,7 +62,7 @@ pub(crate) fn gives<R: Read>(
     }
 }
 
-// The same of a command and the words after it, which stand apart by bars.
+// `gives` for a command and the words after it, which are separated by bars.
 pub(crate) fn row_gives<'w, R: Read>(
     alloc: Global,
     command: &'w str,
@@ -83,8 +83,8 @@ pub(crate) fn row_gives<'w, R: Read>(
     gives(alloc, words.get(..count)?, reader, answer)
 }
 
-// Each row of the table gives, with each of the commands, the lines that follow it. Before a row stands `$ `. Where there is
-// no input, reading fails.
+// Each row of the table gives, with each of the commands, the lines that follow it. A row begins with `$ `. Without an input,
+// reading fails.
 pub(crate) fn table_holds(
     rt: &impl Abort,
     alloc: Global,
@@ -102,7 +102,7 @@ pub(crate) fn table_holds(
 }
 
 // Over each document of the table the command gives, with each of the rows of words, the lines that follow the document.
-// Before a document stands `< `.
+// A document begins with `< `.
 pub(crate) fn documents_hold(rt: &impl Abort, alloc: Global, lines: &[(&str, &str)], table: &str) {
     for row in table.split("< ").skip(1) {
         let (document, answer) = row.split_once('\n').unwrap_or((row, ""));

@@ -8,7 +8,7 @@ use std::alloc::Global;
 use std::io;
 use std::io::Write;
 
-// A writer that takes one byte at a call. After so many it refuses each call, or takes no byte. It can't be flushed.
+// A writer that takes one byte at a call, `left` times. Then it refuses each call, or takes no byte. It can't be flushed.
 #[derive(Drop)]
 struct Taking {
     left: usize,
@@ -32,7 +32,7 @@ impl Write for Taking {
     }
 }
 
-// What the words give over the document where the writer takes so many bytes.
+// What the words give over the document if the writer takes this many bytes.
 fn after(alloc: Global, words: &[&str], left: usize, refuses: bool) -> Result<(), RunError> {
     let mut input = DOCUMENT;
     run(alloc, words, &mut input, &mut Taking { left, refuses })
