@@ -1,0 +1,4 @@
+-- No definitions of the subject: what private contracts speak of.
+pub mod CheckViews
+pub mod CheckCalls
+pub mod CheckedBytes
