@@ -1,0 +1,4 @@
+pub mod Documents
+pub mod CheckFaults
+pub mod CheckedInputs
+pub mod FoundParts
