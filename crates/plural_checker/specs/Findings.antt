@@ -1,0 +1,53 @@
+-- What a check finds: faults in their order, and how many numbers were looked at.
+--     nothing      no fault and no number
+--     Then First Second found      what two checks find, one behind the other
+--     EachFinds Finds things found      what a check finds in each thing of a list, in the order of the list
+--     Adds Finds old new      the report has grown by what a check finds
+use Rattle.std.specs.Prelude.{◌≡◌, ℕ, ◌+◌, ◌-◌, ◌^◌, min, List, [], ◌∷◌, ◌++◌, Option}
+use Rattle.icu_plurals.specs.FiveRules.{Five}
+use Rattle.plural_checker.specs.declared.fault.Fault.{Fault}
+use Rattle.plural_checker.specs.declared.report.Report.{Report}
+
+-- the texts of five rules, and that of other
+pub record SixTexts : Type 0 where
+  pub five : Five (Option (List ℕ))
+  pub other : Option (List ℕ)
+
+pub record Findings : Type 0 where
+  pub faults : List Fault
+  pub numbers : ℕ
+
+abbrev pub nothing : Findings
+nothing = record { faults = []; numbers = 0 }
+
+-- one fault and no number
+abbrev pub one_fault : Fault → Findings
+one_fault fault = record { faults = fault ∷ []; numbers = 0 }
+
+-- the faults of the first stand before those of the second
+abbrev pub both : Findings → Findings → Findings
+both first second = record { faults = first.faults ++ second.faults; numbers = first.numbers + second.numbers }
+
+abbrev pub Then : (Findings → Type 0) → (Findings → Type 0) → Findings → Type 0
+Then First Second found = (first second : Findings) × First first × Second second × (found ≡ both first second)
+
+abbrev pub EachFinds : {A : Type 0} → (A → Findings → Type 0) → List A → Findings → Type 0
+EachFinds Finds [] found = found ≡ nothing
+EachFinds Finds (x ∷ xs) found = Then (Finds x) (EachFinds Finds xs) found
+
+-- ---- Reports
+
+-- a count, or the largest that a report can hold
+abbrev pub capped : ℕ → ℕ
+capped n = min n (2 ^ 64 - 1)
+
+-- the report with what was found besides
+abbrev pub Grows : Report → Findings → Report → Type 0
+Grows old found new = (new.faults ≡ old.faults ++ found.faults) × (new.numbers ≡ capped (old.numbers + found.numbers))
+
+abbrev pub Adds : (Findings → Type 0) → Report → Report → Type 0
+Adds Finds old new = (found : Findings) × Finds found × Grows old found new
+
+-- the report of what was found
+abbrev pub IsReportOf : Findings → Report → Type 0
+IsReportOf found report = (report.faults ≡ found.faults) × (report.numbers ≡ capped found.numbers)
