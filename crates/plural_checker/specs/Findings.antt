@@ -3,7 +3,7 @@
 --     Then First Second found      what two checks find, one behind the other
 --     EachFinds Finds things found      what a check finds in each thing of a list, in the order of the list
 --     Adds Finds old new      the report has grown by what a check finds
-use Rattle.std.specs.Prelude.{◌≡◌, ℕ, ◌+◌, ◌-◌, ◌^◌, min, List, [], ◌∷◌, ◌++◌, Option}
+use Rattle.std.specs.Prelude.{◌≡◌, ◌⊎◌, ℕ, ◌+◌, ◌-◌, ◌^◌, ◌≤◌, List, [], ◌∷◌, ◌++◌, Option}
 use Rattle.icu_plurals.specs.FiveRules.{Five}
 use Rattle.plural_checker.specs.declared.fault.Fault.{Fault}
 use Rattle.plural_checker.specs.declared.report.Report.{Report}
@@ -37,17 +37,21 @@ EachFinds Finds (x ∷ xs) found = Then (Finds x) (EachFinds Finds xs) found
 
 -- ---- Reports
 
--- a count, or the largest that a report can hold
-abbrev pub capped : ℕ → ℕ
-capped n = min n (2 ^ 64 - 1)
+-- the largest count that a report can hold
+abbrev pub most_counted : ℕ
+most_counted = 2 ^ 64 - 1
+
+-- the count of so many, or the largest where there are as many or more
+abbrev pub IsCountOf : ℕ → ℕ → Type 0
+IsCountOf count many = (count ≡ many) ⊎ ((most_counted ≤ count) × (most_counted ≤ many))
 
 -- the report with what was found besides
 abbrev pub Grows : Report → Findings → Report → Type 0
-Grows old found new = (new.faults ≡ old.faults ++ found.faults) × (new.numbers ≡ capped (old.numbers + found.numbers))
+Grows old found new = (new.faults ≡ old.faults ++ found.faults) × IsCountOf new.numbers (old.numbers + found.numbers)
 
 abbrev pub Adds : (Findings → Type 0) → Report → Report → Type 0
 Adds Finds old new = (found : Findings) × Finds found × Grows old found new
 
 -- the report of what was found
 abbrev pub IsReportOf : Findings → Report → Type 0
-IsReportOf found report = (report.faults ≡ found.faults) × (report.numbers ≡ capped found.numbers)
+IsReportOf found report = (report.faults ≡ found.faults) × IsCountOf report.numbers found.numbers

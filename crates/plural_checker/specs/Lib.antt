@@ -8,3 +8,5 @@ pub mod TextChecks
 pub mod Coverage
 -- the texts of faults
 pub mod PluralCheckerErrors
+-- not definitions of the subject
+pub mod Inner

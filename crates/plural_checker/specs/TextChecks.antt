@@ -16,7 +16,7 @@ use Rattle.icu_plurals.specs.declared.provider.rules.runtime.ast.RuleError.TheVa
 use Rattle.icu_plurals.specs.FiveRules.{Five, FiveRules}
 use Rattle.icu_plurals.specs.Lexer.{AreTokensOf, TextReads}
 use Rattle.icu_plurals.specs.PackedRelations.{PackedRelation}
-use Rattle.icu_plurals.specs.RuleOfText.{IsPackedFrom, TextGives}
+use Rattle.icu_plurals.specs.RuleOfText.{TextGives}
 use Rattle.icu_plurals.specs.RuleTexts.{AreRulesOf, IsFirstRefused}
 use Rattle.icu_plurals.specs.Samples.{ReadsRule}
 use Rattle.icu_plurals.specs.Serializer.{rule_text}
@@ -69,9 +69,9 @@ HaveSameTokens text other = (tokens : List Token) × AreTokensOf text tokens × 
 abbrev pub HaveOtherTokens : List ℕ → List ℕ → Type 0
 HaveOtherTokens text other = (tokens others : List Token) × AreTokensOf text tokens × AreTokensOf other others × (tokens ≢ others)
 
--- the rule of a text, or why it gives none
+-- the rule that a text is read as, which can be packed, or why it gives none
 abbrev pub IsRead : List ℕ → Result Rule RuleError → Type 0
-IsRead text (Ok rule) = TextReads ReadsRule text rule × ((packed : List PackedRelation) × IsPackedFrom text (Ok packed))
+IsRead text (Ok rule) = TextReads ReadsRule text rule × ((packed : List PackedRelation) × TextGives text (Ok packed))
 IsRead text (Err error) = TextGives text (Err error)
 
 -- the tokens of the text are those of what was read, printed, or they aren't: then something of it isn't read

@@ -50,12 +50,9 @@ fn rules_of(
 {
     match PluralRulesData::from_texts(alloc, texts.zero, texts.one, texts.two, texts.few, texts.many) {
         Ok(data) => Ok(Some(PluralRules::from_data(data))),
-        Err(refused) => {
-            if refused.error == RuleError::Memory {
-                Err(AllocError)
-            } else {
-                Ok(None)
-            }
-        }
+        Err(refused) => match refused.error {
+            RuleError::Parse(_) | RuleError::StartLimit => Ok(None),
+            RuleError::Memory => Err(AllocError),
+        },
     }
 }

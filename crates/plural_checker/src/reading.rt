@@ -45,8 +45,10 @@ pub(crate) fn read_number(
     ensures { IfOk result (λ answer. GivesNumber text.now answer) }
 {
     match CompactDecimal::from_str(alloc, text) {
+        Ok(number) => Ok(Ok(number)),
+        Err(DecimalError::Syntax) => Ok(Err(DecimalError::Syntax)),
+        Err(DecimalError::Limit) => Ok(Err(DecimalError::Limit)),
         Err(DecimalError::Memory) => Err(AllocError),
-        answer => Ok(answer),
     }
 }
 

@@ -1,7 +1,7 @@
 //! What a check found.
 
 ghost use Rattle.std.specs.Prelude.{◌≡◌, ◌+◌, ◌∷◌, ◌++◌, [], OnOk};
-ghost use Rattle.plural_checker.specs.Findings.{Grows, capped, one_fault};
+ghost use Rattle.plural_checker.specs.Findings.{IsCountOf};
 
 use crate::fault::Fault;
 use icu_plurals::Sequence;
@@ -37,7 +37,8 @@ impl Report {
 
     // Adds so many numbers.
     pub(crate) fn count(&mut self, numbers: u64)
-        ensures { self.new ≡ record self.old { numbers = capped (self.old.numbers + numbers) } }
+        ensures faults { self.new.faults ≡ self.old.faults }
+        ensures numbers { IsCountOf self.new.numbers (self.old.numbers + numbers) }
     {
         self.numbers = self.numbers.saturating_add(numbers);
     }

@@ -108,7 +108,10 @@ fn stepped(first: &CompactDecimal, last: &CompactDecimal) -> Result<SampleNumber
     if places != places_of(last) || exponent != last.exponent() {
         return Err(RangeFault::Uneven);
     }
-    let (Some(low), Some(high)) = (parts_of(first), parts_of(last)) else {
+    let Some(low) = parts_of(first) else {
+        return Err(RangeFault::Long);
+    };
+    let Some(high) = parts_of(last) else {
         return Err(RangeFault::Long);
     };
     let Some(more) = high.checked_sub(low) else {

@@ -1,9 +1,10 @@
 //! One text of a language's rules.
 
-ghost use Rattle.std.specs.Prelude.{IfOk, OnOk, MatchBool};
+ghost use Rattle.std.specs.Prelude.{◌≡◌, ◌≢◌, IfOk, OnOk, MatchBool};
 ghost use Rattle.std.specs.Option.{option_copied};
 ghost use Rattle.plural_checker.specs.Findings.{Adds};
 ghost use Rattle.plural_checker.specs.TextChecks.{HaveOtherTokens, HaveSameTokens, IsFoundIn, IsFoundInReading, IsFoundInText, IsRead};
+ghost use Rattle.plural_checker.specs.Inner.TextAnswers.{IsTreeOf};
 
 use crate::fault::{Fault, TextFault};
 use crate::printed_rule::PrintedRule;
@@ -76,16 +77,23 @@ fn check_reading(
 fn rule_of(alloc: Global, text: &str) -> Result<Result<Rule, RuleError>, AllocError>
     ensures { IfOk result (λ answer. IsRead text.now answer) }
 {
-    // The two readings are of the text's one list of tokens.
-    one_list_of_tokens();
     match PackedRule::from_str(alloc, text) {
+        Ok(_) => tree_of(alloc, text),
+        Err(RuleError::Parse(fault)) => Ok(Err(RuleError::Parse(fault))),
+        Err(RuleError::StartLimit) => Ok(Err(RuleError::StartLimit)),
         Err(RuleError::Memory) => Err(AllocError),
-        Err(error) => Ok(Err(error)),
-        Ok(_) => match parse(alloc, text.as_bytes()) {
-            Ok(rule) => Ok(Ok(rule)),
-            Err(ReadError::Parse(fault)) => Ok(Err(RuleError::Parse(fault))),
-            Err(ReadError::Memory) => Err(AllocError),
-        },
+    }
+}
+
+// The tree of a text, or why it is none.
+fn tree_of(alloc: Global, text: &str) -> Result<Result<Rule, RuleError>, AllocError>
+    ensures { IfOk result (λ answer. IsTreeOf text.now answer) }
+{
+    one_list_of_tokens();
+    match parse(alloc, text.as_bytes()) {
+        Ok(rule) => Ok(Ok(rule)),
+        Err(ReadError::Parse(fault)) => Ok(Err(RuleError::Parse(fault))),
+        Err(ReadError::Memory) => Err(AllocError),
     }
 }
 
@@ -93,11 +101,17 @@ fn rule_of(alloc: Global, text: &str) -> Result<Result<Rule, RuleError>, AllocEr
 fn has_tokens_of(text: &str, other: &str) -> bool
     ensures { MatchBool result (HaveSameTokens text.now other.now) (HaveOtherTokens text.now other.now) }
 {
-    let mut rest = Lexer::new(text.as_bytes());
-    for token in Lexer::new(other.as_bytes()) {
-        if rest.next() != Some(token) {
+    are_equal(Lexer::new(text.as_bytes()), Lexer::new(other.as_bytes()))
+}
+
+// Whether the tokens that are left are the same.
+fn are_equal(mut tokens: Lexer<'_>, mut others: Lexer<'_>) -> bool
+    ensures { MatchBool result (tokens.entry ≡ others.entry) (tokens.entry ≢ others.entry) }
+{
+    while let Some(token) = tokens.next() {
+        if others.next() != Some(token) {
             return false;
         }
     }
-    rest.next().is_none()
+    others.next().is_none()
 }
