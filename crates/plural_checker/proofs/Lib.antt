@@ -1,0 +1,6 @@
+-- reports that grow
+pub mod Growth
+-- texts of samples
+pub mod NumberTexts
+-- the digits of an end
+pub mod AllDigits
