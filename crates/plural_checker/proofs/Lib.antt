@@ -4,3 +4,5 @@ pub mod Growth
 pub mod NumberTexts
 -- the digits of an end
 pub mod AllDigits
+-- tokens of two texts
+pub mod SameTokens

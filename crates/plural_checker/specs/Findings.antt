@@ -3,15 +3,9 @@
 --     Then First Second found      what two checks find, one behind the other
 --     EachFinds Finds things found      what a check finds in each thing of a list, in the order of the list
 --     Adds Finds old new      the report has grown by what a check finds
-use Rattle.std.specs.Prelude.{◌≡◌, ◌⊎◌, ℕ, ◌+◌, ◌-◌, ◌^◌, ◌≤◌, List, [], ◌∷◌, ◌++◌, Option}
-use Rattle.icu_plurals.specs.FiveRules.{Five}
+use Rattle.std.specs.Prelude.{◌≡◌, ◌⊎◌, ℕ, ◌+◌, ◌-◌, ◌^◌, ◌≤◌, List, [], ◌∷◌, ◌++◌}
 use Rattle.plural_checker.specs.declared.fault.Fault.{Fault}
 use Rattle.plural_checker.specs.declared.report.Report.{Report}
-
--- the texts of five rules, and that of other
-pub record SixTexts : Type 0 where
-  pub five : Five (Option (List ℕ))
-  pub other : Option (List ℕ)
 
 pub record Findings : Type 0 where
   pub faults : List Fault

@@ -2,6 +2,7 @@
 pub mod SampleNumbers
 pub mod NumberChecks
 -- findings, and those of texts
+pub mod LanguageTexts
 pub mod Findings
 pub mod TextChecks
 -- what translators need

@@ -2,8 +2,7 @@
 --     AreRulesIfRead texts rules      the rules of the five texts, if each text gives its rule
 --     IsFoundInText rules category text found      what is wrong with one text
 --     AreFindingsOf texts report      what is wrong with all six, in the order zero, one, two, few, many, other
---     has_rule texts category      the category is other, or its text is there
-use Rattle.std.specs.Prelude.{◌≡◌, ◌≢◌, ◌⊎◌, ℕ, Bool, true, List, [], ◌∷◌, Option, Some, None, is_some, Result, Ok, Err}
+use Rattle.std.specs.Prelude.{◌≡◌, ◌≢◌, ◌⊎◌, ℕ, List, [], ◌∷◌, Option, Some, None, Result, Ok, Err}
 use Rattle.icu_plurals.specs.declared.PluralCategory.{PluralCategory}
 use Rattle.icu_plurals.specs.declared.PluralCategory.TheVariants.{Zero, One, Two, Few, Many, Other}
 use Rattle.icu_plurals.specs.declared.provider.rules.reference.Token.{Token}
@@ -20,7 +19,8 @@ use Rattle.icu_plurals.specs.RuleOfText.{TextGives}
 use Rattle.icu_plurals.specs.RuleTexts.{AreRulesOf, IsFirstRefused}
 use Rattle.icu_plurals.specs.Samples.{ReadsRule}
 use Rattle.icu_plurals.specs.Serializer.{rule_text}
-use Rattle.plural_checker.specs.Findings.{SixTexts, Findings, nothing, one_fault, Then, EachFinds, IsReportOf}
+use Rattle.plural_checker.specs.Findings.{Findings, nothing, one_fault, Then, EachFinds, IsReportOf}
+use Rattle.plural_checker.specs.LanguageTexts.{SixTexts}
 use Rattle.plural_checker.specs.NumberChecks.{IsCheckedRange}
 use Rattle.plural_checker.specs.declared.fault.Fault.{Fault}
 use Rattle.plural_checker.specs.declared.fault.SampleFault.{SampleFault}
@@ -102,13 +102,3 @@ abbrev pub AreFindingsOf : SixTexts → Report → Type 0
 AreFindingsOf texts report =
     (rules : Option FiveRules) × (found : Findings)
     × AreRulesIfRead texts.five rules × IsFoundInSix rules texts found × IsReportOf found report
-
--- ---- Categories
-
-abbrev pub has_rule : Five (Option (List ℕ)) → PluralCategory → Bool
-has_rule texts Zero = is_some texts.zero
-has_rule texts One = is_some texts.one
-has_rule texts Two = is_some texts.two
-has_rule texts Few = is_some texts.few
-has_rule texts Many = is_some texts.many
-has_rule texts Other = true

@@ -1,7 +1,7 @@
 //! The six texts of a language's rules.
 
-ghost use Rattle.std.specs.Prelude.{◌≡◌, IfOk};
-ghost use Rattle.icu_plurals.specs.FiveRules.{rules_of};
+ghost use Rattle.std.specs.Prelude.{IfOk};
+ghost use Rattle.plural_checker.specs.LanguageTexts.{six_texts};
 ghost use Rattle.plural_checker.specs.TextChecks.{AreFindingsOf, AreRulesIfRead};
 
 use crate::report::Report;
@@ -27,10 +27,10 @@ use std::alloc::{AllocError, Global};
 /// [`TextFault::Partly`]: crate::TextFault::Partly
 /// [`TextFault::Sample`]: crate::TextFault::Sample
 pub fn check_texts(alloc: Global, texts: &LanguageTexts<'_>) -> Result<Report, AllocError>
-    ensures { IfOk result (λ report. AreFindingsOf texts.now report) }
+    ensures { IfOk result (λ report. AreFindingsOf (six_texts texts.now) report) }
 {
-    let rules = rules_of(alloc, texts)?;
-    let rules = rules.as_ref();
+    let read = rules_of(alloc, texts)?;
+    let rules = read.as_ref();
     let mut report = Report::new(alloc);
     check_if_there(alloc, rules, PluralCategory::Zero, texts.zero, &mut report)?;
     check_if_there(alloc, rules, PluralCategory::One, texts.one, &mut report)?;
@@ -46,7 +46,7 @@ fn rules_of(
     alloc: Global,
     texts: &LanguageTexts<'_>,
 ) -> Result<Option<PluralRules<'static>>, AllocError>
-    ensures { IfOk result (λ rules. AreRulesIfRead texts.now.five rules) }
+    ensures { IfOk result (λ rules. AreRulesIfRead (six_texts texts.now).five rules) }
 {
     match PluralRulesData::from_texts(alloc, texts.zero, texts.one, texts.two, texts.few, texts.many) {
         Ok(data) => Ok(Some(PluralRules::from_data(data))),

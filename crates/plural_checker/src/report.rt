@@ -31,7 +31,8 @@ impl Report {
     pub(crate) fn add(&mut self, fault: Fault) -> Result<(), AllocError>
         ensures { OnOk result (self.new ≡ record self.old { faults = self.old.faults ++ fault ∷ [] }) }
     {
-        self.faults.0.push(fault)?;
+        let faults = &mut self.faults;
+        faults.0.push(fault)?;
         Ok(())
     }
 

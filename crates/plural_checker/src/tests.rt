@@ -28,7 +28,8 @@ fn shown(alloc: Global, range: &SampleRange) -> Result<String, AllocError> {
         Ok(numbers) => {
             let mut text = String::new(alloc);
             for index in 0..numbers.count() {
-                text.push_str(numbers.text(alloc, index)?.0.as_str())?;
+                let number = numbers.text(alloc, index)?;
+                text.push_str(number.0.as_str())?;
                 text.push_str(" ")?;
             }
             Ok(text)
@@ -94,7 +95,8 @@ fn a_range_may_have_100_numbers(rt: HostRuntime) -> Result<(), Fail> {
 fn lines(alloc: Global, report: &Report) -> Result<String, AllocError> {
     let mut text = String::new(alloc);
     for fault in report.faults.iter() {
-        text.push_str(fault.to_string(alloc)?.as_str())?;
+        let line = fault.to_string(alloc)?;
+        text.push_str(line.as_str())?;
         text.push_str("\n")?;
     }
     Ok(text)

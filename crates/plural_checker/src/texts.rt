@@ -1,10 +1,9 @@
 //! The texts of a language's rules.
 
 ghost use Rattle.std.specs.Prelude.{◌≡◌};
-ghost use Rattle.plural_checker.specs.TextChecks.{has_rule};
+ghost use Rattle.plural_checker.specs.LanguageTexts.{has_rule, six_texts};
 
 use icu_plurals::PluralCategory;
-use std::marker::Model;
 
 /// The texts of a language's rules of one type, as CLDR has them (UTS 35 Part 3, Plural Rules Syntax and Samples): of each
 /// category one, or none. That of other has samples alone.
@@ -24,23 +23,10 @@ pub struct LanguageTexts<'a> {
     pub other: Option<&'a str>,
 }
 
-impl<'a> Model for LanguageTexts<'a> {
-    ghost use Rattle.std.specs.Option.{option_copied};
-    ghost use Rattle.icu_plurals.specs.RuleTexts.{texts_of};
-    ghost use Rattle.plural_checker.specs.Findings.{SixTexts};
-
-    ghost Value = { SixTexts };
-
-    ghost view = { λ texts. record {
-      five = texts_of texts.zero texts.one texts.two texts.few texts.many;
-      other = option_copied texts.other;
-    } };
-}
-
 impl<'a> LanguageTexts<'a> {
     /// Whether numbers may have the category: other, or one whose text is there. So may ranges of numbers.
     pub fn has_rule(&self, category: PluralCategory) -> bool
-        ensures { result ≡ has_rule self.now.five category }
+        ensures { result ≡ has_rule (six_texts self.now) category }
     {
         match category {
             PluralCategory::Zero => self.zero.is_some(),
