@@ -1,9 +1,18 @@
 -- What is found, put together.
-use Rattle.std.proofs.Common.{◌≡◌, ℕ, ◌+◌, List, [], ◌∷◌, ◌++◌, refl, sym, ap, subst, ◌∙◌, append_assoc, add_assoc, add-zero, zero-add}
+use Rattle.std.proofs.Common.{◌≡◌, ℕ, suc, ◌+◌, ◌<◌, List, [], ◌∷◌, ◌++◌, length, get_or, drop, map, refl, sym, ap, subst, ◌∙◌}
+use Rattle.std.proofs.Common.{append_assoc, add-one, drop-cons}
+use Rattle.std.proofs.Math.Nat.{add_assoc, add-zero, zero-add}
 use Rattle.std.proofs.lemmas.List.{append-nil}
+use Rattle.std.specs.List.{flat_map}
 use Rattle.serde_json.specs.Data.{Data, Members, no_members, member}
-use Rattle.plurals_check.specs.Found.{Found, nothing, together, IsFoundIn}
-use Rattle.plurals_check.specs.Inner.CheckCalls.{Adds, lines_alone}
+use Rattle.serde_json.specs.Find.{get}
+use Rattle.icu_plurals.specs.declared.PluralCategory.{PluralCategory}
+use Rattle.icu_plurals.specs.Categories.{name_of}
+use Rattle.plurals_check.specs.DocumentReport.{found_under, found_under_all}
+use Rattle.plurals_check.specs.Found.{Found, nothing, one_line, together, IsFoundIn}
+use Rattle.plurals_check.specs.ReportText.{ended_line}
+use Rattle.plurals_check.specs.declared.place.Part.{Part}
+use Rattle.plurals_check.specs.Inner.Additions.{Adds, lines_alone}
 
 -- nothing more is the same
 pub together-nothing : (a : Found) → together a nothing ≡ a
@@ -69,3 +78,36 @@ module _ (Is : List ℕ → Data → Found → Type 0) (all : Members) (first : 
   pub ends : (now : Found) → Completes Is no_members all now first → Adds (IsFoundIn Is all) first now
   ends now so_far =
       let whole = so_far nothing refl in (whole.0, whole.1, sym (together-nothing now) ∙ whole.2)
+
+-- ---- One thing after the other
+
+-- what is found under the next category comes behind what was found so far
+pub next_under : (part : Part) (locale : List ℕ) (value : Data) (categories : List PluralCategory) (i : ℕ) (d : PluralCategory)
+    (now next : Found) → i < length categories
+    → next ≡ together now (found_under part locale (get_or categories i d) (get (name_of (get_or categories i d)) value))
+    → together next (found_under_all part locale value (drop (i + 1) categories))
+    ≡ together now (found_under_all part locale value (drop i categories))
+next_under part locale value categories i d now next lt step =
+    let category = get_or categories i d in
+    let rest = found_under_all part locale value (drop (suc i) categories) in
+    rw (add-one, drop-cons categories i d)
+    (ap (λ (f : Found). together f rest) step
+    ∙ together_assoc now (found_under part locale category (get (name_of category) value)) rest)
+
+-- so does the next line
+pub next_line : {A : Type 0} (line : A → List ℕ) (things : List A) (i : ℕ) (d : A) (now next : Found) → i < length things
+    → next ≡ together now (one_line (line (get_or things i d)))
+    → together next (lines_alone (map line (drop (i + 1) things))) ≡ together now (lines_alone (map line (drop i things)))
+next_line line things i d now next lt step =
+    let rest = lines_alone (map line (drop (suc i) things)) in
+    rw (add-one, drop-cons things i d)
+    (ap (λ (f : Found). together f rest) step ∙ together_assoc now (one_line (line (get_or things i d))) rest)
+
+-- and the text of the next line
+pub next_text : {A : Type 0} (bytes : A → List ℕ) (things : List A) (i : ℕ) (d : A) (now next : List ℕ) → i < length things
+    → next ≡ now ++ ended_line (bytes (get_or things i d))
+    → next ++ flat_map ended_line (map bytes (drop (i + 1) things)) ≡ now ++ flat_map ended_line (map bytes (drop i things))
+next_text bytes things i d now next lt step =
+    let rest = flat_map ended_line (map bytes (drop (suc i) things)) in
+    rw (add-one, drop-cons things i d)
+    (ap (λ (t : List ℕ). t ++ rest) step ∙ append_assoc now (ended_line (bytes (get_or things i d))) rest)

@@ -2,3 +2,4 @@ pub mod Documents
 pub mod CheckFaults
 pub mod CheckedInputs
 pub mod FoundParts
+pub mod CheckReadings

@@ -1,7 +1,7 @@
 -- The JSON value of an input whose parts and locales are objects, or the first reason why there is none (docs/JSON.md).
 --     value_in input      the value, or the first fault
 --     members_at part value      what a part has under each locale
-use Rattle.std.specs.Prelude.{◌≡◌, ℕ, List, length, Option, Some, None, is_some, Bool, Result, Ok, Err, ⊤, nat_lt, unwrap_or, if◌then◌else◌, codes}
+use Rattle.std.specs.Prelude.{ℕ, List, length, Option, Some, None, is_some, Bool, Result, Ok, Err, ⊤, nat_lt, if◌then◌else◌, codes}
 use Rattle.std.specs.Option.{option_and_then}
 use Rattle.std.specs.Str.{is_utf8}
 use Rattle.serde_json.specs.Data.{Data, Members, no_members, member}
@@ -93,6 +93,11 @@ value_in input = if nat_lt most_bytes (length input) then Err TooLong else value
 
 -- ---- What a document has
 
+-- the members that are there
+abbrev pub members_or_none : Option Members → Members
+members_or_none None = no_members
+members_or_none (Some members) = members
+
 -- what a part has under each locale
 abbrev pub members_at : Part → Data → Members
-members_at part value = unwrap_or (option_and_then as_object (get (part_name part) value)) no_members
+members_at part value = members_or_none (option_and_then as_object (get (part_name part) value))

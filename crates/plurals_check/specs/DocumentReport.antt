@@ -2,8 +2,8 @@
 -- many locales it has (docs/JSON.md). In a part the locales stand in the order of their bytes, and so do the entries of a locale's ranges.
 --     IsReportOf value report      this is the report of a document's value
 use Rattle.std.specs.Prelude.{◌≡◌, ◌≢◌, ℕ, ◌+◌, ◌&&◌, not, List, [], ◌∷◌, ◌++◌, codes, count_by, map, Bool, true, false, IsTrue, IsFalse}
-use Rattle.std.specs.Prelude.{Option, Some, None, is_some, unwrap_or, if◌then◌else◌}
-use Rattle.serde_json.specs.Data.{Data, no_members}
+use Rattle.std.specs.Prelude.{Option, Some, None, is_some, if◌then◌else◌}
+use Rattle.serde_json.specs.Data.{Data}
 use Rattle.serde_json.specs.Find.{get, as_null, as_str}
 use Rattle.icu_plurals.specs.declared.PluralCategory.{PluralCategory}
 use Rattle.icu_plurals.specs.declared.PluralCategory.TheVariants.{Zero, One, Two, Few, Many, Other}
@@ -14,12 +14,12 @@ use Rattle.icu_plurals.specs.FiveRules.{five}
 use Rattle.icu_plurals.specs.Ranges.{IsKeyOfText}
 use Rattle.icu_plurals.specs.RangesJson.{keys_in}
 use Rattle.icu_plurals.specs.RulesJson.{text_under, texts_in}
-use Rattle.plural_checker.specs.Findings.{SixTexts}
+use Rattle.plural_checker.specs.LanguageTexts.{SixTexts, has_rule}
 use Rattle.plural_checker.specs.PluralCheckerErrors.{fault_text}
-use Rattle.plural_checker.specs.TextChecks.{AreFindingsOf, has_rule}
+use Rattle.plural_checker.specs.TextChecks.{AreFindingsOf}
 use Rattle.plural_checker.specs.declared.Fault.{Fault}
 use Rattle.plural_checker.specs.declared.Report.{Report as Checked}
-use Rattle.plurals_check.specs.CheckedDocument.{members_at, table_in}
+use Rattle.plurals_check.specs.CheckedDocument.{members_at, members_or_none, table_in}
 use Rattle.plurals_check.specs.Found.{Found, nothing, one_line, one_rule, together, IsFoundIn}
 use Rattle.plurals_check.specs.Parts.{part_name}
 use Rattle.plurals_check.specs.declared.entry.EntryFault.{EntryFault}
@@ -93,9 +93,9 @@ HasEntryFault texts key value (Some NoText) = IsRangeText key × (as_str value �
 HasEntryFault texts key value (Some RangeValue) =
     IsRangeText key × (name : List ℕ) × (as_str value ≡ Some name) × ((category : PluralCategory) → name ≢ name_of category)
 HasEntryFault texts key value (Some (NoRule category)) =
-    IsRangeText key × (as_str value ≡ Some (name_of category)) × IsFalse (has_rule texts.five category)
+    IsRangeText key × (as_str value ≡ Some (name_of category)) × IsFalse (has_rule texts category)
 HasEntryFault texts key value None =
-    IsRangeText key × (category : PluralCategory) × (as_str value ≡ Some (name_of category)) × IsTrue (has_rule texts.five category)
+    IsRangeText key × (category : PluralCategory) × (as_str value ≡ Some (name_of category)) × IsTrue (has_rule texts category)
 
 -- what is printed of the fault
 abbrev pub entry_fault_text : EntryFault → List ℕ
@@ -125,7 +125,7 @@ found_of_rules locale (Some rules) = nothing
 abbrev pub IsFoundInRanges : Data → List ℕ → Data → Found → Type 0
 IsFoundInRanges document locale value found =
     let rules = value_of_locale (part_name Cardinal) locale document in
-    (entries : Found) × IsFoundIn (IsFoundInEntry (texts_at rules) locale) (unwrap_or (table_in value) no_members) entries
+    (entries : Found) × IsFoundIn (IsFoundInEntry (texts_at rules) locale) (members_or_none (table_in value)) entries
     × (found ≡ together (found_of_rules locale rules) entries)
 
 -- ---- The document

@@ -1,6 +1,7 @@
 //! The entries of a locale's ranges.
 
 ghost use Rattle.std.specs.Prelude.{Some};
+ghost use Rattle.plural_checker.specs.LanguageTexts.{six_texts};
 ghost use Rattle.plurals_check.specs.DocumentReport.{entry_fault_text, HasEntryFault};
 ghost use Rattle.serde_json.specs.View.{view};
 
@@ -43,7 +44,7 @@ pub(crate) fn entry_fault(
     key: &str,
     value: &Value,
 ) -> Option<EntryFault>
-    ensures { HasEntryFault texts.now key.now (view value.now) result }
+    ensures { HasEntryFault (six_texts texts.now) key.now (view value.now) result }
 {
     if UnvalidatedPluralRange::from_text(key).is_none() {
         return Some(EntryFault::RangeKey);

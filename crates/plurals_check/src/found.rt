@@ -3,7 +3,8 @@
 ghost use Rattle.std.specs.Prelude.{◌≡◌, ◌+◌, ℕ, List, IfOk, OnOk, map, option_map, string_bytes};
 ghost use Rattle.plurals_check.specs.Found.{nothing, one_line, one_rule, together, IsFoundIn};
 ghost use Rattle.plurals_check.specs.Found as seen;
-ghost use Rattle.plurals_check.specs.Inner.CheckCalls.{Adds, members_or_none};
+ghost use Rattle.plurals_check.specs.Inner.Additions.{Adds};
+ghost use Rattle.plurals_check.specs.CheckedDocument.{members_or_none};
 ghost use Rattle.serde_json.specs.Data.{Data};
 ghost use Rattle.serde_json.specs.View.{members_view, view};
 

@@ -4,9 +4,10 @@ ghost use Rattle.std.specs.Prelude.{◌≡◌, map, option_map, OnOk};
 ghost use Rattle.std.specs.Option.{option_copied};
 ghost use Rattle.icu_plurals.specs.RulesJson.{text_under};
 ghost use Rattle.icu_plurals.specs.Categories.{name_of};
+ghost use Rattle.plural_checker.specs.LanguageTexts.{six_texts};
 ghost use Rattle.plurals_check.specs.DocumentReport.{all_texts_in, fault_line, found_under, found_under_all, text_order, IsFoundInRules};
 ghost use Rattle.plurals_check.specs.Found.{together};
-ghost use Rattle.plurals_check.specs.Inner.CheckCalls.{lines_alone};
+ghost use Rattle.plurals_check.specs.Inner.Additions.{lines_alone};
 ghost use Rattle.serde_json.specs.View.{view};
 
 use crate::found::{Found, MemberCheck};
@@ -45,13 +46,14 @@ impl MemberCheck for LanguageCheck {
         let checked = check_texts(alloc, &texts_of(value))?;
         add_texts(alloc, self.part, locale, value, found)?;
         add_faults(alloc, self.part, locale, checked.faults.as_slice(), found)?;
-        found.add_numbers(checked.numbers)
+        found.add_numbers(checked.numbers)?;
+        Ok(())
     }
 }
 
 // The texts that a language has.
 pub(crate) fn texts_of(value: &Value) -> LanguageTexts<'_>
-    ensures { result ≡ all_texts_in (view value.now) }
+    ensures { six_texts result ≡ all_texts_in (view value.now) }
 {
     LanguageTexts {
         zero: text_under(value, PluralCategory::Zero),

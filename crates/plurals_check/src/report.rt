@@ -6,7 +6,7 @@ ghost use Rattle.plurals_check.specs.CheckAnswer.{verdict_of, verdict_status};
 ghost use Rattle.plurals_check.specs.DocumentReport.{IsFoundInDocument, IsFoundInRules, IsReportOf};
 ghost use Rattle.plurals_check.specs.CheckedDocument.{members_at};
 ghost use Rattle.plurals_check.specs.Found.{IsFoundIn};
-ghost use Rattle.plurals_check.specs.Inner.CheckCalls.{Adds};
+ghost use Rattle.plurals_check.specs.Inner.Additions.{Adds};
 ghost use Rattle.plurals_check.specs.ReportText.{counts_line, ended_line, report_text};
 ghost use Rattle.serde_json.specs.View.{view};
 

@@ -1,6 +1,7 @@
 //! What is found in the ranges of a document.
 
 ghost use Rattle.std.specs.Prelude.{◌≡◌, option_map, OnOk};
+ghost use Rattle.plural_checker.specs.LanguageTexts.{six_texts};
 ghost use Rattle.plurals_check.specs.DocumentReport.{found_of_rules, texts_at, IsFoundInEntry, IsFoundInRanges};
 ghost use Rattle.plurals_check.specs.Found.{together};
 ghost use Rattle.serde_json.specs.View.{view};
@@ -36,7 +37,8 @@ impl<'a> MemberCheck for TableCheck<'a> {
             texts: texts_at(rules),
             locale,
         };
-        add_members(alloc, &entries, table_in(value), found)
+        add_members(alloc, &entries, table_in(value), found)?;
+        Ok(())
     }
 }
 
@@ -47,7 +49,7 @@ struct EntryCheck<'a> {
 }
 
 impl<'a> MemberCheck for EntryCheck<'a> {
-    ghost finds = { λ check. IsFoundInEntry check.texts check.locale.now };
+    ghost finds = { λ check. IsFoundInEntry (six_texts check.texts) check.locale.now };
 
     fn add(
         &self,
@@ -60,13 +62,14 @@ impl<'a> MemberCheck for EntryCheck<'a> {
             return Ok(());
         };
         let line = format!(in alloc; "{} {} {}: {}", Part::Ranges.as_str(), self.locale, key, fault)?;
-        found.add_line(line)
+        found.add_line(line)?;
+        Ok(())
     }
 }
 
 // The texts of cardinal rules, where there are some.
 fn texts_at(rules: Option<&Value>) -> LanguageTexts<'_>
-    ensures { result ≡ texts_at (option_map (λ v. view v.now) rules.entry) }
+    ensures { six_texts result ≡ texts_at (option_map (λ v. view v.now) rules.entry) }
 {
     match rules {
         Some(rules) => texts_of(rules),

@@ -1,8 +1,6 @@
 -- Not a definition of the subject: what private calls answer.
-use Rattle.std.specs.Prelude.{◌≡◌, ℕ, List, Option, Some, None, Result, Ok, Err, ⊤}
-use Rattle.serde_json.specs.Data.{Members, no_members}
+use Rattle.std.specs.Prelude.{◌≡◌, Result, Ok, Err, ⊤}
 use Rattle.plurals_check.specs.CheckAnswer.{Answer}
-use Rattle.plurals_check.specs.Found.{Found, together}
 use Rattle.plurals_check.specs.Inner.CheckViews.{answer_view}
 use Rattle.plurals_check.specs.declared.error.CheckError.{CheckError}
 use Rattle.plurals_check.specs.declared.error.CheckError.TheVariants.{Read, Write, Memory}
@@ -30,18 +28,3 @@ GivesValue seen value = Gives seen (λ answer. value ≡ answer)
 abbrev pub GivesAfterReading : (Result Answer CheckError → Type 0) → Result CodeAnswer CheckError → Type 0
 GivesAfterReading IsAnswer (Err Read) = ⊤
 GivesAfterReading IsAnswer result = Gives answer_view IsAnswer result
-
--- ---- What is added
-
--- this is found more
-abbrev pub Adds : (Found → Type 0) → Found → Found → Type 0
-Adds Is old new = (more : Found) × Is more × (new ≡ together old more)
-
--- lines and nothing else
-abbrev pub lines_alone : List (List ℕ) → Found
-lines_alone lines = record { lines = lines; rules = 0; numbers = 0 }
-
--- the members that are there
-abbrev pub members_or_none : Option Members → Members
-members_or_none None = no_members
-members_or_none (Some members) = members

@@ -1,7 +1,7 @@
 use Rattle.std.proofs.Common.{◌≡◌, drop, map}
 use Rattle.plurals_check.specs.DocumentReport.{fault_line}
 use Rattle.plurals_check.specs.Found.{together}
-use Rattle.plurals_check.specs.Inner.CheckCalls.{lines_alone}
+use Rattle.plurals_check.specs.Inner.Additions.{lines_alone}
 use Rattle.plurals_check.proofs.languages.add_faults.Given as goal
 
 -- the lines of the faults that are left complete what was found so far
