@@ -1,7 +1,8 @@
 -- Reports grow by one finding behind the other.
 use Rattle.std.proofs.Common.{◌≡◌, ◌⊎◌, ℕ, ◌+◌, ◌<◌, ◌≤◌, List, [], ◌∷◌, ◌++◌, length, take, get_or, refl, ap, sym, ◌∙◌, subst, inl, inr, arith, append_assoc}
 use Rattle.std.proofs.lemmas.List.{take_more}
-use Rattle.plural_checker.specs.Findings.{Findings, nothing, one_fault, both, Then, EachFinds, most_counted, IsCountOf, Grows, Adds}
+use Rattle.plural_checker.specs.Findings.{Findings, nothing, one_fault, both, Then, EachFinds, most_counted, IsCountOf, Grows, Adds, IsReportOf}
+use Rattle.plural_checker.specs.declared.fault.Fault.{Fault}
 use Rattle.plural_checker.specs.declared.report.Report.{Report}
 
 -- ---- Findings
@@ -80,3 +81,14 @@ adds_one_more Finds xs i x a b c found within is (f, each, grows) finds grows_mo
       subst (λ l. EachFinds Finds l (both f found)) (sym more) (each-snoc Finds (take i xs) x f found each finds),
       grows_twice a b c f found grows grows_more,
     )
+
+-- one fault more, and no number
+pub grows_by_fault : (a c : Report) (fault : Fault) → c ≡ record a { faults = a.faults ++ fault ∷ [] } → Grows a (one_fault fault) c
+grows_by_fault a c fault is = (ap (λ (r : Report). r.faults) is, inl (let e : c.numbers ≡ a.numbers = ap (λ (r : Report). r.numbers) is in omega arith))
+
+-- findings with these parts, and a report that has them and no others
+pub reported : (a c : Report) (found : Findings) → a.faults ≡ [] → a.numbers ≡ 0 → Grows a found c → IsReportOf found c
+reported a c found empty zero_counted (faults, counted) = (
+  faults ∙ ap (λ l. l ++ found.faults) empty,
+  subst (λ n. IsCountOf c.numbers n) (let e : a.numbers + found.numbers ≡ found.numbers = omega arith in e) counted,
+)

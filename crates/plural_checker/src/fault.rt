@@ -1,12 +1,13 @@
 //! What is wrong with a language's texts.
 
-ghost use Rattle.std.specs.Prelude.{Some};
+ghost use Rattle.std.specs.Prelude.{Some, ◌++◌, codes};
+ghost use Rattle.std.specs.Fmt.{DisplaysOnOk};
+ghost use Rattle.icu_plurals.specs.Serializer.{sample_range_text, sample_text};
 ghost use Rattle.plural_checker.specs.PluralCheckerErrors.{fault_text, number_fault_text, range_fault_text, sample_fault_text, text_fault_text};
 
 use crate::printed_rule::PrintedRule;
 use icu_plurals::provider::RawPluralCategory;
 use icu_plurals::provider::rules::reference::ast::{DecimalValue, SampleRange};
-use icu_plurals::provider::rules::reference::serialize_sample_range;
 use icu_plurals::provider::rules::runtime::ast::RuleError;
 use icu_plurals::{DecimalError, PluralCategory};
 use std::error::Error;
@@ -105,7 +106,7 @@ impl fmt::Display for SampleFault {
     fn fmt<W: fmt::Write>(&self, f: &mut fmt::Formatter<W>) -> fmt::Result {
         match self {
             SampleFault::Range(range, fault) => {
-                serialize_sample_range(range, f)?;
+                write_range(range, f)?;
                 write!(f, "{fault}")
             }
             SampleFault::Number(number, fault) => {
@@ -114,6 +115,26 @@ impl fmt::Display for SampleFault {
             }
         }
     }
+}
+
+// Prints a sample, or two with `~` between them.
+fn write_range<W: fmt::Write>(range: &SampleRange, f: &mut fmt::Formatter<W>) -> fmt::Result
+    ensures { DisplaysOnOk W.write_str_gives f.old result (Some (sample_range_text range.now)) f.new }
+{
+    let lower = &range.lower_val;
+    f.write_str(lower.0.as_str())?;
+    match &range.upper_val {
+        Some(upper) => write_upper(upper, f),
+        None => Ok(()),
+    }
+}
+
+// Prints `~` and a sample.
+fn write_upper<W: fmt::Write>(upper: &DecimalValue, f: &mut fmt::Formatter<W>) -> fmt::Result
+    ensures { DisplaysOnOk W.write_str_gives f.old result (Some (codes "~" ++ sample_text upper.now)) f.new }
+{
+    f.write_str("~")?;
+    f.write_str(upper.0.as_str())
 }
 
 impl fmt::Display for RangeFault {
