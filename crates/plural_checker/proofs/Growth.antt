@@ -1,0 +1,94 @@
+-- Reports grow by one finding behind the other.
+use Rattle.std.proofs.Common.{◌≡◌, ◌⊎◌, ℕ, ◌+◌, ◌<◌, ◌≤◌, List, [], ◌∷◌, ◌++◌, length, take, get_or, refl, ap, sym, ◌∙◌, subst, inl, inr, arith, append_assoc}
+use Rattle.std.proofs.lemmas.List.{take_more}
+use Rattle.plural_checker.specs.Findings.{Findings, nothing, one_fault, both, Then, EachFinds, most_counted, IsCountOf, Grows, Adds, IsReportOf}
+use Rattle.plural_checker.specs.declared.fault.Fault.{Fault}
+use Rattle.plural_checker.specs.declared.report.Report.{Report}
+
+-- ---- Findings
+
+-- an empty list behind a list
+append-nil : {A : Type 0} (xs : List A) → xs ++ [] ≡ xs
+append-nil [] = refl
+append-nil (x ∷ xs) = ap (λ l. x ∷ l) (append-nil xs)
+
+-- findings with these parts
+same_findings : (a b : Findings) → a.faults ≡ b.faults → a.numbers ≡ b.numbers → a ≡ b
+same_findings a b faults numbers = cc
+
+-- nothing besides
+both-nothing : (a : Findings) → both a nothing ≡ a
+both-nothing a = same_findings (both a nothing) a (append-nil a.faults) (omega arith)
+
+nothing-both : (a : Findings) → both nothing a ≡ a
+nothing-both a = same_findings (both nothing a) a refl (omega arith)
+
+both_assoc : (a b c : Findings) → both (both a b) c ≡ both a (both b c)
+both_assoc a b c =
+    same_findings (both (both a b) c) (both a (both b c)) (append_assoc a.faults b.faults c.faults) (omega arith)
+
+-- one thing more behind a list
+each-snoc : {A : Type 0} (Finds : A → Findings → Type 0) (xs : List A) (x : A) (a b : Findings)
+    → EachFinds Finds xs a → Finds x b → EachFinds Finds (xs ++ x ∷ []) (both a b)
+each-snoc Finds [] x a b none here =
+    (b, nothing, here, refl, ap (λ f. both f b) none ∙ nothing-both b ∙ sym (both-nothing b))
+each-snoc Finds (y ∷ ys) x a b (first, rest, finds, each, is) here =
+    (first, both rest b, finds, each-snoc Finds ys x rest b each here, ap (λ f. both f b) is ∙ both_assoc first rest b)
+
+-- ---- Counts
+
+-- a count of a count and of more
+counted_twice : (most a b c f g : ℕ)
+    → (b ≡ a + f) ⊎ ((most ≤ b) × (most ≤ a + f)) → (c ≡ b + g) ⊎ ((most ≤ c) × (most ≤ b + g))
+    → (c ≡ a + (f + g)) ⊎ ((most ≤ c) × (most ≤ a + (f + g)))
+counted_twice most a b c f g (inl e) (inl d) = inl (omega arith)
+counted_twice most a b c f g (inl e) (inr d) = inr (omega arith, omega arith)
+counted_twice most a b c f g (inr e) (inl d) = inr (omega arith, omega arith)
+counted_twice most a b c f g (inr e) (inr d) = inr (omega arith, omega arith)
+
+-- ---- Reports
+
+-- a report grows by nothing
+pub grows_by_nothing : (a : Report) → Grows a nothing a
+grows_by_nothing a = (sym (append-nil a.faults), inl (omega arith))
+
+pub adds_nothing : (a : Report) → Adds (λ found. found ≡ nothing) a a
+adds_nothing a = (nothing, refl, grows_by_nothing a)
+
+-- a report that grows twice
+grows_twice : (a b c : Report) (f g : Findings) → Grows a f b → Grows b g c → Grows a (both f g) c
+grows_twice a b c f g (first, count) (second, more) = (
+  second ∙ ap (λ l. l ++ g.faults) first ∙ append_assoc a.faults f.faults g.faults,
+  counted_twice most_counted a.numbers b.numbers c.numbers f.numbers g.numbers count more,
+)
+
+-- two checks, one behind the other
+pub adds_both : (First Second : Findings → Type 0) (a b c : Report) → Adds First a b → Adds Second b c → Adds (Then First Second) a c
+adds_both First Second a b c (f, finds, grows) (g, more, grows_more) =
+    (both f g, (f, g, finds, more, refl), grows_twice a b c f g grows grows_more)
+
+-- before the first thing
+pub adds_none : {A : Type 0} (Finds : A → Findings → Type 0) (a : Report) → Adds (EachFinds Finds []) a a
+adds_none Finds a = adds_nothing a
+
+-- one thing more
+pub adds_one_more : {A : Type 0} (Finds : A → Findings → Type 0) (xs : List A) (i : ℕ) (x : A) (a b c : Report) (found : Findings)
+    → i < length xs → x ≡ get_or xs i x → Adds (EachFinds Finds (take i xs)) a b → Finds x found → Grows b found c
+    → Adds (EachFinds Finds (take (i + 1) xs)) a c
+adds_one_more Finds xs i x a b c found within is (f, each, grows) finds grows_more =
+    let more : take (i + 1) xs ≡ take i xs ++ x ∷ [] = take_more xs i x within ∙ ap (λ y. take i xs ++ y ∷ []) (sym is) in (
+      both f found,
+      subst (λ l. EachFinds Finds l (both f found)) (sym more) (each-snoc Finds (take i xs) x f found each finds),
+      grows_twice a b c f found grows grows_more,
+    )
+
+-- one fault more, and no number
+pub grows_by_fault : (a c : Report) (fault : Fault) → c ≡ record a { faults = a.faults ++ fault ∷ [] } → Grows a (one_fault fault) c
+grows_by_fault a c fault is = (ap (λ (r : Report). r.faults) is, inl (let e : c.numbers ≡ a.numbers = ap (λ (r : Report). r.numbers) is in omega arith))
+
+-- findings with these parts, and a report that has them and no others
+pub reported : (a c : Report) (found : Findings) → a.faults ≡ [] → a.numbers ≡ 0 → Grows a found c → IsReportOf found c
+reported a c found empty zero_counted (faults, counted) = (
+  faults ∙ ap (λ l. l ++ found.faults) empty,
+  subst (λ n. IsCountOf c.numbers n) (let e : a.numbers + found.numbers ≡ found.numbers = omega arith in e) counted,
+)

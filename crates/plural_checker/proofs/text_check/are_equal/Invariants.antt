@@ -1,0 +1,10 @@
+use Rattle.std.proofs.Common.{◌≡◌, length}
+use Rattle.plural_checker.proofs.text_check.are_equal.Given as goal
+
+-- what is left is the same exactly if all was
+abbrev pub invariant-loop-token : goal.invariant-loop-token
+invariant-loop-token l =
+    (l.tokens ≡ l.others → l.initial.tokens ≡ l.initial.others) × (l.initial.tokens ≡ l.initial.others → l.tokens ≡ l.others)
+
+abbrev pub decreases-loop-token : goal.decreases-loop-token
+decreases-loop-token l = length l.tokens

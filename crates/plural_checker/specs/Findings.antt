@@ -1,0 +1,51 @@
+-- What a check finds: faults in their order, and how many numbers were looked at.
+--     nothing      no fault and no number
+--     Then First Second found      what two checks find, one behind the other
+--     EachFinds Finds things found      what a check finds in each thing of a list, in the order of the list
+--     Adds Finds old new      the report has grown by what a check finds
+use Rattle.std.specs.Prelude.{◌≡◌, ◌⊎◌, ℕ, ◌+◌, ◌-◌, ◌^◌, ◌≤◌, List, [], ◌∷◌, ◌++◌}
+use Rattle.plural_checker.specs.declared.fault.Fault.{Fault}
+use Rattle.plural_checker.specs.declared.report.Report.{Report}
+
+pub record Findings : Type 0 where
+  pub faults : List Fault
+  pub numbers : ℕ
+
+abbrev pub nothing : Findings
+nothing = record { faults = []; numbers = 0 }
+
+-- one fault and no number
+abbrev pub one_fault : Fault → Findings
+one_fault fault = record { faults = fault ∷ []; numbers = 0 }
+
+-- the faults of the first stand before those of the second
+abbrev pub both : Findings → Findings → Findings
+both first second = record { faults = first.faults ++ second.faults; numbers = first.numbers + second.numbers }
+
+abbrev pub Then : (Findings → Type 0) → (Findings → Type 0) → Findings → Type 0
+Then First Second found = (first second : Findings) × First first × Second second × (found ≡ both first second)
+
+abbrev pub EachFinds : {A : Type 0} → (A → Findings → Type 0) → List A → Findings → Type 0
+EachFinds Finds [] found = found ≡ nothing
+EachFinds Finds (x ∷ xs) found = Then (Finds x) (EachFinds Finds xs) found
+
+-- ---- Reports
+
+-- the largest count that a report can hold
+abbrev pub most_counted : ℕ
+most_counted = 2 ^ 64 - 1
+
+-- the count of so many, or the largest where there are as many or more
+abbrev pub IsCountOf : ℕ → ℕ → Type 0
+IsCountOf count many = (count ≡ many) ⊎ ((most_counted ≤ count) × (most_counted ≤ many))
+
+-- the report with what was found besides
+abbrev pub Grows : Report → Findings → Report → Type 0
+Grows old found new = (new.faults ≡ old.faults ++ found.faults) × IsCountOf new.numbers (old.numbers + found.numbers)
+
+abbrev pub Adds : (Findings → Type 0) → Report → Report → Type 0
+Adds Finds old new = (found : Findings) × Finds found × Grows old found new
+
+-- the report of what was found
+abbrev pub IsReportOf : Findings → Report → Type 0
+IsReportOf found report = (report.faults ≡ found.faults) × IsCountOf report.numbers found.numbers

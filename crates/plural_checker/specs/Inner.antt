@@ -1,0 +1,2 @@
+-- No definitions of the subject: what private calls answer.
+pub mod TextAnswers

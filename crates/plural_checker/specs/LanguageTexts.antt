@@ -1,0 +1,25 @@
+-- The texts of a language's rules of one type: of the five rules, and that of other, which has samples alone.
+--     six_texts texts      the texts behind the references
+--     has_rule texts category      the category is other, or its text is there
+use Rattle.std.specs.Prelude.{ℕ, Bool, true, List, Option, is_some}
+use Rattle.std.specs.Option.{option_copied}
+use Rattle.icu_plurals.specs.declared.PluralCategory.{PluralCategory}
+use Rattle.icu_plurals.specs.declared.PluralCategory.TheVariants.{Zero, One, Two, Few, Many, Other}
+use Rattle.icu_plurals.specs.FiveRules.{Five}
+use Rattle.icu_plurals.specs.RuleTexts.{texts_of}
+use Rattle.plural_checker.specs.declared.texts.LanguageTexts.{LanguageTexts}
+
+pub record SixTexts : Type 0 where
+  pub five : Five (Option (List ℕ))
+  pub other : Option (List ℕ)
+
+abbrev pub six_texts : LanguageTexts → SixTexts
+six_texts texts = record { five = texts_of texts.zero texts.one texts.two texts.few texts.many; other = option_copied texts.other }
+
+abbrev pub has_rule : SixTexts → PluralCategory → Bool
+has_rule texts Zero = is_some texts.five.zero
+has_rule texts One = is_some texts.five.one
+has_rule texts Two = is_some texts.five.two
+has_rule texts Few = is_some texts.five.few
+has_rule texts Many = is_some texts.five.many
+has_rule texts Other = true

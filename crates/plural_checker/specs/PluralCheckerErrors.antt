@@ -1,0 +1,40 @@
+-- The texts that faults print.
+use Rattle.std.specs.Prelude.{ℕ, List, ◌++◌, codes}
+use Rattle.icu_plurals.specs.Categories.{name_of}
+use Rattle.icu_plurals.specs.FixedDecimalErrors.{error_text}
+use Rattle.icu_plurals.specs.PluralRuntimeErrors.{rule_error_text}
+use Rattle.icu_plurals.specs.Serializer.{sample_range_text}
+use Rattle.plural_checker.specs.declared.fault.Fault.{Fault}
+use Rattle.plural_checker.specs.declared.fault.NumberFault.{NumberFault}
+use Rattle.plural_checker.specs.declared.fault.NumberFault.TheVariants.{Text, Outside, Category}
+use Rattle.plural_checker.specs.declared.fault.RangeFault.{RangeFault}
+use Rattle.plural_checker.specs.declared.fault.RangeFault.TheVariants.{End, Uneven, Long, Down, Wide}
+use Rattle.plural_checker.specs.declared.fault.SampleFault.{SampleFault}
+use Rattle.plural_checker.specs.declared.fault.SampleFault.TheVariants.{Range, Number}
+use Rattle.plural_checker.specs.declared.fault.TextFault.{TextFault}
+use Rattle.plural_checker.specs.declared.fault.TextFault.TheVariants.{Unread, Partly, Sample}
+
+abbrev pub range_fault_text : RangeFault → List ℕ
+range_fault_text (End error) = codes ": " ++ error_text error
+range_fault_text Uneven = codes " has ends of different forms"
+range_fault_text Long = codes " has more than 18 digits"
+range_fault_text Down = codes " goes down"
+range_fault_text Wide = codes " has more than 100 numbers"
+
+abbrev pub number_fault_text : NumberFault → List ℕ
+number_fault_text (Text error) = codes ": " ++ error_text error
+number_fault_text Outside = codes " is outside the exactness bound"
+number_fault_text (Category category) = codes " is " ++ name_of category
+
+-- the range or the number, and what is wrong with it
+abbrev pub sample_fault_text : SampleFault → List ℕ
+sample_fault_text (Range range fault) = sample_range_text range ++ range_fault_text fault
+sample_fault_text (Number number fault) = number ++ number_fault_text fault
+
+abbrev pub text_fault_text : TextFault → List ℕ
+text_fault_text (Unread error) = rule_error_text error
+text_fault_text (Partly printed) = codes "read as " ++ printed
+text_fault_text (Sample type fault) = codes "sample " ++ sample_fault_text fault
+
+abbrev pub fault_text : Fault → List ℕ
+fault_text fault = name_of fault.category ++ codes ": " ++ text_fault_text fault.kind

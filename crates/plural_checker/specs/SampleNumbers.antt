@@ -1,0 +1,127 @@
+-- The numbers of a sample, or of a range of samples (UTS 35 Part 3, Samples).
+--     compact_text sample      the sample's text, with `c` for an `e`
+--     GivesNumber text answer      the number that a text writes, or why it writes none
+--     number_text places parts exponent      so many parts of 10 ^ places, written with so many fraction digits, and an exponent
+--     numbers_between a b      those from a to b in steps of the last visible digit, or why there are none
+--     AreNumbersOf range answer      the numbers of a range, or why it has none
+--     count_of numbers, text_at numbers k      how many they are, and the text of each, counted from 0
+use Rattle.std.specs.Prelude.{◌≡◌, ◌⊎◌, ℕ, zero, suc, ◌+◌, ◌-◌, ◌/◌, ◌%◌, ◌==◌, nat_lt, Bool, not, if◌then◌else◌, ◌&&◌, ◌||◌}
+use Rattle.std.specs.Prelude.{List, [], ◌∷◌, ◌++◌, length, Option, Some, None, Result, Ok, Err, codes}
+use Rattle.std.specs.Fmt.{decimal}
+use Rattle.std.specs.List.{position_or_len, before_first, after_first}
+use Rattle.icu_plurals.specs.declared.DecimalError.{DecimalError}
+use Rattle.icu_plurals.specs.declared.DecimalError.TheVariants.{Syntax, Limit, Memory}
+use Rattle.icu_plurals.specs.declared.provider.rules.reference.ast.DecimalValue.{DecimalValue}
+use Rattle.icu_plurals.specs.declared.provider.rules.reference.ast.SampleRange.{SampleRange}
+use Rattle.icu_plurals.specs.Operands.{all_digits_value, kept_places}
+use Rattle.icu_plurals.specs.Samples.{letter_e}
+use Rattle.icu_plurals.specs.Written.{CompactNumber, WritesCompact, IsCompactOverLimit}
+use Rattle.plural_checker.specs.declared.fault.RangeFault.{RangeFault}
+use Rattle.plural_checker.specs.declared.fault.RangeFault.TheVariants.{End, Uneven, Long, Down, Wide}
+use Rattle.plural_checker.specs.declared.sample_range.SampleNumbers.{SampleNumbers}
+use Rattle.plural_checker.specs.declared.sample_range.SampleNumbers.TheVariants.{Single, Stepped}
+
+-- ---- Texts of samples
+
+-- where the first `e` stands, or the length where there is none
+abbrev pub place_of_e : List ℕ → ℕ
+place_of_e text = position_or_len (λ b. b == letter_e) text
+
+-- an `e` and a `c` begin the same exponent
+abbrev pub compact_text : DecimalValue → List ℕ
+compact_text text =
+    if nat_lt (place_of_e text) (length text)
+    then before_first (λ b. b == letter_e) text ++ codes "c" ++ after_first (λ b. b == letter_e) text
+    else text
+
+-- the text writes the number, or none, or one over a limit
+abbrev pub GivesNumber : List ℕ → Result CompactNumber DecimalError → Type 0
+GivesNumber text (Ok x) = WritesCompact text x
+GivesNumber text (Err Syntax) = (x : CompactNumber) → ¬ (WritesCompact text x)
+GivesNumber text (Err Limit) = (x : CompactNumber) × WritesCompact text x × IsCompactOverLimit x
+GivesNumber text (Err Memory) = ⊥
+
+-- ---- Texts of steps
+
+-- one digit
+abbrev pub digit_text : ℕ → List ℕ
+digit_text d = 48 + d ∷ []
+
+-- a point stands before the first fraction digit
+abbrev pub point_at : ℕ → List ℕ
+point_at zero = codes "."
+point_at (suc places) = []
+
+-- a number of parts with so many fraction digits: the last digit stands behind the text of the others
+abbrev pub parts_text : ℕ → ℕ → List ℕ
+parts_text zero parts = decimal parts
+parts_text (suc places) parts = parts_text places (parts / 10) ++ point_at places ++ digit_text (parts % 10)
+
+-- `c` and the exponent, where it isn't 0
+abbrev pub exponent_text : ℕ → List ℕ
+exponent_text exponent = if exponent == 0 then [] else codes "c" ++ decimal exponent
+
+abbrev pub number_text : ℕ → ℕ → ℕ → List ℕ
+number_text places parts exponent = parts_text places parts ++ exponent_text exponent
+
+-- ---- The numbers of a range
+
+-- so many numbers a range may have
+abbrev pub most_numbers : ℕ
+most_numbers = 100
+
+-- the number that all written digits write: the number itself is so many parts of a power of ten
+abbrev pub parts_of : CompactNumber → ℕ
+parts_of x = all_digits_value x.significand.absolute
+
+-- how many fraction digits it shows
+abbrev pub places_of : CompactNumber → ℕ
+places_of x = length x.significand.absolute.fraction
+
+-- more than 18 digits are written
+abbrev pub is_long : CompactNumber → Bool
+is_long x = nat_lt kept_places (length x.significand.absolute.whole + places_of x)
+
+-- as many fraction digits, and the same exponent
+abbrev pub are_even : CompactNumber → CompactNumber → Bool
+are_even a b = (places_of a == places_of b) && (a.exponent == b.exponent)
+
+-- from a number in steps of its last digit to another
+abbrev pub stepped : CompactNumber → CompactNumber → SampleNumbers
+stepped a b =
+    Stepped (record { places = places_of a; first = parts_of a; count = parts_of b - parts_of a + 1; exponent = a.exponent })
+
+abbrev pub numbers_between : CompactNumber → CompactNumber → Result SampleNumbers RangeFault
+numbers_between a b =
+    if not (are_even a b) then Err Uneven
+    else (if is_long a || is_long b then Err Long
+    else (if nat_lt (parts_of b) (parts_of a) then Err Down
+    else (if nat_lt (parts_of b - parts_of a) most_numbers then Ok (stepped a b) else Err Wide)))
+
+-- the numbers between two ends that write some, or the fault of the first end that writes none
+abbrev pub AreNumbersBetween : DecimalValue → DecimalValue → Result SampleNumbers RangeFault → Type 0
+AreNumbersBetween lower upper answer =
+    ((e : DecimalError) × GivesNumber (compact_text lower) (Err e) × (answer ≡ Err (End e)))
+    ⊎ ((a : CompactNumber) × (e : DecimalError)
+    × GivesNumber (compact_text lower) (Ok a) × GivesNumber (compact_text upper) (Err e) × (answer ≡ Err (End e)))
+    ⊎ ((a b : CompactNumber)
+    × GivesNumber (compact_text lower) (Ok a) × GivesNumber (compact_text upper) (Ok b) × (answer ≡ numbers_between a b))
+
+-- a sample alone is its number
+abbrev pub AreNumbersFrom : DecimalValue → Option DecimalValue → Result SampleNumbers RangeFault → Type 0
+AreNumbersFrom lower None answer = answer ≡ Ok (Single (compact_text lower))
+AreNumbersFrom lower (Some upper) answer = AreNumbersBetween lower upper answer
+
+abbrev pub AreNumbersOf : SampleRange → Result SampleNumbers RangeFault → Type 0
+AreNumbersOf range answer = AreNumbersFrom range.lower_val range.upper_val answer
+
+-- ---- Each number
+
+abbrev pub count_of : SampleNumbers → ℕ
+count_of (Single text) = 1
+count_of (Stepped steps) = steps.count
+
+-- the number so many steps behind the first
+abbrev pub text_at : SampleNumbers → ℕ → List ℕ
+text_at (Single text) k = text
+text_at (Stepped steps) k = number_text steps.places (steps.first + k) steps.exponent

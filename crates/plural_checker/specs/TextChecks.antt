@@ -1,0 +1,104 @@
+-- What is wrong with the texts of a language's rules.
+--     AreRulesIfRead texts rules      the rules of the five texts, if each text gives its rule
+--     IsFoundInText rules category text found      what is wrong with one text
+--     AreFindingsOf texts report      what is wrong with all six, in the order zero, one, two, few, many, other
+use Rattle.std.specs.Prelude.{◌≡◌, ◌≢◌, ◌⊎◌, ℕ, List, [], ◌∷◌, Option, Some, None, Result, Ok, Err}
+use Rattle.icu_plurals.specs.declared.PluralCategory.{PluralCategory}
+use Rattle.icu_plurals.specs.declared.PluralCategory.TheVariants.{Zero, One, Two, Few, Many, Other}
+use Rattle.icu_plurals.specs.declared.provider.rules.reference.Token.{Token}
+use Rattle.icu_plurals.specs.declared.provider.rules.reference.ast.Rule.{Rule}
+use Rattle.icu_plurals.specs.declared.provider.rules.reference.ast.SampleList.{SampleList}
+use Rattle.icu_plurals.specs.declared.provider.rules.reference.ast.SampleRange.{SampleRange}
+use Rattle.icu_plurals.specs.declared.provider.rules.reference.ast.Samples as samples
+use Rattle.icu_plurals.specs.declared.provider.rules.runtime.ast.RuleError.{RuleError}
+use Rattle.icu_plurals.specs.declared.provider.rules.runtime.ast.RuleError.TheVariants.{Memory}
+use Rattle.icu_plurals.specs.FiveRules.{Five, FiveRules}
+use Rattle.icu_plurals.specs.Lexer.{AreTokensOf, TextReads}
+use Rattle.icu_plurals.specs.PackedRelations.{PackedRelation}
+use Rattle.icu_plurals.specs.RuleOfText.{TextGives}
+use Rattle.icu_plurals.specs.RuleTexts.{AreRulesOf, IsFirstRefused}
+use Rattle.icu_plurals.specs.Samples.{ReadsRule}
+use Rattle.icu_plurals.specs.Serializer.{rule_text}
+use Rattle.plural_checker.specs.Findings.{Findings, nothing, one_fault, Then, EachFinds, IsReportOf}
+use Rattle.plural_checker.specs.LanguageTexts.{SixTexts}
+use Rattle.plural_checker.specs.NumberChecks.{IsCheckedRange}
+use Rattle.plural_checker.specs.declared.fault.Fault.{Fault}
+use Rattle.plural_checker.specs.declared.fault.SampleFault.{SampleFault}
+use Rattle.plural_checker.specs.declared.fault.SampleType.{SampleType}
+use Rattle.plural_checker.specs.declared.fault.SampleType.TheVariants.{Integer, Decimal}
+use Rattle.plural_checker.specs.declared.fault.TextFault.TheVariants.{Unread, Partly, Sample}
+use Rattle.plural_checker.specs.declared.report.Report.{Report}
+
+-- ---- The rules
+
+-- each text that is there gives its rule, or one gives none
+abbrev pub AreRulesIfRead : Five (Option (List ℕ)) → Option FiveRules → Type 0
+AreRulesIfRead texts (Some rules) = AreRulesOf texts rules
+AreRulesIfRead texts None = (category : PluralCategory) × (error : RuleError) × IsFirstRefused texts category error × (error ≢ Memory)
+
+-- ---- The samples of one text
+
+-- the fault of a sample, where it has one
+abbrev pub sample_faults : PluralCategory → SampleType → Option SampleFault → List Fault
+sample_faults category type None = []
+sample_faults category type (Some fault) = record { category = category; kind = Sample type fault } ∷ []
+
+abbrev pub IsFoundInRange : Option FiveRules → PluralCategory → SampleType → SampleRange → Findings → Type 0
+IsFoundInRange rules category type range found =
+    (fault : Option SampleFault)
+    × IsCheckedRange rules category range fault found.numbers × (found.faults ≡ sample_faults category type fault)
+
+-- in a list, from the left
+abbrev pub IsFoundInList : Option FiveRules → PluralCategory → SampleType → Option SampleList → Findings → Type 0
+IsFoundInList rules category type None found = found ≡ nothing
+IsFoundInList rules category type (Some list) found = EachFinds (IsFoundInRange rules category type) list.sample_ranges found
+
+-- in the integers before the decimals
+abbrev pub IsFoundInSamples : Option FiveRules → PluralCategory → Option samples.Samples → Findings → Type 0
+IsFoundInSamples rules category None found = found ≡ nothing
+IsFoundInSamples rules category (Some lists) found =
+    Then (IsFoundInList rules category Integer lists.integer) (IsFoundInList rules category Decimal lists.decimal) found
+
+-- ---- One text
+
+-- the two texts have the same tokens
+abbrev pub HaveSameTokens : List ℕ → List ℕ → Type 0
+HaveSameTokens text other = (tokens : List Token) × AreTokensOf text tokens × AreTokensOf other tokens
+
+-- they have different ones
+abbrev pub HaveOtherTokens : List ℕ → List ℕ → Type 0
+HaveOtherTokens text other = (tokens others : List Token) × AreTokensOf text tokens × AreTokensOf other others × (tokens ≢ others)
+
+-- the rule that a text is read as, which can be packed, or why it gives none
+abbrev pub IsRead : List ℕ → Result Rule RuleError → Type 0
+IsRead text (Ok rule) = TextReads ReadsRule text rule × ((packed : List PackedRelation) × TextGives text (Ok packed))
+IsRead text (Err error) = TextGives text (Err error)
+
+-- the tokens of the text are those of what was read, printed, or they aren't: then something of it isn't read
+abbrev pub IsFoundInReading : PluralCategory → List ℕ → Rule → Findings → Type 0
+IsFoundInReading category text rule found =
+    (HaveSameTokens text (rule_text rule) × (found ≡ nothing))
+    ⊎ (HaveOtherTokens text (rule_text rule) × (found ≡ one_fault (record { category = category; kind = Partly (rule_text rule) })))
+
+-- the text gives no rule, or one is read of it, and its samples are looked at
+abbrev pub IsFoundInText : Option FiveRules → PluralCategory → List ℕ → Findings → Type 0
+IsFoundInText rules category text found =
+    ((error : RuleError) × IsRead text (Err error) × (found ≡ one_fault (record { category = category; kind = Unread error })))
+    ⊎ ((rule : Rule) × IsRead text (Ok rule) × Then (IsFoundInReading category text rule) (IsFoundInSamples rules category rule.samples) found)
+
+-- in a text that is there
+abbrev pub IsFoundIn : Option FiveRules → PluralCategory → Option (List ℕ) → Findings → Type 0
+IsFoundIn rules category None found = found ≡ nothing
+IsFoundIn rules category (Some text) found = IsFoundInText rules category text found
+
+-- ---- All six
+
+abbrev pub IsFoundInSix : Option FiveRules → SixTexts → Findings → Type 0
+IsFoundInSix rules texts =
+    Then (IsFoundIn rules Zero texts.five.zero) (Then (IsFoundIn rules One texts.five.one) (Then (IsFoundIn rules Two texts.five.two)
+    (Then (IsFoundIn rules Few texts.five.few) (Then (IsFoundIn rules Many texts.five.many) (IsFoundIn rules Other texts.other)))))
+
+abbrev pub AreFindingsOf : SixTexts → Report → Type 0
+AreFindingsOf texts report =
+    (rules : Option FiveRules) × (found : Findings)
+    × AreRulesIfRead texts.five rules × IsFoundInSix rules texts found × IsReportOf found report

@@ -1,0 +1,58 @@
+//! The six texts of a language's rules.
+
+ghost use Rattle.std.specs.Prelude.{IfOk};
+ghost use Rattle.plural_checker.specs.LanguageTexts.{six_texts};
+ghost use Rattle.plural_checker.specs.TextChecks.{AreFindingsOf, AreRulesIfRead};
+
+use crate::report::Report;
+use crate::text_check::check_if_there;
+use crate::texts::LanguageTexts;
+use icu_plurals::provider::PluralRulesData;
+use icu_plurals::provider::rules::runtime::ast::RuleError;
+use icu_plurals::{PluralCategory, PluralRules};
+use std::alloc::{AllocError, Global};
+
+/// What is wrong with the texts of a language's rules of one type, and how many numbers their samples have.
+///
+/// The faults come in the order of the texts: zero, one, two, few, many, other. A text that gives no rule has one fault,
+/// [`TextFault::Unread`]. Of one that is read the fault that something of it isn't read comes first ([`TextFault::Partly`]), then
+/// those of its samples, the list of integers before that of decimals, each from the left ([`TextFault::Sample`]): of a range of
+/// samples that it has no numbers, or the first of its numbers that is wrong. A number is wrong where its text writes none, where
+/// it is outside the exactness bound, and where the five rules choose another category for it than the one under whose name it
+/// stands. Where one of the five texts gives no rule, no category is told.
+///
+/// It takes memory, and the only error is that there is none.
+///
+/// [`TextFault::Unread`]: crate::TextFault::Unread
+/// [`TextFault::Partly`]: crate::TextFault::Partly
+/// [`TextFault::Sample`]: crate::TextFault::Sample
+pub fn check_texts(alloc: Global, texts: &LanguageTexts<'_>) -> Result<Report, AllocError>
+    ensures { IfOk result (λ report. AreFindingsOf (six_texts texts.now) report) }
+{
+    let read = rules_of(alloc, texts)?;
+    let rules = read.as_ref();
+    let mut report = Report::new(alloc);
+    check_if_there(alloc, rules, PluralCategory::Zero, texts.zero, &mut report)?;
+    check_if_there(alloc, rules, PluralCategory::One, texts.one, &mut report)?;
+    check_if_there(alloc, rules, PluralCategory::Two, texts.two, &mut report)?;
+    check_if_there(alloc, rules, PluralCategory::Few, texts.few, &mut report)?;
+    check_if_there(alloc, rules, PluralCategory::Many, texts.many, &mut report)?;
+    check_if_there(alloc, rules, PluralCategory::Other, texts.other, &mut report)?;
+    Ok(report)
+}
+
+// The rules of five texts, if each gives one.
+fn rules_of(
+    alloc: Global,
+    texts: &LanguageTexts<'_>,
+) -> Result<Option<PluralRules<'static>>, AllocError>
+    ensures { IfOk result (λ rules. AreRulesIfRead (six_texts texts.now).five rules) }
+{
+    match PluralRulesData::from_texts(alloc, texts.zero, texts.one, texts.two, texts.few, texts.many) {
+        Ok(data) => Ok(Some(PluralRules::from_data(data))),
+        Err(refused) => match refused.error {
+            RuleError::Parse(_) | RuleError::StartLimit => Ok(None),
+            RuleError::Memory => Err(AllocError),
+        },
+    }
+}

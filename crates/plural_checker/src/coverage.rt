@@ -1,0 +1,73 @@
+//! Which categories a translation lacks, and which it has in vain.
+
+ghost use Rattle.std.specs.Prelude.{◌≡◌};
+ghost use Rattle.icu_plurals.specs.FiveRules.{rules_of};
+ghost use Rattle.plural_checker.specs.Coverage.{categories_with_rule, without};
+
+use icu_plurals::provider::PluralRulesData;
+
+/// A set of the categories but other.
+#[derive(Clone, Copy, Debug, Default, PartialEq, Eq)]
+pub struct CategorySet {
+    /// Whether `zero` is in it.
+    pub zero: bool,
+    /// Whether `one` is in it.
+    pub one: bool,
+    /// Whether `two` is in it.
+    pub two: bool,
+    /// Whether `few` is in it.
+    pub few: bool,
+    /// Whether `many` is in it.
+    pub many: bool,
+}
+
+impl CategorySet {
+    /// The categories whose rule is there.
+    pub fn of_rules(rules: &PluralRulesData<'_>) -> CategorySet
+        ensures { result ≡ categories_with_rule (rules_of rules.now) }
+    {
+        CategorySet {
+            zero: rules.zero.is_some(),
+            one: rules.one.is_some(),
+            two: rules.two.is_some(),
+            few: rules.few.is_some(),
+            many: rules.many.is_some(),
+        }
+    }
+
+    /// The categories of this set that are not in another.
+    pub fn without(self, others: CategorySet) -> CategorySet
+        ensures { result ≡ without self others }
+    {
+        CategorySet {
+            zero: self.zero && !others.zero,
+            one: self.one && !others.one,
+            two: self.two && !others.two,
+            few: self.few && !others.few,
+            many: self.many && !others.many,
+        }
+    }
+}
+
+/// How the categories of a translated message fit a language's rules (UTS 35 Part 3, Language Plural Rules).
+#[derive(Clone, Copy, Debug, PartialEq, Eq)]
+pub struct Coverage {
+    /// Those whose rule is there and that the message lacks: their numbers have other's element.
+    pub lacking: CategorySet,
+    /// Those that the message has and that have no rule: no number has their element.
+    pub unused: CategorySet,
+}
+
+impl Coverage {
+    /// How the categories for which a message has an element fit the rules.
+    pub fn of(elements: CategorySet, rules: &PluralRulesData<'_>) -> Coverage
+        ensures lacking { result.lacking ≡ without (categories_with_rule (rules_of rules.now)) elements }
+        ensures unused { result.unused ≡ without elements (categories_with_rule (rules_of rules.now)) }
+    {
+        let ruled = CategorySet::of_rules(rules);
+        Coverage {
+            lacking: ruled.without(elements),
+            unused: elements.without(ruled),
+        }
+    }
+}

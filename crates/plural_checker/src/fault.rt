@@ -1,0 +1,166 @@
+//! What is wrong with a language's texts.
+
+ghost use Rattle.std.specs.Prelude.{Some, ◌++◌, codes};
+ghost use Rattle.std.specs.Fmt.{DisplaysOnOk};
+ghost use Rattle.icu_plurals.specs.Serializer.{sample_range_text, sample_text};
+ghost use Rattle.plural_checker.specs.PluralCheckerErrors.{fault_text, number_fault_text, range_fault_text, sample_fault_text, text_fault_text};
+
+use crate::printed_rule::PrintedRule;
+use icu_plurals::provider::RawPluralCategory;
+use icu_plurals::provider::rules::reference::ast::{DecimalValue, SampleRange};
+use icu_plurals::provider::rules::runtime::ast::RuleError;
+use icu_plurals::{DecimalError, PluralCategory};
+use std::error::Error;
+use std::fmt;
+
+/// A fault of a category's text. It prints as `few: sample 1.5 is other`.
+#[derive(Debug, Drop)]
+pub struct Fault {
+    /// The category whose text it is.
+    pub category: PluralCategory,
+    /// What is wrong.
+    pub kind: TextFault,
+}
+
+/// What is wrong with a text.
+#[derive(Debug, Drop)]
+pub enum TextFault {
+    /// It can't be read as a rule. It is never want of memory.
+    Unread(RuleError),
+    /// Something of it isn't read: its tokens aren't those of this text, in which what was read is printed.
+    Partly(PrintedRule),
+    /// Something is wrong with a sample of the list of this type.
+    Sample(SampleType, SampleFault),
+}
+
+/// The type of a list of samples (UTS 35 Part 3, Samples).
+#[derive(Clone, Copy, Debug, PartialEq, Eq)]
+pub enum SampleType {
+    /// `@integer`.
+    Integer,
+    /// `@decimal`.
+    Decimal,
+}
+
+/// What is wrong with a sample or a range of samples.
+#[derive(Debug, Drop)]
+pub enum SampleFault {
+    /// The range has no numbers.
+    Range(SampleRange, RangeFault),
+    /// The number is wrong, the first of its range that is.
+    Number(DecimalValue, NumberFault),
+}
+
+/// Why a range of samples has no numbers.
+#[derive(Clone, Copy, Debug, PartialEq, Eq)]
+pub enum RangeFault {
+    /// An end writes no number, or one over a limit. It is never want of memory.
+    End(DecimalError),
+    /// The ends differ in their count of fraction digits, or in their exponents.
+    Uneven,
+    /// An end has more than 18 digits.
+    Long,
+    /// The second end is below the first.
+    Down,
+    /// There would be more than 100 numbers.
+    Wide,
+}
+
+/// Why a number is wrong.
+#[derive(Clone, Copy, Debug, PartialEq, Eq)]
+pub enum NumberFault {
+    /// The text writes none, or one over a limit. It is never want of memory.
+    Text(DecimalError),
+    /// It is outside the exactness bound of the rules.
+    Outside,
+    /// It has this category, and not the one under whose name it stands.
+    Category(PluralCategory),
+}
+
+impl fmt::Display for Fault {
+    ghost output = { λ fault. Some (fault_text fault) };
+
+    fn fmt<W: fmt::Write>(&self, f: &mut fmt::Formatter<W>) -> fmt::Result {
+        let name = RawPluralCategory::from(self.category).as_str();
+        write!(f, "{}: {}", name, self.kind)
+    }
+}
+
+impl Error for Fault {}
+
+impl fmt::Display for TextFault {
+    ghost output = { λ fault. Some (text_fault_text fault) };
+
+    fn fmt<W: fmt::Write>(&self, f: &mut fmt::Formatter<W>) -> fmt::Result {
+        match self {
+            TextFault::Unread(error) => write!(f, "{error}"),
+            TextFault::Partly(printed) => write!(f, "read as {printed}"),
+            TextFault::Sample(_, fault) => write!(f, "sample {fault}"),
+        }
+    }
+}
+
+impl fmt::Display for SampleFault {
+    ghost output = { λ fault. Some (sample_fault_text fault) };
+
+    fn fmt<W: fmt::Write>(&self, f: &mut fmt::Formatter<W>) -> fmt::Result {
+        match self {
+            SampleFault::Range(range, fault) => {
+                write_range(range, f)?;
+                write!(f, "{fault}")
+            }
+            SampleFault::Number(number, fault) => {
+                f.write_str(number.0.as_str())?;
+                write!(f, "{fault}")
+            }
+        }
+    }
+}
+
+// Prints a sample, or two with `~` between them.
+fn write_range<W: fmt::Write>(range: &SampleRange, f: &mut fmt::Formatter<W>) -> fmt::Result
+    ensures { DisplaysOnOk W.write_str_gives f.old result (Some (sample_range_text range.now)) f.new }
+{
+    let lower = &range.lower_val;
+    f.write_str(lower.0.as_str())?;
+    match &range.upper_val {
+        Some(upper) => write_upper(upper, f),
+        None => Ok(()),
+    }
+}
+
+// Prints `~` and a sample.
+fn write_upper<W: fmt::Write>(upper: &DecimalValue, f: &mut fmt::Formatter<W>) -> fmt::Result
+    ensures { DisplaysOnOk W.write_str_gives f.old result (Some (codes "~" ++ sample_text upper.now)) f.new }
+{
+    f.write_str("~")?;
+    f.write_str(upper.0.as_str())
+}
+
+impl fmt::Display for RangeFault {
+    ghost output = { λ fault. Some (range_fault_text fault) };
+
+    fn fmt<W: fmt::Write>(&self, f: &mut fmt::Formatter<W>) -> fmt::Result {
+        match self {
+            RangeFault::End(error) => write!(f, ": {error}"),
+            RangeFault::Uneven => f.write_str(" has ends of different forms"),
+            RangeFault::Long => f.write_str(" has more than 18 digits"),
+            RangeFault::Down => f.write_str(" goes down"),
+            RangeFault::Wide => f.write_str(" has more than 100 numbers"),
+        }
+    }
+}
+
+impl fmt::Display for NumberFault {
+    ghost output = { λ fault. Some (number_fault_text fault) };
+
+    fn fmt<W: fmt::Write>(&self, f: &mut fmt::Formatter<W>) -> fmt::Result {
+        match self {
+            NumberFault::Text(error) => write!(f, ": {error}"),
+            NumberFault::Outside => f.write_str(" is outside the exactness bound"),
+            NumberFault::Category(category) => {
+                write!(f, " is {}", RawPluralCategory::from(*category).as_str())
+            }
+        }
+    }
+}

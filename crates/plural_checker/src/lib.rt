@@ -1,0 +1,26 @@
+//! Checks the texts of a language's plural rules against their samples (UTS 35 Part 3, Samples): what can't be read, what isn't
+//! read, and each sample that stands under another category than its own.
+#![tactic(auto)]
+
+mod check;
+mod coverage;
+mod fault;
+mod number_check;
+mod number_text;
+mod printed_rule;
+mod range_check;
+mod reading;
+mod report;
+mod sample_range;
+#[cfg(test)]
+mod tests;
+mod text_check;
+mod texts;
+
+pub use check::check_texts;
+pub use coverage::{CategorySet, Coverage};
+pub use fault::{Fault, NumberFault, RangeFault, SampleFault, SampleType, TextFault};
+pub use printed_rule::PrintedRule;
+pub use report::Report;
+pub use sample_range::{SampleNumbers, Steps};
+pub use texts::LanguageTexts;

@@ -1,0 +1,79 @@
+//! The numbers of samples against the category under whose name they stand.
+
+ghost use Rattle.std.specs.Prelude.{◌≡◌, ◌<◌, IfOk};
+ghost use Rattle.std.specs.Option.{option_copied};
+ghost use Rattle.plural_checker.specs.NumberChecks.{AreCheckedNumbers, IsCheckedBy, IsCheckedNumber, IsCheckedText};
+ghost use Rattle.plural_checker.specs.SampleNumbers.{count_of, text_at};
+
+use crate::fault::{NumberFault, SampleFault};
+use crate::reading::read_number;
+use crate::sample_range::SampleNumbers;
+use icu_plurals::provider::rules::reference::ast::DecimalValue;
+use icu_plurals::{CompactDecimal, PluralCategory, PluralRules};
+use std::alloc::{AllocError, Global};
+
+// The fault of the first number that is wrong.
+pub(crate) fn check_numbers(
+    alloc: Global,
+    rules: Option<&PluralRules<'_>>,
+    category: PluralCategory,
+    numbers: &SampleNumbers,
+) -> Result<Option<SampleFault>, AllocError>
+    ensures { IfOk result (λ fault. AreCheckedNumbers (option_copied rules.entry) category numbers.now fault) }
+{
+    for index in 0..numbers.count() {
+        let text = numbers.text(alloc, index)?;
+        if let Some(fault) = check_text(alloc, rules, category, &text)? {
+            return Ok(Some(SampleFault::Number(text, fault)));
+        }
+    }
+    Ok(None)
+}
+
+// The fault of a text that stands under a category.
+fn check_text(
+    alloc: Global,
+    rules: Option<&PluralRules<'_>>,
+    category: PluralCategory,
+    text: &DecimalValue,
+) -> Result<Option<NumberFault>, AllocError>
+    ensures { IfOk result (λ fault. IsCheckedText (option_copied rules.entry) category text.now fault) }
+{
+    match read_number(alloc, text.0.as_str())? {
+        Ok(number) => Ok(check_number(rules, category, &number)),
+        Err(error) => Ok(Some(NumberFault::Text(error))),
+    }
+}
+
+// The fault of a number that stands under a category: none without rules.
+fn check_number(
+    rules: Option<&PluralRules<'_>>,
+    category: PluralCategory,
+    number: &CompactDecimal,
+) -> Option<NumberFault>
+    ensures { IsCheckedNumber (option_copied rules.entry) category number.now result }
+{
+    match rules {
+        Some(rules) => check_by(rules, category, number),
+        None => None,
+    }
+}
+
+// The fault of a number under these rules.
+fn check_by(
+    rules: &PluralRules<'_>,
+    category: PluralCategory,
+    number: &CompactDecimal,
+) -> Option<NumberFault>
+    ensures { IsCheckedBy rules.now category number.now result }
+{
+    if !rules.is_exact_for(number) {
+        return Some(NumberFault::Outside);
+    }
+    let chosen = rules.category_for_compact(number);
+    if chosen == category {
+        None
+    } else {
+        Some(NumberFault::Category(chosen))
+    }
+}

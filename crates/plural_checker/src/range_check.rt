@@ -1,0 +1,109 @@
+//! The samples of a text against the category under whose name they stand.
+
+ghost use Rattle.std.specs.Prelude.{◌≡◌, List, ℕ, IfOk, OnOk};
+ghost use Rattle.std.specs.Option.{option_copied};
+ghost use Rattle.plural_checker.specs.Findings.{Adds, EachFinds, Grows};
+ghost use Rattle.plural_checker.specs.NumberChecks.{IsCheckedRange};
+ghost use Rattle.plural_checker.specs.TextChecks.{IsFoundInList, IsFoundInRange, IsFoundInSamples, sample_faults};
+
+use crate::fault::{Fault, SampleFault, SampleType, TextFault};
+use crate::number_check::check_numbers;
+use crate::report::Report;
+use crate::sample_range::SampleNumbers;
+use icu_plurals::provider::rules::reference::ast::{SampleList, SampleRange, Samples};
+use icu_plurals::{PluralCategory, PluralRules};
+use std::alloc::{AllocError, Global};
+
+// Adds what is wrong with the samples of a category's text.
+pub(crate) fn check_samples(
+    alloc: Global,
+    rules: Option<&PluralRules<'_>>,
+    category: PluralCategory,
+    samples: &Option<Samples>,
+    report: &mut Report,
+) -> Result<(), AllocError>
+    ensures { OnOk result (Adds (IsFoundInSamples (option_copied rules.entry) category samples.now) report.old report.new) }
+{
+    let Some(lists) = samples else {
+        return Ok(());
+    };
+    check_list(alloc, rules, category, SampleType::Integer, &lists.integer, report)?;
+    check_list(alloc, rules, category, SampleType::Decimal, &lists.decimal, report)
+}
+
+// Adds what is wrong with a list of samples, if it is there.
+fn check_list(
+    alloc: Global,
+    rules: Option<&PluralRules<'_>>,
+    category: PluralCategory,
+    sample_type: SampleType,
+    list: &Option<SampleList>,
+    report: &mut Report,
+) -> Result<(), AllocError>
+    ensures { OnOk result (Adds (IsFoundInList (option_copied rules.entry) category sample_type list.now) report.old report.new) }
+{
+    let Some(list) = list else {
+        return Ok(());
+    };
+    check_ranges(alloc, rules, category, sample_type, list.sample_ranges.as_slice(), report)
+}
+
+// Adds what is wrong with ranges of samples.
+fn check_ranges(
+    alloc: Global,
+    rules: Option<&PluralRules<'_>>,
+    category: PluralCategory,
+    sample_type: SampleType,
+    ranges: &[SampleRange],
+    report: &mut Report,
+) -> Result<(), AllocError>
+    ensures { OnOk result (Adds
+        (EachFinds (IsFoundInRange (option_copied rules.entry) category sample_type) ranges.now) report.old report.new) }
+{
+    for range in ranges {
+        let (fault, count) = check_range(alloc, rules, category, range)?;
+        add_sample(category, sample_type, fault, count, report)?;
+    }
+    Ok(())
+}
+
+// The fault of a range of samples, and how many numbers it has.
+fn check_range(
+    alloc: Global,
+    rules: Option<&PluralRules<'_>>,
+    category: PluralCategory,
+    range: &SampleRange,
+) -> Result<(Option<SampleFault>, u64), AllocError>
+    ensures { IfOk result (λ checked.
+        IsCheckedRange (option_copied rules.entry) category range.now checked.0 checked.1) }
+{
+    match SampleNumbers::of(alloc, range)? {
+        Ok(numbers) => {
+            let fault = check_numbers(alloc, rules, category, &numbers)?;
+            Ok((fault, numbers.count()))
+        }
+        Err(fault) => {
+            let fault = SampleFault::Range(range.try_clone()?, fault);
+            Ok((Some(fault), 0))
+        }
+    }
+}
+
+// Adds the fault of a sample, if it has one, and the count of its numbers.
+fn add_sample(
+    category: PluralCategory,
+    sample_type: SampleType,
+    fault: Option<SampleFault>,
+    count: u64,
+    report: &mut Report,
+) -> Result<(), AllocError>
+    ensures { let found = record { faults = sample_faults category sample_type fault; numbers = count } in
+        OnOk result (Grows report.old found report.new) }
+{
+    if let Some(fault) = fault {
+        let kind = TextFault::Sample(sample_type, fault);
+        report.add(Fault { category, kind })?;
+    }
+    report.count(count);
+    Ok(())
+}

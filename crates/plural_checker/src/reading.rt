@@ -1,0 +1,82 @@
+//! Samples read as numbers.
+
+ghost use Rattle.std.specs.Prelude.{◌≡◌, ◌+◌, ◌≤◌, length, None, Some, if◌then◌else◌, IfOk};
+ghost use Rattle.icu_plurals.specs.Operands.{all_digits_value};
+ghost use Rattle.plural_checker.specs.SampleNumbers.{GivesNumber, compact_text, is_long, parts_of, places_of};
+
+use icu_plurals::provider::rules::reference::ast::DecimalValue;
+use icu_plurals::{CompactDecimal, DecimalError, UnsignedDecimal};
+use std::alloc::{AllocError, Global};
+
+// The most digits of an end of a range.
+const MOST_DIGITS: usize = 18;
+
+// The number that a sample writes, or why it writes none.
+pub(crate) fn read_sample(
+    alloc: Global,
+    sample: &DecimalValue,
+) -> Result<Result<CompactDecimal, DecimalError>, AllocError>
+    ensures { IfOk result (λ answer. GivesNumber (compact_text sample.now) answer) }
+{
+    let text = compact_text(alloc, sample)?;
+    read_number(alloc, text.0.as_str())
+}
+
+// The sample's text, in which `c` stands for an `e`.
+pub(crate) fn compact_text(alloc: Global, sample: &DecimalValue) -> Result<DecimalValue, AllocError>
+    ensures { IfOk result (λ text. text ≡ compact_text sample.now) }
+{
+    let text = sample.0.as_str();
+    let Some((before, after)) = text.split_once('e') else {
+        return sample.try_clone();
+    };
+    let mut compact = String::new(alloc);
+    compact.push_str(before)?;
+    compact.push_str("c")?;
+    compact.push_str(after)?;
+    Ok(DecimalValue(compact))
+}
+
+// The number that a text writes, or why it writes none.
+pub(crate) fn read_number(
+    alloc: Global,
+    text: &str,
+) -> Result<Result<CompactDecimal, DecimalError>, AllocError>
+    ensures { IfOk result (λ answer. GivesNumber text.now answer) }
+{
+    match CompactDecimal::from_str(alloc, text) {
+        Ok(number) => Ok(Ok(number)),
+        Err(DecimalError::Syntax) => Ok(Err(DecimalError::Syntax)),
+        Err(DecimalError::Limit) => Ok(Err(DecimalError::Limit)),
+        Err(DecimalError::Memory) => Err(AllocError),
+    }
+}
+
+// How many fraction digits a number shows.
+pub(crate) fn places_of(number: &CompactDecimal) -> usize
+    ensures { result ≡ places_of number.now }
+{
+    number.significand().absolute.places_after(0).1
+}
+
+// The number that all digits write, where they are at most 18.
+pub(crate) fn parts_of(number: &CompactDecimal) -> Option<u64>
+    ensures { result ≡ (if is_long number.now then None else Some (parts_of number.now)) }
+{
+    let digits = &number.significand().absolute;
+    let (whole, fraction) = digits.places_after(0);
+    if whole + fraction > MOST_DIGITS {
+        return None;
+    }
+    Some(value_of_all(digits, whole + fraction))
+}
+
+// The number that all digits write, of which there are so many.
+fn value_of_all(digits: &UnsignedDecimal, count: usize) -> u64
+    requires all { count ≡ length digits.now.whole + length digits.now.fraction }
+    requires few { count ≤ MOST_DIGITS }
+    ensures { result ≡ all_digits_value digits.now }
+{
+    let (kept, zeros) = digits.number_from(0, count);
+    kept * 10_u64.pow(zeros as u32)
+}

@@ -1,0 +1,117 @@
+//! One text of a language's rules.
+
+ghost use Rattle.std.specs.Prelude.{◌≡◌, ◌≢◌, IfOk, OnOk, MatchBool};
+ghost use Rattle.std.specs.Option.{option_copied};
+ghost use Rattle.plural_checker.specs.Findings.{Adds};
+ghost use Rattle.plural_checker.specs.TextChecks.{HaveOtherTokens, HaveSameTokens, IsFoundIn, IsFoundInReading, IsFoundInText, IsRead};
+ghost use Rattle.plural_checker.specs.Inner.TextAnswers.{IsTreeOf};
+
+use crate::fault::{Fault, TextFault};
+use crate::printed_rule::PrintedRule;
+use crate::range_check::check_samples;
+use crate::report::Report;
+use icu_plurals::laws::one_list_of_tokens;
+use icu_plurals::provider::rules::reference::ast::Rule;
+use icu_plurals::provider::rules::reference::{Lexer, ReadError, parse};
+use icu_plurals::provider::rules::runtime::ast::{Rule as PackedRule, RuleError};
+use icu_plurals::{PluralCategory, PluralRules};
+use std::alloc::{AllocError, Global};
+
+// Adds what is wrong with a category's text, if it is there.
+pub(crate) fn check_if_there(
+    alloc: Global,
+    rules: Option<&PluralRules<'_>>,
+    category: PluralCategory,
+    text: Option<&str>,
+    report: &mut Report,
+) -> Result<(), AllocError>
+    ensures { OnOk result (Adds (IsFoundIn (option_copied rules.entry) category (option_copied text.entry)) report.old report.new) }
+{
+    match text {
+        Some(text) => check_text(alloc, rules, category, text, report),
+        None => Ok(()),
+    }
+}
+
+// Adds what is wrong with a category's text.
+fn check_text(
+    alloc: Global,
+    rules: Option<&PluralRules<'_>>,
+    category: PluralCategory,
+    text: &str,
+    report: &mut Report,
+) -> Result<(), AllocError>
+    ensures { OnOk result (Adds (IsFoundInText (option_copied rules.entry) category text.now) report.old report.new) }
+{
+    match rule_of(alloc, text)? {
+        Ok(rule) => {
+            check_reading(alloc, category, text, &rule, report)?;
+            check_samples(alloc, rules, category, &rule.samples, report)
+        }
+        Err(error) => {
+            let kind = TextFault::Unread(error);
+            report.add(Fault { category, kind })
+        }
+    }
+}
+
+// Adds that something of the text isn't read, if it is so.
+fn check_reading(
+    alloc: Global,
+    category: PluralCategory,
+    text: &str,
+    rule: &Rule,
+    report: &mut Report,
+) -> Result<(), AllocError>
+    ensures { OnOk result (Adds (IsFoundInReading category text.now rule.now) report.old report.new) }
+{
+    let printed = PrintedRule::of(alloc, rule)?;
+    if has_tokens_of(text, printed.0.as_str()) {
+        return Ok(());
+    }
+    let kind = TextFault::Partly(printed);
+    report.add(Fault { category, kind })
+}
+
+// The rule that a text is read as, or why it gives none.
+fn rule_of(alloc: Global, text: &str) -> Result<Result<Rule, RuleError>, AllocError>
+    ensures { IfOk result (λ answer. IsRead text.now answer) }
+{
+    match PackedRule::from_str(alloc, text) {
+        Ok(_) => tree_of(alloc, text),
+        Err(RuleError::Parse(fault)) => Ok(Err(RuleError::Parse(fault))),
+        Err(RuleError::StartLimit) => Ok(Err(RuleError::StartLimit)),
+        Err(RuleError::Memory) => Err(AllocError),
+    }
+}
+
+// The tree of a text, or why it is none.
+fn tree_of(alloc: Global, text: &str) -> Result<Result<Rule, RuleError>, AllocError>
+    ensures { IfOk result (λ answer. IsTreeOf text.now answer) }
+{
+    one_list_of_tokens();
+    match parse(alloc, text.as_bytes()) {
+        Ok(rule) => Ok(Ok(rule)),
+        Err(ReadError::Parse(fault)) => Ok(Err(RuleError::Parse(fault))),
+        Err(ReadError::Memory) => Err(AllocError),
+    }
+}
+
+// Whether two texts have the same tokens.
+fn has_tokens_of(text: &str, other: &str) -> bool
+    ensures { MatchBool result (HaveSameTokens text.now other.now) (HaveOtherTokens text.now other.now) }
+{
+    are_equal(Lexer::new(text.as_bytes()), Lexer::new(other.as_bytes()))
+}
+
+// Whether the tokens that are left are the same.
+fn are_equal(mut tokens: Lexer<'_>, mut others: Lexer<'_>) -> bool
+    ensures { MatchBool result (tokens.entry ≡ others.entry) (tokens.entry ≢ others.entry) }
+{
+    while let Some(token) = tokens.next() {
+        if others.next() != Some(token) {
+            return false;
+        }
+    }
+    others.next().is_none()
+}

@@ -1,0 +1,113 @@
+-- What is found, put together.
+use Rattle.std.proofs.Common.{◌≡◌, ℕ, suc, ◌+◌, ◌<◌, List, [], ◌∷◌, ◌++◌, length, get_or, drop, map, refl, sym, ap, subst, ◌∙◌}
+use Rattle.std.proofs.Common.{append_assoc, add-one, drop-cons}
+use Rattle.std.proofs.Math.Nat.{add_assoc, add-zero, zero-add}
+use Rattle.std.proofs.lemmas.List.{append-nil}
+use Rattle.std.specs.List.{flat_map}
+use Rattle.serde_json.specs.Data.{Data, Members, no_members, member}
+use Rattle.serde_json.specs.Find.{get}
+use Rattle.icu_plurals.specs.declared.PluralCategory.{PluralCategory}
+use Rattle.icu_plurals.specs.Categories.{name_of}
+use Rattle.plurals_check.specs.DocumentReport.{found_under, found_under_all}
+use Rattle.plurals_check.specs.Found.{Found, nothing, one_line, together, IsFoundIn}
+use Rattle.plurals_check.specs.ReportText.{ended_line}
+use Rattle.plurals_check.specs.declared.place.Part.{Part}
+use Rattle.plurals_check.specs.Inner.Additions.{Adds, lines_alone}
+
+-- nothing more is the same
+pub together-nothing : (a : Found) → together a nothing ≡ a
+together-nothing a = rw (append-nil a.lines, add-zero a.rules, add-zero a.numbers) refl
+
+-- nothing before is the same
+pub nothing-together : (a : Found) → together nothing a ≡ a
+nothing-together a = rw (zero-add a.rules, zero-add a.numbers) refl
+
+pub together_assoc : (a b c : Found) → together (together a b) c ≡ together a (together b c)
+together_assoc a b c =
+    rw (append_assoc a.lines b.lines c.lines, add_assoc a.rules b.rules c.rules, add_assoc a.numbers b.numbers c.numbers) refl
+
+-- lines and then numbers are both
+pub lines_and_numbers : (old a : Found) (lines : List (List ℕ)) (n : ℕ) (one two three : Found)
+    → one ≡ together old a → two ≡ together one (lines_alone lines) → three ≡ together two (record nothing { numbers = n })
+    → three ≡ together old (together a (record { lines = lines; rules = 0; numbers = n }))
+lines_and_numbers old a lines n one two three first second third =
+    third
+    ∙ ap (λ (f : Found). together f (record nothing { numbers = n })) (second ∙ ap (λ (f : Found). together f (lines_alone lines)) first)
+    ∙ together_assoc (together old a) (lines_alone lines) (record nothing { numbers = n })
+    ∙ together_assoc old a (together (lines_alone lines) (record nothing { numbers = n }))
+    ∙ ap (λ (f : Found). together old (together a f)) joined
+  where
+    joined : together (lines_alone lines) (record nothing { numbers = n }) ≡ record { lines = lines; rules = 0; numbers = n }
+    joined = rw (append-nil lines, zero-add n) refl
+
+-- three, one after the other
+pub three_added : (a b c one two three : Found) → one ≡ together nothing a → two ≡ together one b → three ≡ together two c
+    → three ≡ together a (together b c)
+three_added a b c one two three first second third =
+    third
+    ∙ ap (λ (f : Found). together f c) (second ∙ ap (λ (f : Found). together f b) (first ∙ nothing-together a))
+    ∙ together_assoc a b c
+
+-- two, one after the other
+pub two_added : (old a b one two : Found) → one ≡ together old a → two ≡ together one b → two ≡ together old (together a b)
+two_added old a b one two first second = second ∙ ap (λ (f : Found). together f b) first ∙ together_assoc old a b
+
+-- ---- Member by member
+
+-- whatever is found in the members that are left completes what was found so far
+abbrev pub Completes : (List ℕ → Data → Found → Type 0) → Members → Members → Found → Found → Type 0
+Completes Is left all now first =
+    (rest : Found) → IsFoundIn Is left rest → (whole : Found) × IsFoundIn Is all whole × (together now rest ≡ together first whole)
+
+module _ (Is : List ℕ → Data → Found → Type 0) (all : Members) (first : Found) where
+  -- so it is at first
+  pub begins : (left : Members) → left ≡ all → Completes Is left all first first
+  begins left same rest h = (rest, subst (λ (ms : Members). IsFoundIn Is ms rest) same h, refl)
+
+  -- and after a member
+  pub goes_on : (key : List ℕ) (value : Data) (left : Members) (now next : Found)
+      → Completes Is (member key value left) all now first → Adds (Is key value) now next → Completes Is left all next first
+  goes_on key value left now next so_far added rest h =
+      let whole = so_far (together added.0 rest) (added.0, rest, added.1, h, refl) in (
+        whole.0,
+        whole.1,
+        ap (λ (f : Found). together f rest) added.2 ∙ together_assoc now added.0 rest ∙ whole.2,
+      )
+
+  -- at the end it is all
+  pub ends : (now : Found) → Completes Is no_members all now first → Adds (IsFoundIn Is all) first now
+  ends now so_far =
+      let whole = so_far nothing refl in (whole.0, whole.1, sym (together-nothing now) ∙ whole.2)
+
+-- ---- One thing after the other
+
+-- what is found under the next category comes behind what was found so far
+pub next_under : (part : Part) (locale : List ℕ) (value : Data) (categories : List PluralCategory) (i : ℕ) (d : PluralCategory)
+    (now next : Found) → i < length categories
+    → next ≡ together now (found_under part locale (get_or categories i d) (get (name_of (get_or categories i d)) value))
+    → together next (found_under_all part locale value (drop (i + 1) categories))
+    ≡ together now (found_under_all part locale value (drop i categories))
+next_under part locale value categories i d now next lt step =
+    let category = get_or categories i d in
+    let rest = found_under_all part locale value (drop (suc i) categories) in
+    rw (add-one, drop-cons categories i d)
+    (ap (λ (f : Found). together f rest) step
+    ∙ together_assoc now (found_under part locale category (get (name_of category) value)) rest)
+
+-- so does the next line
+pub next_line : {A : Type 0} (line : A → List ℕ) (things : List A) (i : ℕ) (d : A) (now next : Found) → i < length things
+    → next ≡ together now (one_line (line (get_or things i d)))
+    → together next (lines_alone (map line (drop (i + 1) things))) ≡ together now (lines_alone (map line (drop i things)))
+next_line line things i d now next lt step =
+    let rest = lines_alone (map line (drop (suc i) things)) in
+    rw (add-one, drop-cons things i d)
+    (ap (λ (f : Found). together f rest) step ∙ together_assoc now (one_line (line (get_or things i d))) rest)
+
+-- and the text of the next line
+pub next_text : {A : Type 0} (bytes : A → List ℕ) (things : List A) (i : ℕ) (d : A) (now next : List ℕ) → i < length things
+    → next ≡ now ++ ended_line (bytes (get_or things i d))
+    → next ++ flat_map ended_line (map bytes (drop (i + 1) things)) ≡ now ++ flat_map ended_line (map bytes (drop i things))
+next_text bytes things i d now next lt step =
+    let rest = flat_map ended_line (map bytes (drop (suc i) things)) in
+    rw (add-one, drop-cons things i d)
+    (ap (λ (t : List ℕ). t ++ rest) step ∙ append_assoc now (ended_line (bytes (get_or things i d))) rest)

@@ -1,0 +1,5 @@
+pub mod Documents
+pub mod CheckFaults
+pub mod CheckedInputs
+pub mod FoundParts
+pub mod CheckReadings

@@ -1,0 +1,8 @@
+pub mod Parts
+pub mod CheckedDocument
+pub mod Found
+pub mod DocumentReport
+pub mod ReportText
+pub mod CheckAnswer
+-- not definitions of the subject
+pub mod Inner

@@ -1,0 +1,63 @@
+//! The entries of a locale's ranges.
+
+ghost use Rattle.std.specs.Prelude.{Some};
+ghost use Rattle.plural_checker.specs.LanguageTexts.{six_texts};
+ghost use Rattle.plurals_check.specs.DocumentReport.{entry_fault_text, HasEntryFault};
+ghost use Rattle.serde_json.specs.View.{view};
+
+use crate::languages::name_of;
+use icu_plurals::PluralCategory;
+use icu_plurals::provider::UnvalidatedPluralRange;
+use plural_checker::LanguageTexts;
+use serde_json::Value;
+use std::fmt;
+
+/// What is wrong with an entry.
+#[derive(Clone, Copy, Debug, PartialEq, Eq)]
+pub enum EntryFault {
+    /// The key is the text of no range.
+    RangeKey,
+    /// The value is no text.
+    NoText,
+    /// The text is no category's name.
+    RangeValue,
+    /// The category isn't other, and its cardinal rule isn't there.
+    NoRule(PluralCategory),
+}
+
+impl fmt::Display for EntryFault {
+    ghost output = { λ fault. Some (entry_fault_text fault) };
+
+    fn fmt<W: fmt::Write>(&self, f: &mut fmt::Formatter<W>) -> fmt::Result {
+        match self {
+            EntryFault::RangeKey => f.write_str("range key"),
+            EntryFault::NoText => f.write_str("no text"),
+            EntryFault::RangeValue => f.write_str("range value"),
+            EntryFault::NoRule(category) => write!(f, "{} has no rule", name_of(*category)),
+        }
+    }
+}
+
+// The fault of an entry under these cardinal rules, if it has one.
+pub(crate) fn entry_fault(
+    texts: &LanguageTexts<'_>,
+    key: &str,
+    value: &Value,
+) -> Option<EntryFault>
+    ensures { HasEntryFault (six_texts texts.now) key.now (view value.now) result }
+{
+    if UnvalidatedPluralRange::from_text(key).is_none() {
+        return Some(EntryFault::RangeKey);
+    }
+    let Some(name) = value.as_str() else {
+        return Some(EntryFault::NoText);
+    };
+    let Some(category) = PluralCategory::get_for_cldr_string(name) else {
+        return Some(EntryFault::RangeValue);
+    };
+    if texts.has_rule(category) {
+        None
+    } else {
+        Some(EntryFault::NoRule(category))
+    }
+}

@@ -1,0 +1,98 @@
+//! The form of a document: it has no float, and it, its parts and what they have under each locale are objects.
+
+ghost use Rattle.std.specs.Prelude.{◌≡◌, is_some, option_map};
+ghost use Rattle.std.specs.Option.{option_and_then};
+ghost use Rattle.serde_json.specs.Find.{as_object, get};
+ghost use Rattle.serde_json.specs.View.{members_view, view};
+ghost use Rattle.plurals_check.specs.CheckedDocument.{document_formed, has_form, locales_formed, part_formed, parts_formed, table_in};
+ghost use Rattle.plurals_check.specs.Inner.CheckCalls.{GivesFault, GivesValue};
+ghost use Rattle.plurals_check.specs.Parts.{part_name};
+ghost use Rattle.plurals_check.specs.declared.error.CheckError.TheVariants.{NoObject};
+ghost use Rattle.plurals_check.specs.declared.place.Place.TheVariants as place;
+
+use crate::error::CheckError;
+use crate::place::{Locale, Part, Place};
+use plural_base::holds_float;
+use serde_json::{Map, Value};
+use std::alloc::Global;
+
+// Tells the first place of a document that has another form.
+pub(crate) fn check_document(alloc: Global, value: &Value) -> Result<(), CheckError>
+    ensures { GivesValue (λ done. done) (document_formed (view value.now)) result }
+{
+    if holds_float(value) {
+        return Err(CheckError::Float);
+    }
+    if !value.is_object() {
+        return Err(CheckError::NoObject(Place::Document));
+    }
+    check_parts(alloc, value)
+}
+
+// The same of its three parts.
+fn check_parts(alloc: Global, value: &Value) -> Result<(), CheckError>
+    ensures { GivesValue (λ done. done) (parts_formed (view value.now)) result }
+{
+    check_part(alloc, Part::Cardinal, value.get(Part::Cardinal.as_str()))?;
+    check_part(alloc, Part::Ordinal, value.get(Part::Ordinal.as_str()))?;
+    check_part(alloc, Part::Ranges, value.get(Part::Ranges.as_str()))
+}
+
+// The same of a part, which may be absent or null.
+fn check_part(alloc: Global, part: Part, value: Option<&Value>) -> Result<(), CheckError>
+    ensures { GivesValue (λ done. done) (part_formed part (option_map (λ v. view v.now) value.entry)) result }
+{
+    let Some(value) = value else {
+        return Ok(());
+    };
+    if value.is_null() {
+        return Ok(());
+    }
+    match value.as_object() {
+        Some(members) => check_locales(alloc, part, members),
+        None => Err(CheckError::NoObject(Place::Part(part))),
+    }
+}
+
+// The same of what a part has under each locale.
+fn check_locales(
+    alloc: Global,
+    part: Part,
+    members: &Map<String, Value>,
+) -> Result<(), CheckError>
+    ensures { GivesValue (λ done. done) (locales_formed part (members_view members.now.entries)) result }
+{
+    for (locale, value) in members.iter() {
+        if !has_form(part, value) {
+            return Err(no_object(alloc, part, locale.as_str()));
+        }
+    }
+    Ok(())
+}
+
+// Whether what a locale has is of the part's form.
+fn has_form(part: Part, value: &Value) -> bool
+    ensures { result ≡ has_form part (view value.now) }
+{
+    match part {
+        Part::Cardinal | Part::Ordinal => value.is_object(),
+        Part::Ranges => table_in(value).is_some(),
+    }
+}
+
+// What a locale has under `ranges`, where that is an object.
+pub(crate) fn table_in(value: &Value) -> Option<&Map<String, Value>>
+    ensures { option_map (λ m. members_view m.now.entries) result ≡ table_in (view value.now) }
+{
+    value.get("ranges")?.as_object()
+}
+
+// The fault of a locale.
+fn no_object(alloc: Global, part: Part, locale: &str) -> CheckError
+    ensures { GivesFault (λ fault. fault ≡ NoObject (place.Locale part locale.now)) result }
+{
+    match Locale::from_str(alloc, locale) {
+        Ok(locale) => CheckError::NoObject(Place::Locale(part, locale)),
+        Err(_) => CheckError::Memory,
+    }
+}

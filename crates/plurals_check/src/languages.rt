@@ -1,0 +1,138 @@
+//! What is found in the rules of a part.
+
+ghost use Rattle.std.specs.Prelude.{◌≡◌, map, option_map, OnOk};
+ghost use Rattle.std.specs.Option.{option_copied};
+ghost use Rattle.icu_plurals.specs.RulesJson.{text_under};
+ghost use Rattle.icu_plurals.specs.Categories.{name_of};
+ghost use Rattle.plural_checker.specs.LanguageTexts.{six_texts};
+ghost use Rattle.plurals_check.specs.DocumentReport.{all_texts_in, fault_line, found_under, found_under_all, text_order, IsFoundInRules};
+ghost use Rattle.plurals_check.specs.Found.{together};
+ghost use Rattle.plurals_check.specs.Inner.Additions.{lines_alone};
+ghost use Rattle.serde_json.specs.View.{view};
+
+use crate::found::{Found, MemberCheck};
+use crate::place::Part;
+use icu_plurals::PluralCategory;
+use icu_plurals::provider::RawPluralCategory;
+use plural_checker::{Fault, LanguageTexts, check_texts};
+use serde_json::Value;
+use std::alloc::{AllocError, Global};
+
+// The categories in the order of the rules.
+const TEXT_ORDER: [PluralCategory; 6] = [
+    PluralCategory::Zero,
+    PluralCategory::One,
+    PluralCategory::Two,
+    PluralCategory::Few,
+    PluralCategory::Many,
+    PluralCategory::Other,
+];
+
+// The check of what a part has under a locale, the rules of a language.
+pub(crate) struct LanguageCheck {
+    pub(crate) part: Part,
+}
+
+impl MemberCheck for LanguageCheck {
+    ghost finds = { λ check. IsFoundInRules check.part };
+
+    fn add(
+        &self,
+        alloc: Global,
+        locale: &str,
+        value: &Value,
+        found: &mut Found,
+    ) -> Result<(), AllocError> {
+        let checked = check_texts(alloc, &texts_of(value))?;
+        add_texts(alloc, self.part, locale, value, found)?;
+        add_faults(alloc, self.part, locale, checked.faults.as_slice(), found)?;
+        found.add_numbers(checked.numbers)?;
+        Ok(())
+    }
+}
+
+// The texts that a language has.
+pub(crate) fn texts_of(value: &Value) -> LanguageTexts<'_>
+    ensures { six_texts result ≡ all_texts_in (view value.now) }
+{
+    LanguageTexts {
+        zero: text_under(value, PluralCategory::Zero),
+        one: text_under(value, PluralCategory::One),
+        two: text_under(value, PluralCategory::Two),
+        few: text_under(value, PluralCategory::Few),
+        many: text_under(value, PluralCategory::Many),
+        other: text_under(value, PluralCategory::Other),
+    }
+}
+
+// The text under the name of a category.
+fn text_under(value: &Value, category: PluralCategory) -> Option<&str>
+    ensures { option_copied result ≡ text_under category (view value.now) }
+{
+    value.get(name_of(category))?.as_str()
+}
+
+// The name of a category.
+pub(crate) fn name_of(category: PluralCategory) -> &'static str
+    ensures { result.now ≡ name_of category }
+{
+    RawPluralCategory::from(category).as_str()
+}
+
+// Adds a line for what stands under a category and is no text, and counts the texts.
+fn add_texts(
+    alloc: Global,
+    part: Part,
+    locale: &str,
+    value: &Value,
+    found: &mut Found,
+) -> Result<(), AllocError>
+    ensures { OnOk result (found.new ≡ together found.old (found_under_all part locale.now (view value.now) text_order)) }
+{
+    for category in &TEXT_ORDER {
+        let under = value.get(name_of(*category));
+        add_text(alloc, part, locale, *category, under, found)?;
+    }
+    Ok(())
+}
+
+// The same of what stands under one category.
+fn add_text(
+    alloc: Global,
+    part: Part,
+    locale: &str,
+    category: PluralCategory,
+    value: Option<&Value>,
+    found: &mut Found,
+) -> Result<(), AllocError>
+    ensures { OnOk result (found.new ≡ together found.old (found_under part locale.now category (option_map (λ v. view v.now) value.entry))) }
+{
+    let Some(value) = value else {
+        return Ok(());
+    };
+    if value.is_null() {
+        return Ok(());
+    }
+    if value.is_string() {
+        return found.add_rule();
+    }
+    let line = format!(in alloc; "{} {} {}: no text", part.as_str(), locale, name_of(category))?;
+    found.add_line(line)
+}
+
+// Adds a line for each fault of a language's texts.
+fn add_faults(
+    alloc: Global,
+    part: Part,
+    locale: &str,
+    faults: &[Fault],
+    found: &mut Found,
+) -> Result<(), AllocError>
+    ensures { OnOk result (found.new ≡ together found.old (lines_alone (map (fault_line part locale.now) faults.now))) }
+{
+    for fault in faults {
+        let line = format!(in alloc; "{} {} {}", part.as_str(), locale, fault)?;
+        found.add_line(line)?;
+    }
+    Ok(())
+}

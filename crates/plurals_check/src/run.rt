@@ -1,0 +1,93 @@
+//! Answers an input.
+
+ghost use Rattle.std.specs.Prelude.{◌≡◌, Err, IfOk, List, ℕ, IsFalse, IsTrue};
+ghost use Rattle.plurals_check.specs.CheckAnswer.{AnswersDocument, AnswersInput, IsAnswered, IsAnswerTo, IsInput, IsRead};
+ghost use Rattle.plurals_check.specs.CheckedDocument.{value_in, value_of};
+ghost use Rattle.plurals_check.specs.Inner.CheckCalls.{Gives, GivesAfterReading};
+ghost use Rattle.plurals_check.specs.Inner.CheckViews.{answer_view};
+ghost use Rattle.plurals_check.specs.declared.error.CheckError.TheVariants.{Usage};
+ghost use Rattle.serde_json.specs.View.{view};
+
+use crate::document::value_of;
+use crate::error::CheckError;
+use crate::input::read_input;
+use crate::report::{Verdict, report_of};
+use serde_json::Value;
+use std::alloc::{AllocError, Global};
+use std::io::{Read, Write};
+
+// What is written for a document, and whether it has a fault.
+#[derive(Drop)]
+pub(crate) struct Answer {
+    pub(crate) text: String,
+    pub(crate) verdict: Verdict,
+}
+
+/// Writes the report of a document, and nothing else.
+///
+/// The input is read to its end, or to the first byte that is too many, as a JSON document: rules of
+/// locales for cardinal and for ordinal numbers, and categories of ranges (UTS 35 Part 3, Language
+/// Plural Rules). The report has a line for each fault: of the texts of rules and of their samples, as
+/// `plural_checker` tells them, and of the entries of ranges; and then a line with the counts of
+/// locales, rule texts, numbers and faults. It takes memory.
+///
+/// The errors, in the order in which they are looked for: [`CheckError::Usage`] where there are words;
+/// [`CheckError::Read`] where the reader failed, [`CheckError::TooLong`] above 4194304 bytes,
+/// [`CheckError::Json`] where the input is no JSON text, [`CheckError::Float`] where it has a float, and
+/// [`CheckError::NoObject`] where the document, a part of it or what a part has under a locale is no
+/// object; [`CheckError::Write`] where the writer failed; [`CheckError::Memory`] where memory ran out.
+/// Nothing was written then, a failed write aside.
+pub fn run<R: Read, W: Write>(
+    alloc: Global,
+    has_words: bool,
+    reader: &mut R,
+    writer: &mut W,
+) -> Result<Verdict, CheckError>
+    // The answer is that of some input, which is what the reader had left, where that is known.
+    ensures answers { (input : List ℕ) × IsInput (R.remaining reader.old) input
+        × IsAnswered (AnswersInput has_words input) (W.contents writer.old) (W.contents writer.new) result }
+    ensures reads { IsFalse has_words → IsRead (R.remaining reader.old) (R.remaining reader.new) result }
+    ensures reads_nothing { IsTrue has_words → (reader.new ≡ reader.old) × (result ≡ Err Usage) }
+{
+    if has_words {
+        return Err(CheckError::Usage);
+    }
+    let answer = answer(alloc, reader)?;
+    match writer.write_all(answer.text.as_str().as_bytes()) {
+        Ok(()) => Ok(answer.verdict),
+        Err(_) => Err(CheckError::Write),
+    }
+}
+
+// The answer to what the reader gives.
+fn answer<R: Read>(alloc: Global, reader: &mut R) -> Result<Answer, CheckError>
+    ensures answers { (input : List ℕ) × IsInput (R.remaining reader.old) input
+        × GivesAfterReading (AnswersDocument (value_in input)) result }
+    ensures reads { IsRead (R.remaining reader.old) (R.remaining reader.new) result }
+{
+    let input = read_input(alloc, reader)?;
+    answer_to(alloc, input.as_slice())
+}
+
+// The answer to the bytes of an input.
+pub(crate) fn answer_to(alloc: Global, bytes: &[u8]) -> Result<Answer, CheckError>
+    ensures { Gives answer_view (AnswersDocument (value_of bytes.now)) result }
+{
+    let document = value_of(alloc, bytes)?;
+    match answer_of(alloc, &document) {
+        Ok(answer) => Ok(answer),
+        Err(_) => Err(CheckError::Memory),
+    }
+}
+
+// The answer to a document.
+fn answer_of(alloc: Global, document: &Value) -> Result<Answer, AllocError>
+    ensures { IfOk result (λ answer. IsAnswerTo (view document.now) (answer_view answer)) }
+{
+    let report = report_of(alloc, document)?;
+    let text = report.text(alloc)?;
+    Ok(Answer {
+        text,
+        verdict: report.verdict(),
+    })
+}

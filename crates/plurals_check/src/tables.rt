@@ -1,0 +1,100 @@
+//! What is found in the ranges of a document.
+
+ghost use Rattle.std.specs.Prelude.{◌≡◌, option_map, OnOk};
+ghost use Rattle.plural_checker.specs.LanguageTexts.{six_texts};
+ghost use Rattle.plurals_check.specs.DocumentReport.{found_of_rules, texts_at, IsFoundInEntry, IsFoundInRanges};
+ghost use Rattle.plurals_check.specs.Found.{together};
+ghost use Rattle.serde_json.specs.View.{view};
+
+use crate::document::value_at;
+use crate::entry::entry_fault;
+use crate::form::table_in;
+use crate::found::{Found, MemberCheck, add_members};
+use crate::languages::texts_of;
+use crate::place::Part;
+use plural_checker::LanguageTexts;
+use serde_json::Value;
+use std::alloc::{AllocError, Global};
+
+// The check of a locale's ranges, in a document.
+pub(crate) struct TableCheck<'a> {
+    pub(crate) document: &'a Value,
+}
+
+impl<'a> MemberCheck for TableCheck<'a> {
+    ghost finds = { λ check. IsFoundInRanges (view check.document.now) };
+
+    fn add(
+        &self,
+        alloc: Global,
+        locale: &str,
+        value: &Value,
+        found: &mut Found,
+    ) -> Result<(), AllocError> {
+        let rules = value_at(self.document, Part::Cardinal, locale);
+        add_rules(alloc, locale, rules, found)?;
+        let entries = EntryCheck {
+            texts: texts_at(rules),
+            locale,
+        };
+        add_members(alloc, &entries, table_in(value), found)?;
+        Ok(())
+    }
+}
+
+// The check of an entry of a locale's ranges, under the texts of its cardinal rules.
+struct EntryCheck<'a> {
+    texts: LanguageTexts<'a>,
+    locale: &'a str,
+}
+
+impl<'a> MemberCheck for EntryCheck<'a> {
+    ghost finds = { λ check. IsFoundInEntry (six_texts check.texts) check.locale.now };
+
+    fn add(
+        &self,
+        alloc: Global,
+        key: &str,
+        value: &Value,
+        found: &mut Found,
+    ) -> Result<(), AllocError> {
+        let Some(fault) = entry_fault(&self.texts, key, value) else {
+            return Ok(());
+        };
+        let line = format!(in alloc; "{} {} {}: {}", Part::Ranges.as_str(), self.locale, key, fault)?;
+        found.add_line(line)?;
+        Ok(())
+    }
+}
+
+// The texts of cardinal rules, where there are some.
+fn texts_at(rules: Option<&Value>) -> LanguageTexts<'_>
+    ensures { six_texts result ≡ texts_at (option_map (λ v. view v.now) rules.entry) }
+{
+    match rules {
+        Some(rules) => texts_of(rules),
+        None => LanguageTexts {
+            zero: None,
+            one: None,
+            two: None,
+            few: None,
+            many: None,
+            other: None,
+        },
+    }
+}
+
+// Adds a line for a locale without cardinal rules.
+fn add_rules(
+    alloc: Global,
+    locale: &str,
+    rules: Option<&Value>,
+    found: &mut Found,
+) -> Result<(), AllocError>
+    ensures { OnOk result (found.new ≡ together found.old (found_of_rules locale.now (option_map (λ v. view v.now) rules.entry))) }
+{
+    if rules.is_some() {
+        return Ok(());
+    }
+    found.add_line(format!(in alloc; "{} {}: no cardinal rules", Part::Ranges.as_str(), locale)?)
+}

@@ -1,0 +1,28 @@
+//! Refused growths: this runs under `rt try --test --fail-alloc N` for each N, and with memory too.
+
+use crate::tests::answers::gives;
+use crate::tests::assertion::holds;
+use crate::tests::documents::{FAULTS, FAULTY, UNFORMED};
+use std::alloc::Global;
+use std::process::Abort;
+
+// The document gives the answer, though one growth be refused: the answer is then want of memory with nothing written, and the
+// same document gives it.
+fn holds_again(rt: &impl Abort, alloc: Global, document: &str, answer: &str) {
+    let mut reader = document.as_bytes();
+    let first = gives(alloc, false, &mut reader, answer);
+    let mut reader = document.as_bytes();
+    let second = gives(alloc, false, &mut reader, answer);
+    holds!(rt; first.unwrap_or(true) && second.unwrap_or(true), document);
+    holds!(rt; first.is_some() || second.is_some(), document);
+}
+
+#[test]
+fn growth_of_a_report(rt: HostRuntime) {
+    holds_again(&rt, rt.alloc(), FAULTY, FAULTS)
+}
+
+#[test]
+fn growth_of_a_place(rt: HostRuntime) {
+    holds_again(&rt, rt.alloc(), UNFORMED, "1: cardinal b: no object\n")
+}
