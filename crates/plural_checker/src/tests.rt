@@ -173,13 +173,13 @@ fn other_texts_are_looked_at_without_rules(rt: HostRuntime) -> Result<(), Fail> 
         two: None,
         few: None,
         many: None,
-        other: Some("@integer 0 1"),
+        other: Some("@integer 1 0"),
     };
     let report = check_texts(rt.alloc(), &texts)?;
     let faults = "zero: expected operator
 one: sample 3~2 goes down
 one: sample 4.: bad number
-other: read as  @integer 01
+other: read as  @integer 10
 ";
     holds!(rt; lines(rt.alloc(), &report)?.as_str() == faults);
     holds!(rt; report.numbers == 4);
