@@ -4,7 +4,7 @@ ghost use Rattle.std.specs.Prelude.{◌≡◌, List, ℕ, IfOk, OnOk};
 ghost use Rattle.std.specs.Option.{option_copied};
 ghost use Rattle.plural_checker.specs.Findings.{Adds, EachFinds, Grows};
 ghost use Rattle.plural_checker.specs.NumberChecks.{IsCheckedRange};
-ghost use Rattle.plural_checker.specs.TextChecks.{IsFoundInList, IsFoundInRange, IsFoundInSamples, sample_faults};
+ghost use Rattle.plural_checker.specs.TextChecks.{IsFoundInList, IsFoundInRange, IsFoundInSamples, sample_findings};
 
 use crate::fault::{Fault, SampleFault, SampleType, TextFault};
 use crate::number_check::check_numbers;
@@ -27,8 +27,22 @@ pub(crate) fn check_samples(
     let Some(lists) = samples else {
         return Ok(());
     };
-    check_list(alloc, rules, category, SampleType::Integer, &lists.integer, report)?;
-    check_list(alloc, rules, category, SampleType::Decimal, &lists.decimal, report)
+    check_list(
+        alloc,
+        rules,
+        category,
+        SampleType::Integer,
+        &lists.integer,
+        report,
+    )?;
+    check_list(
+        alloc,
+        rules,
+        category,
+        SampleType::Decimal,
+        &lists.decimal,
+        report,
+    )
 }
 
 // Adds what is wrong with a list of samples, if it is there.
@@ -45,7 +59,14 @@ fn check_list(
     let Some(list) = list else {
         return Ok(());
     };
-    check_ranges(alloc, rules, category, sample_type, list.sample_ranges.as_slice(), report)
+    check_ranges(
+        alloc,
+        rules,
+        category,
+        sample_type,
+        list.sample_ranges.as_slice(),
+        report,
+    )
 }
 
 // Adds what is wrong with ranges of samples.
@@ -97,8 +118,7 @@ fn add_sample(
     count: u64,
     report: &mut Report,
 ) -> Result<(), AllocError>
-    ensures { let found = record { faults = sample_faults category sample_type fault; numbers = count } in
-        OnOk result (Grows report.old found report.new) }
+    ensures { OnOk result (Grows report.old (sample_findings category sample_type fault count) report.new) }
 {
     if let Some(fault) = fault {
         let kind = TextFault::Sample(sample_type, fault);
