@@ -1,7 +1,7 @@
 -- A rule and texts that are kept as bytes.
 --     IsStoredIn store one texts      the bytes are those of the store's rule and of its texts
 --     IsTextFor IsChosen store number text      the text for a number
-use Rattle.std.specs.Prelude.{◌≡◌, ℕ, List, Option, Some, None}
+use Rattle.std.specs.Prelude.{◌≡◌, ℕ, List, Some, None}
 use Rattle.icu_plurals.specs.Elements.{Elements}
 use Rattle.icu_plurals.specs.FiveRules.{FiveRules, five}
 use Rattle.icu_plurals.specs.PackedElements.{ElementsBytes, PackedValue}
