@@ -1,0 +1,3 @@
+pub mod NumberFaults
+pub mod Chosen
+pub mod Exponents

@@ -1,0 +1,6 @@
+pub mod PackedTexts
+pub mod Formatter
+pub mod RelativeTime
+pub mod CompactUnits
+pub mod Store
+pub mod RangeLabels

@@ -1,0 +1,16 @@
+//! Five small callers of `icu_plurals` and `plural_message`, each proved from their public contracts alone.
+#![tactic(auto)]
+
+mod compact_units;
+mod formatter;
+mod range_labels;
+mod relative_time;
+mod store;
+#[cfg(test)]
+mod tests;
+
+pub use compact_units::CompactUnits;
+pub use formatter::Formatter;
+pub use range_labels::{RangeLabels, ShownNumber};
+pub use relative_time::RelativeTime;
+pub use store::Store;
