@@ -4,4 +4,5 @@ pub mod ScanSound
 pub mod ScanSize
 pub mod CutOnce
 pub mod Alone
+pub mod LargeNumbers
 pub mod TokensFit

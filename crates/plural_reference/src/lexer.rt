@@ -1,9 +1,9 @@
 //! A text as tokens (UTS 35 Part 3, Plural Rules Syntax).
 
-ghost use Rattle.std.specs.Prelude.{◌≡◌, ◌≢◌, ◌≤◌, ◌+◌, ◌*◌, ◌∷◌, ℕ, Some, length, MatchOption};
+ghost use Rattle.std.specs.Prelude.{◌≡◌, ◌≢◌, ◌≤◌, ◌+◌, ◌*◌, ◌∷◌, ℕ, Some, length, min, MatchOption};
 ghost use Rattle.plural_reference.specs.Lexer.{first, AreTokensOf, blank};
 ghost use Rattle.std.specs.Iterator.{YieldsFirst, item_count};
-ghost use Rattle.plural_reference.specs.Inner.Scan.{tokens_of, keyword_tokens, bounded};
+ghost use Rattle.plural_reference.specs.Inner.Scan.{tokens_of, keyword_tokens, number_token};
 
 use crate::ast;
 use crate::token::Token;
@@ -57,28 +57,30 @@ impl<'l> Iterator for Lexer<'l> {
 
     #[tactic(auto, unfolding(crate::specs::Inner::Scan::tokens_from))]
     fn next(&mut self) -> Option<Token> {
-        while let [first, rest @ ..] = self.rest {
-            if *first != b' ' {
-                let (token, after) = token_at(*first, rest);
-                self.rest = behind_space(after);
-                return Some(token);
-            }
-            self.rest = rest;
-        }
-        None
+        let [first, rest @ ..] = behind_spaces(self.rest) else {
+            return None;
+        };
+        let (token, after) = token_at(*first, rest);
+        self.rest = after;
+        Some(token)
     }
 }
 
-// The bytes after the space that mostly follows a token: so it isn't looked up in the table of pieces.
+// The bytes after the spaces at the front.
 #[inline]
 #[tactic(auto, unfolding(crate::specs::Inner::Scan::tokens_from))]
-fn behind_space(text: &[u8]) -> &[u8]
-    ensures { tokens_of result.now ≡ tokens_of text.now }
+fn behind_spaces(text: &[u8]) -> &[u8]
+    ensures tokens { tokens_of result.now ≡ tokens_of text.now }
+    ensures no_space { first result.now ≢ Some blank }
 {
-    match text {
-        [next, after @ ..] if *next == b' ' => after,
-        _ => text,
+    let mut rest = text;
+    while let [next, after @ ..] = rest {
+        if *next != b' ' {
+            break;
+        }
+        rest = after;
     }
+    rest
 }
 
 // The token that the byte begins, and the bytes after it.
@@ -150,6 +152,9 @@ fn keyword<'a>(expected: &[u8], token: Token, text: &'a [u8]) -> (Token, &'a [u8
     (token, rest)
 }
 
+// The least number that no token holds: numbers from there on aren't told apart.
+const TOO_LARGE: u64 = 4_294_967_296;
+
 // The token of the number that begins with the digit, and the bytes after it.
 #[tactic(auto, unfolding(crate::specs::Inner::Scan::tokens_from))]
 fn number(first: u8, text: &[u8]) -> (Token, &[u8])
@@ -157,7 +162,7 @@ fn number(first: u8, text: &[u8]) -> (Token, &[u8])
     requires high { first ≤ 57 }
     ensures { tokens_of (first ∷ text.now) ≡ result.0 ∷ tokens_of result.1.now }
 {
-    let mut value = Some(u32::from(first - b'0'));
+    let mut value = u64::from(first - b'0');
     let mut rest = text;
     while let [digit, after @ ..] = rest {
         if !digit.is_ascii_digit() {
@@ -166,16 +171,27 @@ fn number(first: u8, text: &[u8]) -> (Token, &[u8])
         value = pushed(value, *digit - b'0');
         rest = after;
     }
-    match value {
-        Some(n) => (Token::Number(n), rest),
-        None => (Token::Junk, rest),
-    }
+    (number_token(value), rest)
 }
 
-// A number with one more digit, or none if it is too large.
+// A number with one more digit, up to the least that is too large.
 #[inline]
-fn pushed(value: Option<u32>, digit: u8) -> Option<u32>
-    ensures { (n : ℕ) → value ≡ bounded n → result ≡ bounded (n * 10 + digit) }
+fn pushed(value: u64, digit: u8) -> u64
+    requires { value ≤ TOO_LARGE }
+    ensures { (n : ℕ) → value ≡ min n TOO_LARGE → result ≡ min (n * 10 + digit) TOO_LARGE }
 {
-    value?.checked_mul(10)?.checked_add(u32::from(digit))
+    (value * 10 + u64::from(digit)).min(TOO_LARGE)
+}
+
+// The token of a number that was read so far.
+#[inline]
+#[tactic(auto, using(crate::proofs::tokens::LargeNumbers::small_number, crate::proofs::tokens::LargeNumbers::large_number))]
+fn number_token(value: u64) -> Token
+    ensures { (n : ℕ) → value ≡ min n TOO_LARGE → result ≡ number_token n }
+{
+    if value < TOO_LARGE {
+        Token::Number(value as u32)
+    } else {
+        Token::Junk
+    }
 }

@@ -8,6 +8,7 @@ mod Walks
 mod TreeWalks
 mod TreeGroups
 mod Counts
+mod WalkSteps
 mod NeededGroups
 mod RangeSteps
 mod NeededMost

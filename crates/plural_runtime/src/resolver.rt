@@ -1,8 +1,10 @@
 //! Tells whether a rule is true, by its bytes alone.
 
-ghost use Rattle.std.specs.Prelude.{◌≡◌, ◌≤◌, ◌+◌, ◌<◌, min, length, option_map, IsTrue};
+ghost use Rattle.std.specs.Prelude.{◌≡◌, ◌≤◌, ◌+◌, ◌<◌, ◌∷◌, ◌++◌, ℕ, List, min, length, option_map, IsTrue, MatchOption};
 ghost use Rattle.std.specs.Fn.{iterate};
 ghost use Rattle.plural_reference.specs.Truth.{holds_value, is_in_ranges, operand_value, range_holds, remainder};
+ghost use Rattle.std.specs.List.{AllByRecursion, list_all};
+ghost use Rattle.plural_runtime.specs.declared.kinds.AndOr.TheVariants.{And, Or};
 ghost use Rattle.plural_runtime.specs.PackedRelations.{is_relation, is_whole, range_length};
 ghost use Rattle.plural_runtime.specs.Inner.RuleReading.{relation_in, range_in, ranges_in};
 ghost use Rattle.plural_runtime.specs.PackedTruth.{packed_truth, is_true_at, needed_ranges, range_count, needed_of_relation, needed_of_list};
@@ -12,6 +14,7 @@ use crate::kinds::{AndOr, Polarity};
 use crate::laws::at_most_all;
 use crate::rule::Rule;
 use crate::steps::{Counter, Steps, Uncounted};
+use packed_list::Items;
 use plural_reference::{PluralOperands, ast};
 
 /// Returns whether the rule is true of the operands: all relations of one of its groups are (UTS 35 Part 3, Plural
@@ -66,23 +69,57 @@ fn is_true<C: Counter>(rule: &Rule<'_>, operands: &PluralOperands, counter: &mut
     ensures answer { result ≡ packed_truth operands.now rule.now }
     ensures count { counter.new ≡ iterate C.after_one (needed_ranges operands.now rule.now) counter.old }
 {
-    let mut holds = true;
-    for item in rule.list().iter() {
-        match and_or_at(item) {
-            AndOr::Or => {
-                if holds {
-                    return true;
-                }
-            }
-            AndOr::And => {
-                if !holds {
-                    continue;
-                }
-            }
+    let mut items = rule.list().iter();
+    let Some(mut item) = next_of_group(&mut items) else {
+        return true;
+    };
+    // All relations before the item in its group are true, and no earlier group is: so nothing else is to be kept.
+    'relations: loop {
+        if relation_holds(item, operands, counter) {
+            let Some(next) = next_of_group(&mut items) else {
+                return true;
+            };
+            item = next;
+        } else {
+            let Some(next) = first_of_next_group(&mut items) else {
+                return false;
+            };
+            item = next;
         }
-        holds = relation_holds(item, operands, counter);
     }
-    holds
+}
+
+// The next relation of the open group, and none at its end.
+#[inline]
+fn next_of_group<'a>(items: &mut Items<'a>) -> Option<&'a [u8]>
+    requires { IsTrue (list_all is_relation items.old) }
+    ensures { MatchOption result
+        ((item : List ℕ) (rest : List (List ℕ)) → items.old ≡ item ∷ rest → (relation_in item).and_or ≡ Or)
+        (λ item. (items.old ≡ item.now ∷ items.new) × ((relation_in item.now).and_or ≡ And)) }
+{
+    let item = items.next()?;
+    match and_or_at(item) {
+        AndOr::And => Some(item),
+        AndOr::Or => None,
+    }
+}
+
+// The relation that begins the next group, and none where there is no further group.
+#[inline]
+fn first_of_next_group<'a>(items: &mut Items<'a>) -> Option<&'a [u8]>
+    requires { IsTrue (list_all is_relation items.old) }
+    ensures { MatchOption result
+        (AllByRecursion (λ item. (relation_in item).and_or ≡ And) items.old)
+        (λ item. (skipped : List (List ℕ)) × AllByRecursion (λ item. (relation_in item).and_or ≡ And) skipped
+        × (items.old ≡ skipped ++ item.now ∷ items.new) × ((relation_in item.now).and_or ≡ Or)) }
+{
+    while let Some(item) = items.next() {
+        match and_or_at(item) {
+            AndOr::Or => return Some(item),
+            AndOr::And => {}
+        }
+    }
+    None
 }
 
 // Whether the relation of an item is true.

@@ -12,6 +12,9 @@ use plural_reference::{Sequence, ast};
 use std::alloc::{AllocError, Global};
 use std::mem;
 
+// How many groups, and relations of a group, there is room for at first: all that most rules have.
+const ROOM: usize = 4;
+
 impl<'data> Rule<'data> {
     /// Returns the tree of the rule, without samples. The only error is out of memory.
     ///
@@ -42,11 +45,11 @@ impl<'data> Rule<'data> {
 fn condition_of(alloc: Global, rule: &Rule<'_>) -> Result<ast::Condition, AllocError>
     ensures { IfOk result (λ condition. condition ≡ unpacked rule.now) }
 {
-    let mut groups = Vec::new(alloc);
     if rule.is_empty() {
-        return Ok(ast::Condition(Sequence(groups)));
+        return Ok(ast::Condition(Sequence(Vec::new(alloc))));
     }
-    let mut group = Vec::new(alloc);
+    let mut groups = Vec::with_capacity(alloc, ROOM)?;
+    let mut group = Vec::with_capacity(alloc, ROOM)?;
     for item in rule.iter() {
         let relation = item.as_relation();
         close_group(alloc, relation.and_or(), &mut groups, &mut group)?;
@@ -69,7 +72,7 @@ fn close_group(
     match and_or {
         AndOr::And => Ok(()),
         AndOr::Or => {
-            let whole = mem::replace(group, Vec::new(alloc));
+            let whole = mem::replace(group, Vec::with_capacity(alloc, ROOM)?);
             groups.push(ast::AndCondition(Sequence(whole)))?;
             Ok(())
         }

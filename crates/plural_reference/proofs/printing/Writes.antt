@@ -1,5 +1,7 @@
 -- Texts that are written one after another.
-use Rattle.std.proofs.Common.{◌+◌, ◌<◌, length, take, get_or, ◌≡◌, ℕ, List, [], ◌∷◌, ◌++◌, refl, sym, subst, ◌∙◌, ap, append_assoc}
+use Rattle.std.proofs.Common.{◌+◌, ◌<◌, length, take, get_or, ◌≡◌, ℕ, zero, suc, List, [], ◌∷◌, ◌++◌, refl, sym, subst, ◌∙◌, ap}
+use Rattle.std.proofs.Common.{append_assoc, arith, ◌==◌, if◌then◌else◌}
+use Rattle.std.proofs.lemmas.Bool.{ne_eqb}
 use Rattle.std.proofs.lemmas.List.{append-nil, take_more}
 use Rattle.std.specs.Fmt.{WritesInCalls}
 use Rattle.std.specs.List.{concat, FoldsTo}
@@ -34,21 +36,38 @@ module _ {W : Type 0} (took : W → List ℕ → W → Type 0) where
     whole = concat_append p.parts q.parts ∙ (λ i. p.whole i ++ q.whole i);
   }
 
--- one more part behind a separator
-pub joined-push : {A : Type 0} (separator : List ℕ) (text : A → List ℕ) (x : A) (xs : List A) (y : A)
-    → joined separator text ((x ∷ xs) ++ y ∷ []) ≡ joined separator text (x ∷ xs) ++ (separator ++ text y)
-joined-push separator text x [] y = append_assoc (text x) separator (text y)
-joined-push separator text x (z ∷ zs) y =
-    ap (λ l. (text x ++ separator) ++ l) (joined-push separator text z zs y)
+-- what stands between the parts so far and the next one
+abbrev between : {A : Type 0} → List ℕ → List A → List ℕ
+between separator [] = []
+between separator (x ∷ xs) = separator
+
+-- one more part behind it
+joined-push : {A : Type 0} (separator : List ℕ) (text : A → List ℕ) (xs : List A) (y : A)
+    → joined separator text (xs ++ y ∷ []) ≡ joined separator text xs ++ (between separator xs ++ text y)
+joined-push separator text [] y = refl
+joined-push separator text (x ∷ []) y = append_assoc (text x) separator (text y)
+joined-push separator text (x ∷ z ∷ zs) y =
+    ap (λ l. (text x ++ separator) ++ l) (joined-push separator text (z ∷ zs) y)
     ∙ sym (append_assoc (text x ++ separator) (joined separator text (z ∷ zs)) (separator ++ text y))
 
--- a turn of the loop that writes the parts behind the first
-pub more_written : {W A : Type 0} (took : W → List ℕ → W → Type 0) (separator : List ℕ) (text : A → List ℕ) (x : A) (xs : List A) (i : ℕ)
+-- before the part at an index stands the separator, but nothing before the first one
+before_part : {A : Type 0} (separator : List ℕ) (xs : List A) (i : ℕ) → i < length xs
+    → (if i == 0 then [] else separator) ≡ between separator (take i xs)
+before_part separator xs zero lt = refl
+before_part separator [] (suc i) lt = absurd (omega (arith, lt))
+before_part separator (x ∷ xs) (suc i) lt = rw (ne_eqb (suc i) 0 (λ e. omega (arith, e))) refl
+
+-- a turn of the loop that writes the parts
+pub more_written : {W A : Type 0} (took : W → List ℕ → W → Type 0) (separator : List ℕ) (text : A → List ℕ) (xs : List A) (i : ℕ)
     (y : A) (w v u z : W)
-    → i < length xs → y ≡ get_or xs i y → WritesInCalls took w (joined separator text (x ∷ take i xs)) v → took v separator u
-    → WritesInCalls took u (text y) z → WritesInCalls took w (joined separator text (x ∷ take (i + 1) xs)) z
-more_written {A = A} took separator text x xs i y w v u z lt here h k l =
-    subst (λ bs. WritesInCalls took w bs z)
-    (sym (ap (λ ys. joined separator text (x ∷ ys)) (take_more xs i y lt) ∙ joined-push separator text x (take i xs) (get_or xs i y)))
-    (then_writes took w _ v _ z h
-    (then_writes took v separator u _ z (one_call took v separator u k) (subst (λ (e : A). WritesInCalls took u (text e) z) here l)))
+    → i < length xs → y ≡ get_or xs i y → WritesInCalls took w (joined separator text (take i xs)) v
+    → WritesInCalls took v (if i == 0 then [] else separator) u → WritesInCalls took u (text y) z
+    → WritesInCalls took w (joined separator text (take (i + 1) xs)) z
+more_written {A = A} took separator text xs i y w v u z lt here h k l =
+    let part = get_or xs i y in
+    let turn : joined separator text (take (i + 1) xs)
+    ≡ joined separator text (take i xs) ++ ((if i == 0 then [] else separator) ++ text part) =
+    ap (joined separator text) (take_more xs i y lt) ∙ joined-push separator text (take i xs) part
+    ∙ ap (λ b. joined separator text (take i xs) ++ (b ++ text part)) (sym (before_part separator xs i lt)) in
+    subst (λ bs. WritesInCalls took w bs z) (sym turn)
+    (then_writes took w _ v _ z h (then_writes took v _ u _ z k (subst (λ (e : A). WritesInCalls took u (text e) z) here l)))

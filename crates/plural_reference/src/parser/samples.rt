@@ -56,7 +56,7 @@ impl<'p> Parser<'p> {
         ensures shorter { length self.new ≤ length self.old }
         ensures list { IsAnswer (λ list. ReadsStored S.keeps ReadsSampleList self.old list self.new) (FailsAtList self.old) result }
     {
-        let mut ranges = Vec::new(alloc);
+        let mut ranges = S::begin_list(alloc)?;
         S::push_range(&mut ranges, self.sample_range::<S>(alloc)?)?;
         'list: while self.take_if(Token::Comma) {
             if self.take_if(Token::Ellipsis) {

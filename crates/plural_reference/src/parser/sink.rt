@@ -11,6 +11,9 @@ use std::alloc::{AllocError, Global};
 // Room for the text of a sample: CLDR's have at most 12 bytes.
 const TEXT_ROOM: usize = 16;
 
+// Room for the ranges of a list: CLDR's have 8 in the mean.
+const LIST_ROOM: usize = 8;
+
 // Takes the texts and ranges of samples, and stores them or leaves them out: then the texts and lists that it gets stay empty.
 pub(super) trait Sink {
     ghost use Rattle.std.specs.Prelude.{Bool};
@@ -29,6 +32,10 @@ pub(super) trait Sink {
     fn push_mark(text: &mut String, mark: &str) -> Result<(), AllocError>
         ensures { OnOk result (IsStored keeps (string_bytes text.new) (string_bytes text.old ++ mark.now)) };
 
+    // The ranges of a list that begins.
+    fn begin_list(alloc: Global) -> Result<Vec<SampleRange>, AllocError>
+        ensures { IfOk result (λ ranges. ranges.items ≡ []) };
+
     // A range joins a list.
     fn push_range(ranges: &mut Vec<SampleRange>, range: SampleRange) -> Result<(), AllocError>
         ensures { OnOk result (IsStored keeps ranges.new.items (ranges.old.items ++ range ∷ [])) };
@@ -45,22 +52,35 @@ impl Sink for Kept {
     }
 
     // Most numbers have one digit, which is written without a buffer and a copy.
+    #[inline]
     #[tactic(auto, using(std::proofs::lemmas::Fmt::decimal_digit, std::proofs::lemmas::Str::Ascii::encode_ascii))]
     fn push_number(text: &mut String, number: u32) -> Result<(), AllocError> {
         if number < 10 {
             return text.push(char::from(b'0' + number as u8));
         }
-        let mut digits = Buffer::new();
-        text.push_str(digits.format(number))
+        push_digits(text, number)
     }
 
     fn push_mark(text: &mut String, mark: &str) -> Result<(), AllocError> {
         text.push_str(mark)
     }
 
+    fn begin_list(alloc: Global) -> Result<Vec<SampleRange>, AllocError> {
+        Vec::with_capacity(alloc, LIST_ROOM)
+    }
+
     fn push_range(ranges: &mut Vec<SampleRange>, range: SampleRange) -> Result<(), AllocError> {
         Ok(ranges.push(range)?)
     }
+}
+
+// The digits of a number join the text. A function of its own, so that a number of one digit is written without a call.
+#[inline(never)]
+fn push_digits(text: &mut String, number: u32) -> Result<(), AllocError>
+    ensures { OnOk result (string_bytes text.new ≡ string_bytes text.old ++ decimal number) }
+{
+    let mut digits = Buffer::new();
+    text.push_str(digits.format(number))
 }
 
 // Leaves the samples out, and allocates nothing.
@@ -82,6 +102,11 @@ impl Sink for LeftOut {
     #[inline]
     fn push_mark(_text: &mut String, _mark: &str) -> Result<(), AllocError> {
         Ok(())
+    }
+
+    #[inline]
+    fn begin_list(alloc: Global) -> Result<Vec<SampleRange>, AllocError> {
+        Ok(Vec::new(alloc))
     }
 
     #[inline]

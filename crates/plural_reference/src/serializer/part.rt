@@ -1,7 +1,7 @@
 //! The parts of a rule that print themselves, one after another or after a prefix.
 #![tactic(auto, using(crate::proofs::printing::Writes::one_call, crate::proofs::printing::Writes::then_writes))]
 
-ghost use Rattle.std.specs.Prelude.{◌≡◌, ℕ, List, OnOk};
+ghost use Rattle.std.specs.Prelude.{◌≡◌, ◌==◌, ℕ, List, [], OnOk, if◌then◌else◌};
 ghost use Rattle.std.specs.Option.{option_copied};
 ghost use Rattle.std.specs.Fmt.{WritesInCalls};
 ghost use Rattle.plural_reference.specs.Serializer.{joined, prefixed};
@@ -24,15 +24,22 @@ pub(super) fn serialize_joined<P: Part, W: fmt::Write>(
 ) -> fmt::Result
     ensures { OnOk result (WritesInCalls W.write_str_gives w.old (joined separator.now P.text parts.now) w.new) }
 {
-    let Some((first, others)) = parts.split_first() else {
-        return Ok(());
-    };
-    first.write_to(w)?;
-    for part in others {
-        w.write_str(separator)?;
+    for (index, part) in parts.iter().enumerate() {
+        write_before(index, separator, w)?;
         part.write_to(w)?;
     }
     Ok(())
+}
+
+// What comes before the part at an index: the separator, but nothing before the first one.
+#[inline]
+fn write_before<W: fmt::Write>(index: usize, separator: &str, w: &mut W) -> fmt::Result
+    ensures { OnOk result (WritesInCalls W.write_str_gives w.old (if index == 0 then [] else separator.now) w.new) }
+{
+    if index == 0 {
+        return Ok(());
+    }
+    w.write_str(separator)
 }
 
 // The prefix and then the part, if there is one.

@@ -1,54 +1,95 @@
-use Rattle.std.proofs.Common.{◌≡◌, ◌∙◌, ◌∷◌, ap, sym, subst, map, true, IsTrue}
-use Rattle.std.specs.Cmp.{second_so}
-use Rattle.std.specs.Fn.{iterate}
+use Rattle.std.proofs.Common.{◌∙◌, ◌∷◌, ap, map, refl, subst, sym, true, false, IsTrue}
 use Rattle.std.specs.List.{list_all}
-use Rattle.plural_runtime.specs.declared.kinds.AndOr.TheVariants.{And, Or}
 use Rattle.plural_runtime.specs.PackedRelations.{is_relation}
 use Rattle.plural_runtime.specs.Inner.RuleReading.{relation_in}
-use Rattle.plural_runtime.specs.PackedTruth.{needed_of_relation}
-use Rattle.plural_runtime.proofs.Counts.{steps_left}
-use Rattle.plural_runtime.proofs.Walks.{is_read, needed_left, needed_left-is, truth_left, truth_left-is, walk_reads}
-use Rattle.plural_runtime.proofs.resolver.is_true.Goals.{in-Or+else-holds, in-And+else-not-holds}
+use Rattle.plural_runtime.proofs.WalkSteps.{is_done, none_is_left, reads_next_group, reads_on, relations_after, relations_behind}
+use Rattle.plural_runtime.proofs.WalkSteps.{walk_begins, walk_is_done, walk_is_none, walks_on}
 use Rattle.plural_runtime.proofs.resolver.is_true.Goals as goal
 
-pub loop-item-init : goal.loop-item-init
-loop-item-init g c =
+pub relations-init : goal.relations-init
+relations-init g c =
     let number = c.args.operands.now in
     let rule = c.args.rule.now in
-    let all : c.into_iter-item-iterator.result ≡ c.list.result = c.into_iter-item-iterator.ensures.into_iter_gives
-    ∙ c.iter-item-items.ensures in
-    let same : map relation_in c.into_iter-item-iterator.result ≡ rule = ap (map relation_in) all ∙ c.list.ensures.relations in
+    let items = c.iter-items.result in
+    let item = c.in-Some.item.now in
+    let rest = c.next_of_group.new.items in
+    let same = ap (map relation_in) c.iter-items.ensures ∙ c.list.ensures.relations in
+    let found = c.in-Some.ensures in
+    let all : IsTrue (list_all is_relation items) =
+    subst (λ l. IsTrue (list_all is_relation l)) (sym c.iter-items.ensures) c.list.ensures.items in
+    let parts = relations_behind items item rest found.0 all in
     record {
-      items = subst (λ items. IsTrue (list_all is_relation items)) (sym all) c.list.ensures.items;
-      truth = ap (truth_left number true) same ∙ truth_left-is number rule;
-      count = ap (λ n. iterate g.C.Counter.after_one n c.args.counter.now)
-          (ap (needed_left number true) same ∙ needed_left-is number rule);
+      item = parts.0;
+      items = parts.1;
+      walk = walk_begins g.C.Counter.after_one number rule items item rest c.args.counter.now same
+          (reads_on number items item rest found.0 found.1);
     }
 
-pub loop-item-preserved : goal.loop-item-preserved
-loop-item-preserved g c =
-    let after_one = g.C.Counter.after_one in
-    let number = c.args.operands.now in
-    let relation = relation_in c.in-Some.item.now in
-    let others = map relation_in c.next.new.self in
-    let more = c.in-Some.ensures.steps in
-    let read : is_read relation.and_or c.loop-item.holds ≡ true = elim c.match-and_or_at.branch [
-      | in-Or+else-holds w ↦ ap (λ mark. is_read mark c.loop-item.holds) (sym w.in-Or.ensures) ∙ ap (is_read Or) w.if-holds.false
-      | in-And+else-not-holds w ↦ ap (λ mark. is_read mark c.loop-item.holds) (sym w.in-And.ensures)
-          ∙ ap (is_read And) w.if-not-holds.false
-    ] in
-    let on = walk_reads number c.loop-item.holds relation others read in
-    let all : IsTrue (list_all is_relation (c.in-Some.item.now ∷ c.next.new.self)) =
-    subst (λ items. IsTrue (list_all is_relation items)) more c.loop-item.invariant.items in
+pub returns-in_default-clause-answer : goal.returns-in_default-clause-answer
+returns-in_default-clause-answer g c =
+    let items = c.iter-items.result in
+    let same = ap (map relation_in) c.iter-items.ensures ∙ c.list.ensures.relations in
+    (walk_is_none g.C.Counter.after_one c.args.operands.now c.args.rule.now items c.args.counter.now same
+    (is_done c.args.operands.now items (λ item rest e. c.in_default.ensures item rest e))).tells
+
+pub returns-in_default-clause-count : goal.returns-in_default-clause-count
+returns-in_default-clause-count g c =
+    let items = c.iter-items.result in
+    let same = ap (map relation_in) c.iter-items.ensures ∙ c.list.ensures.relations in
+    (walk_is_none g.C.Counter.after_one c.args.operands.now c.args.rule.now items c.args.counter.now same
+    (is_done c.args.operands.now items (λ item rest e. c.in_default.ensures item rest e))).counts
+
+pub returns-in_default-next_of_group-clause-answer : goal.returns-in_default-next_of_group-clause-answer
+returns-in_default-next_of_group-clause-answer g c =
+    (walk_is_done g.C.Counter.after_one c.args.operands.now c.relations.item.now c.relations.items c.relations.counter
+    c.relation_holds.new.counter _ _ true c.relations.invariant.walk c.if-relation_holds.ensures.answer c.relation_holds.ensures.count
+    (is_done c.args.operands.now c.relations.items (λ item rest e. c.in_default-next_of_group.ensures item rest e))).tells
+
+pub returns-in_default-next_of_group-clause-count : goal.returns-in_default-next_of_group-clause-count
+returns-in_default-next_of_group-clause-count g c =
+    (walk_is_done g.C.Counter.after_one c.args.operands.now c.relations.item.now c.relations.items c.relations.counter
+    c.relation_holds.new.counter _ _ true c.relations.invariant.walk c.if-relation_holds.ensures.answer c.relation_holds.ensures.count
+    (is_done c.args.operands.now c.relations.items (λ item rest e. c.in_default-next_of_group.ensures item rest e))).counts
+
+pub relations-preserved-then-relation_holds : goal.relations-preserved-then-relation_holds
+relations-preserved-then-relation_holds g c =
+    let items = c.relations.items in
+    let next = c.in-Some-next_of_group.next.now in
+    let rest = c.next_of_group-then-relation_holds.new.items in
+    let found = c.in-Some-next_of_group.ensures in
+    let parts = relations_behind items next rest found.0 c.relations.invariant.items in
     record {
-      items = second_so (is_relation c.in-Some.item.now) (list_all is_relation c.next.new.self) all;
-      truth = ap (λ b. truth_left number b others) c.relation_holds-holds.ensures.answer ∙ sym on.truth
-          ∙ ap (λ items. truth_left number c.loop-item.holds (map relation_in items)) (sym more) ∙ c.loop-item.invariant.truth;
-      count = ap (λ b. iterate after_one (needed_left number b others) c.relation_holds-holds.new.counter)
-          c.relation_holds-holds.ensures.answer
-          ∙ steps_left after_one (needed_of_relation number relation.meaning) _ _ c.loop-item.counter
-          c.relation_holds-holds.new.counter on.needed c.relation_holds-holds.ensures.count
-          ∙ ap (λ items. iterate after_one (needed_left number c.loop-item.holds (map relation_in items)) c.loop-item.counter)
-          (sym more)
-          ∙ c.loop-item.invariant.count;
+      item = parts.0;
+      items = parts.1;
+      walk = walks_on g.C.Counter.after_one c.args.operands.now c.relations.item.now items next rest c.relations.counter
+          c.relation_holds.new.counter _ _ true c.relations.invariant.walk c.if-relation_holds.ensures.answer
+          c.relation_holds.ensures.count (reads_on c.args.operands.now items next rest found.0 found.1);
+    }
+
+pub returns-in_default-first_of_next_group-clause-answer : goal.returns-in_default-first_of_next_group-clause-answer
+returns-in_default-first_of_next_group-clause-answer g c =
+    (walk_is_done g.C.Counter.after_one c.args.operands.now c.relations.item.now c.relations.items c.relations.counter
+    c.relation_holds.new.counter _ _ false c.relations.invariant.walk c.if-relation_holds.ensures.answer c.relation_holds.ensures.count
+    (none_is_left c.args.operands.now c.relations.items c.in_default-first_of_next_group.ensures)).tells
+
+pub returns-in_default-first_of_next_group-clause-count : goal.returns-in_default-first_of_next_group-clause-count
+returns-in_default-first_of_next_group-clause-count g c =
+    (walk_is_done g.C.Counter.after_one c.args.operands.now c.relations.item.now c.relations.items c.relations.counter
+    c.relation_holds.new.counter _ _ false c.relations.invariant.walk c.if-relation_holds.ensures.answer c.relation_holds.ensures.count
+    (none_is_left c.args.operands.now c.relations.items c.in_default-first_of_next_group.ensures)).counts
+
+pub relations-preserved : goal.relations-preserved
+relations-preserved g c =
+    let items = c.relations.items in
+    let next = c.in-Some-first_of_next_group.next.now in
+    let rest = c.first_of_next_group.new.items in
+    let found = c.in-Some-first_of_next_group.ensures in
+    let left = relations_after found.0 (next ∷ rest) (subst (λ l. IsTrue (list_all is_relation l)) found.2 c.relations.invariant.items) in
+    let parts = relations_behind (next ∷ rest) next rest refl left in
+    record {
+      item = parts.0;
+      items = parts.1;
+      walk = walks_on g.C.Counter.after_one c.args.operands.now c.relations.item.now items next rest c.relations.counter
+          c.relation_holds.new.counter _ _ false c.relations.invariant.walk c.if-relation_holds.ensures.answer
+          c.relation_holds.ensures.count (reads_next_group c.args.operands.now items found.0 next rest found.1 found.2 found.3);
     }

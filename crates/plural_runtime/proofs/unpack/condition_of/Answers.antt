@@ -9,7 +9,7 @@ use Rattle.plural_runtime.proofs.unpack.condition_of.Goals as goal
 
 pub returns-then-is_empty : goal.returns-then-is_empty
 returns-then-is_empty c =
-    no_relations c.new-groups.result.items c.args.rule.now (eqb-true _ _ (sym c.if-is_empty.ensures)) c.new-groups.ensures.items
+    no_relations c.new.result.items c.args.rule.now (eqb-true _ _ (sym c.if-is_empty.ensures)) c.new.ensures.items
 
 pub loop-item-init : goal.loop-item-init
 loop-item-init c =
@@ -17,8 +17,8 @@ loop-item-init c =
     let left = c.into_iter-item-iterator.result in
     let all = c.into_iter-item-iterator.ensures.into_iter_gives ∙ c.iter-item-items.ensures in
     ap (λ (done : List AndCondition). glued
-    (map (λ (c : AndCondition). c.0) done) c.new-group.result.items left) c.new-groups.ensures.items
-    ∙ ap (λ group. glued [] group left) c.new-group.ensures.items ∙ ap (glued [] []) all
+    (map (λ (c : AndCondition). c.0) done) c.in_ok-group.group.items left) c.in_ok-groups.ensures.items
+    ∙ ap (λ group. glued [] group left) c.in_ok-group.ensures.items ∙ ap (glued [] []) all
     ∙ glued-all rule (omega (arith, eqb-false _ _ (sym c.if-is_empty.ensures)))
 
 pub loop-item-preserved : goal.loop-item-preserved

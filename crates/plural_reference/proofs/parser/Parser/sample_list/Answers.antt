@@ -7,7 +7,7 @@ use Rattle.plural_reference.proofs.parser.Parser.sample_list.Goals as goal
 
 pub list-init : goal.list-init
 list-init g c = record {
-  read = keeps_one_range _ _ _ _ _ _ c.new-ranges.ensures.items c.in_ok-sample_range.ensures.range c.in_ok-push_range.ensures;
+  read = keeps_one_range _ _ _ _ _ _ c.in_ok-ranges.ensures c.in_ok-sample_range.ensures.range c.in_ok-push_range.ensures;
   shorter = c.in_ok-sample_range.ensures.shorter;
 }
 
