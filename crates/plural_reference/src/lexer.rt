@@ -57,30 +57,28 @@ impl<'l> Iterator for Lexer<'l> {
 
     #[tactic(auto, unfolding(crate::specs::Inner::Scan::tokens_from))]
     fn next(&mut self) -> Option<Token> {
-        let [first, rest @ ..] = behind_spaces(self.rest) else {
-            return None;
-        };
-        let (token, after) = token_at(*first, rest);
-        self.rest = after;
-        Some(token)
+        while let [first, rest @ ..] = self.rest {
+            if *first != b' ' {
+                let (token, after) = token_at(*first, rest);
+                self.rest = behind_space(after);
+                return Some(token);
+            }
+            self.rest = rest;
+        }
+        None
     }
 }
 
-// The bytes after the spaces at the front.
+// The bytes after the space that mostly follows a token: so it isn't looked up in the table of pieces.
 #[inline]
 #[tactic(auto, unfolding(crate::specs::Inner::Scan::tokens_from))]
-fn behind_spaces(text: &[u8]) -> &[u8]
-    ensures tokens { tokens_of result.now ≡ tokens_of text.now }
-    ensures no_space { first result.now ≢ Some blank }
+fn behind_space(text: &[u8]) -> &[u8]
+    ensures { tokens_of result.now ≡ tokens_of text.now }
 {
-    let mut rest = text;
-    while let [next, after @ ..] = rest {
-        if *next != b' ' {
-            break;
-        }
-        rest = after;
+    match text {
+        [next, after @ ..] if *next == b' ' => after,
+        _ => text,
     }
-    rest
 }
 
 // The token that the byte begins, and the bytes after it.

@@ -31,7 +31,8 @@ use plural_reference::{PluralOperands, ast};
 ///
 /// assert!(rt; test_rule(&rule, &PluralOperands::from(1u8)));
 /// ```
-#[inline]
+// Inlined, it keeps the operands of an integer constants where a category is chosen.
+#[inline(always)]
 pub fn test_rule(rule: &Rule<'_>, operands: &PluralOperands) -> bool
     ensures { result ≡ packed_truth operands.now rule.now }
 {
@@ -64,7 +65,7 @@ pub fn test_rule_counted(rule: &Rule<'_>, operands: &PluralOperands, steps: &mut
 }
 
 // Whether the rule is true. Each range that is needed is counted.
-#[inline]
+#[inline(always)]
 fn is_true<C: Counter>(rule: &Rule<'_>, operands: &PluralOperands, counter: &mut C) -> bool
     ensures answer { result ≡ packed_truth operands.now rule.now }
     ensures count { counter.new ≡ iterate C.after_one (needed_ranges operands.now rule.now) counter.old }
