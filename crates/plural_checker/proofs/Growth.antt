@@ -1,16 +1,13 @@
 -- Reports grow by one finding behind the other.
-use Rattle.std.proofs.Common.{◌≡◌, ◌⊎◌, ℕ, ◌+◌, ◌<◌, ◌≤◌, List, [], ◌∷◌, ◌++◌, length, take, get_or, refl, ap, sym, ◌∙◌, subst, inl, inr, arith, append_assoc}
-use Rattle.std.proofs.lemmas.List.{take_more}
-use Rattle.plural_checker.specs.Findings.{Findings, nothing, one_fault, both, Then, EachFinds, most_counted, IsCountOf, Grows, Adds, IsReportOf}
+use Rattle.std.proofs.Common.{◌≡◌, ◌⊎◌, ℕ, ◌+◌, ◌<◌, ◌≤◌, List, [], ◌∷◌, ◌++◌, length, take, get_or, refl, ap, sym, ◌∙◌}
+use Rattle.std.proofs.Common.{subst, inl, inr, arith, append_assoc}
+use Rattle.std.proofs.lemmas.List.{append-nil, take_more}
+use Rattle.plural_checker.specs.Findings.{Findings, nothing, one_fault, both, Then, EachFinds, most_counted, IsCountOf, Grows, Adds}
+use Rattle.plural_checker.specs.Findings.{IsReportOf}
 use Rattle.plural_checker.specs.declared.fault.Fault.{Fault}
 use Rattle.plural_checker.specs.declared.report.Report.{Report}
 
 -- ---- Findings
-
--- an empty list behind a list
-append-nil : {A : Type 0} (xs : List A) → xs ++ [] ≡ xs
-append-nil [] = refl
-append-nil (x ∷ xs) = ap (λ l. x ∷ l) (append-nil xs)
 
 -- findings with these parts
 same_findings : (a b : Findings) → a.faults ≡ b.faults → a.numbers ≡ b.numbers → a ≡ b
@@ -69,10 +66,6 @@ pub adds_both : (First Second : Findings → Type 0) (a b c : Report) → Adds F
 adds_both First Second a b c (f, finds, grows) (g, more, grows_more) =
     (both f g, (f, g, finds, more, refl), grows_twice a b c f g grows grows_more)
 
--- before the first thing
-pub adds_none : {A : Type 0} (Finds : A → Findings → Type 0) (a : Report) → Adds (EachFinds Finds []) a a
-adds_none Finds a = adds_nothing a
-
 -- one thing more
 pub adds_one_more : {A : Type 0} (Finds : A → Findings → Type 0) (xs : List A) (i : ℕ) (x : A) (a b c : Report) (found : Findings)
     → i < length xs → x ≡ get_or xs i x → Adds (EachFinds Finds (take i xs)) a b → Finds x found → Grows b found c
@@ -86,7 +79,9 @@ adds_one_more Finds xs i x a b c found within is (f, each, grows) finds grows_mo
 
 -- one fault more, and no number
 pub grows_by_fault : (a c : Report) (fault : Fault) → c ≡ record a { faults = a.faults ++ fault ∷ [] } → Grows a (one_fault fault) c
-grows_by_fault a c fault is = (ap (λ (r : Report). r.faults) is, inl (let e : c.numbers ≡ a.numbers = ap (λ (r : Report). r.numbers) is in omega arith))
+grows_by_fault a c fault is =
+    let counted : c.numbers ≡ a.numbers = ap (λ (r : Report). r.numbers) is in
+    (ap (λ (r : Report). r.faults) is, inl (omega arith))
 
 -- findings with these parts, and a report that has them and no others
 pub reported : (a c : Report) (found : Findings) → a.faults ≡ [] → a.numbers ≡ 0 → Grows a found c → IsReportOf found c

@@ -1,5 +1,5 @@
 -- What is read of a text.
-use Rattle.std.proofs.Common.{◌≡◌, ◌≢◌, ◌⊎◌, ℕ, List, Option, Some, None, Result, Ok, Err, IfOk, refl, inl, inr, ap, sym, ◌∙◌, subst}
+use Rattle.std.proofs.Common.{◌≡◌, ◌≢◌, ◌⊎◌, ℕ, List, Some, None, Result, Ok, Err, IfOk, refl, inl, inr, subst}
 use Rattle.std.specs.Result.{result_err}
 use Rattle.std.specs.declared.alloc.AllocError.{AllocError}
 use Rattle.icu_plurals.specs.declared.provider.rules.reference.ParseError.{ParseError}
@@ -18,7 +18,9 @@ use Rattle.plural_checker.specs.TextChecks.{IsRead}
 
 -- every text has a list of tokens, and no other
 abbrev HaveOneList : Type 0
-HaveOneList = (text : List ℕ) → (tokens : List Token) × AreTokensOf text tokens × ((others : List Token) → AreTokensOf text others → others ≡ tokens)
+HaveOneList =
+    (text : List ℕ)
+    → (tokens : List Token) × AreTokensOf text tokens × ((others : List Token) → AreTokensOf text others → others ≡ tokens)
 
 -- a rule is read of the tokens
 pub text_reads : (text bytes : List ℕ) (rule : Rule) → bytes ≡ text → HaveOneList → AnswersExactly ReadsRule FaultyRule bytes (Ok rule)

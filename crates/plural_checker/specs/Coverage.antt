@@ -1,4 +1,5 @@
--- Which categories the elements of a message have, and which have a rule. Other isn't asked for: it is always there, and needs no rule.
+-- Which categories the elements of a message have, and which have a rule. Other isn't asked for: it is always there, and needs no
+-- rule.
 --     categories_with_rule rules      those whose rule is there
 --     without set others      those of a set that are not in another
 use Rattle.std.specs.Prelude.{not, ◌&&◌, is_some}

@@ -14,7 +14,10 @@ pub record SixTexts : Type 0 where
   pub other : Option (List ℕ)
 
 abbrev pub six_texts : LanguageTexts → SixTexts
-six_texts texts = record { five = texts_of texts.zero texts.one texts.two texts.few texts.many; other = option_copied texts.other }
+six_texts texts = record {
+  five = texts_of texts.zero texts.one texts.two texts.few texts.many;
+  other = option_copied texts.other;
+}
 
 abbrev pub has_rule : SixTexts → PluralCategory → Bool
 has_rule texts Zero = is_some texts.five.zero

@@ -1,5 +1,5 @@
--- What is wrong with the numbers of a sample that stands under a category. The rules are those of the language's five texts; where one
--- of these gives none, no category is told, and only a text that writes no number is wrong.
+-- What is wrong with the numbers of a sample that stands under a category. The rules are those of the language's five texts;
+-- where one of these gives none, no category is told, and only a text that writes no number is wrong.
 --     IsCheckedNumber rules category x fault      a number
 --     IsCheckedText rules category text fault      a text
 --     AreCheckedNumbers rules category numbers fault      the first wrong number
@@ -54,7 +54,8 @@ abbrev pub AreRightBelow : Option FiveRules → PluralCategory → SampleNumbers
 AreRightBelow rules category numbers end = (k : ℕ) → k < end → IsCheckedText rules category (text_at numbers k) None
 
 -- this is wrong with the number at a place, and nothing with those before it
-pub record IsFirstWrong (rules : Option FiveRules) (category : PluralCategory) (numbers : SampleNumbers) (text : List ℕ) (fault : NumberFault) : Type 0 where
+pub record IsFirstWrong (rules : Option FiveRules) (category : PluralCategory) (numbers : SampleNumbers) (text : List ℕ)
+    (fault : NumberFault) : Type 0 where
   pub place : ℕ
   pub within : place < count_of numbers
   pub before : AreRightBelow rules category numbers place
@@ -71,4 +72,5 @@ AreCheckedNumbers rules category numbers (Some (Range range fault)) = ⊥
 abbrev pub IsCheckedRange : Option FiveRules → PluralCategory → SampleRange → Option SampleFault → ℕ → Type 0
 IsCheckedRange rules category range fault count =
     ((why : RangeFault) × AreNumbersOf range (Err why) × (fault ≡ Some (Range range why)) × (count ≡ 0))
-    ⊎ ((numbers : SampleNumbers) × AreNumbersOf range (Ok numbers) × AreCheckedNumbers rules category numbers fault × (count ≡ count_of numbers))
+    ⊎ ((numbers : SampleNumbers)
+    × AreNumbersOf range (Ok numbers) × AreCheckedNumbers rules category numbers fault × (count ≡ count_of numbers))

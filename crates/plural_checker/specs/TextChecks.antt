@@ -34,7 +34,8 @@ use Rattle.plural_checker.specs.declared.report.Report.{Report}
 -- each text that is there gives its rule, or one gives none
 abbrev pub AreRulesIfRead : Five (Option (List ℕ)) → Option FiveRules → Type 0
 AreRulesIfRead texts (Some rules) = AreRulesOf texts rules
-AreRulesIfRead texts None = (category : PluralCategory) × (error : RuleError) × IsFirstRefused texts category error × (error ≢ Memory)
+AreRulesIfRead texts None =
+    (category : PluralCategory) × (error : RuleError) × IsFirstRefused texts category error × (error ≢ Memory)
 
 -- ---- The samples of one text
 
@@ -71,7 +72,8 @@ HaveSameTokens text other = (tokens : List Token) × AreTokensOf text tokens × 
 
 -- they have different ones
 abbrev pub HaveOtherTokens : List ℕ → List ℕ → Type 0
-HaveOtherTokens text other = (tokens others : List Token) × AreTokensOf text tokens × AreTokensOf other others × (tokens ≢ others)
+HaveOtherTokens text other =
+    (tokens others : List Token) × AreTokensOf text tokens × AreTokensOf other others × (tokens ≢ others)
 
 -- the rule that a text is read as, which can be packed, or why it gives none
 abbrev pub IsRead : List ℕ → Result Rule RuleError → Type 0
@@ -82,13 +84,15 @@ IsRead text (Err error) = TextGives text (Err error)
 abbrev pub IsFoundInReading : PluralCategory → List ℕ → Rule → Findings → Type 0
 IsFoundInReading category text rule found =
     (HaveSameTokens text (rule_text rule) × (found ≡ nothing))
-    ⊎ (HaveOtherTokens text (rule_text rule) × (found ≡ one_fault (record { category = category; kind = Partly (rule_text rule) })))
+    ⊎ (HaveOtherTokens text (rule_text rule)
+    × (found ≡ one_fault (record { category = category; kind = Partly (rule_text rule) })))
 
 -- the text gives no rule, or one is read of it, and its samples are looked at
 abbrev pub IsFoundInText : Option FiveRules → PluralCategory → List ℕ → Findings → Type 0
 IsFoundInText rules category text found =
     ((error : RuleError) × IsRead text (Err error) × (found ≡ one_fault (record { category = category; kind = Unread error })))
-    ⊎ ((rule : Rule) × IsRead text (Ok rule) × Then (IsFoundInReading category text rule) (IsFoundInSamples rules category rule.samples) found)
+    ⊎ ((rule : Rule) × IsRead text (Ok rule)
+    × Then (IsFoundInReading category text rule) (IsFoundInSamples rules category rule.samples) found)
 
 -- in a text that is there
 abbrev pub IsFoundIn : Option FiveRules → PluralCategory → Option (List ℕ) → Findings → Type 0
@@ -99,8 +103,9 @@ IsFoundIn rules category (Some text) found = IsFoundInText rules category text f
 
 abbrev pub IsFoundInSix : Option FiveRules → SixTexts → Findings → Type 0
 IsFoundInSix rules texts =
-    Then (IsFoundIn rules Zero texts.five.zero) (Then (IsFoundIn rules One texts.five.one) (Then (IsFoundIn rules Two texts.five.two)
-    (Then (IsFoundIn rules Few texts.five.few) (Then (IsFoundIn rules Many texts.five.many) (IsFoundIn rules Other texts.other)))))
+    Then (IsFoundIn rules Zero texts.five.zero) (Then (IsFoundIn rules One texts.five.one)
+    (Then (IsFoundIn rules Two texts.five.two) (Then (IsFoundIn rules Few texts.five.few)
+    (Then (IsFoundIn rules Many texts.five.many) (IsFoundIn rules Other texts.other)))))
 
 -- under rules, if there are some
 abbrev pub AreFindingsUnder : Option FiveRules → SixTexts → Report → Type 0

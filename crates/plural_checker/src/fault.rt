@@ -3,7 +3,8 @@
 ghost use Rattle.std.specs.Prelude.{Some, ◌++◌, codes};
 ghost use Rattle.std.specs.Fmt.{DisplaysOnOk};
 ghost use Rattle.icu_plurals.specs.Serializer.{sample_range_text, sample_text};
-ghost use Rattle.plural_checker.specs.PluralCheckerErrors.{fault_text, number_fault_text, range_fault_text, sample_fault_text, text_fault_text};
+ghost use Rattle.plural_checker.specs.PluralCheckerErrors.{fault_text, number_fault_text, range_fault_text};
+ghost use Rattle.plural_checker.specs.PluralCheckerErrors.{sample_fault_text, text_fault_text};
 
 use crate::printed_rule::PrintedRule;
 use icu_plurals::provider::RawPluralCategory;

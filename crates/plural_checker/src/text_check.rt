@@ -3,7 +3,8 @@
 ghost use Rattle.std.specs.Prelude.{◌≡◌, ◌≢◌, IfOk, OnOk, MatchBool};
 ghost use Rattle.std.specs.Option.{option_copied};
 ghost use Rattle.plural_checker.specs.Findings.{Adds};
-ghost use Rattle.plural_checker.specs.TextChecks.{HaveOtherTokens, HaveSameTokens, IsFoundIn, IsFoundInReading, IsFoundInText, IsRead};
+ghost use Rattle.plural_checker.specs.TextChecks.{HaveOtherTokens, HaveSameTokens, IsRead};
+ghost use Rattle.plural_checker.specs.TextChecks.{IsFoundIn, IsFoundInReading, IsFoundInText};
 ghost use Rattle.plural_checker.specs.Inner.TextAnswers.{IsTreeOf};
 
 use crate::fault::{Fault, TextFault};
@@ -25,7 +26,8 @@ pub(crate) fn check_if_there(
     text: Option<&str>,
     report: &mut Report,
 ) -> Result<(), AllocError>
-    ensures { OnOk result (Adds (IsFoundIn (option_copied rules.entry) category (option_copied text.entry)) report.old report.new) }
+    ensures { OnOk result (Adds
+        (IsFoundIn (option_copied rules.entry) category (option_copied text.entry)) report.old report.new) }
 {
     match text {
         Some(text) => check_text(alloc, rules, category, text, report),

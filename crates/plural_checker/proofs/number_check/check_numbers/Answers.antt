@@ -10,7 +10,7 @@ loop-index-preserved c =
     let category = c.args.category in
     below_more (λ k. IsCheckedText rules category (text_at c.args.numbers.now k) None) c.loop-index.index c.loop-index.invariant
     (subst (λ text. IsCheckedText rules category text None) c.in_ok-text.ensures
-        (subst (λ fault. IsCheckedText rules category c.in_ok-text.text fault) c.in_default.is c.in_ok-fault.ensures))
+    (subst (λ fault. IsCheckedText rules category c.in_ok-text.text fault) c.in_default.is c.in_ok-fault.ensures))
 
 pub returns : goal.returns
 returns c = λ k below. c.loop-index.invariant k (omega arith)

@@ -9,5 +9,6 @@ use Rattle.plural_checker.proofs.range_check.check_list.Goals as goal
 pub returns-in_default : goal.returns-in_default
 returns-in_default c =
     let report = c.args.report.now in
-    subst (λ (list : Option SampleList). Adds (IsFoundInList (option_copied c.args.rules) c.args.category c.args.sample_type list) report report)
+    let rules = option_copied c.args.rules in
+    subst (λ (list : Option SampleList). Adds (IsFoundInList rules c.args.category c.args.sample_type list) report report)
     (sym c.in_default.is) (adds_nothing report)

@@ -7,4 +7,5 @@ use Rattle.plural_checker.proofs.range_check.check_ranges.Given as goal
 -- what the ranges so far add
 abbrev pub invariant-loop-range : goal.invariant-loop-range
 invariant-loop-range l =
-    Adds (EachFinds (IsFoundInRange (option_copied l.rules) l.category l.sample_type) (take l.range-index l.ranges)) l.initial.report l.report
+    let Finds = IsFoundInRange (option_copied l.rules) l.category l.sample_type in
+    Adds (EachFinds Finds (take l.range-index l.ranges)) l.initial.report l.report

@@ -24,5 +24,5 @@ returns c =
     let decimals = IsFoundInList rules category Decimal c.in-Some.lists.decimal in
     on_ok_weaker c.check_list-2.result
     (λ more. subst (λ (samples : Option Samples). Adds (IsFoundInSamples rules category samples) old new) (sym c.in-Some.is)
-        (adds_both integers decimals old c.check_list.new.report new c.in_ok-check_list.ensures more))
+    (adds_both integers decimals old c.check_list.new.report new c.in_ok-check_list.ensures more))
     c.check_list-2.ensures

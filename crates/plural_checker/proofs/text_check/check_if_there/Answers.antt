@@ -8,5 +8,6 @@ use Rattle.plural_checker.proofs.text_check.check_if_there.Goals as goal
 pub returns-in-None : goal.returns-in-None
 returns-in-None c =
     let report = c.args.report.now in
-    subst (λ (text : Option (Bor (List ℕ))). Adds (IsFoundIn (option_copied c.args.rules) c.args.category (option_copied text)) report report)
+    let rules = option_copied c.args.rules in
+    subst (λ (text : Option (Bor (List ℕ))). Adds (IsFoundIn rules c.args.category (option_copied text)) report report)
     (sym c.in-None.is) (adds_nothing report)

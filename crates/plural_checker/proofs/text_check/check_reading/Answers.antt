@@ -24,7 +24,8 @@ returns c =
       one_fault fault,
       inr (
         subst (λ printed. HaveOtherTokens c.args.text.now printed) shown other,
-        ap (λ (printed : List ℕ). let f : Fault = record { category = c.args.category; kind = Partly printed } in one_fault f) c.in_ok-printed.ensures,
+        ap (λ (printed : List ℕ). let f : Fault = record { category = c.args.category; kind = Partly printed } in one_fault f)
+            c.in_ok-printed.ensures,
       ),
       grows_by_fault c.args.report.now c.add.new.self fault is,
     ))

@@ -14,10 +14,10 @@ returns-in_ok-check_reading-in-Ok c =
     let read : IsRead c.args.text.now (Ok rule) = subst (λ answer. IsRead c.args.text.now answer) c.in-Ok.is c.in_ok-rule.ensures in
     on_ok_weaker c.check_samples.result
     (λ more.
-        let both = adds_both (IsFoundInReading c.args.category c.args.text.now rule)
-        (IsFoundInSamples (option_copied c.args.rules) c.args.category rule.samples) c.args.report.now c.check_reading.new.report
-        c.check_samples.new.report c.in_ok-check_reading-in-Ok.ensures more in
-        (both.0, inr (rule, read, both.1), both.2))
+    let both = adds_both (IsFoundInReading c.args.category c.args.text.now rule)
+    (IsFoundInSamples (option_copied c.args.rules) c.args.category rule.samples) c.args.report.now c.check_reading.new.report
+    c.check_samples.new.report c.in_ok-check_reading-in-Ok.ensures more in
+    (both.0, inr (rule, read, both.1), both.2))
     c.check_samples.ensures
 
 pub returns-in-Err : goal.returns-in-Err

@@ -9,7 +9,8 @@ use Rattle.plural_checker.proofs.text_check.rule_of.Goals as goal
 
 pub returns-in-None : goal.returns-in-None
 returns-in-None c =
-    reads_tree c.args.text.now c.from_str.result c.tree_of.result (sym c.err.ensures.value ∙ c.in-None.is) c.from_str.ensures.gives c.tree_of.ensures
+    reads_tree c.args.text.now c.from_str.result c.tree_of.result (sym c.err.ensures.value ∙ c.in-None.is) c.from_str.ensures.gives
+    c.tree_of.ensures
 
 pub returns-in-Some-Parse : goal.returns-in-Some-Parse
 returns-in-Some-Parse c =
