@@ -1,5 +1,6 @@
 pub mod Documents
 pub mod CheckFaults
 pub mod CheckedInputs
+pub mod Entries
 pub mod FoundParts
 pub mod CheckReadings

@@ -12,7 +12,7 @@ use Rattle.plurals_check.proofs.languages.LanguageCheckMemberCheck.add.Goals as 
 pub returns : goal.returns
 returns c =
     let part = c.args.self.now.part in
-    let locale = c.args.key.now in
+    let locale = c.args.locale.now in
     let value = view c.args.value.now in
     let checked = c.in_ok-checked.checked in (
       together (found_under_all part locale value text_order)
