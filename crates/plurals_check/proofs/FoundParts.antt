@@ -1,15 +1,16 @@
 -- What is found, put together.
 use Rattle.std.proofs.Common.{◌≡◌, ℕ, suc, ◌+◌, ◌<◌, List, [], ◌∷◌, ◌++◌, length, get_or, drop, map, refl, sym, ap, subst, ◌∙◌}
+use Rattle.std.proofs.Common.{String, Global, string_bytes}
 use Rattle.std.proofs.Common.{append_assoc, add-one, drop-cons}
 use Rattle.std.proofs.Math.Nat.{add_assoc, add-zero, zero-add}
-use Rattle.std.proofs.lemmas.List.{append-nil}
+use Rattle.std.proofs.lemmas.List.{append-nil, map-append}
 use Rattle.std.specs.List.{flat_map}
 use Rattle.serde_json.specs.Data.{Data, Members, no_members, member}
 use Rattle.serde_json.specs.Find.{get}
 use Rattle.icu_plurals.specs.declared.PluralCategory.{PluralCategory}
 use Rattle.icu_plurals.specs.Categories.{name_of}
 use Rattle.plurals_check.specs.DocumentReport.{found_under, found_under_all}
-use Rattle.plurals_check.specs.Found.{Found, nothing, one_line, together, IsFoundIn}
+use Rattle.plurals_check.specs.Found.{Found, nothing, one_line, one_rule, together, IsFoundIn}
 use Rattle.plurals_check.specs.ReportText.{ended_line}
 use Rattle.plurals_check.specs.declared.place.Part.{Part}
 use Rattle.plurals_check.specs.Inner.Additions.{Adds, lines_alone}
@@ -111,3 +112,24 @@ next_text bytes things i d now next lt step =
     let rest = flat_map ended_line (map bytes (drop (suc i) things)) in
     rw (add-one, drop-cons things i d)
     (ap (λ (t : List ℕ). t ++ rest) step ∙ append_assoc now (ended_line (bytes (get_or things i d))) rest)
+
+-- ---- One thing more
+
+-- a line more
+pub pushed : (lines new : List (String Global)) (line : String Global) (rules numbers : ℕ) → new ≡ lines ++ line ∷ []
+    → ◌≡◌ {A = Found} (record { lines = map string_bytes new; rules = rules; numbers = numbers })
+    (together (record { lines = map string_bytes lines; rules = rules; numbers = numbers }) (one_line (string_bytes line)))
+pushed lines new line rules numbers e =
+    rw (e, map-append string_bytes lines (line ∷ []), add-zero rules, add-zero numbers) refl
+
+-- a rule more
+pub counted : (lines : List (List ℕ)) (rules numbers new : ℕ) → new ≡ rules + 1
+    → ◌≡◌ {A = Found} (record { lines = lines; rules = new; numbers = numbers })
+    (together (record { lines = lines; rules = rules; numbers = numbers }) one_rule)
+counted lines rules numbers new e = rw (append-nil lines, add-zero numbers, e) refl
+
+-- numbers more
+pub numbered : (lines : List (List ℕ)) (rules numbers new n : ℕ) → new ≡ numbers + n
+    → ◌≡◌ {A = Found} (record { lines = lines; rules = rules; numbers = new })
+    (together (record { lines = lines; rules = rules; numbers = numbers }) (record nothing { numbers = n }))
+numbered lines rules numbers new n e = rw (append-nil lines, add-zero rules, e) refl

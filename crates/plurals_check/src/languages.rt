@@ -29,6 +29,7 @@ const TEXT_ORDER: [PluralCategory; 6] = [
 ];
 
 // The check of what a part has under a locale, the rules of a language.
+#[derive(Clone, Copy)]
 pub(crate) struct LanguageCheck {
     pub(crate) part: Part,
 }

@@ -17,6 +17,7 @@ use serde_json::Value;
 use std::alloc::{AllocError, Global};
 
 // The check of a locale's ranges, in a document.
+#[derive(Clone, Copy)]
 pub(crate) struct TableCheck<'a> {
     pub(crate) document: &'a Value,
 }
@@ -43,6 +44,7 @@ impl<'a> MemberCheck for TableCheck<'a> {
 }
 
 // The check of an entry of a locale's ranges, under the texts of its cardinal rules.
+#[derive(Clone, Copy)]
 struct EntryCheck<'a> {
     texts: LanguageTexts<'a>,
     locale: &'a str,
