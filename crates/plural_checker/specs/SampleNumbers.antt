@@ -45,7 +45,7 @@ GivesNumber text (Err Memory) = ⊥
 
 -- one digit
 abbrev pub digit_text : ℕ → List ℕ
-digit_text d = 48 + d ∷ []
+digit_text d = (48 + d) ∷ []
 
 -- a point stands before the first fraction digit
 abbrev pub point_at : ℕ → List ℕ
