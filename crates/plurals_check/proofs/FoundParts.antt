@@ -1,7 +1,8 @@
 -- What is found, put together.
 use Rattle.std.proofs.Common.{◌≡◌, ℕ, suc, ◌+◌, ◌<◌, List, [], ◌∷◌, ◌++◌, length, get_or, drop, map, refl, sym, ap, subst, ◌∙◌}
 use Rattle.std.proofs.Common.{String, Global, string_bytes}
-use Rattle.std.proofs.Common.{append_assoc, add-one, drop-cons}
+use Rattle.std.proofs.Common.{append_assoc, add-one}
+use Rattle.std.proofs.Math.Seq.{drop-cons}
 use Rattle.std.proofs.Math.Nat.{add_assoc, add-zero, zero-add}
 use Rattle.std.proofs.lemmas.List.{append-nil, map-append}
 use Rattle.std.specs.List.{flat_map}
@@ -91,7 +92,7 @@ pub next_under : (part : Part) (locale : List ℕ) (value : Data) (categories : 
 next_under part locale value categories i d now next lt step =
     let category = get_or categories i d in
     let rest = found_under_all part locale value (drop (suc i) categories) in
-    rw (add-one, drop-cons categories i d)
+    rw (add-one, drop-cons categories i d lt)
     (ap (λ (f : Found). together f rest) step
     ∙ together_assoc now (found_under part locale category (get (name_of category) value)) rest)
 
@@ -101,7 +102,7 @@ pub next_line : {A : Type 0} (line : A → List ℕ) (things : List A) (i : ℕ)
     → together next (lines_alone (map line (drop (i + 1) things))) ≡ together now (lines_alone (map line (drop i things)))
 next_line line things i d now next lt step =
     let rest = lines_alone (map line (drop (suc i) things)) in
-    rw (add-one, drop-cons things i d)
+    rw (add-one, drop-cons things i d lt)
     (ap (λ (f : Found). together f rest) step ∙ together_assoc now (one_line (line (get_or things i d))) rest)
 
 -- and the text of the next line
@@ -110,7 +111,7 @@ pub next_text : {A : Type 0} (bytes : A → List ℕ) (things : List A) (i : ℕ
     → next ++ flat_map ended_line (map bytes (drop (i + 1) things)) ≡ now ++ flat_map ended_line (map bytes (drop i things))
 next_text bytes things i d now next lt step =
     let rest = flat_map ended_line (map bytes (drop (suc i) things)) in
-    rw (add-one, drop-cons things i d)
+    rw (add-one, drop-cons things i d lt)
     (ap (λ (t : List ℕ). t ++ rest) step ∙ append_assoc now (ended_line (bytes (get_or things i d))) rest)
 
 -- ---- One thing more

@@ -95,7 +95,10 @@ impl Found {
 pub(crate) fn sum(first: u64, second: u64) -> Result<u64, AllocError>
     ensures { IfOk result (λ both. both ≡ first + second) }
 {
-    first.checked_add(second).ok_or(AllocError)
+    match first.checked_add(second) {
+        Some(both) => Ok(both),
+        None => Err(AllocError),
+    }
 }
 
 // What looks at the members of an object.

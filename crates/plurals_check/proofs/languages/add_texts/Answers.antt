@@ -1,7 +1,7 @@
-use Rattle.std.proofs.Common.{get_or}
+use Rattle.std.proofs.Common.{get_or, ap, ◌∙◌}
 use Rattle.icu_plurals.specs.declared.PluralCategory.TheVariants.{Zero}
 use Rattle.serde_json.specs.View.{view}
-use Rattle.plurals_check.specs.DocumentReport.{text_order}
+use Rattle.plurals_check.specs.DocumentReport.{found_under, text_order}
 use Rattle.plurals_check.proofs.FoundParts.{next_under}
 use Rattle.plurals_check.proofs.languages.add_texts.Goals as goal
 
