@@ -3,7 +3,7 @@
 ghost use Rattle.std.specs.Prelude.{◌≡◌, ◌≢◌, ℕ, ◌+◌, ◌-◌, ◌<◌, ◌≤◌, ◌↔◌, List, ◌++◌, length, slice_index, IfSome, IsSomeAnd};
 ghost use Rattle.fixed_decimal.specs.Digits.{value_of};
 ghost use Rattle.fixed_decimal.specs.Written.{WritesDecimal, HasExponent};
-ghost use Rattle.fixed_decimal.specs.Inner.TextParts.{AllDigitBytes, digits_in, WritesUpToThree, letter_c};
+ghost use Rattle.fixed_decimal.specs.Inner.TextParts.{AllDigitBytes, digits_in, WritesUpToThree, exponent_letter};
 ghost use Rattle.fixed_decimal.specs.declared.decimal.Decimal.{Decimal as SignedNumber};
 
 use crate::digits::run_end;
@@ -27,8 +27,8 @@ pub(crate) fn split_exponent(text: &[u8]) -> Option<(&[u8], u16)>
 fn exponent_start(text: &[u8]) -> usize
     ensures most { result ≤ length text.now }
     ensures before { (k : ℕ)
-        → length text.now - (MOST_DIGITS + 1) ≤ k → k < result → slice_index text.now k ≢ letter_c }
-    ensures found { result < length text.now → slice_index text.now result ≡ letter_c }
+        → length text.now - (MOST_DIGITS + 1) ≤ k → k < result → slice_index text.now k ≢ exponent_letter }
+    ensures found { result < length text.now → slice_index text.now result ≡ exponent_letter }
 {
     let mut at = text.len().saturating_sub(MOST_DIGITS + 1);
     while at < text.len() && text[at] != b'c' {

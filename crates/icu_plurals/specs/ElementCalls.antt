@@ -1,8 +1,9 @@
--- Calls of a closure at values that may be absent, one after another. `call f x y g` says that a call of the closure f at x may answer
--- y and leave the closure as g.
+-- Calls of a closure at values that may be absent, one after another. `call f x y g` says that a call of the closure f at x may
+-- answer y and leave the closure as g.
 --     CallsEach call f xs ys last      one call at each value of xs that is there, in order, and ys has the answers at their places
 --     VisitsEach call f xs last      the same, whatever is answered
---     StopsAt call f xs e last      calls in order up to the first that answers an Err, which is Err e and leaves last; all before it answer Ok
+--     StopsAt call f xs e last      calls in order up to the first that answers an Err, which is Err e and leaves last;
+--         all before it answer Ok
 --     StopsAtChanging call f xs ys e last      the same, where a call may change its value: ys has what is left in the places of xs
 use Rattle.std.specs.Prelude.{◌≡◌, List, [], ◌∷◌, ◌++◌, Option, Some, None, Result, Ok, Err}
 
@@ -29,7 +30,8 @@ VisitsEach {F} call f (x ∷ xs) last = (g : F) × VisitsAt call f x g × Visits
 abbrev pub RefusesAt : {F A B E : Type 0} → (F → A → Result B E → F → Type 0) → F → Option A → E → F → Type 0
 RefusesAt {F} {A} call f place e g = (x : A) × (place ≡ Some x) × call f x (Err e) g
 
-pub record StopsAt {F A B E : Type 0} (call : F → A → Result B E → F → Type 0) (f : F) (xs : List (Option A)) (e : E) (last : F) : Type 0 where
+pub record StopsAt {F A B E : Type 0} (call : F → A → Result B E → F → Type 0) (f : F) (xs : List (Option A)) (e : E)
+    (last : F) : Type 0 where
   pub before : List (Option A)
   pub place : Option A
   pub after : List (Option A)
@@ -50,7 +52,8 @@ Changes {F} {A} {B} call f x y g = (answer : B) × call f x answer g y
 abbrev pub ChangesTo : {F A B E : Type 0} → (F → A → Result B E → F → A → Type 0) → F → A → A → F → Type 0
 ChangesTo {F} {A} {B} call f x y g = (answer : B) × call f x (Ok answer) g y
 
-pub record StopsAtChanging {F A B E : Type 0} (call : F → A → Result B E → F → A → Type 0) (f : F) (xs ys : List (Option A)) (e : E) (last : F) : Type 0 where
+pub record StopsAtChanging {F A B E : Type 0} (call : F → A → Result B E → F → A → Type 0) (f : F) (xs ys : List (Option A))
+    (e : E) (last : F) : Type 0 where
   pub before : List (Option A)
   pub place : Option A
   pub after : List (Option A)

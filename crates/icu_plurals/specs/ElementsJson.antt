@@ -34,16 +34,27 @@ optional_in None = Some None
 optional_in (Some value) = if is_some (as_null value) then Some None else option_map Some (value_in value)
 
 -- eight values that are all of their form
-abbrev pub all_eight : Option PackedValue → Option (Option PackedValue) → Option (Option PackedValue) → Option (Option PackedValue) → Option (Option PackedValue)
+abbrev pub all_eight : Option PackedValue → Option (Option PackedValue) → Option (Option PackedValue) → Option (Option PackedValue)
+    → Option (Option PackedValue)
     → Option (Option PackedValue) → Option (Option PackedValue) → Option (Option PackedValue) → Option (Elements PackedValue)
 all_eight (Some other) (Some zero) (Some one) (Some two) (Some few) (Some many) (Some explicit_zero) (Some explicit_one) =
-    Some (record { other = other; zero = zero; one = one; two = two; few = few; many = many; explicit_zero = explicit_zero; explicit_one = explicit_one })
+    Some (record {
+      other = other;
+      zero = zero;
+      one = one;
+      two = two;
+      few = few;
+      many = many;
+      explicit_zero = explicit_zero;
+      explicit_one = explicit_one;
+    })
 all_eight _ _ _ _ _ _ _ _ = None
 
 -- elements are an object with other's value under its key, and the seven others under theirs; its other keys are not looked at
 abbrev pub elements_in_json : Data → Option (Elements PackedValue)
 elements_in_json value =
-    all_eight (option_and_then value_in (get (codes "other") value)) (optional_in (get (codes "zero") value)) (optional_in (get (codes "one") value))
+    all_eight (option_and_then value_in (get (codes "other") value)) (optional_in (get (codes "zero") value))
+    (optional_in (get (codes "one") value))
     (optional_in (get (codes "two") value)) (optional_in (get (codes "few") value)) (optional_in (get (codes "many") value))
     (optional_in (get (codes "explicit_zero") value)) (optional_in (get (codes "explicit_one") value))
 

@@ -3,7 +3,8 @@ use Rattle.std.specs.Prelude.{ℕ, List, ◌++◌, codes}
 use Rattle.std.specs.Fmt.{decimal}
 use Rattle.packed_list.specs.PackedListErrors.{list_error_text}
 use Rattle.icu_plurals.specs.declared.packed.error.ElementsBytesError.{ElementsBytesError}
-use Rattle.icu_plurals.specs.declared.packed.error.ElementsBytesError.TheVariants.{Empty, Short, Padding, DefaultText, List as InList, ItemEmpty, Key, ItemText}
+use Rattle.icu_plurals.specs.declared.packed.error.ElementsBytesError.TheVariants.{Empty, Short, Padding, DefaultText}
+use Rattle.icu_plurals.specs.declared.packed.error.ElementsBytesError.TheVariants.{List as InList, ItemEmpty, Key, ItemText}
 
 -- why bytes are no packed elements
 abbrev pub elements_bytes_error_text : ElementsBytesError → List ℕ

@@ -3,7 +3,8 @@
 --     ElementsBytes packed bytes      the bytes are those of packed elements
 --     elements_of packed      the values by key: of a key that stands twice the first item's
 --     packed_of elements      what elements are packed as
-use Rattle.std.specs.Prelude.{◌≡◌, ℕ, ◌+◌, ◌*◌, ◌<◌, ◌≤◌, ◌==◌, ◌&&◌, List, [], ◌∷◌, ◌++◌, length, map, Bool, IsTrue, Option, Some, None, option_map, unwrap_or, ⊤, nat_lt, if◌then◌else◌}
+use Rattle.std.specs.Prelude.{◌≡◌, ℕ, ◌+◌, ◌*◌, ◌<◌, ◌≤◌, ◌==◌, ◌&&◌, List, [], ◌∷◌, ◌++◌, length, map, Bool, IsTrue, Option, Some}
+use Rattle.std.specs.Prelude.{None, option_map, unwrap_or, ⊤, nat_lt, if◌then◌else◌}
 use Rattle.std.specs.List.{AllByRecursion, find}
 use Rattle.std.specs.Str.{is_utf8, bytes_eq}
 use Rattle.packed_list.specs.ListBytes.{CanPack, list_bytes, has_high_start}
@@ -58,7 +59,8 @@ CanPackItems default (Some items) = CanStandBeside default items
 abbrev pub items_of : PackedElements → List PackedItem
 items_of packed = unwrap_or packed.items []
 
--- without items the default's metadata and text; else bit 7 with the metadata, the length of the text, the text, and the packed list of the items
+-- without items the default's metadata and text; else bit 7 with the metadata, the length of the text, the text, and the packed
+-- list of the items
 abbrev pub bytes_with : PackedValue → Option (List PackedItem) → List ℕ
 bytes_with default None = default.metadata ∷ default.text
 bytes_with default (Some items) = (128 + default.metadata) ∷ length default.text ∷ (default.text ++ list_bytes (map item_bytes items))
@@ -140,7 +142,8 @@ plain_value text = record { metadata = 0; text = text.now }
 abbrev pub fault_beside : PackedValue → Option (List PackedItem) → Option ElementsPackError
 fault_beside default None = None
 fault_beside default (Some items) =
-    if nat_lt 255 (length default.text) then Some DefaultLimit else (if has_high_start (map item_bytes items) then Some StartLimit else None)
+    if nat_lt 255 (length default.text) then Some DefaultLimit
+    else (if has_high_start (map item_bytes items) then Some StartLimit else None)
 
 abbrev pub pack_fault : PackedElements → Option ElementsPackError
 pack_fault packed = fault_beside packed.default packed.items
@@ -148,7 +151,8 @@ pack_fault packed = fault_beside packed.default packed.items
 -- what the bytes are the encoding of answers every operands, under all rules, as the elements do
 abbrev pub AnswersAs : Elements PackedValue → List ℕ → Type 0
 AnswersAs values bytes =
-    (packed : PackedElements) → ElementsBytes packed bytes → (op : Operands) (rules : FiveRules) → element_at (elements_of packed) op rules ≡ element_at values op rules
+    (packed : PackedElements) → ElementsBytes packed bytes → (op : Operands) (rules : FiveRules)
+    → element_at (elements_of packed) op rules ≡ element_at values op rules
 
 -- the values without those of the five categories that equal other's
 abbrev pub without_repeats : Elements PackedValue → Elements PackedValue

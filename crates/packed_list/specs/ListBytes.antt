@@ -1,5 +1,6 @@
 -- The bytes of a list of byte items: the count, the starts of all items but the first, and the items.
-use Rattle.std.specs.Prelude.{◌≡◌, ℕ, ◌+◌, ◌/◌, ◌%◌, ◌≤◌, List, [], ◌∷◌, ◌++◌, length, drop, flat_map, map, Bool, nat_lt, IsFalse, ◌⊎◌, zero, suc, ◌*◌, ◌<◌, slice_index}
+use Rattle.std.specs.Prelude.{◌≡◌, ℕ, ◌+◌, ◌/◌, ◌%◌, ◌≤◌, List, [], ◌∷◌, ◌++◌, length, drop, flat_map, map, Bool, nat_lt, IsFalse}
+use Rattle.std.specs.Prelude.{◌⊎◌, zero, suc, ◌*◌, ◌<◌, slice_index}
 use Rattle.std.specs.List.{concat, list_any}
 use Rattle.std.specs.Borrow.{Bor}
 use Rattle.packed_list.specs.declared.error.ListError.{ListError}
@@ -25,7 +26,8 @@ item_starts items = starts_from 0 items
 -- no item is no byte; else the count, the starts of all items but the first, and the items without gaps
 abbrev pub list_bytes : List (List ℕ) → List ℕ
 list_bytes [] = []
-list_bytes (item ∷ items) = two_bytes (length (item ∷ items)) ++ (flat_map two_bytes (drop 1 (item_starts (item ∷ items))) ++ concat (item ∷ items))
+list_bytes (item ∷ items) = two_bytes (length (item ∷ items))
+    ++ (flat_map two_bytes (drop 1 (item_starts (item ∷ items))) ++ concat (item ∷ items))
 
 -- whether a start is above what two bytes hold
 abbrev pub has_high_start : List (List ℕ) → Bool

@@ -1,4 +1,5 @@
--- What a provider answers: three maps from locales, texts that are compared byte by byte: to cardinal rules, to ordinal rules and to ranges.
+-- What a provider answers: three maps from locales, texts that are compared byte by byte: to cardinal rules, to ordinal rules and
+-- to ranges.
 use Rattle.std.specs.Prelude.{◌≡◌, Option, Some, None, Result, Ok, Err, ◌⊎◌}
 use Rattle.plural_base.specs.declared.provider.options.PluralRuleType.{PluralRuleType}
 use Rattle.plural_base.specs.declared.provider.options.PluralRuleType.TheVariants.{Cardinal, Ordinal}

@@ -2,7 +2,8 @@
 --     each f      the thing that f gives of each
 --     at things category      the thing of a category
 --     put_at things category thing      the same things, but for this one
-use Rattle.std.specs.Prelude.{◌==◌, if◌then◌else◌, ◌≡◌, ℕ, ◌+◌, ◌*◌, List, ◌++◌, codes, map, flat_map, find, Option, bytes_eq, Some, None, is_some, option_map, unwrap_or, count_by, sum_by}
+use Rattle.std.specs.Prelude.{◌==◌, if◌then◌else◌, ◌≡◌, ℕ, ◌+◌, ◌*◌, List, ◌++◌, codes, map, flat_map, find, Option, bytes_eq, Some}
+use Rattle.std.specs.Prelude.{None, is_some, option_map, unwrap_or, count_by, sum_by}
 use Rattle.plural_base.specs.declared.category.by_category.ByCategory.{ByCategory}
 use Rattle.plural_base.specs.declared.category.raw.RawPluralCategory.{RawPluralCategory}
 use Rattle.plural_base.specs.declared.category.raw.RawPluralCategory.TheVariants.{Other, Zero, One, Two, Few, Many}
@@ -25,7 +26,8 @@ at things Many = things.many
 abbrev pub put_at : {A : Type 0} → ByCategory A → RawPluralCategory → A → ByCategory A
 put_at things category thing = each (λ c. if category_number c == category_number category then thing else at things c)
 
--- ---- A range of numbers by the categories of its start and its end (UTS 35 Part 3, Plural Ranges): its byte and its text (docs/RANGES.md).
+-- ---- A range of numbers by the categories of its start and its end (UTS 35 Part 3, Plural Ranges): its byte and its text
+-- (docs/RANGES.md).
 --     range_key start end      the byte: 16 times the start's number, and the end's number
 --     range_text start end      the text: the start's name, two hyphens, the end's name
 --     IsKeyOfText text key      the text and the byte are those of one range
@@ -70,7 +72,8 @@ range_named text = find (λ range. bytes_eq text (range_text range.0 range.1)) a
 unfoldable pub category_named : List ℕ → Option RawPluralCategory
 category_named text = find (λ category. bytes_eq text (raw_name_of category)) all_raw_categories
 
--- ---- Categories of ranges (UTS 35 Part 3, Plural Ranges): a finite map from pairs of categories, the start's and the end's, to categories.
+-- ---- Categories of ranges (UTS 35 Part 3, Plural Ranges): a finite map from pairs of categories, the start's and the end's,
+-- to categories.
 --     category_at ranges start end      the category of a pair, where it has one
 --     no_ranges      no pair has a category
 --     with_range ranges start end category      the same, but this pair has this category

@@ -8,7 +8,8 @@ use Rattle.plural_reference.specs.declared.ast.Operand.TheVariants.{N, I, F, T, 
 use Rattle.plural_reference.specs.declared.ast.Operator.TheVariants.{Eq, NotEq}
 use Rattle.plural_reference.specs.declared.error.ParseError.{ParseError}
 use Rattle.plural_reference.specs.declared.token.Token.{Token}
-use Rattle.plural_reference.specs.declared.token.Token.TheVariants.{Operand, Operator, Number, Zero, Dot, DotDot, Comma, Or, And, Modulo, Junk, At, Decimal, Integer, Ellipsis, Tilde, E}
+use Rattle.plural_reference.specs.declared.token.Token.TheVariants.{Operand, Operator, Number, Zero, Dot, DotDot, Comma, Or, And}
+use Rattle.plural_reference.specs.declared.token.Token.TheVariants.{Modulo, Junk, At, Decimal, Integer, Ellipsis, Tilde, E}
 
 -- ---- The ends of a list
 
@@ -36,7 +37,8 @@ ellipsis = 0xe2 ∷ 0x80 ∷ 0xa6 ∷ []
 -- the pieces of one byte or two, which are never broken off
 abbrev pub marks : List Word
 marks =
-    (codes "n", Operand N) ∷ (codes "f", Operand F) ∷ (codes "t", Operand T) ∷ (codes "v", Operand V) ∷ (codes "w", Operand W) ∷ (codes "c", Operand C)
+    (codes "n", Operand N) ∷ (codes "f", Operand F) ∷ (codes "t", Operand T) ∷ (codes "v", Operand V) ∷ (codes "w", Operand W)
+    ∷ (codes "c", Operand C)
     ∷ (codes "i", Operand I) ∷ (codes "e", E) ∷ (codes "=", Operator Eq) ∷ (codes "0", Zero) ∷ (codes ".", Dot) ∷ (codes "..", DotDot)
     ∷ (codes ",", Comma) ∷ (codes "%", Modulo) ∷ (codes "@", At) ∷ (codes "~", Tilde) ∷ []
 
@@ -87,11 +89,13 @@ pub data IsPiece (piece rest : List ℕ) (token : Option Token) : Type 0 where
   space : piece ≡ blank ∷ [] → token ≡ None → IsPiece piece rest token
   mark : (t : Token) → Contains marks (piece, t) → MayFollow piece rest → token ≡ Some t → IsPiece piece rest token
   keyword : (t : Token) → Contains keywords (piece, t) → token ≡ Some t → IsPiece piece rest token
-  number : IsDigitRun piece rest → digits_value 10 piece ≤ max_number → token ≡ Some (Number (digits_value 10 piece)) → IsPiece piece rest token
+  number : IsDigitRun piece rest → digits_value 10 piece ≤ max_number → token ≡ Some (Number (digits_value 10 piece))
+      → IsPiece piece rest token
   -- the four kinds of Junk
   unknown : (b : ℕ) → piece ≡ b ∷ [] → BeginsNone b → token ≡ Some Junk → IsPiece piece rest token
   too_large : IsDigitRun piece rest → max_number < digits_value 10 piece → token ≡ Some Junk → IsPiece piece rest token
-  broken : (begun : List ℕ) (next b : ℕ) → piece ≡ begun ++ b ∷ [] → IsBegun begun next → b ≢ next → token ≡ Some Junk → IsPiece piece rest token
+  broken : (begun : List ℕ) (next b : ℕ) → piece ≡ begun ++ b ∷ [] → IsBegun begun next → b ≢ next → token ≡ Some Junk
+      → IsPiece piece rest token
   cut_off : (next : ℕ) → IsBegun piece next → rest ≡ [] → token ≡ Some Junk → IsPiece piece rest token
 
 -- a piece, and the token that it gives

@@ -13,16 +13,17 @@ use Rattle.plural_reference.specs.declared.ast.RangeListItem.TheVariants as item
 use Rattle.plural_reference.specs.declared.ast.Relation.{Relation}
 use Rattle.plural_reference.specs.declared.ast.Value.{Value}
 use Rattle.plural_reference.specs.declared.error.ParseError.{ParseError}
-use Rattle.plural_reference.specs.declared.error.ParseError.TheVariants.{ExpectedAndCondition, ExpectedRelation, ExpectedOperator, ExpectedOperand, ExpectedValue}
+use Rattle.plural_reference.specs.declared.error.ParseError.TheVariants.{ExpectedAndCondition, ExpectedRelation, ExpectedOperator}
+use Rattle.plural_reference.specs.declared.error.ParseError.TheVariants.{ExpectedOperand, ExpectedValue}
 use Rattle.plural_reference.specs.declared.token.Token.{Token}
 use Rattle.plural_reference.specs.declared.token.Token.TheVariants.{Operand, Operator, Number, Zero, DotDot, Comma, Or, And, Modulo, At, E}
 use Rattle.plural_reference.specs.Lexer.{first, last}
 
 -- the value that a token is
-abbrev pub value_of : Token → Option Value
-value_of (Number n) = Some (record { 0 = n })
-value_of Zero = Some (record { 0 = 0 })
-value_of _ = None
+abbrev pub token_value : Token → Option Value
+token_value (Number n) = Some (record { 0 = n })
+token_value Zero = Some (record { 0 = 0 })
+token_value _ = None
 
 -- the operand that a token is
 abbrev pub operand_of : Token → Option operand.Operand
@@ -40,14 +41,14 @@ Separated separator Part tokens (x ∷ y ∷ ys) =
 
 -- item = value | value DotDot value
 abbrev pub IsItem : List Token → RangeListItem → Type 0
-IsItem tokens (items.Value v) = (t : Token) × (tokens ≡ t ∷ []) × (value_of t ≡ Some v)
+IsItem tokens (items.Value v) = (t : Token) × (tokens ≡ t ∷ []) × (token_value t ≡ Some v)
 IsItem tokens (items.Range a b) =
-    (t : Token) × (u : Token) × (tokens ≡ t ∷ DotDot ∷ u ∷ []) × (value_of t ≡ Some a) × (value_of u ≡ Some b)
+    (t : Token) × (u : Token) × (tokens ≡ t ∷ DotDot ∷ u ∷ []) × (token_value t ≡ Some a) × (token_value u ≡ Some b)
 
 -- a modulus that is there, or none
 abbrev pub IsModulus : List Token → Option Value → Type 0
 IsModulus tokens None = tokens ≡ []
-IsModulus tokens (Some m) = (t : Token) × (tokens ≡ Modulo ∷ t ∷ []) × (value_of t ≡ Some m)
+IsModulus tokens (Some m) = (t : Token) × (tokens ≡ Modulo ∷ t ∷ []) × (token_value t ≡ Some m)
 
 -- expr = (Operand | E) (Modulo value)?
 abbrev pub IsExpression : List Token → Expression → Type 0
@@ -137,7 +138,7 @@ IsAfterModulo tokens = (before : List Token) × (tokens ≡ before ++ Modulo ∷
 abbrev pub IsAfterModulus : List Token → Type 0
 IsAfterModulus tokens =
     (before : List Token) × (t : Token) × (v : Value)
-    × (tokens ≡ before ++ t ∷ []) × IsAfterModulo before × (value_of t ≡ Some v)
+    × (tokens ≡ before ++ t ∷ []) × IsAfterModulo before × (token_value t ≡ Some v)
 
 -- after an operator, after Comma, or after DotDot behind a single value
 abbrev pub IsBeforeValue : List Token → Type 0
@@ -171,7 +172,7 @@ operator_fault _ = Some ExpectedOperator
 -- the fault where a value is wanted
 abbrev pub value_fault : Option Token → Option ParseError
 value_fault None = Some ExpectedValue
-value_fault (Some t) = if is_some (value_of t) then None else Some ExpectedValue
+value_fault (Some t) = if is_some (token_value t) then None else Some ExpectedValue
 
 -- the fault of the token that follows a place, or of the end
 abbrev pub fault : Place → Option Token → Option ParseError

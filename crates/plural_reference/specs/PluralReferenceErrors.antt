@@ -4,7 +4,9 @@ use Rattle.std.specs.Fmt.{decimal}
 use Rattle.plural_reference.specs.declared.error.LexerError.{LexerError}
 use Rattle.plural_reference.specs.declared.error.LexerError.TheVariants.{ExpectedByte, UnknownToken}
 use Rattle.plural_reference.specs.declared.error.ParseError.{ParseError}
-use Rattle.plural_reference.specs.declared.error.ParseError.TheVariants.{ExpectedAndCondition, ExpectedRelation, ExpectedOperator, ExpectedOperand, ExpectedValue, ExpectedSampleType, ValueTooLarge}
+use Rattle.plural_reference.specs.declared.error.ParseError.TheVariants.{ExpectedAndCondition, ExpectedRelation, ExpectedOperator}
+use Rattle.plural_reference.specs.declared.error.ParseError.TheVariants.{ExpectedOperand, ExpectedValue, ExpectedSampleType}
+use Rattle.plural_reference.specs.declared.error.ParseError.TheVariants.{ValueTooLarge}
 use Rattle.plural_reference.specs.declared.error.ReadError.{ReadError}
 use Rattle.plural_reference.specs.declared.error.ReadError.TheVariants.{Parse, Memory}
 use Rattle.plural_reference.specs.declared.operands.error.OperandsError.{OperandsError}

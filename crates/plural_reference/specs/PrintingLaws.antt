@@ -45,7 +45,8 @@ ConditionsOfTextsAreSpellable = (text : List ℕ) (c : Condition) → TextReads 
 
 -- each such condition is read from its printed text, by itself and as a rule without samples
 abbrev pub SpellableConditionsPrintBack : Type 0
-SpellableConditionsPrintBack = (c : Condition) → IsSpellable c → TextReads Reads (condition_text c) c × TextReads ReadsRule (condition_text c) (record { condition = c; samples = None })
+SpellableConditionsPrintBack = (c : Condition) → IsSpellable c
+    → TextReads Reads (condition_text c) c × TextReads ReadsRule (condition_text c) (record { condition = c; samples = None })
 
 -- a condition that was read from a text is read from its printed text
 abbrev pub ConditionsPrintBack : Type 0

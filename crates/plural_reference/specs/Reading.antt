@@ -21,7 +21,9 @@ IsAnswer Read Fault (Ok x) = Read x
 IsAnswer Read Fault (Err e) = IsFault Fault e
 
 -- x is answered exactly if it is read from the tokens, and a kind exactly if it is their fault, want of memory aside
-pub record AnswersExactly {A : Type 0} (Read : List Token → A → Type 0) (Fault : List Token → ParseError → Type 0) (text : List ℕ) (r : Result A ReadError) : Type 0 where
+pub record AnswersExactly {A : Type 0} (Read : List Token → A → Type 0) (Fault : List Token → ParseError → Type 0)
+    (text : List ℕ) (r : Result A ReadError) : Type 0 where
   pub only : (tokens : List Token) → AreTokensOf text tokens → IsAnswer (Read tokens) (Fault tokens) r
   pub read : (tokens : List Token) (x : A) → AreTokensOf text tokens → Read tokens x → AnswersUnlessMemory r (Ok x)
-  pub fault : (tokens : List Token) (kind : ParseError) → AreTokensOf text tokens → Fault tokens kind → AnswersUnlessMemory r (Err (Parse kind))
+  pub fault : (tokens : List Token) (kind : ParseError) → AreTokensOf text tokens → Fault tokens kind
+      → AnswersUnlessMemory r (Err (Parse kind))

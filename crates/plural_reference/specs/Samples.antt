@@ -1,6 +1,7 @@
 -- The grammar of samples over tokens (UTS 35 Part 3, Samples), what is read of the tokens after a condition, and which
 -- fault they have.
-use Rattle.std.specs.Prelude.{◌≡◌, ◌≢◌, ◌⊎◌, ℕ, List, [], ◌∷◌, ◌++◌, Bool, true, false, Option, Some, None, IfSome, IsSome, IsSomeAnd, fold, unwrap_or, ◌==◌, ◌||◌, if◌then◌else◌, codes}
+use Rattle.std.specs.Prelude.{◌≡◌, ◌≢◌, ◌⊎◌, ℕ, List, [], ◌∷◌, ◌++◌, Bool, true, false, Option, Some, None, IfSome, IsSome}
+use Rattle.std.specs.Prelude.{IsSomeAnd, fold, unwrap_or, ◌==◌, ◌||◌, if◌then◌else◌, codes}
 use Rattle.std.specs.Option.{option_and_then}
 use Rattle.std.specs.List.{AllByRecursion, list_any, flat_map}
 use Rattle.std.specs.Fmt.{decimal}
@@ -14,15 +15,16 @@ use Rattle.plural_reference.specs.declared.ast.Condition.{Condition}
 use Rattle.plural_reference.specs.declared.error.ParseError.{ParseError}
 use Rattle.plural_reference.specs.declared.error.ParseError.TheVariants.{ExpectedSampleType}
 use Rattle.plural_reference.specs.declared.token.Token.{Token}
-use Rattle.plural_reference.specs.declared.token.Token.TheVariants.{Operand, Number, Zero, Dot, Comma, At, Decimal, Integer, Ellipsis, Tilde, E}
+use Rattle.plural_reference.specs.declared.token.Token.TheVariants.{Operand, Number, Zero, Dot, Comma, At, Decimal, Integer}
+use Rattle.plural_reference.specs.declared.token.Token.TheVariants.{Ellipsis, Tilde, E}
 use Rattle.plural_reference.specs.Lexer.{first, last}
-use Rattle.plural_reference.specs.Parser.{Separated, ReadsUpTo, Faulty, value_of, value_fault}
+use Rattle.plural_reference.specs.Parser.{Separated, ReadsUpTo, Faulty, token_value, value_fault}
 
 -- ---- kinds of token
 
 -- a run of digits
 abbrev pub IsDigits : Token → Type 0
-IsDigits t = IsSomeAnd (value_of t) (λ _. Unit {0})
+IsDigits t = IsSomeAnd (token_value t) (λ _. Unit {0})
 
 -- what begins the exponent of a sample
 abbrev pub IsExponentMark : Token → Type 0

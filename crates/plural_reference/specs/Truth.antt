@@ -1,6 +1,7 @@
 -- When a relation holds and when a condition is true (UTS 35 Part 3, Plural Rules Syntax), in words that serve every
 -- form of a rule: a tree, packed relations, and the exact number.
-use Rattle.std.specs.Prelude.{ℕ, ◌%◌, ◌==◌, ◌&&◌, List, [], ◌∷◌, map, Bool, true, false, not, nat_le, if◌then◌else◌, Option, Some, None, option_map}
+use Rattle.std.specs.Prelude.{ℕ, ◌%◌, ◌==◌, ◌&&◌, List, [], ◌∷◌, map, Bool, true, false, not, nat_le, if◌then◌else◌, Option, Some}
+use Rattle.std.specs.Prelude.{None, option_map}
 use Rattle.std.specs.List.{list_any, list_all}
 use Rattle.plural_reference.specs.declared.ast.Condition.{Condition}
 use Rattle.plural_reference.specs.declared.ast.Operand.{Operand}

@@ -7,7 +7,7 @@ ghost use Rattle.std.specs.Prelude.{◌≡◌, ◌≢◌, ◌∷◌, [], Some, N
 ghost use Rattle.plural_reference.specs.declared.token.Token.TheVariants as token;
 ghost use Rattle.plural_reference.specs.declared.token.Token.TheVariants.{Comma};
 ghost use Rattle.plural_reference.specs.Lexer.{AreTokensOf, first};
-ghost use Rattle.plural_reference.specs.Parser.{Reads, Faulty, operand_of, value_of, value_fault};
+ghost use Rattle.plural_reference.specs.Parser.{Reads, Faulty, operand_of, token_value, value_fault};
 ghost use Rattle.plural_reference.specs.declared.error.ParseError.TheVariants.{ExpectedValue};
 ghost use Rattle.plural_reference.specs.Samples.{ReadsRule, ReadsCondition, FaultyRule};
 ghost use Rattle.plural_reference.specs.Reading.{AnswersExactly, IsAnswer};
@@ -276,7 +276,7 @@ impl<'p> Parser<'p> {
 // The number that a token is.
 #[inline]
 fn number_of(token: &Token) -> Option<u32>
-    ensures { MatchOption result (value_of token.now ≡ None) (λ n. value_of token.now ≡ Some (record { 0 = n })) }
+    ensures { MatchOption result (token_value token.now ≡ None) (λ n. token_value token.now ≡ Some (record { 0 = n })) }
 {
     match token {
         Token::Number(number) => Some(*number),

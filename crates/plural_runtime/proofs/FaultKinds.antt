@@ -11,7 +11,7 @@ use Rattle.plural_reference.specs.declared.token.Token.{Token}
 use Rattle.plural_reference.specs.declared.token.Token.TheVariants.{Operator, Operand, Dot, At, Decimal, Integer, Ellipsis, E, Modulo}
 use Rattle.plural_reference.specs.Lexer.{first}
 use Rattle.plural_reference.specs.Parser.{Place, start, after_or, after_and, after_operand, after_modulo, after_modulus}
-use Rattle.plural_reference.specs.Parser.{before_value, operand_of, value_of, operand_fault, operator_fault, value_fault, fault}
+use Rattle.plural_reference.specs.Parser.{before_value, operand_of, token_value, operand_fault, operator_fault, value_fault, fault}
 use Rattle.plural_reference.specs.Samples.{SamplePlace, after_at, before_sample, after_comma, after_mark, type_fault, sample_fault}
 use Rattle.plural_reference.specs.Samples.{fault_in_samples, FaultyRule}
 use Rattle.plural_runtime.specs.declared.error.RuleError.TheVariants.{Parse}
@@ -39,7 +39,7 @@ of_operator _ h = cc
 -- nor one where a value is wanted
 of_value : (t : Option Token) → value_fault t ≡ Some ValueTooLarge → ⊥
 of_value None h = cc
-of_value (Some t) h = one_fault (is_some (value_of t)) ExpectedValue (λ e. cc) h
+of_value (Some t) h = one_fault (is_some (token_value t)) ExpectedValue (λ e. cc) h
 
 -- so no place in a condition gives it
 of_condition : (place : Place) (t : Option Token) → fault place t ≡ Some ValueTooLarge → ⊥

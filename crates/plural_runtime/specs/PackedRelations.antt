@@ -1,5 +1,6 @@
 -- The relations of a packed rule, and its groups (UTS 35 Part 3, Plural Rules Syntax: and-conditions joined by `or`).
-use Rattle.std.specs.Prelude.{◌<◌, ◌^◌, List, [], ◌∷◌, ℕ, ◌+◌, ◌++◌, map, flat_map, ◌-◌, ◌%◌, length, slice_index, Bool, if◌then◌else◌, ◌==◌, ◌&&◌, nat_lt, nat_le, not, Option, Some, None, nat_eq}
+use Rattle.std.specs.Prelude.{◌<◌, ◌^◌, List, [], ◌∷◌, ℕ, ◌+◌, ◌++◌, map, flat_map, ◌-◌, ◌%◌, length, slice_index, Bool}
+use Rattle.std.specs.Prelude.{if◌then◌else◌, ◌==◌, ◌&&◌, nat_lt, nat_le, not, Option, Some, None, nat_eq}
 use Rattle.std.specs.List.{AllByRecursion}
 use Rattle.plural_reference.specs.Truth.{RelationMeaning}
 use Rattle.plural_runtime.specs.declared.kinds.AndOr.{AndOr}
@@ -80,7 +81,8 @@ range_bytes range = to_le_bytes w32 range.0 ++ to_le_bytes w32 range.1
 -- the first byte, the modulus as four bytes, and the ranges
 unfoldable pub relation_bytes : PackedRelation → List ℕ
 relation_bytes relation =
-    first_byte relation.and_or relation.meaning.operator relation.meaning.operand ∷ (to_le_bytes w32 relation.meaning.modulus ++ flat_map range_bytes relation.meaning.ranges)
+    first_byte relation.and_or relation.meaning.operator relation.meaning.operand
+    ∷ (to_le_bytes w32 relation.meaning.modulus ++ flat_map range_bytes relation.meaning.ranges)
 
 -- the bytes of the relations
 abbrev pub packed_bytes : List PackedRelation → List ℕ

@@ -1,5 +1,6 @@
 -- The relations that a tree is packed to, and the tree of relations.
-use Rattle.std.specs.Prelude.{ℕ, List, [], ◌∷◌, ◌++◌, map, flat_map, Bool, if◌then◌else◌, ◌==◌, Option, Some, None, nat_lt, true, false, not, ◌||◌, ◌≡◌, ◌⊎◌, Result, Ok, Err}
+use Rattle.std.specs.Prelude.{ℕ, List, [], ◌∷◌, ◌++◌, map, flat_map, Bool, if◌then◌else◌, ◌==◌, Option, Some, None, nat_lt, true}
+use Rattle.std.specs.Prelude.{false, not, ◌||◌, ◌≡◌, ◌⊎◌, Result, Ok, Err}
 use Rattle.std.specs.List.{list_any, list_all}
 use Rattle.plural_reference.specs.declared.ast.Condition.{Condition}
 use Rattle.plural_reference.specs.declared.ast.Relation.{Relation}
@@ -62,7 +63,8 @@ has_large_value condition = list_any (λ group. list_any is_large_relation group
 
 -- equal ends are a value
 abbrev pub unpacked_range : ℕ × ℕ → RangeListItem
-unpacked_range range = if range.0 == range.1 then items.Value (record { 0 = range.0 }) else items.Range (record { 0 = range.0 }) (record { 0 = range.1 })
+unpacked_range range = if range.0 == range.1 then items.Value (record { 0 = range.0 })
+    else items.Range (record { 0 = range.0 }) (record { 0 = range.1 })
 
 -- modulus 0 is none
 abbrev pub unpacked_modulus : ℕ → Option Value

@@ -35,7 +35,8 @@ abbrev pub ranges_shown : List (ℕ × ℕ) → List ℕ
 ranges_shown ranges = joined (codes ", ") (λ range. range_shown (range_or_value range)) ranges
 
 abbrev pub relation_shown : RelationMeaning → List ℕ
-relation_shown relation = (operand_text relation.operand ++ modulus_text relation.modulus) ++ (operator_shown relation.operator ++ ranges_shown relation.ranges)
+relation_shown relation = (operand_text relation.operand ++ modulus_text relation.modulus)
+    ++ (operator_shown relation.operator ++ ranges_shown relation.ranges)
 
 -- the relations behind the first one
 abbrev pub others_shown : List PackedRelation → List ℕ
@@ -48,7 +49,10 @@ relations_shown (relation ∷ relations) = (mark_text true relation.and_or ++ re
 
 -- ---- Rules that are packed from texts, printed and packed again.
 
--- of a rule that is read from a text and packs, the text that is printed is read as the tree of the packed rule, and that tree packs to the same relations
+-- of a rule that is read from a text and packs, the text that is printed is read as the tree of the packed rule, and that tree
+-- packs to the same relations
 abbrev pub PrintedRulesPackAgain : Type 0
-PrintedRulesPackAgain = (text : List ℕ) (rule : TreeRule) (relations : List PackedRelation) → TextReads ReadsRule text rule → packing rule.condition ≡ Ok relations →
-    TextReads ReadsRule (condition_text (unpacked relations)) (record { condition = unpacked relations; samples = None }) × (packing (unpacked relations) ≡ Ok relations)
+PrintedRulesPackAgain = (text : List ℕ) (rule : TreeRule) (relations : List PackedRelation) → TextReads ReadsRule text rule
+    → packing rule.condition ≡ Ok relations
+    → TextReads ReadsRule (condition_text (unpacked relations)) (record { condition = unpacked relations; samples = None })
+    × (packing (unpacked relations) ≡ Ok relations)

@@ -1,5 +1,6 @@
 -- A reader of the bytes of packed elements, for the view of checked bytes, the laws and private contracts. Not a definition of the subject.
-use Rattle.std.specs.Prelude.{◌≡◌, ◌==◌, ℕ, ◌/◌, ◌%◌, List, [], ◌∷◌, map, take, drop, Bool, false, ◌&&◌, nat_le, if◌then◌else◌, nat_lt, IsTrue, Option, Some, None, unwrap_or, ⊤, ◌+◌, ◌++◌, length}
+use Rattle.std.specs.Prelude.{◌≡◌, ◌==◌, ℕ, ◌/◌, ◌%◌, List, [], ◌∷◌, map, take, drop, Bool, false, ◌&&◌, nat_le, if◌then◌else◌}
+use Rattle.std.specs.Prelude.{nat_lt, IsTrue, Option, Some, None, unwrap_or, ⊤, ◌+◌, ◌++◌, length}
 use Rattle.std.proofs.Props.{props}
 use Rattle.std.specs.List.{AllByRecursion, AllByRecursion-prop}
 use Rattle.std.specs.Option.{option_or}
@@ -12,7 +13,8 @@ use Rattle.icu_plurals.specs.declared.packed.error.ElementsBytesError.{ElementsB
 use Rattle.icu_plurals.specs.declared.packed.error.ElementsBytesError.TheVariants as errors
 use Rattle.icu_plurals.specs.Elements.{Elements}
 use Rattle.icu_plurals.specs.ElementsFaults.{ElementsParts, IsShort, HasPadding, first_element_fault}
-use Rattle.icu_plurals.specs.PackedElements.{PackedValue, PackedItem, PackedElements, IsPackedItem, CanPackItems, ElementsBytes, items_of, item_bytes}
+use Rattle.icu_plurals.specs.PackedElements.{PackedValue, PackedItem, PackedElements, IsPackedItem, CanPackItems, ElementsBytes}
+use Rattle.icu_plurals.specs.PackedElements.{items_of, item_bytes}
 
 -- the item that bytes hold
 abbrev pub read_item : List ℕ → PackedItem
@@ -24,7 +26,10 @@ abbrev pub read_behind : ℕ → List ℕ → PackedElements
 read_behind first [] = record { default = record { metadata = first % 16; text = [] }; items = None }
 read_behind first (len ∷ bytes) =
     if nat_lt first 128 then record { default = record { metadata = first % 16; text = len ∷ bytes }; items = None }
-    else record { default = record { metadata = first % 16; text = take len bytes }; items = Some (map read_item (items_in (drop len bytes))) }
+    else record {
+      default = record { metadata = first % 16; text = take len bytes };
+      items = Some (map read_item (items_in (drop len bytes)));
+    }
 
 -- the packed elements that bytes hold, if they are those of some
 unfoldable pub read_elements : List ℕ → PackedElements

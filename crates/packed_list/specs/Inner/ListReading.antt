@@ -30,4 +30,5 @@ IsList bytes = ListBytes (items_in bytes) bytes
 
 -- no start is bad
 abbrev pub HasGoodStarts : List ℕ → Type 0
-HasGoodStarts bytes = (k : ℕ) → k + 1 < two_byte_number bytes 0 → (start_at bytes k ≤ start_at bytes (k + 1)) × (2 * two_byte_number bytes 0 + start_at bytes (k + 1) ≤ length bytes)
+HasGoodStarts bytes = (k : ℕ) → k + 1 < two_byte_number bytes 0
+    → (start_at bytes k ≤ start_at bytes (k + 1)) × (2 * two_byte_number bytes 0 + start_at bytes (k + 1) ≤ length bytes)

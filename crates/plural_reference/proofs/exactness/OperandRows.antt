@@ -1,5 +1,7 @@
 -- Worked numbers at the bound, and their exact operands and truth, computed by the definitions.
-use Rattle.std.proofs.Common.{◌≡◌, ℕ, zero, suc, ◌+◌, ◌-◌, ◌*◌, ◌%◌, ◌^◌, ◌<◌, ◌≤◌, ◌⊎◌, ◌≢◌, inl, inr, List, [], ◌∷◌, ◌++◌, refl, sym, ap, subst, replicate, codes, length, get_or, arith, map, Some, None, true, false, lit<, lit≤, ◌∙◌}
+use Rattle.std.proofs.Common.{◌≡◌, ℕ, zero, suc, ◌+◌, ◌-◌, ◌*◌, ◌%◌, ◌^◌, ◌<◌, ◌≤◌, ◌⊎◌, ◌≢◌, inl, inr, List, [], ◌∷◌, ◌++◌, refl}
+use Rattle.std.proofs.Common.{sym, ap, subst, replicate, codes, length, get_or, arith, map, Some, None, true, false, lit<, lit≤}
+use Rattle.std.proofs.Common.{◌∙◌}
 use Rattle.std.proofs.lemmas.Bool.{cases_lt}
 use Rattle.std.proofs.lemmas.Nat.{pow-add}
 use Rattle.std.proofs.lemmas.Nat.Gcd.{dvd_of_mod-eq-zero, mod-eq-zero_of_dvd, dvd_trans}
@@ -41,11 +43,13 @@ pow_divides a b h =
     subst (λ (n : ℕ). 10 ^ a ∣ n) (sym (pow-add 10 a (b - a)) ∙ ap (λ n. 10 ^ n) e) (dvd-mul_right (10 ^ a) (10 ^ (b - a)))
 
 -- w is the least: at one less the division leaves something
-least_by : (shown written w : ℕ) → w ≤ shown → (w ≡ 0) ⊎ (written % 10 ^ (shown - (w - 1)) ≢ 0) → (k : ℕ) → 10 ^ (shown - k) ∣ written → w ≤ k
+least_by : (shown written w : ℕ) → w ≤ shown → (w ≡ 0) ⊎ (written % 10 ^ (shown - (w - 1)) ≢ 0) → (k : ℕ)
+    → 10 ^ (shown - k) ∣ written → w ≤ k
 least_by shown written w fits (inl none) k d = omega arith
 least_by shown written w fits (inr some) k d =
     elim (cases_lt k w) [
-      | inl below ↦ absurd (some (mod-eq-zero_of_dvd (10 ^ (shown - (w - 1))) (dvd_trans (10 ^ (shown - (w - 1))) (pow_divides (shown - (w - 1)) (shown - k) (omega arith)) d)))
+      | inl below ↦ absurd (some (mod-eq-zero_of_dvd (10 ^ (shown - (w - 1)))
+          (dvd_trans (10 ^ (shown - (w - 1))) (pow_divides (shown - (w - 1)) (shown - k) (omega arith)) d)))
       | inr above ↦ above
     ]
 
@@ -53,7 +57,13 @@ nonzero : (n : ℕ) → 0 < n → n ≢ 0
 nonzero n h e = omega arith
 
 no_fraction : (n : ℕ) → HasFraction (of_whole n) 0 0
-no_fraction n = record { v = refl; f = refl; w_divides = dvd_of_mod-eq-zero 1 refl; w_least = least_by 0 0 0 (lit≤ tt) (inl refl); t = refl }
+no_fraction n = record {
+  v = refl;
+  f = refl;
+  w_divides = dvd_of_mod-eq-zero 1 refl;
+  w_least = least_by 0 0 0 (lit≤ tt) (inl refl);
+  t = refl;
+}
 
 -- ---- 1, 28 zeros and 21, by i % 10 = 1 and i % 100 != 11
 
@@ -69,7 +79,8 @@ exact_21 = record { i = refl; fraction = no_fraction _; c = refl }
 same_21 : relation_truth (of_whole (10 ^ 18 + 21)) (leaves 10 1) ≡ exact_relation_truth (of_whole (10 ^ 30 + 21)) (leaves 10 1)
 same_21 = refl
 
-not_11 : exact_relation_truth (of_whole (10 ^ 30 + 21)) (record { operand = I; modulus = 100; operator = NotEq; ranges = (11, 11) ∷ [] }) ≡ true
+not_11 : exact_relation_truth (of_whole (10 ^ 30 + 21))
+    (record { operand = I; modulus = 100; operator = NotEq; ranges = (11, 11) ∷ [] }) ≡ true
 not_11 = refl
 
 ten_and_hundred : AllDivide (10 ∷ 100 ∷ []) (10 ^ 18)
@@ -134,7 +145,17 @@ long_fraction_not_within : (moduli : List ℕ) → IsWithinBound long_fraction 0
 long_fraction_not_within moduli h = let f : 19 ≤ 18 = h.fraction in omega arith
 
 exact_long_fraction : AreExact long_fraction 0 (six 1 19 19 1 1 0)
-exact_long_fraction = record { i = refl; fraction = record { v = refl; f = refl; w_divides = dvd_of_mod-eq-zero 1 refl; w_least = least_by 19 1 19 (lit≤ tt) (inr (nonzero 1 (lit< tt))); t = refl }; c = refl }
+exact_long_fraction = record {
+  i = refl;
+  fraction = record {
+    v = refl;
+    f = refl;
+    w_divides = dvd_of_mod-eq-zero 1 refl;
+    w_least = least_by 19 1 19 (lit≤ tt) (inr (nonzero 1 (lit< tt)));
+    t = refl;
+  };
+  c = refl;
+}
 
 no_exact_n : exact_value N 0 (six 1 19 19 1 1 0) ≡ None
 no_exact_n = refl
@@ -153,7 +174,17 @@ n_by_10 = refl
 -- ---- 1.00000020c6
 
 compact_million : AreExact (number (codes "1") (codes "00000020")) 6 (six 1000000 2 1 20 2 6)
-compact_million = record { i = refl; fraction = record { v = refl; f = refl; w_divides = dvd_of_mod-eq-zero 10 refl; w_least = least_by 2 20 1 (lit≤ tt) (inr (nonzero 20 (lit< tt))); t = refl }; c = refl }
+compact_million = record {
+  i = refl;
+  fraction = record {
+    v = refl;
+    f = refl;
+    w_divides = dvd_of_mod-eq-zero 10 refl;
+    w_least = least_by 2 20 1 (lit≤ tt) (inr (nonzero 20 (lit< tt)));
+    t = refl;
+  };
+  c = refl;
+}
 
 -- ---- texts of operands
 
@@ -172,7 +203,13 @@ named_5_10 = inr (codes "5.10", (codes "5", codes ".10", [], five, fraction, inl
       1 ∷ 0 ∷ [],
       named (1 ∷ 0 ∷ []) (lit< tt) (lit< tt, (lit< tt, tt)) (lit< tt),
       refl,
-      record { v = refl; f = refl; w_divides = dvd_of_mod-eq-zero 10 refl; w_least = least_by 2 10 1 (lit≤ tt) (inr (nonzero 10 (lit< tt))); t = refl },
+      record {
+        v = refl;
+        f = refl;
+        w_divides = dvd_of_mod-eq-zero 10 refl;
+        w_least = least_by 2 10 1 (lit≤ tt) (inr (nonzero 10 (lit< tt)));
+        t = refl;
+      },
     )
 
 -- `1.+5`: a fraction takes no `+`
@@ -185,7 +222,12 @@ no_plus_behind_the_point o h =
     ]
   where
     one : HasCount (codes "1.+5") 1 (codes ".+5")
-    one = (codes "1", (1 ∷ [], named (1 ∷ []) (lit< tt) (lit< tt, tt) (lit< tt), refl, inl refl), refl, λ (h : IsAsciiDigit 46). omega (arith, h.0))
+    one = (
+      codes "1",
+      (1 ∷ [], named (1 ∷ []) (lit< tt) (lit< tt, tt) (lit< tt), refl, inl refl),
+      refl,
+      λ (h : IsAsciiDigit 46). omega (arith, h.0),
+    )
 
     pointed : (o : Operands) → WritesBehindPoint 1 (codes "+5") o → ⊥
     pointed o ([], tail, i, word, f, x, e) = let s : 0 < 0 = word.nonempty in omega (arith, s)

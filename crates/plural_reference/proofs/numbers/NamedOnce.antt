@@ -13,7 +13,8 @@ use Rattle.plural_reference.proofs.numbers.OperandTexts.{count_of_unsigned, unsi
 
 -- a text counts one number, and names one exponent
 one_number : (text : List ℕ) (m n : ℕ) → WritesCount text m → WritesCount text n → m ≡ n
-one_number text m n h k = let same : (m ≡ n) × ([] ≡ []) = one_count text m [] n [] (ending_count text m h) (ending_count text n k) in same.0
+one_number text m n h k = let same : (m ≡ n) × ([] ≡ []) =
+    one_count text m [] n [] (ending_count text m h) (ending_count text n k) in same.0
 
 -- The empty text doesn't begin with a byte.
 none_and_some : (text more : List ℕ) (b : ℕ) → text ≡ [] → text ≡ b ∷ more → ⊥
@@ -54,12 +55,14 @@ one_behind i rest x y (inl (more, e, h)) (inl (others, k, g)) =
     one_behind_point i others x y (subst (λ (l : List ℕ). WritesBehindPoint i l x) (same_tail 46 46 more others (sym e ∙ k)) h) g
 one_behind i rest x y (inl (more, e, h)) (inr (p, g, k)) = absurd (no_point rest more y.c e p)
 one_behind i rest x y (inr (p, f, h)) (inl (more, e, k)) = absurd (no_point rest more x.c e p)
-one_behind i rest x y (inr (p, f, h)) (inr (q, g, k)) = one_record x y (h ∙ sym k) (one_fraction x y 0 0 f g) (one_exponent rest x.c y.c p q)
+one_behind i rest x y (inr (p, f, h)) (inr (q, g, k)) =
+    one_record x y (h ∙ sym k) (one_fraction x y 0 0 f g) (one_exponent rest x.c y.c p q)
 
 -- Without a sign it names one, by its count and what stands behind it.
 one_unsigned : (text : List ℕ) (x y : Operands) → WritesUnsignedOperands text x → WritesUnsignedOperands text y → x ≡ y
 one_unsigned text x y h k =
-    let parts : (fraction exponent : List ℕ) × HasCount text x.i (fraction ++ exponent) × WritesFraction fraction x × WritesExponent exponent x.c
+    let parts : (fraction exponent : List ℕ) × HasCount text x.i (fraction ++ exponent) × WritesFraction fraction x
+    × WritesExponent exponent x.c
     = count_of_unsigned text x h in
     let rest : List ℕ = parts.0 ++ parts.1 in
     one_behind x.i rest x y (unsigned_behind text x.i rest x parts.2 h) (unsigned_behind text x.i rest y parts.2 k)

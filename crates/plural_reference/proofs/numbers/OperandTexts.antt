@@ -1,5 +1,7 @@
 -- How the parts of an operand text are told apart.
-use Rattle.std.proofs.Common.{◌≡◌, ◌≢◌, ◌⊎◌, ℕ, zero, suc, ◌+◌, ◌-◌, ◌*◌, ◌^◌, ◌<◌, ◌≤◌, inl, inr, true, false, Option, Some, None, List, [], ◌∷◌, ◌++◌, refl, sym, ◌∙◌, ap, subst, length, map, arith, rules, lit<, Result, Ok, Err, cond, ltb, nat_eq, get_or, drop, length-append}
+use Rattle.std.proofs.Common.{◌≡◌, ◌≢◌, ◌⊎◌, ℕ, zero, suc, ◌+◌, ◌-◌, ◌*◌, ◌^◌, ◌<◌, ◌≤◌, inl, inr, true, false, Option, Some, None}
+use Rattle.std.proofs.Common.{List, [], ◌∷◌, ◌++◌, refl, sym, ◌∙◌, ap, subst, length, map, arith, rules, lit<, Result, Ok, Err}
+use Rattle.std.proofs.Common.{cond, ltb, nat_eq, get_or, drop, length-append}
 use Rattle.std.proofs.lemmas.Bool.{cases_eq, cases_lt, lt-ltb, le-ltb, le-leb, eq-eqb}
 use Rattle.std.proofs.lemmas.Bool.Decides.{leb_tells, eqb_tells}
 use Rattle.std.proofs.lemmas.List.{length-map, append-nil}
@@ -7,8 +9,9 @@ use Rattle.std.proofs.Math.Nat.{pow-suc}
 use Rattle.std.specs.Char.{is_ascii_digit, IsAsciiDigit}
 use Rattle.fixed_decimal.specs.Digits.{value_of, AreDigits, text_of}
 use Rattle.plural_reference.specs.Operands.{Operands, HasFraction}
-use Rattle.plural_reference.specs.OperandText.{IsWord, WritesCount, WritesFraction, WritesExponent, WritesUnsignedOperands, WritesOperands, FailsOperands, ReadsOperands}
-use Rattle.plural_reference.specs.Inner.OperandReader.{Answers, BeginsWithNoDigit, HasCount, HasWord, WritesBehindPoint, without_sign}
+use Rattle.plural_reference.specs.OperandText.{IsWord, WritesCount, WritesFraction, WritesExponent, WritesUnsignedOperands}
+use Rattle.plural_reference.specs.OperandText.{WritesOperands, FailsOperands, ReadsOperands}
+use Rattle.plural_reference.specs.Inner.OperandReader.{IsReading, BeginsWithNoDigit, HasCount, HasWord, WritesBehindPoint, without_sign}
 use Rattle.plural_reference.specs.declared.operands.error.OperandsError.{OperandsError}
 use Rattle.plural_reference.specs.declared.operands.error.OperandsError.TheVariants.{Empty, Invalid}
 use Rattle.plural_reference.proofs.numbers.Numbers.{power_above}
@@ -20,7 +23,8 @@ digits_of bytes = map (λ b. b - 48) bytes
 
 digits_of-text_of : (ds : List ℕ) → digits_of (text_of ds) ≡ ds
 digits_of-text_of [] = refl
-digits_of-text_of (d ∷ ds) = let e : 48 + d - 48 ≡ d = omega arith in ap (λ n. n ∷ digits_of (text_of ds)) e ∙ ap (λ l. d ∷ l) (digits_of-text_of ds)
+digits_of-text_of (d ∷ ds) = let e : 48 + d - 48 ≡ d = omega arith in ap (λ n. n ∷ digits_of (text_of ds)) e
+    ∙ ap (λ l. d ∷ l) (digits_of-text_of ds)
 
 -- a text is that of one list of digits
 pub same_digits : (xs ys : List ℕ) → text_of xs ≡ text_of ys → xs ≡ ys
@@ -75,7 +79,8 @@ scan_goes_on n b m bytes h e below = rw (digit_yes b h, sym e, lt-ltb m (2 ^ 64)
 scan_overflows : (n b : ℕ) (bytes : List ℕ) → IsAsciiDigit b → 2 ^ 64 ≤ n * 10 + (b - 48) → scanned n (b ∷ bytes) ≡ None
 scan_overflows n b bytes h above = rw (digit_yes b h, le-ltb (n * 10 + (b - 48)) (2 ^ 64) above) refl
 
-pub scan_overflows_at : (n : ℕ) (rest : List ℕ) → 1 ≤ length rest → IsAsciiDigit (get_or rest 0 0) → 2 ^ 64 ≤ n * 10 + (get_or rest 0 0 - 48) → scanned n rest ≡ None
+pub scan_overflows_at : (n : ℕ) (rest : List ℕ) → 1 ≤ length rest → IsAsciiDigit (get_or rest 0 0)
+    → 2 ^ 64 ≤ n * 10 + (get_or rest 0 0 - 48) → scanned n rest ≡ None
 scan_overflows_at n [] some h above = absurd (omega (arith, some))
 scan_overflows_at n (b ∷ bytes) some h above = scan_overflows n b bytes h above
 
@@ -89,10 +94,12 @@ front_below x zero v m h e = absurd (omega arith)
 front_below x (suc p) v m h e = omega (arith, e)
 
 -- the digits that are written are those that are scanned
-scans_digits : (ds rest : List ℕ) (n m : ℕ) → AreDigits ds → BeginsWithNoDigit rest → m ≡ n * 10 ^ length ds + value_of ds → m < 2 ^ 64 → scanned n (text_of ds ++ rest) ≡ Some (m, rest)
+scans_digits : (ds rest : List ℕ) (n m : ℕ) → AreDigits ds → BeginsWithNoDigit rest → m ≡ n * 10 ^ length ds + value_of ds
+    → m < 2 ^ 64 → scanned n (text_of ds ++ rest) ≡ Some (m, rest)
 scans_digits [] rest n m h w e below = scan_stops n rest w ∙ ap (λ k. Some (k, rest)) (omega (arith, e))
 scans_digits (d ∷ ds) rest n m h w e below =
-    let total : m ≡ (n * 10 + d) * 10 ^ length ds + value_of ds = e ∙ one_more n d (10 ^ length ds) _ (value_of ds) (pow-suc 10 (length ds)) in
+    let total : m ≡ (n * 10 + d) * 10 ^ length ds + value_of ds = e
+    ∙ one_more n d (10 ^ length ds) _ (value_of ds) (pow-suc 10 (length ds)) in
     let front : n * 10 + d ≤ m = front_below (n * 10 + d) (10 ^ length ds) (value_of ds) m (power_above (length ds)) total in
     scan_goes_on n (48 + d) (n * 10 + d) (text_of ds ++ rest) (written_digit d h.0) (omega arith) (omega (arith, front, below))
     ∙ scans_digits ds rest (n * 10 + d) m h.1 w total below
@@ -127,7 +134,14 @@ both_parts n m xs ys e = (ap (λ l. number_in l) e, ap (λ l. rest_in l) e)
 ends_here : (n m : ℕ) (text rest : List ℕ) → n < 2 ^ 64 → BeginsWithNoDigit text → left n text ≡ left m rest → Scans n text m rest
 ends_here n m text rest below w e =
     let p : (n ≡ m) × (text ≡ rest) = both_parts n m text rest e in
-    record { ds = []; digits = tt; spelled = p.1; value = sym p.0 ∙ omega arith; whole = subst BeginsWithNoDigit p.1 w; below = subst (λ k. k < 2 ^ 64) p.0 below }
+    record {
+      ds = [];
+      digits = tt;
+      spelled = p.1;
+      value = sym p.0 ∙ omega arith;
+      whole = subst BeginsWithNoDigit p.1 w;
+      below = subst (λ k. k < 2 ^ 64) p.0 below;
+    }
 
 scan_tells : (text : List ℕ) (n m : ℕ) (rest : List ℕ) → n < 2 ^ 64 → scanned n text ≡ Some (m, rest) → Scans n text m rest
 scan_tells [] n m rest below e = ends_here n m [] rest below tt e
@@ -168,7 +182,8 @@ scan_of_word text ds rest h =
     ap (scanned 0) h.spelled ∙ scans_digits ds rest 0 (value_of ds) h.word.digits h.whole (omega arith) h.word.below
 
 -- what was scanned is a word where it has a digit
-pub word_found : (text : List ℕ) (m count : ℕ) (rest : List ℕ) → scanned 0 text ≡ Some (m, rest) → count ≡ length text - length rest → count ≢ 0
+pub word_found : (text : List ℕ) (m count : ℕ) (rest : List ℕ) → scanned 0 text ≡ Some (m, rest) → count ≡ length text - length rest
+    → count ≢ 0
     → (ds : List ℕ) × HasWord text ds rest × (m ≡ value_of ds) × (count ≡ length ds)
 word_found text m count rest e size some =
     let s : Scans 0 text m rest = scan_tells text 0 m rest (lit< tt) e in
@@ -211,10 +226,12 @@ pub same_tail : (a b : ℕ) (xs ys : List ℕ) → a ∷ xs ≡ b ∷ ys → xs 
 same_tail a b xs ys e = cc
 
 -- a text has one front of digits
-one_front : (xs r ys s : List ℕ) → AreDigits xs → AreDigits ys → BeginsWithNoDigit r → BeginsWithNoDigit s → text_of xs ++ r ≡ text_of ys ++ s → (xs ≡ ys) × (r ≡ s)
+one_front : (xs r ys s : List ℕ) → AreDigits xs → AreDigits ys → BeginsWithNoDigit r → BeginsWithNoDigit s
+    → text_of xs ++ r ≡ text_of ys ++ s → (xs ≡ ys) × (r ≡ s)
 one_front [] r [] s h k p q e = (refl, e)
 one_front [] r (y ∷ ys) s h k p q e = absurd (let no : ¬ (IsAsciiDigit (48 + y)) = subst BeginsWithNoDigit e p in no (written_digit y k.0))
-one_front (x ∷ xs) r [] s h k p q e = absurd (let no : ¬ (IsAsciiDigit (48 + x)) = subst BeginsWithNoDigit (sym e) q in no (written_digit x h.0))
+one_front (x ∷ xs) r [] s h k p q e =
+    absurd (let no : ¬ (IsAsciiDigit (48 + x)) = subst BeginsWithNoDigit (sym e) q in no (written_digit x h.0))
 one_front (x ∷ xs) r (y ∷ ys) s h k p q e =
     let first : 48 + x ≡ 48 + y = other_head (48 + x) (48 + y) (text_of xs ++ r) (text_of ys ++ s) e in
     let digit : x ≡ y = omega (arith, first) in
@@ -240,7 +257,8 @@ sign_or_not : (sign : ℕ) (text : List ℕ) → (text ≡ sign ∷ without_sign
 sign_or_not sign [] = inr refl
 sign_or_not sign (b ∷ bytes) =
     elim (cases_eq b sign) [
-      | inl same ↦ inl (ap (λ c. c ∷ bytes) same ∙ ap (λ l. sign ∷ l) (sym (ap (λ c. without_sign sign (c ∷ bytes)) same ∙ with_sign sign bytes)))
+      | inl same ↦ inl (ap (λ c. c ∷ bytes) same
+          ∙ ap (λ l. sign ∷ l) (sym (ap (λ c. without_sign sign (c ∷ bytes)) same ∙ with_sign sign bytes)))
       | inr other ↦ inr (with_other sign b bytes other)
     ]
 
@@ -258,7 +276,8 @@ count_of_word text ds rest h =
       | inr plain ↦ (text_of ds, (ds, h.word, refl, inl refl), sym plain ∙ h.spelled, h.whole)
     ]
 
-pub word_of_count : (text : List ℕ) (n : ℕ) (rest : List ℕ) → HasCount text n rest → (ds : List ℕ) × HasWord (without_sign 43 text) ds rest × (value_of ds ≡ n)
+pub word_of_count : (text : List ℕ) (n : ℕ) (rest : List ℕ) → HasCount text n rest
+    → (ds : List ℕ) × HasWord (without_sign 43 text) ds rest × (value_of ds ≡ n)
 word_of_count text n rest (front, (ds, w, v, inl e), k, whole) =
     let spelled : text ≡ text_of ds ++ rest = k ∙ ap (λ l. l ++ rest) e in
     (ds, record { word = w; spelled = ap (without_sign 43) spelled ∙ digits_without 43 ds rest (lit< tt) w.nonempty; whole = whole }, v)
@@ -273,8 +292,10 @@ one_count text m r n s h k =
     let same : (x.0 ≡ y.0) × (r ≡ s) = one_word (without_sign 43 text) x.0 r y.0 s x.1 y.1 in
     (sym x.2 ∙ ap value_of same.0 ∙ y.2, same.1)
 
-pub no_count : (text : List ℕ) → ((ds rest : List ℕ) → ¬ (HasWord (without_sign 43 text) ds rest)) → (n : ℕ) (rest : List ℕ) → ¬ (HasCount text n rest)
-no_count text none n rest h = let w : (ds : List ℕ) × HasWord (without_sign 43 text) ds rest × (value_of ds ≡ n) = word_of_count text n rest h in none w.0 rest w.1
+pub no_count : (text : List ℕ) → ((ds rest : List ℕ) → ¬ (HasWord (without_sign 43 text) ds rest)) → (n : ℕ) (rest : List ℕ)
+    → ¬ (HasCount text n rest)
+no_count text none n rest h = let w : (ds : List ℕ) × HasWord (without_sign 43 text) ds rest × (value_of ds ≡ n) =
+    word_of_count text n rest h in none w.0 rest w.1
 
 -- a count behind which the text ends
 pub whole_count : (text : List ℕ) (n : ℕ) (rest : List ℕ) → rest ≡ [] → HasCount text n rest → WritesCount text n
@@ -294,7 +315,8 @@ pub no_exponent_of : (text : List ℕ) → text ≢ [] → ((more : List ℕ) �
 no_exponent_of text some other c (inl h) = some h.0
 no_exponent_of text some other c (inr (more, w, e)) = other more e
 
-pub answer_exponent : (text rest : List ℕ) (r : Option ℕ) → text ≡ 101 ∷ rest → Answers (WritesCount rest) r → Answers (WritesExponent text) r
+pub answer_exponent : (text rest : List ℕ) (r : Option ℕ) → text ≡ 101 ∷ rest → IsReading (WritesCount rest) r
+    → IsReading (WritesExponent text) r
 answer_exponent text rest (Some c) e a = inr (rest, a, e)
 answer_exponent text rest None e a = refused
   where
@@ -304,21 +326,26 @@ answer_exponent text rest None e a = refused
 
 -- ---- behind the point
 
-pub word_behind_point : (i : ℕ) (text : List ℕ) (o : Operands) → WritesBehindPoint i text o → (ds rest : List ℕ) × HasWord text ds rest × WritesExponent rest o.c
-word_behind_point i text o (ds, rest, whole, w, f, x, e) = (ds, rest, record { word = w; spelled = e; whole = exponent_begins rest o.c x }, x)
+pub word_behind_point : (i : ℕ) (text : List ℕ) (o : Operands) → WritesBehindPoint i text o
+    → (ds rest : List ℕ) × HasWord text ds rest × WritesExponent rest o.c
+word_behind_point i text o (ds, rest, whole, w, f, x, e) =
+    (ds, rest, record { word = w; spelled = e; whole = exponent_begins rest o.c x }, x)
 
-pub no_word_behind_point : (i : ℕ) (text : List ℕ) → ((ds rest : List ℕ) → ¬ (HasWord text ds rest)) → (o : Operands) → ¬ (WritesBehindPoint i text o)
+pub no_word_behind_point : (i : ℕ) (text : List ℕ) → ((ds rest : List ℕ) → ¬ (HasWord text ds rest)) → (o : Operands)
+    → ¬ (WritesBehindPoint i text o)
 no_word_behind_point i text none o h =
     let w : (ds rest : List ℕ) × HasWord text ds rest × WritesExponent rest o.c = word_behind_point i text o h in
     none w.0 w.1 w.2
 
-pub no_exponent_behind_point : (i : ℕ) (text ds rest : List ℕ) → HasWord text ds rest → ((c : ℕ) → ¬ (WritesExponent rest c)) → (o : Operands) → ¬ (WritesBehindPoint i text o)
+pub no_exponent_behind_point : (i : ℕ) (text ds rest : List ℕ) → HasWord text ds rest → ((c : ℕ) → ¬ (WritesExponent rest c))
+    → (o : Operands) → ¬ (WritesBehindPoint i text o)
 no_exponent_behind_point i text ds rest h none o k =
     let w : (ds rest : List ℕ) × HasWord text ds rest × WritesExponent rest o.c = word_behind_point i text o k in
     let same : (w.0 ≡ ds) × (w.1 ≡ rest) = one_word text w.0 w.1 ds rest w.2 h in
     none o.c (subst (λ (l : List ℕ). WritesExponent l o.c) same.1 w.3)
 
-pub behind_point : (i : ℕ) (text ds rest : List ℕ) (o : Operands) → HasWord text ds rest → o.i ≡ i → HasFraction o (length ds) (value_of ds) → WritesExponent rest o.c → WritesBehindPoint i text o
+pub behind_point : (i : ℕ) (text ds rest : List ℕ) (o : Operands) → HasWord text ds rest → o.i ≡ i
+    → HasFraction o (length ds) (value_of ds) → WritesExponent rest o.c → WritesBehindPoint i text o
 behind_point i text ds rest o h whole f x = (ds, rest, whole, h.word, f, x, h.spelled)
 
 -- ---- without a sign
@@ -326,14 +353,36 @@ behind_point i text ds rest o h whole f x = (ds, rest, whole, h.word, f, x, h.sp
 -- the integer, and what stands behind it
 pub count_of_unsigned : (text : List ℕ) (o : Operands) → WritesUnsignedOperands text o
     → (fraction exponent : List ℕ) × HasCount text o.i (fraction ++ exponent) × WritesFraction fraction o × WritesExponent exponent o.c
-count_of_unsigned text o (whole, fraction, exponent, w, inl f, x, e) =
-    (fraction, exponent, (whole, w, e, subst BeginsWithNoDigit (ap (λ l. l ++ exponent) (sym f.0)) (exponent_begins exponent o.c x)), inl f, x)
-count_of_unsigned text o (whole, fraction, exponent, w, inr (ds, d, e, f), x, k) =
-    (fraction, exponent, (whole, w, k, subst BeginsWithNoDigit (ap (λ l. l ++ exponent) (sym e)) (λ (h : IsAsciiDigit 46). omega (arith, h.0))), inr (ds, d, e, f), x)
+count_of_unsigned text o (whole, fraction, exponent, w, inl f, x, e) = (
+  fraction,
+  exponent,
+  (
+    whole,
+    w,
+    e,
+    subst BeginsWithNoDigit (ap (λ l. l ++ exponent) (sym f.0)) (exponent_begins exponent o.c x),
+  ),
+  inl f,
+  x,
+)
+count_of_unsigned text o (whole, fraction, exponent, w, inr (ds, d, e, f), x, k) = (
+  fraction,
+  exponent,
+  (
+    whole,
+    w,
+    k,
+    subst BeginsWithNoDigit (ap (λ l. l ++ exponent) (sym e)) (λ (h : IsAsciiDigit 46). omega (arith, h.0)),
+  ),
+  inr (ds, d, e, f),
+  x,
+)
 
-pub no_unsigned : (text : List ℕ) → ((n : ℕ) (rest : List ℕ) → ¬ (HasCount text n rest)) → (o : Operands) → ¬ (WritesUnsignedOperands text o)
+pub no_unsigned : (text : List ℕ) → ((n : ℕ) (rest : List ℕ) → ¬ (HasCount text n rest)) → (o : Operands)
+    → ¬ (WritesUnsignedOperands text o)
 no_unsigned text none o h =
-    let parts : (fraction exponent : List ℕ) × HasCount text o.i (fraction ++ exponent) × WritesFraction fraction o × WritesExponent exponent o.c
+    let parts : (fraction exponent : List ℕ) × HasCount text o.i (fraction ++ exponent) × WritesFraction fraction o
+    × WritesExponent exponent o.c
     = count_of_unsigned text o h in
     none o.i (parts.0 ++ parts.1) parts.2
 
@@ -342,7 +391,8 @@ pub unsigned_behind : (text : List ℕ) (i : ℕ) (rest : List ℕ) (o : Operand
     → ((more : List ℕ) × (rest ≡ 46 ∷ more) × WritesBehindPoint i more o) ⊎ (WritesExponent rest o.c × HasFraction o 0 0 × (o.i ≡ i))
 unsigned_behind text i rest o h k = behind (count_of_unsigned text o k)
   where
-    behind : (fraction exponent : List ℕ) × HasCount text o.i (fraction ++ exponent) × WritesFraction fraction o × WritesExponent exponent o.c
+    behind : (fraction exponent : List ℕ) × HasCount text o.i (fraction ++ exponent) × WritesFraction fraction o
+        × WritesExponent exponent o.c
         → ((more : List ℕ) × (rest ≡ 46 ∷ more) × WritesBehindPoint i more o) ⊎ (WritesExponent rest o.c × HasFraction o 0 0 × (o.i ≡ i))
     behind (fraction, exponent, n, inl f, x) =
         let same : (o.i ≡ i) × (fraction ++ exponent ≡ rest) = one_count text o.i (fraction ++ exponent) i rest n h in
@@ -353,23 +403,35 @@ unsigned_behind text i rest o h k = behind (count_of_unsigned text o k)
         inl (text_of ds ++ exponent, sym same.1 ∙ ap (λ l. l ++ exponent) e, (ds, exponent, same.0, d, f, x, refl))
 
 -- at a point
-pub answer_pointed : (text : List ℕ) (i : ℕ) (rest more : List ℕ) (r : Option Operands) → HasCount text i rest → rest ≡ 46 ∷ more → Answers (WritesBehindPoint i more) r → Answers (WritesUnsignedOperands text) r
-answer_pointed text i rest more (Some o) (front, w, e, whole) k (ds, tail, same, d, f, x, spelled) =
-    (front, 46 ∷ text_of ds, tail, subst (WritesCount front) (sym same) w, inr (ds, d, refl, f), x, e ∙ ap (λ l. front ++ l) (k ∙ ap (λ l. 46 ∷ l) spelled))
+pub answer_pointed : (text : List ℕ) (i : ℕ) (rest more : List ℕ) (r : Option Operands) → HasCount text i rest → rest ≡ 46 ∷ more
+    → IsReading (WritesBehindPoint i more) r → IsReading (WritesUnsignedOperands text) r
+answer_pointed text i rest more (Some o) (front, w, e, whole) k (ds, tail, same, d, f, x, spelled) = (
+  front,
+  46 ∷ text_of ds,
+  tail,
+  subst (WritesCount front) (sym same) w,
+  inr (ds, d, refl, f),
+  x,
+  e
+      ∙ ap (λ l. front ++ l) (k ∙ ap (λ l. 46 ∷ l) spelled),
+)
 answer_pointed text i rest more None h k a = refused
   where
     refused : (o : Operands) → ¬ (WritesUnsignedOperands text o)
     refused o u =
         elim (unsigned_behind text i rest o h u) [
           | inl p ↦ a o (subst (λ (l : List ℕ). WritesBehindPoint i l o) (same_tail 46 46 p.0 more (sym p.1 ∙ k)) p.2)
-          | inr p ↦ no_exponent_of rest (λ z. let z : 0 ≡ suc (length more) = ap length (sym z ∙ k) in omega (arith, z)) (λ others z. let z : 101 ≡ 46 = other_head 101 46 others more (sym z ∙ k) in omega (arith, z)) o.c p.0
+          | inr p ↦ no_exponent_of rest (λ z. let z : 0 ≡ suc (length more) = ap length (sym z ∙ k) in omega (arith, z))
+              (λ others z. let z : 101 ≡ 46 = other_head 101 46 others more (sym z ∙ k) in omega (arith, z)) o.c p.0
         ]
 
 -- without one
-pub unpointed : (text : List ℕ) (i : ℕ) (rest : List ℕ) (o : Operands) → HasCount text i rest → o.i ≡ i → HasFraction o 0 0 → WritesExponent rest o.c → WritesUnsignedOperands text o
+pub unpointed : (text : List ℕ) (i : ℕ) (rest : List ℕ) (o : Operands) → HasCount text i rest → o.i ≡ i → HasFraction o 0 0
+    → WritesExponent rest o.c → WritesUnsignedOperands text o
 unpointed text i rest o (front, w, e, whole) same f x = (front, [], rest, subst (WritesCount front) (sym same) w, inl (refl, f), x, e)
 
-pub no_unpointed : (text : List ℕ) (i : ℕ) (rest : List ℕ) → HasCount text i rest → ((more : List ℕ) → rest ≢ 46 ∷ more) → ((c : ℕ) → ¬ (WritesExponent rest c)) → (o : Operands) → ¬ (WritesUnsignedOperands text o)
+pub no_unpointed : (text : List ℕ) (i : ℕ) (rest : List ℕ) → HasCount text i rest → ((more : List ℕ) → rest ≢ 46 ∷ more)
+    → ((c : ℕ) → ¬ (WritesExponent rest c)) → (o : Operands) → ¬ (WritesUnsignedOperands text o)
 no_unpointed text i rest h other none o u =
     elim (unsigned_behind text i rest o h u) [
       | inl p ↦ other p.0 p.1
@@ -400,5 +462,6 @@ unsigned_named text o h =
       | inr plain ↦ inl (subst (λ (l : List ℕ). WritesUnsignedOperands l o) plain h)
     ]
 
-pub not_named : (text : List ℕ) → text ≢ [] → ((o : Operands) → ¬ (WritesUnsignedOperands (without_sign 45 text) o)) → FailsOperands text Invalid
+pub not_named : (text : List ℕ) → text ≢ [] → ((o : Operands) → ¬ (WritesUnsignedOperands (without_sign 45 text) o))
+    → FailsOperands text Invalid
 not_named text some none = (some, λ o h. none o (named_unsigned text o h))

@@ -12,13 +12,13 @@ use Rattle.plural_reference.specs.declared.ast.Relation.{Relation}
 use Rattle.plural_reference.specs.declared.ast.Value.{Value}
 use Rattle.plural_reference.specs.declared.token.Token.{Token}
 use Rattle.plural_reference.specs.declared.token.Token.TheVariants.{Operator, Number, Zero, Comma, Or, And}
-use Rattle.plural_reference.specs.Parser.{Separated, value_of, IsItem, IsModulus, IsRelation, IsAndCondition, IsCondition, ReadsUpTo}
+use Rattle.plural_reference.specs.Parser.{Separated, token_value, IsItem, IsModulus, IsRelation, IsAndCondition, IsCondition, ReadsUpTo}
 use Rattle.plural_reference.specs.PrintingLaws.{FitsToken, IsSpellableItem, IsSpellableRelation}
 use Rattle.plural_reference.specs.PrintingLaws.{IsSpellableGroup, IsSpellable, ConditionsOfTextsAreSpellable}
 use Rattle.plural_reference.proofs.tokens.TokensFit.{TokenFits, AllFit, fit_left, fit_right, tokens_fit}
 
 -- the value of a token that fits is one that a token holds
-value_fits : (t : Token) (v : Value) → TokenFits t → value_of t ≡ Some v → FitsToken v
+value_fits : (t : Token) (v : Value) → TokenFits t → token_value t ≡ Some v → FitsToken v
 value_fits (Number n) v h e = let same : record { 0 = n } ≡ v = cc in subst (λ (x : Value). FitsToken x) same h
 value_fits Zero v h e = let same : record { 0 = 0 } ≡ v = cc in subst (λ (x : Value). FitsToken x) same (omega arith)
 value_fits _ v h e = cc

@@ -17,7 +17,7 @@ use Rattle.plural_reference.specs.Reading.{IsFault}
 use Rattle.plural_reference.specs.declared.token.Token.{Token}
 use Rattle.plural_reference.specs.declared.token.Token.TheVariants.{Operator, DotDot, Comma, Modulo, And, Or, At}
 use Rattle.plural_reference.specs.Lexer.{first}
-use Rattle.plural_reference.specs.Parser.{value_of, operand_of, value_fault, operator_fault, IsUnconditional}
+use Rattle.plural_reference.specs.Parser.{token_value, operand_of, value_fault, operator_fault, IsUnconditional}
 use Rattle.plural_reference.specs.Inner.Reader.{Before, Opened, State, before_operand, after_operand, before_item, after_item}
 use Rattle.plural_reference.specs.Inner.Reader.{relation_of, with_relation, with_group, ended_condition, no_operand, refuse, run, begin}
 use Rattle.plural_reference.specs.Inner.Reader.{ReadsItem, ReadsItems, ReadsExpression, NoDots, NoOperand, Completes, ReadsGroups}
@@ -31,21 +31,21 @@ no_item old o xs h = before_item_stop o xs old ExpectedValue h
 
 -- the same behind the dots of a range
 pub no_end : (old middle after : List Token) (t : Token) (v : Value) (o : Opened) (xs : List RangeListItem)
-    → old ≡ t ∷ middle → value_of t ≡ Some v → middle ≡ DotDot ∷ after → value_fault (first after) ≡ Some ExpectedValue
+    → old ≡ t ∷ middle → token_value t ≡ Some v → middle ≡ DotDot ∷ after → value_fault (first after) ≡ Some ExpectedValue
     → run (before_item o xs) old ≡ Err ExpectedValue
 unfolding run
 no_end old middle after t v o xs e h f k = rw (e, h, f) (before_end_stop o xs v after ExpectedValue k)
 
 -- two values with dots between them are a range
 pub item_range : (old middle after new : List Token) (t u : Token) (v w : Value)
-    → old ≡ t ∷ middle → value_of t ≡ Some v → middle ≡ DotDot ∷ after → after ≡ u ∷ new → value_of u ≡ Some w
+    → old ≡ t ∷ middle → token_value t ≡ Some v → middle ≡ DotDot ∷ after → after ≡ u ∷ new → token_value u ≡ Some w
     → ReadsItem old (items.Range v w) new
 unfolding run
 item_range old middle after new t u v w e h f g k = record { run_is = λ o xs. rw (e, h, f, g, k) refl; no_dots = tt }
 
 -- a value that no dots follow is an item
 pub item_value : (old middle new : List Token) (t : Token) (v : Value)
-    → old ≡ t ∷ middle → value_of t ≡ Some v → first middle ≢ Some DotDot → new ≡ middle → ReadsItem old (items.Value v) new
+    → old ≡ t ∷ middle → token_value t ≡ Some v → first middle ≢ Some DotDot → new ≡ middle → ReadsItem old (items.Value v) new
 unfolding run
 item_value old middle new t v e h f g = record { run_is = λ o xs. rw (e, h, g) refl; no_dots = rw g f }
 
@@ -99,7 +99,7 @@ expression_alone old new t o e h n = record {
 
 -- an operand, Modulo and a value are one
 pub expression_reduced : (old middle after new : List Token) (t u : Token) (o : operand.Operand) (v : Value)
-    → old ≡ t ∷ middle → operand_of t ≡ Some o → middle ≡ Modulo ∷ after → after ≡ u ∷ new → value_of u ≡ Some v
+    → old ≡ t ∷ middle → operand_of t ≡ Some o → middle ≡ Modulo ∷ after → after ≡ u ∷ new → token_value u ≡ Some v
     → ReadsExpression old (record { operand = o; modulus = Some v }) new
 unfolding run
 expression_reduced old middle after new t u o v e h f g k = record {

@@ -18,7 +18,7 @@ use Rattle.plural_reference.specs.declared.error.ParseError.{ParseError}
 use Rattle.plural_reference.specs.declared.error.ParseError.TheVariants.{ExpectedValue, ExpectedAndCondition, ExpectedRelation}
 use Rattle.plural_reference.specs.Parser as places
 use Rattle.plural_reference.specs.Lexer.{first, last}
-use Rattle.plural_reference.specs.Parser.{value_of, operand_of, IsItem, IsExpression, IsModulus, IsRelation, IsAndCondition}
+use Rattle.plural_reference.specs.Parser.{token_value, operand_of, IsItem, IsExpression, IsModulus, IsRelation, IsAndCondition}
 use Rattle.plural_reference.specs.Parser.{IsCondition, Separated, Continues, EndsInValue, IsUnconditional, ReadsUpTo, Faulty}
 use Rattle.plural_reference.specs.Parser.{last_item, ConditionThen, IsBeforeOperand, IsAfterOperand, IsAfterModulo, IsAfterModulus}
 use Rattle.plural_reference.specs.Parser.{IsBeforeValue, Waits, fault, operand_fault, operator_fault, value_fault}
@@ -293,7 +293,7 @@ arrives_after_modulo p h =
     (a.0, a.1, arrives_more p h.0 Modulo _ _ h.1 a.2 (modulo_next_run a.0 a.1))
 
 -- a modulus leads behind the whole expression
-modulus_next_run : (b : Before) (o : operand.Operand) (t : Token) (v : Value) (rest : List Token) → value_of t ≡ Some v
+modulus_next_run : (b : Before) (o : operand.Operand) (t : Token) (v : Value) (rest : List Token) → token_value t ≡ Some v
     → run (after_modulo b o) (t ∷ rest) ≡ run (after_modulus b (record { operand = o; modulus = Some v })) rest
 unfolding run
 modulus_next_run b o t v rest h = rw h refl
@@ -346,21 +346,21 @@ pub after_modulo_stop : (b : Before) (o : operand.Operand) (rest : List Token) (
     → value_fault (first rest) ≡ Some kind → run (after_modulo b o) rest ≡ Err kind
 unfolding run
 after_modulo_stop b o [] kind h = cc
-after_modulo_stop b o (t ∷ ts) kind h = value_stopped (value_of t) _ (t ∷ ts) kind _ h
+after_modulo_stop b o (t ∷ ts) kind h = value_stopped (token_value t) _ (t ∷ ts) kind _ h
 
 -- the fault of what follows is answered where an item is awaited
 pub before_item_stop : (o : Opened) (xs : List RangeListItem) (rest : List Token) (kind : ParseError)
     → value_fault (first rest) ≡ Some kind → run (before_item o xs) rest ≡ Err kind
 unfolding run
 before_item_stop o xs [] kind h = cc
-before_item_stop o xs (t ∷ ts) kind h = value_stopped (value_of t) _ (t ∷ ts) kind _ h
+before_item_stop o xs (t ∷ ts) kind h = value_stopped (token_value t) _ (t ∷ ts) kind _ h
 
 -- the fault of what follows is answered where the end of a range is awaited
 pub before_end_stop : (o : Opened) (xs : List RangeListItem) (v : Value) (rest : List Token) (kind : ParseError)
     → value_fault (first rest) ≡ Some kind → run (before_end o xs v) rest ≡ Err kind
 unfolding run
 before_end_stop o xs v [] kind h = cc
-before_end_stop o xs v (t ∷ ts) kind h = value_stopped (value_of t) _ (t ∷ ts) kind _ h
+before_end_stop o xs v (t ∷ ts) kind h = value_stopped (token_value t) _ (t ∷ ts) kind _ h
 
 -- the end behind Or is the fault ExpectedAndCondition
 no_operand_or : (groups : List AndCondition) (g : AndCondition) → no_operand (groups ++ g ∷ []) [] ≡ refuse ExpectedAndCondition

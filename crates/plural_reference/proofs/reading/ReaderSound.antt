@@ -16,7 +16,7 @@ use Rattle.plural_reference.specs.declared.error.ParseError.{ParseError}
 use Rattle.plural_reference.specs.declared.error.ParseError.TheVariants.{ExpectedValue, ExpectedAndCondition}
 use Rattle.plural_reference.specs.declared.error.ParseError.TheVariants.{ExpectedRelation, ExpectedOperand}
 use Rattle.plural_reference.specs.Parser as places
-use Rattle.plural_reference.specs.Parser.{value_of, operand_of, IsItem, IsExpression, IsModulus, IsRelation, IsAndCondition}
+use Rattle.plural_reference.specs.Parser.{token_value, operand_of, IsItem, IsExpression, IsModulus, IsRelation, IsAndCondition}
 use Rattle.plural_reference.specs.Parser.{IsCondition, Separated, Continues, EndsInValue, IsUnconditional, ReadsUpTo, Faulty}
 use Rattle.plural_reference.specs.Parser.{last_item, ConditionThen, IsBeforeOperand, IsAfterOperand, IsAfterModulo, IsAfterModulus}
 use Rattle.plural_reference.specs.Parser.{IsBeforeValue, Waits, fault, operand_fault, operator_fault, value_fault}
@@ -169,10 +169,10 @@ Spells p (after_operand b o) = (q : List Token) × (t : Token) × (p ≡ q ++ t 
 Spells p (after_modulo b o) = (q : List Token) × (t : Token) × (p ≡ q ++ t ∷ Modulo ∷ []) × SpellsBefore q b × (operand_of t ≡ Some o)
 Spells p (after_modulus b e) =
     (q : List Token) × (t : Token) × (u : Token) × (v : Value) × (p ≡ q ++ t ∷ Modulo ∷ u ∷ []) × SpellsBefore q b
-    × (operand_of t ≡ Some e.operand) × (value_of u ≡ Some v) × (e.modulus ≡ Some v)
+    × (operand_of t ≡ Some e.operand) × (token_value u ≡ Some v) × (e.modulus ≡ Some v)
 Spells p (before_item o xs) = SpellsItems p o xs
 Spells p (after_item o xs x) = SpellsItem p o xs x
-Spells p (before_end o xs v) = (q : List Token) × (t : Token) × (p ≡ q ++ t ∷ DotDot ∷ []) × SpellsItems q o xs × (value_of t ≡ Some v)
+Spells p (before_end o xs v) = (q : List Token) × (t : Token) × (p ≡ q ++ t ∷ DotDot ∷ []) × SpellsItems q o xs × (token_value t ≡ Some v)
 
 -- what is said of tokens by an outcome
 abbrev pub Said : List Token → Outcome → Type 0

@@ -18,7 +18,7 @@ use Rattle.plural_reference.specs.declared.parser.samples.SampleType.TheVariants
 use Rattle.plural_reference.specs.declared.token.Token.{Token}
 use Rattle.plural_reference.specs.declared.token.Token.TheVariants.{Operand, Number, Zero, Dot, Comma, At, Ellipsis, Tilde, E}
 use Rattle.plural_reference.specs.Lexer.{first}
-use Rattle.plural_reference.specs.Parser.{value_of}
+use Rattle.plural_reference.specs.Parser.{token_value}
 use Rattle.plural_reference.specs.Inner.Reader.{TakesValue}
 use Rattle.plural_reference.specs.Samples.{Section, IsDigits, IsExponentMark, IsSampleType, Takes, token_text, has_exponent, has_point}
 use Rattle.plural_reference.specs.Samples.{type_fault, sample_fault, samples_of, with_list}
@@ -36,7 +36,7 @@ use Rattle.plural_reference.proofs.samples.SampleComplete.{comma_run, ellipsis_r
 -- ---- texts
 
 -- the text of a token of digits is that of its number
-pub digit_again : (t : Token) (n : ℕ) → value_of t ≡ Some (record { 0 = n }) → IsDigits t × (token_text t ≡ decimal n)
+pub digit_again : (t : Token) (n : ℕ) → token_value t ≡ Some (record { 0 = n }) → IsDigits t × (token_text t ≡ decimal n)
 unfolding digits
 digit_again Zero n e = let v : record { 0 = 0 } ≡ record { 0 = n } = cc in (tt, ap (λ (x : Value). decimal x.0) v)
 digit_again (Number m) n e = let v : record { 0 = m } ≡ record { 0 = n } = cc in (tt, ap (λ (x : Value). decimal x.0) v)

@@ -6,9 +6,9 @@ use Rattle.plural_reference.specs.Operands.{Operands, HasFraction}
 use Rattle.plural_reference.specs.OperandText.{IsWord, WritesCount, WritesExponent}
 
 -- the answer is what the text writes, or none where it writes nothing
-abbrev pub Answers : {A : Type 0} → (A → Type 0) → Option A → Type 0
-Answers Writes (Some a) = Writes a
-Answers {A} Writes None = (a : A) → ¬ (Writes a)
+abbrev pub IsReading : {A : Type 0} → (A → Type 0) → Option A → Type 0
+IsReading Writes (Some a) = Writes a
+IsReading {A} Writes None = (a : A) → ¬ (Writes a)
 
 -- what stands behind a sign, or the whole text where it hasn't that sign
 abbrev pub without_sign : ℕ → List ℕ → List ℕ

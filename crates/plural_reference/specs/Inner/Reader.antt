@@ -11,10 +11,11 @@ use Rattle.plural_reference.specs.declared.ast.RangeListItem.TheVariants as item
 use Rattle.plural_reference.specs.declared.ast.Relation.{Relation}
 use Rattle.plural_reference.specs.declared.ast.Value.{Value}
 use Rattle.plural_reference.specs.declared.error.ParseError.{ParseError}
-use Rattle.plural_reference.specs.declared.error.ParseError.TheVariants.{ExpectedAndCondition, ExpectedRelation, ExpectedOperator, ExpectedOperand, ExpectedValue}
+use Rattle.plural_reference.specs.declared.error.ParseError.TheVariants.{ExpectedAndCondition, ExpectedRelation, ExpectedOperator}
+use Rattle.plural_reference.specs.declared.error.ParseError.TheVariants.{ExpectedOperand, ExpectedValue}
 use Rattle.plural_reference.specs.declared.token.Token.{Token}
 use Rattle.plural_reference.specs.declared.token.Token.TheVariants.{Operator, DotDot, Comma, Or, And, Modulo, At}
-use Rattle.plural_reference.specs.Parser.{value_of, operand_of, value_fault, operand_fault, operator_fault, IsUnconditional}
+use Rattle.plural_reference.specs.Parser.{token_value, operand_of, value_fault, operand_fault, operator_fault, IsUnconditional}
 use Rattle.plural_reference.specs.declared.token.Token.TheVariants as token
 use Rattle.plural_reference.specs.Lexer.{first}
 
@@ -105,11 +106,11 @@ operand_next t b o = operator_move t b (record { operand = o; modulus = None })
 abbrev pub step : State → Token → Move
 step (before_operand b) t = operand_move (operand_of t) t b
 step (after_operand b o) t = operand_next t b o
-step (after_modulo b o) t = value_move (value_of t) (λ v. after_modulus b (record { operand = o; modulus = Some v }))
+step (after_modulo b o) t = value_move (token_value t) (λ v. after_modulus b (record { operand = o; modulus = Some v }))
 step (after_modulus b e) t = operator_move t b e
-step (before_item o xs) t = value_move (value_of t) (λ v. after_item o xs (items.Value v))
+step (before_item o xs) t = value_move (token_value t) (λ v. after_item o xs (items.Value v))
 step (after_item o xs x) t = item_move o xs x t
-step (before_end o xs v) t = value_move (value_of t) (λ w. after_item o xs (items.Range v w))
+step (before_end o xs v) t = value_move (token_value t) (λ w. after_item o xs (items.Range v w))
 
 -- where the tokens end
 abbrev pub at_end : State → Move
@@ -178,12 +179,13 @@ ReadsOption Read old (Some x) new = Read old x new
 
 -- an expression is read wherever an operand is awaited: an operator behind it leads to the items, and any other token is a fault
 pub record ReadsExpression (old : List Token) (e : Expression) (new : List Token) : Type 0 where
-  pub goes_on : (b : Before) (op : operator.Operator) (rest : List Token) → new ≡ token.Operator op ∷ rest → run (before_operand b) old ≡ run (before_item (record { before = b; expression = e; operator = op }) []) rest
+  pub goes_on : (b : Before) (op : operator.Operator) (rest : List Token) → new ≡ token.Operator op ∷ rest
+      → run (before_operand b) old ≡ run (before_item (record { before = b; expression = e; operator = op }) []) rest
   pub stops : (b : Before) → operator_fault (first new) ≡ Some ExpectedOperator → run (before_operand b) old ≡ Err ExpectedOperator
 
 -- the first token is the value
 abbrev pub TakesValue : List Token → Value → List Token → Type 0
-TakesValue old v new = (t : Token) × (old ≡ t ∷ new) × (value_of t ≡ Some v)
+TakesValue old v new = (t : Token) × (old ≡ t ∷ new) × (token_value t ≡ Some v)
 
 -- no value comes next
 abbrev pub NoValue : List Token → ParseError → Type 0

@@ -1,14 +1,17 @@
 -- Not a definition of the subject: a reader of samples, token by token. The parser's private contracts cite it; that it
 -- answers what the grammar says is proved.
-use Rattle.std.specs.Prelude.{Bool, true, false, List, [], ◌∷◌, ◌++◌, Option, Some, None, Result, Ok, Err, ◌||◌, cond, ◌≡◌, ◌≢◌, ◌⊎◌, ℕ, IfSome, unwrap_or}
+use Rattle.std.specs.Prelude.{Bool, true, false, List, [], ◌∷◌, ◌++◌, Option, Some, None, Result, Ok, Err, ◌||◌, cond, ◌≡◌, ◌≢◌}
+use Rattle.std.specs.Prelude.{◌⊎◌, ℕ, IfSome, unwrap_or}
 use Rattle.plural_reference.specs.declared.ast.Operand.TheVariants.{C}
 use Rattle.plural_reference.specs.declared.ast.DecimalValue.{DecimalValue}
 use Rattle.plural_reference.specs.declared.ast.SampleRange.{SampleRange}
 use Rattle.plural_reference.specs.declared.error.ParseError.{ParseError}
 use Rattle.plural_reference.specs.declared.error.ParseError.TheVariants.{ExpectedValue, ExpectedSampleType}
 use Rattle.plural_reference.specs.declared.token.Token.{Token}
-use Rattle.plural_reference.specs.declared.token.Token.TheVariants.{Operand, Number, Zero, Dot, Comma, At, Decimal, Integer, Ellipsis, Tilde, E}
-use Rattle.plural_reference.specs.Samples.{Section, token_text, has_exponent, has_point, IsExponentMark, Takes, type_fault, samples_of, with_list}
+use Rattle.plural_reference.specs.declared.token.Token.TheVariants.{Operand, Number, Zero, Dot, Comma, At, Decimal, Integer}
+use Rattle.plural_reference.specs.declared.token.Token.TheVariants.{Ellipsis, Tilde, E}
+use Rattle.plural_reference.specs.Samples.{Section, token_text, has_exponent, has_point, IsExponentMark, Takes, type_fault}
+use Rattle.plural_reference.specs.Samples.{samples_of, with_list}
 use Rattle.plural_reference.specs.declared.ast.SampleList.{SampleList}
 use Rattle.plural_reference.specs.declared.ast.Samples as samples
 use Rattle.plural_reference.specs.declared.parser.samples.SampleType.{SampleType}
@@ -212,7 +215,8 @@ pub record ReadsRange (old : List Token) (range : SampleRange) (new : List Token
   pub lower : Option DecimalValue
   pub text : DecimalValue
   pub range_is : range ≡ range_of lower text
-  pub run_is : (p : Partial) → p.lower ≡ None → run_samples (awaits_sample p) old ≡ run_samples (in_sample (record p { lower = lower }) text) new
+  pub run_is : (p : Partial) → p.lower ≡ None
+      → run_samples (awaits_sample p) old ≡ run_samples (in_sample (record p { lower = lower }) text) new
   pub whole : IfSome (first new) (λ t. ¬ (Takes text t))
   pub no_tilde : lower ≡ None → first new ≢ Some Tilde
 
@@ -226,7 +230,8 @@ pub record ReadsRanges (old : List Token) (ranges : List SampleRange) (new : Lis
   pub lower : Option DecimalValue
   pub text : DecimalValue
   pub ranges_are : ranges ≡ front ++ (range_of lower text) ∷ []
-  pub run_is : (sections : List Section) (type : Token) → run_samples (awaits_sample (begin_list sections type)) old ≡ run_samples (in_list sections type front lower text) new
+  pub run_is : (sections : List Section) (type : Token)
+      → run_samples (awaits_sample (begin_list sections type)) old ≡ run_samples (in_list sections type front lower text) new
   pub whole : IfSome (first new) (λ t. ¬ (Takes text t))
   pub no_tilde : lower ≡ None → first new ≢ Some Tilde
 
@@ -234,7 +239,8 @@ pub record ReadsRanges (old : List Token) (ranges : List SampleRange) (new : Lis
 abbrev pub ReadsSampleList : List Token → SampleList → List Token → Type 0
 ReadsSampleList old list new =
     (sections : List Section) (type : Token)
-    → run_samples (awaits_sample (begin_list sections type)) old ≡ run_samples (after_sections (sections ++ (record { type = type; list = list }) ∷ [])) new
+    → run_samples (awaits_sample (begin_list sections type)) old
+    ≡ run_samples (after_sections (sections ++ (record { type = type; list = list }) ∷ [])) new
 
 -- lists are read from the beginning; At may follow
 pub record ReadsLists (old : List Token) (samples : Option samples.Samples) (new : List Token) : Type 0 where

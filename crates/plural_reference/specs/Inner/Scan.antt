@@ -6,7 +6,8 @@ use Rattle.std.specs.Char.{is_ascii_digit, digit_value}
 use Rattle.plural_reference.specs.declared.ast.Operand.TheVariants.{N, I, F, T, V, W, C}
 use Rattle.plural_reference.specs.declared.ast.Operator.TheVariants.{Eq, NotEq}
 use Rattle.plural_reference.specs.declared.token.Token.{Token}
-use Rattle.plural_reference.specs.declared.token.Token.TheVariants.{Operand, Operator, Number, Zero, Dot, DotDot, Comma, Or, And, Modulo, Junk, At, Decimal, Integer, Ellipsis, Tilde, E}
+use Rattle.plural_reference.specs.declared.token.Token.TheVariants.{Operand, Operator, Number, Zero, Dot, DotDot, Comma, Or, And}
+use Rattle.plural_reference.specs.declared.token.Token.TheVariants.{Modulo, Junk, At, Decimal, Integer, Ellipsis, Tilde, E}
 use Rattle.plural_reference.specs.Lexer.{blank, max_number}
 
 -- where the bytes so far stand in a piece
@@ -55,7 +56,8 @@ look_up b (s ∷ ss) = cond (nat_eq b s.0) (start_move s.1) (look_up b ss)
 abbrev pub begin_piece : ℕ → ScanMove
 begin_piece b =
     cond (nat_eq b blank) ([], between)
-    (cond (nat_le (byte "1") b) (cond (nat_le b (byte "9")) ([], in_number (0 * 10 + digit_value b)) (look_up b piece_starts)) (look_up b piece_starts))
+    (cond (nat_le (byte "1") b) (cond (nat_le b (byte "9")) ([], in_number (0 * 10 + digit_value b)) (look_up b piece_starts))
+    (look_up b piece_starts))
 
 -- the token of a whole number
 abbrev pub number_token : ℕ → Token

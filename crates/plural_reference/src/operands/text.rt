@@ -3,7 +3,7 @@
 ghost use Rattle.std.specs.Prelude.{◌≡◌, ◌+◌, ◌*◌, ◌^◌, ◌<◌, ◌≤◌, ℕ, List, length, IfSome, IfNone};
 ghost use Rattle.fixed_decimal.specs.Digits.{value_of};
 ghost use Rattle.plural_reference.specs.OperandText.{WritesCount, WritesExponent, WritesUnsignedOperands, ReadsOperands};
-ghost use Rattle.plural_reference.specs.Inner.OperandReader.{Answers, HasCount, HasWord, WritesBehindPoint, without_sign};
+ghost use Rattle.plural_reference.specs.Inner.OperandReader.{IsReading, HasCount, HasWord, WritesBehindPoint, without_sign};
 
 use crate::operands::{OperandsError, PluralOperands};
 use std::str::FromStr;
@@ -33,7 +33,7 @@ impl FromStr for PluralOperands {
 
 // What a text without `-` names.
 fn read_unsigned(text: &[u8]) -> Option<PluralOperands>
-    ensures { Answers (WritesUnsignedOperands text.now) result }
+    ensures { IsReading (WritesUnsignedOperands text.now) result }
 {
     let (i, rest) = read_count(text)?;
     match rest {
@@ -45,7 +45,7 @@ fn read_unsigned(text: &[u8]) -> Option<PluralOperands>
 // The same, behind an integer and its point.
 #[inline]
 fn read_fraction(i: u64, text: &[u8]) -> Option<PluralOperands>
-    ensures { Answers (WritesBehindPoint i text.now) result }
+    ensures { IsReading (WritesBehindPoint i text.now) result }
 {
     let (f, v, rest) = read_digits(text)?;
     Some(PluralOperands::from_parts(i, v, f, read_exponent(rest)?))
@@ -54,7 +54,7 @@ fn read_fraction(i: u64, text: &[u8]) -> Option<PluralOperands>
 // Nothing, for 0, or `e` and a count.
 #[inline]
 fn read_exponent(text: &[u8]) -> Option<usize>
-    ensures { Answers (WritesExponent text.now) result }
+    ensures { IsReading (WritesExponent text.now) result }
 {
     match text {
         [] => Some(0),
@@ -65,7 +65,7 @@ fn read_exponent(text: &[u8]) -> Option<usize>
 
 // A count, behind which the text ends.
 fn read_last_count(text: &[u8]) -> Option<usize>
-    ensures { Answers (WritesCount text.now) result }
+    ensures { IsReading (WritesCount text.now) result }
 {
     let (count, rest) = read_count(text)?;
     if rest.is_empty() {

@@ -20,7 +20,8 @@ operator_in byte = if nat_lt (byte % 128) 64 then NotEq else Eq
 -- the operand of a number, if it is at most 7
 abbrev pub operand_numbered : ℕ → Option Operand
 operand_numbered n =
-    if n == 0 then Some N else (if n == 1 then Some I else (if n == 2 then Some V else (if n == 3 then Some W else (if n == 4 then Some F else (if n == 5 then Some T else (if n == 6 then Some C else (if n == 7 then Some E else None)))))))
+    if n == 0 then Some N else (if n == 1 then Some I else (if n == 2 then Some V else (if n == 3 then Some W
+    else (if n == 4 then Some F else (if n == 5 then Some T else (if n == 6 then Some C else (if n == 7 then Some E else None)))))))
 
 -- what bits 0 to 5 say
 abbrev pub operand_in : ℕ → Option Operand

@@ -21,4 +21,5 @@ open_before Or group = []
 
 -- those of the and-condition that is open, and those of the others
 abbrev pub relations_left : TreeRelations → List PackedRelation
-relations_left walk = packed_and_condition walk.and_or walk.relations.now ++ flat_map (packed_and_condition Or) (map (λ (group : AndCondition). group.0) walk.others.now)
+relations_left walk = packed_and_condition walk.and_or walk.relations.now
+    ++ flat_map (packed_and_condition Or) (map (λ (group : AndCondition). group.0) walk.others.now)

@@ -1,10 +1,11 @@
 use Rattle.std.proofs.Common.{◌≡◌, ◌≢◌, ◌-◌, ◌∷◌, ℕ, List, drop, take, length, get_or, arith, rules, sym, subst, suc, ap}
 use Rattle.std.proofs.lemmas.List.{take_rest}
 use Rattle.plural_reference.specs.OperandText.{WritesExponent}
-use Rattle.plural_reference.specs.Inner.OperandReader.{Answers, WritesBehindPoint}
+use Rattle.plural_reference.specs.Inner.OperandReader.{IsReading, WritesBehindPoint}
 use Rattle.plural_reference.proofs.numbers.OperandTexts.{answer_pointed, first_and_rest, no_unpointed, no_unsigned, unpointed}
 use Rattle.plural_reference.proofs.operands.text.read_unsigned.Goals as goal
-use Rattle.plural_reference.proofs.operands.text.read_unsigned.Goals.{in_default-via-then-rest-lt1, in_default-via-else-rest-lt1+in_default-1}
+use Rattle.plural_reference.proofs.operands.text.read_unsigned.Goals.{in_default-via-then-rest-lt1}
+use Rattle.plural_reference.proofs.operands.text.read_unsigned.Goals.{in_default-via-else-rest-lt1+in_default-1}
 
 pub returns-in_err-i : goal.returns-in_err-i
 returns-in_err-i c = rw c.from_residual.ensures (no_unsigned c.args.text.now c.in_err-i.ensures.none)
@@ -26,10 +27,11 @@ returns-in-46 c =
     let parts : rest ≡ 46 ∷ drop 1 rest = first_and_rest rest 46 (omega (arith, c.in-46.len_at_least)) first in
     let more : take (length rest - 1) (drop 1 rest) ≡ drop 1 rest = take_rest rest 1 in
     answer_pointed c.args.text.now c.in_ok-i.i rest (drop 1 rest) c.read_fraction.result c.in_ok-i.ensures.found parts
-    (subst (λ (l : List ℕ). Answers (WritesBehindPoint c.in_ok-i.i l) c.read_fraction.result) more c.read_fraction.ensures)
+    (subst (λ (l : List ℕ). IsReading (WritesBehindPoint c.in_ok-i.i l) c.read_fraction.result) more c.read_fraction.ensures)
 
 pub returns-in_ok-read_exponent-in_default : goal.returns-in_ok-read_exponent-in_default
 returns-in_ok-read_exponent-in_default c =
     let rest = c.in_ok-i.rest.now in
     let exponent = subst (WritesExponent rest) (sym c.from_parts.ensures.exponent) c.in_ok-read_exponent-in_default.ensures in
-    unpointed c.args.text.now c.in_ok-i.i rest c.from_parts.result c.in_ok-i.ensures.found c.from_parts.ensures.integer c.from_parts.ensures.fraction exponent
+    unpointed c.args.text.now c.in_ok-i.i rest c.from_parts.result c.in_ok-i.ensures.found
+    c.from_parts.ensures.integer c.from_parts.ensures.fraction exponent
