@@ -39,11 +39,7 @@ impl fmt::Display for EntryFault {
 }
 
 // The fault of an entry under these cardinal rules, if it has one.
-pub(crate) fn entry_fault(
-    texts: &LanguageTexts<'_>,
-    key: &str,
-    value: &Value,
-) -> Option<EntryFault>
+pub(crate) fn entry_fault(texts: &LanguageTexts<'_>, key: &str, value: &Value) -> Option<EntryFault>
     ensures { HasEntryFault (six_texts texts.now) key.now (view value.now) result }
 {
     match UnvalidatedPluralRange::from_text(key) {

@@ -55,11 +55,7 @@ fn check_part(alloc: Global, part: Part, value: Option<&Value>) -> Result<(), Ch
 }
 
 // The same of what a part has under each locale.
-fn check_locales(
-    alloc: Global,
-    part: Part,
-    members: &Map<String, Value>,
-) -> Result<(), CheckError>
+fn check_locales(alloc: Global, part: Part, members: &Map<String, Value>) -> Result<(), CheckError>
     ensures { GivesValue (λ done. done) (locales_formed part (members_view members.now.entries)) result }
 {
     for (locale, value) in members.iter() {

@@ -117,7 +117,12 @@ fn add_text(
     if value.is_string() {
         return found.add_rule();
     }
-    let line = format!(in alloc; "{} {} {}: no text", part.as_str(), locale, name_of(category))?;
+    let line = format!(in alloc;
+        "{} {} {}: no text",
+        part.as_str(),
+        locale,
+        name_of(category)
+    )?;
     found.add_line(line)
 }
 

@@ -77,7 +77,8 @@ fn add_rules(
 ) -> Result<(), AllocError>
     ensures { OnOk result (Adds (IsFoundIn (IsFoundInRules part) (members_at part (view document.now))) found.old found.new) }
 {
-    add_members(alloc, &LanguageCheck { part }, members_of(document, part), found)
+    let members = members_of(document, part);
+    add_members(alloc, &LanguageCheck { part }, members, found)
 }
 
 impl Report {
@@ -109,7 +110,10 @@ impl Report {
         let rules = self.found.rules();
         let numbers = self.found.numbers();
         let faults = self.found.lines().len();
-        format!(in alloc; "locales: {}, rules: {}, numbers: {}, faults: {}\n", self.locales, rules, numbers, faults)
+        format!(in alloc;
+            "locales: {}, rules: {}, numbers: {}, faults: {}\n",
+            self.locales, rules, numbers, faults
+        )
     }
 }
 

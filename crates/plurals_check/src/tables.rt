@@ -63,7 +63,13 @@ impl<'a> MemberCheck for EntryCheck<'a> {
         let Some(fault) = entry_fault(&self.texts, key, value) else {
             return Ok(());
         };
-        let line = format!(in alloc; "{} {} {}: {}", Part::Ranges.as_str(), self.locale, key, fault)?;
+        let line = format!(in alloc;
+            "{} {} {}: {}",
+            Part::Ranges.as_str(),
+            self.locale,
+            key,
+            fault
+        )?;
         found.add_line(line)?;
         Ok(())
     }

@@ -19,7 +19,8 @@ fn holds_again(rt: &impl Abort, alloc: Global, document: &str, answer: &str) {
 
 #[test]
 fn growth_of_a_report(rt: HostRuntime) {
-    let document = r#"{"cardinal":{"a":{"one":5,"two":"i 1"}},"ranges":{"b":{"ranges":{"one":"two"}}}}"#;
+    let document =
+        r#"{"cardinal":{"a":{"one":5,"two":"i 1"}},"ranges":{"b":{"ranges":{"one":"two"}}}}"#;
     let report = "cardinal a one: no text
 cardinal a two: expected operator
 ranges b: no cardinal rules
