@@ -33,13 +33,20 @@ pub(crate) fn check_document(alloc: Global, value: &Value) -> Result<(), CheckEr
 fn check_parts(alloc: Global, value: &Value) -> Result<(), CheckError>
     ensures { GivesValue (λ done. done) (parts_formed (view value.now)) result }
 {
-    check_part(alloc, Part::Cardinal, value.get(Part::Cardinal.as_str()))?;
-    check_part(alloc, Part::Ordinal, value.get(Part::Ordinal.as_str()))?;
-    check_part(alloc, Part::Ranges, value.get(Part::Ranges.as_str()))
+    check_part(alloc, Part::Cardinal, value)?;
+    check_part(alloc, Part::Ordinal, value)?;
+    check_part(alloc, Part::Ranges, value)
 }
 
-// The same of a part, which may be absent or null.
-fn check_part(alloc: Global, part: Part, value: Option<&Value>) -> Result<(), CheckError>
+// The same of one part.
+fn check_part(alloc: Global, part: Part, value: &Value) -> Result<(), CheckError>
+    ensures { GivesValue (λ done. done) (part_formed part (get (part_name part) (view value.now))) result }
+{
+    check_members(alloc, part, value.get(part.as_str()))
+}
+
+// The same of what a document has for a part, which may be absent or null.
+fn check_members(alloc: Global, part: Part, value: Option<&Value>) -> Result<(), CheckError>
     ensures { GivesValue (λ done. done) (part_formed part (option_map (λ v. view v.now) value.entry)) result }
 {
     let Some(value) = value else {
