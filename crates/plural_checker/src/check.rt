@@ -37,7 +37,13 @@ pub fn check_texts(alloc: Global, texts: &LanguageTexts<'_>) -> Result<Report, A
     check_if_there(alloc, rules, PluralCategory::Two, texts.two, &mut report)?;
     check_if_there(alloc, rules, PluralCategory::Few, texts.few, &mut report)?;
     check_if_there(alloc, rules, PluralCategory::Many, texts.many, &mut report)?;
-    check_if_there(alloc, rules, PluralCategory::Other, texts.other, &mut report)?;
+    check_if_there(
+        alloc,
+        rules,
+        PluralCategory::Other,
+        texts.other,
+        &mut report,
+    )?;
     Ok(report)
 }
 
@@ -48,7 +54,9 @@ fn rules_of(
 ) -> Result<Option<PluralRules<'static>>, AllocError>
     ensures { IfOk result (λ rules. AreRulesIfRead (six_texts texts.now).five rules) }
 {
-    match PluralRulesData::from_texts(alloc, texts.zero, texts.one, texts.two, texts.few, texts.many) {
+    match PluralRulesData::from_texts(
+        alloc, texts.zero, texts.one, texts.two, texts.few, texts.many,
+    ) {
         Ok(data) => Ok(Some(PluralRules::from_data(data))),
         Err(refused) => match refused.error {
             RuleError::Parse(_) | RuleError::StartLimit => Ok(None),

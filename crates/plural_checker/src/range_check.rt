@@ -27,8 +27,22 @@ pub(crate) fn check_samples(
     let Some(lists) = samples else {
         return Ok(());
     };
-    check_list(alloc, rules, category, SampleType::Integer, &lists.integer, report)?;
-    check_list(alloc, rules, category, SampleType::Decimal, &lists.decimal, report)
+    check_list(
+        alloc,
+        rules,
+        category,
+        SampleType::Integer,
+        &lists.integer,
+        report,
+    )?;
+    check_list(
+        alloc,
+        rules,
+        category,
+        SampleType::Decimal,
+        &lists.decimal,
+        report,
+    )
 }
 
 // Adds what is wrong with a list of samples, if it is there.
@@ -45,7 +59,14 @@ fn check_list(
     let Some(list) = list else {
         return Ok(());
     };
-    check_ranges(alloc, rules, category, sample_type, list.sample_ranges.as_slice(), report)
+    check_ranges(
+        alloc,
+        rules,
+        category,
+        sample_type,
+        list.sample_ranges.as_slice(),
+        report,
+    )
 }
 
 // Adds what is wrong with ranges of samples.

@@ -64,7 +64,11 @@ fn a_range_goes_in_steps_of_the_last_digit(rt: HostRuntime) -> Result<(), Fail> 
         ("9.9", "10.0", "9.9 10.0 "),
         ("1c6", "3c6", "1c6 2c6 3c6 "),
         ("1.1e3", "1.2c3", "1.1c3 1.2c3 "),
-        ("999999999999999999", "999999999999999999", "999999999999999999 "),
+        (
+            "999999999999999999",
+            "999999999999999999",
+            "999999999999999999 ",
+        ),
         ("1", "0", " goes down"),
         ("1.5", "1.4", " goes down"),
         ("0", "100", " has more than 100 numbers"),
@@ -115,9 +119,7 @@ const RUSSIAN: LanguageTexts<'static> = LanguageTexts {
     many: Some(
         "v = 0 and i % 10 = 0 or v = 0 and i % 10 = 5..9 or v = 0 and i % 100 = 11..14 @integer 0, 5~20, 100, 1000, 10000, 100000, 1000000, …",
     ),
-    other: Some(
-        " @decimal 0.0~1.5, 10.0, 100.0, 1000.0, 10000.0, 100000.0, 1000000.0, …",
-    ),
+    other: Some(" @decimal 0.0~1.5, 10.0, 100.0, 1000.0, 10000.0, 100000.0, 1000000.0, …"),
 };
 
 #[test]
@@ -147,13 +149,37 @@ fn faults_are_printed(rt: HostRuntime) -> Result<(), Fail> {
         ("i 1", "few: expected operator\n", 2),
         ("n = 2 @integer 2, 0~x", "few: expected value\n", 2),
         ("n = 0 and", "few: expected relation\n", 2),
-        ("v = 0 adn i % 10 = 2..4", "few: read as v = 0\nother: sample 0 is few\n", 2),
-        ("n = 2 @integer 1 2", "few: read as n = 2 @integer 12\nfew: sample 12 is other\n", 3),
+        (
+            "v = 0 adn i % 10 = 2..4",
+            "few: read as v = 0\nother: sample 0 is few\n",
+            2,
+        ),
+        (
+            "n = 2 @integer 1 2",
+            "few: read as n = 2 @integer 12\nfew: sample 12 is other\n",
+            3,
+        ),
         ("n = 2 @integer 1~0", "few: sample 1~0 goes down\n", 2),
-        ("n = 2 @integer 0000000000000000000~1", "few: sample 0000000000000000000~1 has more than 18 digits\n", 2),
-        ("n = 2..4 @integer 2~6, 1", "few: sample 5 is other\nfew: sample 1 is one\n", 8),
-        ("n = 2 @integer 3 @decimal 1.5, 2.", "few: sample 3 is other\nfew: sample 1.5 is other\nfew: sample 2.: bad number\n", 5),
-        ("i % 7 = 2 @integer 2, 1c20", "few: sample 1c20 is outside the exactness bound\n", 4),
+        (
+            "n = 2 @integer 0000000000000000000~1",
+            "few: sample 0000000000000000000~1 has more than 18 digits\n",
+            2,
+        ),
+        (
+            "n = 2..4 @integer 2~6, 1",
+            "few: sample 5 is other\nfew: sample 1 is one\n",
+            8,
+        ),
+        (
+            "n = 2 @integer 3 @decimal 1.5, 2.",
+            "few: sample 3 is other\nfew: sample 1.5 is other\nfew: sample 2.: bad number\n",
+            5,
+        ),
+        (
+            "i % 7 = 2 @integer 2, 1c20",
+            "few: sample 1c20 is outside the exactness bound\n",
+            4,
+        ),
         ("n = 0", "other: sample 0 is few\n", 2),
     ];
     for (few, faults, numbers) in rows {
@@ -173,13 +199,13 @@ fn other_texts_are_looked_at_without_rules(rt: HostRuntime) -> Result<(), Fail> 
         two: None,
         few: None,
         many: None,
-        other: Some("@integer 0 1"),
+        other: Some("@integer 1 0"),
     };
     let report = check_texts(rt.alloc(), &texts)?;
     let faults = "zero: expected operator
 one: sample 3~2 goes down
 one: sample 4.: bad number
-other: read as  @integer 01
+other: read as  @integer 10
 ";
     holds!(rt; lines(rt.alloc(), &report)?.as_str() == faults);
     holds!(rt; report.numbers == 4);
