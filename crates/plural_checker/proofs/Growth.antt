@@ -14,7 +14,9 @@ append-nil (x ∷ xs) = ap (λ l. x ∷ l) (append-nil xs)
 
 -- findings with these parts
 same_findings : (a b : Findings) → a.faults ≡ b.faults → a.numbers ≡ b.numbers → a ≡ b
-same_findings a b faults numbers = cc
+same_findings a b faults numbers =
+    ap (λ (l : List Fault). let f : Findings = record { faults = l; numbers = a.numbers } in f) faults
+    ∙ ap (λ (n : ℕ). let f : Findings = record { faults = b.faults; numbers = n } in f) numbers
 
 -- nothing besides
 both-nothing : (a : Findings) → both a nothing ≡ a

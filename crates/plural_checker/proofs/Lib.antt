@@ -1,8 +1,6 @@
 -- reports that grow
 pub mod Growth
--- texts of samples
-pub mod NumberTexts
 -- the digits of an end
 pub mod AllDigits
--- tokens of two texts
-pub mod SameTokens
+-- what is read of a text
+pub mod TextsRead

@@ -43,10 +43,14 @@ abbrev pub sample_faults : PluralCategory → SampleType → Option SampleFault 
 sample_faults category type None = []
 sample_faults category type (Some fault) = record { category = category; kind = Sample type fault } ∷ []
 
+-- that fault, and so many numbers
+abbrev pub sample_findings : PluralCategory → SampleType → Option SampleFault → ℕ → Findings
+sample_findings category type fault count = record { faults = sample_faults category type fault; numbers = count }
+
 abbrev pub IsFoundInRange : Option FiveRules → PluralCategory → SampleType → SampleRange → Findings → Type 0
 IsFoundInRange rules category type range found =
-    (fault : Option SampleFault)
-    × IsCheckedRange rules category range fault found.numbers × (found.faults ≡ sample_faults category type fault)
+    (fault : Option SampleFault) × (count : ℕ)
+    × IsCheckedRange rules category range fault count × (found ≡ sample_findings category type fault count)
 
 -- in a list, from the left
 abbrev pub IsFoundInList : Option FiveRules → PluralCategory → SampleType → Option SampleList → Findings → Type 0
@@ -98,7 +102,10 @@ IsFoundInSix rules texts =
     Then (IsFoundIn rules Zero texts.five.zero) (Then (IsFoundIn rules One texts.five.one) (Then (IsFoundIn rules Two texts.five.two)
     (Then (IsFoundIn rules Few texts.five.few) (Then (IsFoundIn rules Many texts.five.many) (IsFoundIn rules Other texts.other)))))
 
+-- under rules, if there are some
+abbrev pub AreFindingsUnder : Option FiveRules → SixTexts → Report → Type 0
+AreFindingsUnder rules texts report = (found : Findings) × IsFoundInSix rules texts found × IsReportOf found report
+
+-- under the rules of the texts themselves
 abbrev pub AreFindingsOf : SixTexts → Report → Type 0
-AreFindingsOf texts report =
-    (rules : Option FiveRules) × (found : Findings)
-    × AreRulesIfRead texts.five rules × IsFoundInSix rules texts found × IsReportOf found report
+AreFindingsOf texts report = (rules : Option FiveRules) × AreRulesIfRead texts.five rules × AreFindingsUnder rules texts report

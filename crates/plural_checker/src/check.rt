@@ -1,8 +1,9 @@
 //! The six texts of a language's rules.
 
 ghost use Rattle.std.specs.Prelude.{IfOk};
+ghost use Rattle.std.specs.Option.{option_copied};
 ghost use Rattle.plural_checker.specs.LanguageTexts.{six_texts};
-ghost use Rattle.plural_checker.specs.TextChecks.{AreFindingsOf, AreRulesIfRead};
+ghost use Rattle.plural_checker.specs.TextChecks.{AreFindingsOf, AreFindingsUnder, AreRulesIfRead};
 
 use crate::report::Report;
 use crate::text_check::check_if_there;
@@ -29,8 +30,18 @@ use std::alloc::{AllocError, Global};
 pub fn check_texts(alloc: Global, texts: &LanguageTexts<'_>) -> Result<Report, AllocError>
     ensures { IfOk result (λ report. AreFindingsOf (six_texts texts.now) report) }
 {
-    let read = rules_of(alloc, texts)?;
-    let rules = read.as_ref();
+    let rules = rules_of(alloc, texts)?;
+    check_all(alloc, rules.as_ref(), texts)
+}
+
+// What is wrong with the texts under these rules.
+fn check_all(
+    alloc: Global,
+    rules: Option<&PluralRules<'_>>,
+    texts: &LanguageTexts<'_>,
+) -> Result<Report, AllocError>
+    ensures { IfOk result (λ report. AreFindingsUnder (option_copied rules.entry) (six_texts texts.now) report) }
+{
     let mut report = Report::new(alloc);
     check_if_there(alloc, rules, PluralCategory::Zero, texts.zero, &mut report)?;
     check_if_there(alloc, rules, PluralCategory::One, texts.one, &mut report)?;

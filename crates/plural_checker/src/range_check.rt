@@ -4,7 +4,7 @@ ghost use Rattle.std.specs.Prelude.{◌≡◌, List, ℕ, IfOk, OnOk};
 ghost use Rattle.std.specs.Option.{option_copied};
 ghost use Rattle.plural_checker.specs.Findings.{Adds, EachFinds, Grows};
 ghost use Rattle.plural_checker.specs.NumberChecks.{IsCheckedRange};
-ghost use Rattle.plural_checker.specs.TextChecks.{IsFoundInList, IsFoundInRange, IsFoundInSamples, sample_faults};
+ghost use Rattle.plural_checker.specs.TextChecks.{IsFoundInList, IsFoundInRange, IsFoundInSamples, sample_findings};
 
 use crate::fault::{Fault, SampleFault, SampleType, TextFault};
 use crate::number_check::check_numbers;
@@ -118,8 +118,7 @@ fn add_sample(
     count: u64,
     report: &mut Report,
 ) -> Result<(), AllocError>
-    ensures { let found = record { faults = sample_faults category sample_type fault; numbers = count } in
-        OnOk result (Grows report.old found report.new) }
+    ensures { OnOk result (Grows report.old (sample_findings category sample_type fault count) report.new) }
 {
     if let Some(fault) = fault {
         let kind = TextFault::Sample(sample_type, fault);

@@ -65,7 +65,7 @@ pub(crate) fn parts_of(number: &CompactDecimal) -> Option<u64>
 {
     let digits = &number.significand().absolute;
     let (whole, fraction) = digits.places_after(0);
-    if whole + fraction > MOST_DIGITS {
+    if whole > MOST_DIGITS || fraction > MOST_DIGITS - whole {
         return None;
     }
     Some(value_of_all(digits, whole + fraction))

@@ -77,11 +77,11 @@ fn check_reading(
 fn rule_of(alloc: Global, text: &str) -> Result<Result<Rule, RuleError>, AllocError>
     ensures { IfOk result (λ answer. IsRead text.now answer) }
 {
-    match PackedRule::from_str(alloc, text) {
-        Ok(_) => tree_of(alloc, text),
-        Err(RuleError::Parse(fault)) => Ok(Err(RuleError::Parse(fault))),
-        Err(RuleError::StartLimit) => Ok(Err(RuleError::StartLimit)),
-        Err(RuleError::Memory) => Err(AllocError),
+    match PackedRule::from_str(alloc, text).err() {
+        None => tree_of(alloc, text),
+        Some(RuleError::Parse(fault)) => Ok(Err(RuleError::Parse(fault))),
+        Some(RuleError::StartLimit) => Ok(Err(RuleError::StartLimit)),
+        Some(RuleError::Memory) => Err(AllocError),
     }
 }
 
