@@ -1,16 +1,17 @@
 -- What is found, put together.
 use Rattle.std.proofs.Common.{◌≡◌, ℕ, suc, ◌+◌, ◌<◌, List, [], ◌∷◌, ◌++◌, length, get_or, drop, map, refl, sym, ap, subst, ◌∙◌}
-use Rattle.std.proofs.Common.{String, Global, string_bytes}
+use Rattle.std.proofs.Common.{String, Global, string_bytes, false, Some, Result, Ok, Err}
+use Rattle.std.specs.Prelude.{OnOk, is_some}
 use Rattle.std.proofs.Common.{append_assoc, add-one}
 use Rattle.std.proofs.Math.Seq.{drop-cons}
 use Rattle.std.proofs.Math.Nat.{add_assoc, add-zero, zero-add}
 use Rattle.std.proofs.lemmas.List.{append-nil, map-append}
 use Rattle.std.specs.List.{flat_map}
 use Rattle.serde_json.specs.Data.{Data, Members, no_members, member}
-use Rattle.serde_json.specs.Find.{get}
+use Rattle.serde_json.specs.Find.{as_null, as_str, get}
 use Rattle.icu_plurals.specs.declared.PluralCategory.{PluralCategory}
 use Rattle.icu_plurals.specs.Categories.{name_of}
-use Rattle.plurals_check.specs.DocumentReport.{found_under, found_under_all}
+use Rattle.plurals_check.specs.DocumentReport.{found_under, found_under_all, no_text_line}
 use Rattle.plurals_check.specs.Found.{Found, nothing, one_line, one_rule, together, IsFoundIn}
 use Rattle.plurals_check.specs.ReportText.{ended_line}
 use Rattle.plurals_check.specs.declared.place.Part.{Part}
@@ -134,3 +135,16 @@ pub numbered : (lines : List (List ℕ)) (rules numbers new n : ℕ) → new ≡
     → ◌≡◌ {A = Found} (record { lines = lines; rules = rules; numbers = new })
     (together (record { lines = lines; rules = rules; numbers = numbers }) (record nothing { numbers = n }))
 numbered lines rules numbers new n e = rw (append-nil lines, add-zero rules, e) refl
+
+-- ---- What a call adds
+
+-- what follows from what holds at an Ok holds there
+pub on_ok : {A E P Q : Type 0} (r : Result A E) → (P → Q) → OnOk r P → OnOk r Q
+on_ok (Ok x) f h = f h
+on_ok (Err e) f h = tt
+
+-- what is neither null nor a text has a line
+pub no_text : (part : Part) (locale : List ℕ) (category : PluralCategory) (value : Data)
+    → is_some (as_null value) ≡ false → is_some (as_str value) ≡ false
+    → found_under part locale category (Some value) ≡ one_line (no_text_line part locale category)
+no_text part locale category value null string = rw (null, string) refl

@@ -1,6 +1,6 @@
 //! What is found in a document.
 
-ghost use Rattle.std.specs.Prelude.{◌≡◌, ◌+◌, ℕ, List, IfOk, OnOk, map, option_map, string_bytes};
+ghost use Rattle.std.specs.Prelude.{◌≡◌, ◌+◌, ℕ, List, IfOk, OnOk, length, map, option_map, string_bytes};
 ghost use Rattle.plurals_check.specs.Found.{nothing, one_line, one_rule, together, IsFoundIn};
 ghost use Rattle.plurals_check.specs.Found as seen;
 ghost use Rattle.plurals_check.specs.Inner.Additions.{Adds};
@@ -50,6 +50,13 @@ impl Found {
         ensures { map string_bytes result.now ≡ self.now.lines }
     {
         self.lines.as_slice()
+    }
+
+    // How many lines there are.
+    pub(crate) fn len(&self) -> usize
+        ensures { result ≡ length self.now.lines }
+    {
+        self.lines.len()
     }
 
     // How many rule texts were looked at.
