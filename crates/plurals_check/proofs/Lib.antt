@@ -3,4 +3,5 @@ pub mod CheckFaults
 pub mod CheckedInputs
 pub mod Entries
 pub mod FoundParts
+pub mod LineTexts
 pub mod CheckReadings
