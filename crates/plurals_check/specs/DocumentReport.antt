@@ -1,7 +1,9 @@
--- The report of a document: what is found in its rules for cardinal numbers, then in those for ordinal ones, then in its ranges, and how
--- many locales it has (docs/JSON.md). In a part the locales stand in the order of their bytes, and so do the entries of a locale's ranges.
+-- The report of a document: what is found in its rules for cardinal numbers, then in those for ordinal ones, then in its ranges,
+-- and how many locales it has (docs/JSON.md). In a part the locales stand in the order of their bytes, and so do the entries of a
+-- locale's ranges.
 --     IsReportOf value report      this is the report of a document's value
-use Rattle.std.specs.Prelude.{◌≡◌, ◌≢◌, ℕ, ◌+◌, ◌&&◌, not, List, [], ◌∷◌, ◌++◌, codes, count_by, map, Bool, true, false, IsTrue, IsFalse}
+use Rattle.std.specs.Prelude.{◌≡◌, ◌≢◌, ℕ, ◌+◌, ◌&&◌, not, List, [], ◌∷◌, ◌++◌, codes, count_by, map}
+use Rattle.std.specs.Prelude.{Bool, true, false, IsTrue, IsFalse}
 use Rattle.std.specs.Prelude.{Option, Some, None, is_some, if◌then◌else◌}
 use Rattle.serde_json.specs.Data.{Data}
 use Rattle.serde_json.specs.Find.{get, as_null, as_str}
@@ -92,7 +94,8 @@ HasValueFault texts value (Some NoText) = as_str value ≡ None
 HasValueFault texts value (Some RangeValue) =
     (name : List ℕ) × (as_str value ≡ Some name) × ((category : PluralCategory) → name ≢ name_of category)
 HasValueFault texts value (Some (NoRule category)) = (as_str value ≡ Some (name_of category)) × IsFalse (has_rule texts category)
-HasValueFault texts value None = (category : PluralCategory) × (as_str value ≡ Some (name_of category)) × IsTrue (has_rule texts category)
+HasValueFault texts value None =
+    (category : PluralCategory) × (as_str value ≡ Some (name_of category)) × IsTrue (has_rule texts category)
 
 -- whether an entry has a fault: its key is the text of a range, and its value is the range's category
 abbrev pub HasEntryFault : SixTexts → List ℕ → Data → Option EntryFault → Type 0

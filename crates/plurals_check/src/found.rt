@@ -131,7 +131,9 @@ pub(crate) fn add_members<C: MemberCheck>(
     members: Option<&Map<String, Value>>,
     found: &mut Found,
 ) -> Result<(), AllocError>
-    ensures { OnOk result (Adds (IsFoundIn (C.finds check.now) (members_or_none (option_map (λ m. members_view m.now.entries) members.entry))) found.old found.new) }
+    ensures { OnOk result (Adds
+        (IsFoundIn (C.finds check.now) (members_or_none (option_map (λ m. members_view m.now.entries) members.entry)))
+        found.old found.new) }
 {
     match members {
         Some(members) => add_all(alloc, check, members, found),

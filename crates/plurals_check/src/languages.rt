@@ -5,7 +5,8 @@ ghost use Rattle.std.specs.Option.{option_copied};
 ghost use Rattle.icu_plurals.specs.RulesJson.{text_under};
 ghost use Rattle.icu_plurals.specs.Categories.{name_of};
 ghost use Rattle.plural_checker.specs.LanguageTexts.{six_texts};
-ghost use Rattle.plurals_check.specs.DocumentReport.{all_texts_in, fault_line, found_under, found_under_all, no_text_line, text_order, IsFoundInRules};
+ghost use Rattle.plurals_check.specs.DocumentReport.{all_texts_in, fault_line, found_under, found_under_all};
+ghost use Rattle.plurals_check.specs.DocumentReport.{no_text_line, text_order, IsFoundInRules};
 ghost use Rattle.plurals_check.specs.Found.{together};
 ghost use Rattle.plurals_check.specs.Inner.Additions.{lines_alone};
 ghost use Rattle.serde_json.specs.View.{view};
@@ -106,7 +107,8 @@ fn add_text(
     value: Option<&Value>,
     found: &mut Found,
 ) -> Result<(), AllocError>
-    ensures { OnOk result (found.new ≡ together found.old (found_under part locale.now category (option_map (λ v. view v.now) value.entry))) }
+    ensures { OnOk result (found.new
+        ≡ together found.old (found_under part locale.now category (option_map (λ v. view v.now) value.entry))) }
 {
     match value {
         Some(value) => add_value(alloc, part, locale, category, value, found),

@@ -104,7 +104,8 @@ fn add_rules(
     rules: Option<&Value>,
     found: &mut Found,
 ) -> Result<(), AllocError>
-    ensures { OnOk result (found.new ≡ together found.old (found_of_rules locale.now (option_map (λ v. view v.now) rules.entry))) }
+    ensures { OnOk result (found.new
+        ≡ together found.old (found_of_rules locale.now (option_map (λ v. view v.now) rules.entry))) }
 {
     if rules.is_some() {
         return Ok(());

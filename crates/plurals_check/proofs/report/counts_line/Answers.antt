@@ -17,5 +17,6 @@ returns c =
     ++ (faults ++ codes "\n"))))))))
     (λ s. string_bytes s ≡ counts_line c.args.locales c.args.rules c.args.numbers c.args.faults)
     (λ s wrote. wrote
-    ∙ sym (nine (codes "locales: ") locales (codes ", rules: ") rules (codes ", numbers: ") numbers (codes ", faults: ") faults (codes "\n")))
+    ∙ sym (nine (codes "locales: ") locales (codes ", rules: ") rules (codes ", numbers: ") numbers (codes ", faults: ") faults
+    (codes "\n")))
     c.format.ensures.ok

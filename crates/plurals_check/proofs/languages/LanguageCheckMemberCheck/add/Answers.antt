@@ -24,7 +24,8 @@ returns c =
       ),
       lines_and_numbers c.args.found.now (found_under_all part locale value text_order) (map (fault_line part locale) checked.faults)
           checked.numbers c.add_texts.new.found c.add_faults.new.found c.add_numbers.new.self c.in_ok-add_texts.ensures
-          (subst (λ (faults : List Fault). c.add_faults.new.found ≡ together c.add_texts.new.found (lines_alone (map (fault_line part locale) faults)))
+          (subst (λ (faults : List Fault). c.add_faults.new.found
+          ≡ together c.add_texts.new.found (lines_alone (map (fault_line part locale) faults)))
           c.as_slice.ensures c.in_ok-add_faults.ensures)
           c.in_ok-add_numbers.ensures,
     )
