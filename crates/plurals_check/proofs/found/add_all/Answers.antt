@@ -1,6 +1,5 @@
-use Rattle.std.proofs.Common.{ℕ, List, String, Global, string_bytes, ap, subst, ◌∙◌}
+use Rattle.std.proofs.Common.{string_bytes, ap, subst, ◌∙◌}
 use Rattle.serde_json.specs.View.{view, members_view}
-use Rattle.serde_json.specs.declared.value.Value.{Value}
 use Rattle.plurals_check.specs.Inner.Additions.{Adds}
 use Rattle.plurals_check.proofs.FoundParts.{Completes, begins, ends, goes_on}
 use Rattle.plurals_check.proofs.found.add_all.Goals as goal

@@ -1,5 +1,4 @@
 use Rattle.std.proofs.Common.{ℕ, List, ap, ◌∙◌}
-use Rattle.plural_checker.specs.declared.Fault.{Fault}
 use Rattle.plurals_check.specs.DocumentReport.{fault_line}
 use Rattle.plurals_check.specs.Found.{one_line, together}
 use Rattle.plurals_check.proofs.FoundParts.{next_line}

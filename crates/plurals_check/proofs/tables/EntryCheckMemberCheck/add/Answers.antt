@@ -4,7 +4,7 @@ use Rattle.plurals_check.specs.Found.{nothing, one_line, together}
 use Rattle.plurals_check.proofs.FoundParts.{on_ok, together-nothing}
 use Rattle.plurals_check.proofs.tables.EntryCheckMemberCheck.add.Goals as goal
 
-pub returns-in_ok-entry_line-in-Some : goal.returns-in-Some
+pub returns-in_ok-entry_line-in-Some : goal.returns-in_ok-entry_line-in-Some
 returns-in_ok-entry_line-in-Some c =
     on_ok c.add_line.result
     (λ added. (
