@@ -62,11 +62,16 @@ document_not_long value h =
     (λ none. cc)
     (chosen_not_long (is_some (as_object value)) (parts_formed value) (Err (NoObject place.Document)) parts_not_long (λ none. cc)) h
   where
+    -- nor of its parts
     parts_not_long : parts_formed value ≡ Err TooLong → ⊥
     parts_not_long =
-        steps_not_long (part_formed Cardinal (get (part_name Cardinal) value)) _ (part_not_long Cardinal (get (part_name Cardinal) value))
-        (λ _. steps_not_long (part_formed Ordinal (get (part_name Ordinal) value)) _
-        (part_not_long Ordinal (get (part_name Ordinal) value)) (λ _. part_not_long Ranges (get (part_name Ranges) value)))
+        let cardinal = get (part_name Cardinal) value in
+        let ordinal = get (part_name Ordinal) value in
+        let ranges = get (part_name Ranges) value in
+        steps_not_long (part_formed Cardinal cardinal) (λ _. part_formed Ordinal ordinal >>= λ _. part_formed Ranges ranges)
+        (part_not_long Cardinal cardinal)
+        (λ _. steps_not_long (part_formed Ordinal ordinal) (λ _. part_formed Ranges ranges)
+        (part_not_long Ordinal ordinal) (λ _. part_not_long Ranges ranges))
 
 -- nor of a text that is no JSON
 value_not_long : {A : Type 0} (o : Option A) → or_fault Json o ≡ Err TooLong → ⊥
@@ -77,7 +82,7 @@ value_not_long (Some x) h = cc
 pub bytes_not_long : (bytes : List ℕ) → value_of bytes ≡ Err TooLong → ⊥
 bytes_not_long bytes =
     steps_not_long (or_fault Json (json_of bytes)) document_with (value_not_long (json_of bytes))
-    (λ value. steps_not_long (document_formed value) (λ _. Ok value) (document_not_long value) (λ _ h. cc))
+    (λ value. steps_not_long (document_formed value) (λ _. Ok value) (document_not_long value) (λ done h. cc))
 
 -- nor is their answer
 pub answer_not_long : (bytes : List ℕ) → AnswersDocument (value_of bytes) (Err TooLong) → ⊥

@@ -1,15 +1,18 @@
 -- What is found, put together.
 use Rattle.std.proofs.Common.{◌≡◌, ℕ, suc, ◌+◌, ◌<◌, List, [], ◌∷◌, ◌++◌, length, get_or, drop, map, refl, sym, ap, subst, ◌∙◌}
-use Rattle.std.proofs.Common.{append_assoc, add-one, drop-cons}
+use Rattle.std.proofs.Common.{String, Global, string_bytes, false, Some, Result, Ok, Err}
+use Rattle.std.specs.Prelude.{OnOk, is_some}
+use Rattle.std.proofs.Common.{append_assoc, add-one}
+use Rattle.std.proofs.Math.Seq.{drop-cons}
 use Rattle.std.proofs.Math.Nat.{add_assoc, add-zero, zero-add}
-use Rattle.std.proofs.lemmas.List.{append-nil}
+use Rattle.std.proofs.lemmas.List.{append-nil, map-append}
 use Rattle.std.specs.List.{flat_map}
 use Rattle.serde_json.specs.Data.{Data, Members, no_members, member}
-use Rattle.serde_json.specs.Find.{get}
+use Rattle.serde_json.specs.Find.{as_null, as_str, get}
 use Rattle.icu_plurals.specs.declared.PluralCategory.{PluralCategory}
 use Rattle.icu_plurals.specs.Categories.{name_of}
-use Rattle.plurals_check.specs.DocumentReport.{found_under, found_under_all}
-use Rattle.plurals_check.specs.Found.{Found, nothing, one_line, together, IsFoundIn}
+use Rattle.plurals_check.specs.DocumentReport.{found_under, found_under_all, no_text_line}
+use Rattle.plurals_check.specs.Found.{Found, nothing, one_line, one_rule, together, IsFoundIn}
 use Rattle.plurals_check.specs.ReportText.{ended_line}
 use Rattle.plurals_check.specs.declared.place.Part.{Part}
 use Rattle.plurals_check.specs.Inner.Additions.{Adds, lines_alone}
@@ -90,7 +93,7 @@ pub next_under : (part : Part) (locale : List ℕ) (value : Data) (categories : 
 next_under part locale value categories i d now next lt step =
     let category = get_or categories i d in
     let rest = found_under_all part locale value (drop (suc i) categories) in
-    rw (add-one, drop-cons categories i d)
+    rw (add-one, drop-cons categories i d lt)
     (ap (λ (f : Found). together f rest) step
     ∙ together_assoc now (found_under part locale category (get (name_of category) value)) rest)
 
@@ -100,7 +103,7 @@ pub next_line : {A : Type 0} (line : A → List ℕ) (things : List A) (i : ℕ)
     → together next (lines_alone (map line (drop (i + 1) things))) ≡ together now (lines_alone (map line (drop i things)))
 next_line line things i d now next lt step =
     let rest = lines_alone (map line (drop (suc i) things)) in
-    rw (add-one, drop-cons things i d)
+    rw (add-one, drop-cons things i d lt)
     (ap (λ (f : Found). together f rest) step ∙ together_assoc now (one_line (line (get_or things i d))) rest)
 
 -- and the text of the next line
@@ -109,5 +112,39 @@ pub next_text : {A : Type 0} (bytes : A → List ℕ) (things : List A) (i : ℕ
     → next ++ flat_map ended_line (map bytes (drop (i + 1) things)) ≡ now ++ flat_map ended_line (map bytes (drop i things))
 next_text bytes things i d now next lt step =
     let rest = flat_map ended_line (map bytes (drop (suc i) things)) in
-    rw (add-one, drop-cons things i d)
+    rw (add-one, drop-cons things i d lt)
     (ap (λ (t : List ℕ). t ++ rest) step ∙ append_assoc now (ended_line (bytes (get_or things i d))) rest)
+
+-- ---- One thing more
+
+-- a line more
+pub pushed : (lines new : List (String Global)) (line : String Global) (rules numbers : ℕ) → new ≡ lines ++ line ∷ []
+    → ◌≡◌ {A = Found} (record { lines = map string_bytes new; rules = rules; numbers = numbers })
+    (together (record { lines = map string_bytes lines; rules = rules; numbers = numbers }) (one_line (string_bytes line)))
+pushed lines new line rules numbers e =
+    rw (e, map-append string_bytes lines (line ∷ []), add-zero rules, add-zero numbers) refl
+
+-- a rule more
+pub counted : (lines : List (List ℕ)) (rules numbers new : ℕ) → new ≡ rules + 1
+    → ◌≡◌ {A = Found} (record { lines = lines; rules = new; numbers = numbers })
+    (together (record { lines = lines; rules = rules; numbers = numbers }) one_rule)
+counted lines rules numbers new e = rw (append-nil lines, add-zero numbers, e) refl
+
+-- numbers more
+pub numbered : (lines : List (List ℕ)) (rules numbers new n : ℕ) → new ≡ numbers + n
+    → ◌≡◌ {A = Found} (record { lines = lines; rules = rules; numbers = new })
+    (together (record { lines = lines; rules = rules; numbers = numbers }) (record nothing { numbers = n }))
+numbered lines rules numbers new n e = rw (append-nil lines, add-zero rules, e) refl
+
+-- ---- What a call adds
+
+-- what follows from what holds at an Ok holds there
+pub on_ok : {A E P Q : Type 0} (r : Result A E) → (P → Q) → OnOk r P → OnOk r Q
+on_ok (Ok x) f h = f h
+on_ok (Err e) f h = tt
+
+-- what is neither null nor a text has a line
+pub no_text : (part : Part) (locale : List ℕ) (category : PluralCategory) (value : Data)
+    → is_some (as_null value) ≡ false → is_some (as_str value) ≡ false
+    → found_under part locale category (Some value) ≡ one_line (no_text_line part locale category)
+no_text part locale category value null string = rw (null, string) refl

@@ -48,8 +48,10 @@ IsInput (Some left) input = input ≡ left
 
 -- What was answered, and what the writer took: the answer's text and nothing else, or the answer's fault and nothing at all. Want
 -- of memory, a failed read and a failed write come from outside; only the last may have let something out.
-abbrev pub IsAnswered : (Result Answer CheckError → Type 0) → Option (List ℕ) → Option (List ℕ) → Result Verdict CheckError → Type 0
-IsAnswered IsAnswer old new (Ok verdict) = (answer : Answer) × IsAnswer (Ok answer) × (verdict ≡ answer.verdict) × Appends old new answer.text
+abbrev pub IsAnswered : (Result Answer CheckError → Type 0) → Option (List ℕ) → Option (List ℕ) → Result Verdict CheckError
+    → Type 0
+IsAnswered IsAnswer old new (Ok verdict) =
+    (answer : Answer) × IsAnswer (Ok answer) × (verdict ≡ answer.verdict) × Appends old new answer.text
 IsAnswered IsAnswer old new (Err Memory) = Keeps old new
 IsAnswered IsAnswer old new (Err Read) = Keeps old new
 IsAnswered IsAnswer old new (Err Write) = (answer : Answer) × IsAnswer (Ok answer)

@@ -1,7 +1,8 @@
 -- The JSON value of an input whose parts and locales are objects, or the first reason why there is none (docs/JSON.md).
 --     value_in input      the value, or the first fault
 --     members_at part value      what a part has under each locale
-use Rattle.std.specs.Prelude.{ℕ, List, length, Option, Some, None, is_some, Bool, Result, Ok, Err, ⊤, nat_lt, if◌then◌else◌, codes}
+use Rattle.std.specs.Prelude.{ℕ, List, length, Option, Some, None, is_some, Bool, Result, Ok, Err, ⊤, nat_lt, codes}
+use Rattle.std.specs.Prelude.{if◌then◌else◌}
 use Rattle.std.specs.Option.{option_and_then}
 use Rattle.std.specs.Str.{is_utf8}
 use Rattle.serde_json.specs.Data.{Data, Members, no_members, member}

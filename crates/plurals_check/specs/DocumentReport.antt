@@ -1,7 +1,9 @@
--- The report of a document: what is found in its rules for cardinal numbers, then in those for ordinal ones, then in its ranges, and how
--- many locales it has (docs/JSON.md). In a part the locales stand in the order of their bytes, and so do the entries of a locale's ranges.
+-- The report of a document: what is found in its rules for cardinal numbers, then in those for ordinal ones, then in its ranges,
+-- and how many locales it has (docs/JSON.md). In a part the locales stand in the order of their bytes, and so do the entries of a
+-- locale's ranges.
 --     IsReportOf value report      this is the report of a document's value
-use Rattle.std.specs.Prelude.{◌≡◌, ◌≢◌, ℕ, ◌+◌, ◌&&◌, not, List, [], ◌∷◌, ◌++◌, codes, count_by, map, Bool, true, false, IsTrue, IsFalse}
+use Rattle.std.specs.Prelude.{◌≡◌, ◌≢◌, ℕ, ◌+◌, ◌&&◌, not, List, [], ◌∷◌, ◌++◌, codes, count_by, map}
+use Rattle.std.specs.Prelude.{Bool, true, false, IsTrue, IsFalse}
 use Rattle.std.specs.Prelude.{Option, Some, None, is_some, if◌then◌else◌}
 use Rattle.serde_json.specs.Data.{Data}
 use Rattle.serde_json.specs.Find.{get, as_null, as_str}
@@ -85,17 +87,20 @@ texts_at (Some value) = all_texts_in value
 abbrev pub IsRangeText : List ℕ → Type 0
 IsRangeText key = (range : UnvalidatedPluralRange) × IsKeyOfText key range
 
--- Whether an entry has a fault: its key is the text of a range, and its value the name of other or of a category whose cardinal rule
--- is there.
+-- whether a range's category has a fault: it is the name of other, or of a category whose cardinal rule is there
+abbrev pub HasValueFault : SixTexts → Data → Option EntryFault → Type 0
+HasValueFault texts value (Some RangeKey) = ⊥
+HasValueFault texts value (Some NoText) = as_str value ≡ None
+HasValueFault texts value (Some RangeValue) =
+    (name : List ℕ) × (as_str value ≡ Some name) × ((category : PluralCategory) → name ≢ name_of category)
+HasValueFault texts value (Some (NoRule category)) = (as_str value ≡ Some (name_of category)) × IsFalse (has_rule texts category)
+HasValueFault texts value None =
+    (category : PluralCategory) × (as_str value ≡ Some (name_of category)) × IsTrue (has_rule texts category)
+
+-- whether an entry has a fault: its key is the text of a range, and its value is the range's category
 abbrev pub HasEntryFault : SixTexts → List ℕ → Data → Option EntryFault → Type 0
 HasEntryFault texts key value (Some RangeKey) = ¬ (IsRangeText key)
-HasEntryFault texts key value (Some NoText) = IsRangeText key × (as_str value ≡ None)
-HasEntryFault texts key value (Some RangeValue) =
-    IsRangeText key × (name : List ℕ) × (as_str value ≡ Some name) × ((category : PluralCategory) → name ≢ name_of category)
-HasEntryFault texts key value (Some (NoRule category)) =
-    IsRangeText key × (as_str value ≡ Some (name_of category)) × IsFalse (has_rule texts category)
-HasEntryFault texts key value None =
-    IsRangeText key × (category : PluralCategory) × (as_str value ≡ Some (name_of category)) × IsTrue (has_rule texts category)
+HasEntryFault texts key value fault = IsRangeText key × HasValueFault texts value fault
 
 -- what is printed of the fault
 abbrev pub entry_fault_text : EntryFault → List ℕ

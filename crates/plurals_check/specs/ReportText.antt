@@ -9,10 +9,13 @@ abbrev pub ended_line : List ℕ → List ℕ
 ended_line text = text ++ 10 ∷ []
 
 -- `locales: 218, rules: 652, numbers: 14395, faults: 0`
-abbrev pub counts_line : Report → List ℕ
-counts_line report =
-    codes "locales: " ++ decimal report.locales ++ codes ", rules: " ++ decimal report.found.rules
-    ++ codes ", numbers: " ++ decimal report.found.numbers ++ codes ", faults: " ++ decimal (length report.found.lines) ++ codes "\n"
+abbrev pub counts_line : ℕ → ℕ → ℕ → ℕ → List ℕ
+counts_line locales rules numbers faults =
+    codes "locales: " ++ decimal locales ++ codes ", rules: " ++ decimal rules ++ codes ", numbers: " ++ decimal numbers
+    ++ codes ", faults: " ++ decimal faults ++ codes "\n"
+
+abbrev pub counts_of : Report → List ℕ
+counts_of report = counts_line report.locales report.found.rules report.found.numbers (length report.found.lines)
 
 abbrev pub report_text : Report → List ℕ
-report_text report = flat_map ended_line report.found.lines ++ counts_line report
+report_text report = flat_map ended_line report.found.lines ++ counts_of report

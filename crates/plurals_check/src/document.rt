@@ -42,7 +42,8 @@ fn json_of(alloc: Global, bytes: &[u8]) -> Result<Value, CheckError>
 
 // What a part of a document has under each locale.
 pub(crate) fn members_of(document: &Value, part: Part) -> Option<&Map<String, Value>>
-    ensures { option_map (λ m. members_view m.now.entries) result ≡ option_and_then as_object (get (part_name part) (view document.now)) }
+    ensures { option_map (λ m. members_view m.now.entries) result
+        ≡ option_and_then as_object (get (part_name part) (view document.now)) }
 {
     document.get(part.as_str())?.as_object()
 }

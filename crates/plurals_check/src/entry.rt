@@ -2,7 +2,7 @@
 
 ghost use Rattle.std.specs.Prelude.{Some};
 ghost use Rattle.plural_checker.specs.LanguageTexts.{six_texts};
-ghost use Rattle.plurals_check.specs.DocumentReport.{entry_fault_text, HasEntryFault};
+ghost use Rattle.plurals_check.specs.DocumentReport.{entry_fault_text, HasEntryFault, HasValueFault};
 ghost use Rattle.serde_json.specs.View.{view};
 
 use crate::languages::name_of;
@@ -39,16 +39,19 @@ impl fmt::Display for EntryFault {
 }
 
 // The fault of an entry under these cardinal rules, if it has one.
-pub(crate) fn entry_fault(
-    texts: &LanguageTexts<'_>,
-    key: &str,
-    value: &Value,
-) -> Option<EntryFault>
+pub(crate) fn entry_fault(texts: &LanguageTexts<'_>, key: &str, value: &Value) -> Option<EntryFault>
     ensures { HasEntryFault (six_texts texts.now) key.now (view value.now) result }
 {
-    if UnvalidatedPluralRange::from_text(key).is_none() {
-        return Some(EntryFault::RangeKey);
+    match UnvalidatedPluralRange::from_text(key) {
+        Some(_) => value_fault(texts, value),
+        None => Some(EntryFault::RangeKey),
     }
+}
+
+// The fault of a range's category.
+fn value_fault(texts: &LanguageTexts<'_>, value: &Value) -> Option<EntryFault>
+    ensures { HasValueFault (six_texts texts.now) (view value.now) result }
+{
     let Some(name) = value.as_str() else {
         return Some(EntryFault::NoText);
     };

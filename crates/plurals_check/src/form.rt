@@ -4,7 +4,8 @@ ghost use Rattle.std.specs.Prelude.{◌≡◌, is_some, option_map};
 ghost use Rattle.std.specs.Option.{option_and_then};
 ghost use Rattle.serde_json.specs.Find.{as_object, get};
 ghost use Rattle.serde_json.specs.View.{members_view, view};
-ghost use Rattle.plurals_check.specs.CheckedDocument.{document_formed, has_form, locales_formed, part_formed, parts_formed, table_in};
+ghost use Rattle.plurals_check.specs.CheckedDocument.{document_formed, has_form, locales_formed, part_formed};
+ghost use Rattle.plurals_check.specs.CheckedDocument.{parts_formed, table_in};
 ghost use Rattle.plurals_check.specs.Inner.CheckCalls.{GivesFault, GivesValue};
 ghost use Rattle.plurals_check.specs.Parts.{part_name};
 ghost use Rattle.plurals_check.specs.declared.error.CheckError.TheVariants.{NoObject};
@@ -33,13 +34,20 @@ pub(crate) fn check_document(alloc: Global, value: &Value) -> Result<(), CheckEr
 fn check_parts(alloc: Global, value: &Value) -> Result<(), CheckError>
     ensures { GivesValue (λ done. done) (parts_formed (view value.now)) result }
 {
-    check_part(alloc, Part::Cardinal, value.get(Part::Cardinal.as_str()))?;
-    check_part(alloc, Part::Ordinal, value.get(Part::Ordinal.as_str()))?;
-    check_part(alloc, Part::Ranges, value.get(Part::Ranges.as_str()))
+    check_part(alloc, Part::Cardinal, value)?;
+    check_part(alloc, Part::Ordinal, value)?;
+    check_part(alloc, Part::Ranges, value)
 }
 
-// The same of a part, which may be absent or null.
-fn check_part(alloc: Global, part: Part, value: Option<&Value>) -> Result<(), CheckError>
+// The same of one part.
+fn check_part(alloc: Global, part: Part, value: &Value) -> Result<(), CheckError>
+    ensures { GivesValue (λ done. done) (part_formed part (get (part_name part) (view value.now))) result }
+{
+    check_members(alloc, part, value.get(part.as_str()))
+}
+
+// The same of what a document has for a part, which may be absent or null.
+fn check_members(alloc: Global, part: Part, value: Option<&Value>) -> Result<(), CheckError>
     ensures { GivesValue (λ done. done) (part_formed part (option_map (λ v. view v.now) value.entry)) result }
 {
     let Some(value) = value else {
@@ -55,11 +63,7 @@ fn check_part(alloc: Global, part: Part, value: Option<&Value>) -> Result<(), Ch
 }
 
 // The same of what a part has under each locale.
-fn check_locales(
-    alloc: Global,
-    part: Part,
-    members: &Map<String, Value>,
-) -> Result<(), CheckError>
+fn check_locales(alloc: Global, part: Part, members: &Map<String, Value>) -> Result<(), CheckError>
     ensures { GivesValue (λ done. done) (locales_formed part (members_view members.now.entries)) result }
 {
     for (locale, value) in members.iter() {

@@ -1,6 +1,6 @@
 //! What is found in a document.
 
-ghost use Rattle.std.specs.Prelude.{◌≡◌, ◌+◌, ℕ, List, IfOk, OnOk, map, option_map, string_bytes};
+ghost use Rattle.std.specs.Prelude.{◌≡◌, ◌+◌, ℕ, List, IfOk, OnOk, length, map, option_map, string_bytes};
 ghost use Rattle.plurals_check.specs.Found.{nothing, one_line, one_rule, together, IsFoundIn};
 ghost use Rattle.plurals_check.specs.Found as seen;
 ghost use Rattle.plurals_check.specs.Inner.Additions.{Adds};
@@ -52,6 +52,13 @@ impl Found {
         self.lines.as_slice()
     }
 
+    // How many lines there are.
+    pub(crate) fn len(&self) -> usize
+        ensures { result ≡ length self.now.lines }
+    {
+        self.lines.len()
+    }
+
     // How many rule texts were looked at.
     pub(crate) fn rules(&self) -> u64
         ensures { result ≡ self.now.rules }
@@ -95,7 +102,10 @@ impl Found {
 pub(crate) fn sum(first: u64, second: u64) -> Result<u64, AllocError>
     ensures { IfOk result (λ both. both ≡ first + second) }
 {
-    first.checked_add(second).ok_or(AllocError)
+    match first.checked_add(second) {
+        Some(both) => Ok(both),
+        None => Err(AllocError),
+    }
 }
 
 // What looks at the members of an object.
@@ -121,7 +131,9 @@ pub(crate) fn add_members<C: MemberCheck>(
     members: Option<&Map<String, Value>>,
     found: &mut Found,
 ) -> Result<(), AllocError>
-    ensures { OnOk result (Adds (IsFoundIn (C.finds check.now) (members_or_none (option_map (λ m. members_view m.now.entries) members.entry))) found.old found.new) }
+    ensures { OnOk result (Adds
+        (IsFoundIn (C.finds check.now) (members_or_none (option_map (λ m. members_view m.now.entries) members.entry)))
+        found.old found.new) }
 {
     match members {
         Some(members) => add_all(alloc, check, members, found),

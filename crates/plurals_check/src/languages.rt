@@ -1,11 +1,12 @@
 //! What is found in the rules of a part.
 
-ghost use Rattle.std.specs.Prelude.{◌≡◌, map, option_map, OnOk};
+ghost use Rattle.std.specs.Prelude.{◌≡◌, Some, IfOk, OnOk, map, option_map, string_bytes};
 ghost use Rattle.std.specs.Option.{option_copied};
 ghost use Rattle.icu_plurals.specs.RulesJson.{text_under};
 ghost use Rattle.icu_plurals.specs.Categories.{name_of};
 ghost use Rattle.plural_checker.specs.LanguageTexts.{six_texts};
-ghost use Rattle.plurals_check.specs.DocumentReport.{all_texts_in, fault_line, found_under, found_under_all, text_order, IsFoundInRules};
+ghost use Rattle.plurals_check.specs.DocumentReport.{all_texts_in, fault_line, found_under, found_under_all};
+ghost use Rattle.plurals_check.specs.DocumentReport.{no_text_line, text_order, IsFoundInRules};
 ghost use Rattle.plurals_check.specs.Found.{together};
 ghost use Rattle.plurals_check.specs.Inner.Additions.{lines_alone};
 ghost use Rattle.serde_json.specs.View.{view};
@@ -29,6 +30,7 @@ const TEXT_ORDER: [PluralCategory; 6] = [
 ];
 
 // The check of what a part has under a locale, the rules of a language.
+#[derive(Clone, Copy)]
 pub(crate) struct LanguageCheck {
     pub(crate) part: Part,
 }
@@ -105,19 +107,47 @@ fn add_text(
     value: Option<&Value>,
     found: &mut Found,
 ) -> Result<(), AllocError>
-    ensures { OnOk result (found.new ≡ together found.old (found_under part locale.now category (option_map (λ v. view v.now) value.entry))) }
+    ensures { OnOk result (found.new
+        ≡ together found.old (found_under part locale.now category (option_map (λ v. view v.now) value.entry))) }
 {
-    let Some(value) = value else {
-        return Ok(());
-    };
+    match value {
+        Some(value) => add_value(alloc, part, locale, category, value, found),
+        None => Ok(()),
+    }
+}
+
+// The same of a value.
+fn add_value(
+    alloc: Global,
+    part: Part,
+    locale: &str,
+    category: PluralCategory,
+    value: &Value,
+    found: &mut Found,
+) -> Result<(), AllocError>
+    ensures { OnOk result (found.new ≡ together found.old (found_under part locale.now category (Some (view value.now)))) }
+{
     if value.is_null() {
         return Ok(());
     }
     if value.is_string() {
         return found.add_rule();
     }
-    let line = format!(in alloc; "{} {} {}: no text", part.as_str(), locale, name_of(category))?;
+    let line = no_text_line(alloc, part, locale, category)?;
     found.add_line(line)
+}
+
+// The line for what stands under a category and is no text.
+fn no_text_line(
+    alloc: Global,
+    part: Part,
+    locale: &str,
+    category: PluralCategory,
+) -> Result<String, AllocError>
+    ensures { IfOk result (λ line. string_bytes line ≡ no_text_line part locale.now category) }
+{
+    let name = name_of(category);
+    format!(in alloc; "{} {} {}: no text", part.as_str(), locale, name)
 }
 
 // Adds a line for each fault of a language's texts.
@@ -131,8 +161,20 @@ fn add_faults(
     ensures { OnOk result (found.new ≡ together found.old (lines_alone (map (fault_line part locale.now) faults.now))) }
 {
     for fault in faults {
-        let line = format!(in alloc; "{} {} {}", part.as_str(), locale, fault)?;
+        let line = fault_line(alloc, part, locale, fault)?;
         found.add_line(line)?;
     }
     Ok(())
+}
+
+// The line for a fault of a text.
+fn fault_line(
+    alloc: Global,
+    part: Part,
+    locale: &str,
+    fault: &Fault,
+) -> Result<String, AllocError>
+    ensures { IfOk result (λ line. string_bytes line ≡ fault_line part locale.now fault.now) }
+{
+    format!(in alloc; "{} {} {}", part.as_str(), locale, fault)
 }

@@ -37,7 +37,8 @@ fn count_first(
     part: Part,
     members: &Map<String, Value>,
 ) -> Result<u64, AllocError>
-    ensures { IfOk result (λ count. count ≡ count_by (is_first_in part (view document.now)) (keys_in (members_view members.now.entries))) }
+    ensures { IfOk result (λ count. count
+        ≡ count_by (is_first_in part (view document.now)) (keys_in (members_view members.now.entries))) }
 {
     let mut count = 0;
     for (locale, _) in members.iter() {

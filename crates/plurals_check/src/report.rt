@@ -7,7 +7,7 @@ ghost use Rattle.plurals_check.specs.DocumentReport.{IsFoundInDocument, IsFoundI
 ghost use Rattle.plurals_check.specs.CheckedDocument.{members_at};
 ghost use Rattle.plurals_check.specs.Found.{IsFoundIn};
 ghost use Rattle.plurals_check.specs.Inner.Additions.{Adds};
-ghost use Rattle.plurals_check.specs.ReportText.{counts_line, ended_line, report_text};
+ghost use Rattle.plurals_check.specs.ReportText.{counts_line, counts_of, ended_line, report_text};
 ghost use Rattle.serde_json.specs.View.{view};
 
 use crate::document::members_of;
@@ -77,7 +77,8 @@ fn add_rules(
 ) -> Result<(), AllocError>
     ensures { OnOk result (Adds (IsFoundIn (IsFoundInRules part) (members_at part (view document.now))) found.old found.new) }
 {
-    add_members(alloc, &LanguageCheck { part }, members_of(document, part), found)
+    let members = members_of(document, part);
+    add_members(alloc, &LanguageCheck { part }, members, found)
 }
 
 impl Report {
@@ -104,13 +105,24 @@ impl Report {
 
     // The line with the counts.
     fn counts(&self, alloc: Global) -> Result<String, AllocError>
-        ensures { IfOk result (λ line. string_bytes line ≡ counts_line self.now) }
+        ensures { IfOk result (λ line. string_bytes line ≡ counts_of self.now) }
     {
-        let rules = self.found.rules();
-        let numbers = self.found.numbers();
-        let faults = self.found.lines().len();
-        format!(in alloc; "locales: {}, rules: {}, numbers: {}, faults: {}\n", self.locales, rules, numbers, faults)
+        let found = &self.found;
+        counts_line(alloc, self.locales, found.rules(), found.numbers(), found.len())
     }
+}
+
+// The line with these counts.
+fn counts_line(
+    alloc: Global,
+    locales: u64,
+    rules: u64,
+    numbers: u64,
+    faults: usize,
+) -> Result<String, AllocError>
+    ensures { IfOk result (λ line. string_bytes line ≡ counts_line locales rules numbers faults) }
+{
+    format!(in alloc; "locales: {locales}, rules: {rules}, numbers: {numbers}, faults: {faults}\n")
 }
 
 // Appends the lines, each with its end.

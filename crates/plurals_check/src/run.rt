@@ -52,7 +52,7 @@ pub fn run<R: Read, W: Write>(
     if has_words {
         return Err(CheckError::Usage);
     }
-    let answer = answer(alloc, reader)?;
+    let answer = answer_to_reader(alloc, reader)?;
     match writer.write_all(answer.text.as_str().as_bytes()) {
         Ok(()) => Ok(answer.verdict),
         Err(_) => Err(CheckError::Write),
@@ -60,7 +60,7 @@ pub fn run<R: Read, W: Write>(
 }
 
 // The answer to what the reader gives.
-fn answer<R: Read>(alloc: Global, reader: &mut R) -> Result<Answer, CheckError>
+fn answer_to_reader<R: Read>(alloc: Global, reader: &mut R) -> Result<Answer, CheckError>
     ensures answers { (input : List ℕ) × IsInput (R.remaining reader.old) input
         × GivesAfterReading (AnswersDocument (value_in input)) result }
     ensures reads { IsRead (R.remaining reader.old) (R.remaining reader.new) result }

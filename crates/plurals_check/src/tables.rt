@@ -1,13 +1,13 @@
 //! What is found in the ranges of a document.
 
-ghost use Rattle.std.specs.Prelude.{◌≡◌, option_map, OnOk};
+ghost use Rattle.std.specs.Prelude.{◌≡◌, IfOk, OnOk, option_map, string_bytes};
 ghost use Rattle.plural_checker.specs.LanguageTexts.{six_texts};
-ghost use Rattle.plurals_check.specs.DocumentReport.{found_of_rules, texts_at, IsFoundInEntry, IsFoundInRanges};
+ghost use Rattle.plurals_check.specs.DocumentReport.{entry_line, found_of_rules, texts_at, IsFoundInEntry, IsFoundInRanges};
 ghost use Rattle.plurals_check.specs.Found.{together};
 ghost use Rattle.serde_json.specs.View.{view};
 
 use crate::document::value_at;
-use crate::entry::entry_fault;
+use crate::entry::{EntryFault, entry_fault};
 use crate::form::table_in;
 use crate::found::{Found, MemberCheck, add_members};
 use crate::languages::texts_of;
@@ -17,6 +17,7 @@ use serde_json::Value;
 use std::alloc::{AllocError, Global};
 
 // The check of a locale's ranges, in a document.
+#[derive(Clone, Copy)]
 pub(crate) struct TableCheck<'a> {
     pub(crate) document: &'a Value,
 }
@@ -43,6 +44,7 @@ impl<'a> MemberCheck for TableCheck<'a> {
 }
 
 // The check of an entry of a locale's ranges, under the texts of its cardinal rules.
+#[derive(Clone, Copy)]
 struct EntryCheck<'a> {
     texts: LanguageTexts<'a>,
     locale: &'a str,
@@ -58,13 +60,24 @@ impl<'a> MemberCheck for EntryCheck<'a> {
         value: &Value,
         found: &mut Found,
     ) -> Result<(), AllocError> {
-        let Some(fault) = entry_fault(&self.texts, key, value) else {
-            return Ok(());
-        };
-        let line = format!(in alloc; "{} {} {}: {}", Part::Ranges.as_str(), self.locale, key, fault)?;
-        found.add_line(line)?;
-        Ok(())
+        match entry_fault(&self.texts, key, value) {
+            Some(fault) => found.add_line(entry_line(alloc, self.locale, key, fault)?),
+            None => Ok(()),
+        }
     }
+}
+
+// The line for a fault of an entry.
+fn entry_line(
+    alloc: Global,
+    locale: &str,
+    key: &str,
+    fault: EntryFault,
+) -> Result<String, AllocError>
+    ensures { IfOk result (λ line. string_bytes line ≡ entry_line locale.now key.now fault) }
+{
+    let part = Part::Ranges.as_str();
+    format!(in alloc; "{} {} {}: {}", part, locale, key, fault)
 }
 
 // The texts of cardinal rules, where there are some.
@@ -91,7 +104,8 @@ fn add_rules(
     rules: Option<&Value>,
     found: &mut Found,
 ) -> Result<(), AllocError>
-    ensures { OnOk result (found.new ≡ together found.old (found_of_rules locale.now (option_map (λ v. view v.now) rules.entry))) }
+    ensures { OnOk result (found.new
+        ≡ together found.old (found_of_rules locale.now (option_map (λ v. view v.now) rules.entry))) }
 {
     if rules.is_some() {
         return Ok(());

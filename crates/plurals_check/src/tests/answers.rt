@@ -57,8 +57,8 @@ pub(crate) fn gives<R: Read>(
     };
     match run(alloc, has_words, reader, &mut writer) {
         Ok(verdict) => {
-            let status = if answer.ends_with("faults: 0\n") { 0 } else { 1 };
-            Some(writer.left.is_empty() && verdict.status() == status)
+            let has_faults = !answer.ends_with("faults: 0\n");
+            Some(writer.left.is_empty() && verdict.status() == u8::from(has_faults))
         }
         Err(CheckError::Memory) if writer.left.len() == answer.len() => None,
         Err(fault) => Some(awaits_fault(writer, &fault)),

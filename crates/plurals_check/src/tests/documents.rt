@@ -5,7 +5,7 @@ use crate::tests::assertion::holds;
 use std::test::Fail;
 
 // A document with a fault of each kind.
-pub(crate) const FAULTY: &str = r#"{"cardinal":{
+const FAULTY: &str = r#"{"cardinal":{
 "a":{"one":"i 1"},
 "b":{"one":"v = 0 adn i % 10 = 2..4"},
 "c":{"zero":null,"few":5},
@@ -16,7 +16,7 @@ pub(crate) const FAULTY: &str = r#"{"cardinal":{
 "a":{"ranges":{"one--few":"few","one--other":"other","one--two":5,"one-two":"one","other--one":"some","other--other":"one"}},
 "z":{"ranges":{"few--few":"few"}}}}"#;
 
-pub(crate) const FAULTS: &str = "cardinal a one: expected operator
+const FAULTS: &str = "cardinal a one: expected operator
 cardinal b one: read as v = 0
 cardinal c few: no text
 cardinal d one: sample .~5: bad number

@@ -2,7 +2,7 @@
 
 use crate::tests::answers::gives;
 use crate::tests::assertion::holds;
-use crate::tests::documents::{FAULTS, FAULTY, UNFORMED};
+use crate::tests::documents::UNFORMED;
 use std::alloc::Global;
 use std::process::Abort;
 
@@ -19,7 +19,15 @@ fn holds_again(rt: &impl Abort, alloc: Global, document: &str, answer: &str) {
 
 #[test]
 fn growth_of_a_report(rt: HostRuntime) {
-    holds_again(&rt, rt.alloc(), FAULTY, FAULTS)
+    let document =
+        r#"{"cardinal":{"a":{"one":5,"two":"i 1"}},"ranges":{"b":{"ranges":{"one":"two"}}}}"#;
+    let report = "cardinal a one: no text
+cardinal a two: expected operator
+ranges b: no cardinal rules
+ranges b one: range key
+locales: 2, rules: 1, numbers: 0, faults: 4
+";
+    holds_again(&rt, rt.alloc(), document, report)
 }
 
 #[test]

@@ -9,7 +9,8 @@ use std::io::Read;
 const MOST: usize = 4_194_304;
 
 // A document without faults, and its report.
-const DOCUMENT: &[u8] = br#"{"cardinal":{"a":{"one":"i = 1 and v = 0 @integer 1","other":"@integer 0, 2~16"}}}"#;
+const DOCUMENT: &[u8] =
+    br#"{"cardinal":{"a":{"one":"i = 1 and v = 0 @integer 1","other":"@integer 0, 2~16"}}}"#;
 
 const REPORT: &str = "locales: 1, rules: 2, numbers: 17, faults: 0\n";
 

@@ -1,6 +1,5 @@
-use Rattle.std.proofs.Common.{ℕ, List, String, Global, string_bytes, ap, subst, ◌∙◌}
+use Rattle.std.proofs.Common.{string_bytes, ap, subst, ◌∙◌}
 use Rattle.serde_json.specs.View.{view, members_view}
-use Rattle.serde_json.specs.declared.value.Value.{Value}
 use Rattle.plurals_check.specs.Inner.Additions.{Adds}
 use Rattle.plurals_check.proofs.FoundParts.{Completes, begins, ends, goes_on}
 use Rattle.plurals_check.proofs.found.add_all.Goals as goal
@@ -18,3 +17,10 @@ loop-key-preserved g c =
     goes_on Is all c.args.found.now (string_bytes c.in-Some.key.now) value (members_view c.next.new.self) c.loop-key.found c.add.new.found
     (subst (λ es. Completes Is (members_view es) all c.loop-key.found c.args.found.now) c.in-Some.ensures.steps c.loop-key.invariant)
     (subst (λ key. Adds (Is key value) c.loop-key.found c.add.new.found) c.as_str.ensures.value c.in_ok-add.ensures)
+
+pub returns : goal.returns
+returns g c =
+    let Is = g.C.MemberCheck.finds c.args.check.now in
+    let all = members_view c.args.members.now.entries in
+    ends Is all c.args.found.now c.loop-key.found
+    (subst (λ es. Completes Is (members_view es) all c.loop-key.found c.args.found.now) c.in-None.ensures.steps.0 c.loop-key.invariant)

@@ -11,4 +11,4 @@ pub returns : goal.returns
 returns c =
     subst (λ (members : Members). OnOk c.add_members.result
     (Adds (IsFoundIn (IsFoundInRules c.args.part) members) c.args.found.now c.add_members.new.found))
-    (ap members_or_none c.members_of.ensures) c.add_members.ensures
+    (ap members_or_none c.members_of-members.ensures) c.add_members.ensures

@@ -12,7 +12,7 @@ use Rattle.plurals_check.proofs.languages.LanguageCheckMemberCheck.add.Goals as 
 pub returns : goal.returns
 returns c =
     let part = c.args.self.now.part in
-    let locale = c.args.key.now in
+    let locale = c.args.locale.now in
     let value = view c.args.value.now in
     let checked = c.in_ok-checked.checked in (
       together (found_under_all part locale value text_order)
@@ -23,8 +23,9 @@ returns c =
         refl,
       ),
       lines_and_numbers c.args.found.now (found_under_all part locale value text_order) (map (fault_line part locale) checked.faults)
-          checked.numbers c.add_texts.new.found c.add_faults.new.found c.add_numbers.new.found c.in_ok-add_texts.ensures
-          (subst (λ (faults : List Fault). c.add_faults.new.found ≡ together c.add_texts.new.found (lines_alone (map (fault_line part locale) faults)))
+          checked.numbers c.add_texts.new.found c.add_faults.new.found c.add_numbers.new.self c.in_ok-add_texts.ensures
+          (subst (λ (faults : List Fault). c.add_faults.new.found
+          ≡ together c.add_texts.new.found (lines_alone (map (fault_line part locale) faults)))
           c.as_slice.ensures c.in_ok-add_faults.ensures)
           c.in_ok-add_numbers.ensures,
     )

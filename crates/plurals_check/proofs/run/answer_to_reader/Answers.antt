@@ -3,7 +3,7 @@ use Rattle.plurals_check.specs.CheckAnswer.{AnswersDocument}
 use Rattle.plurals_check.specs.CheckedDocument.{value_of}
 use Rattle.plurals_check.proofs.CheckFaults.{handed_on}
 use Rattle.plurals_check.proofs.CheckReadings.{answer_not_long, no_input, of_all, to_the_end}
-use Rattle.plurals_check.proofs.run.answer.Goals as goal
+use Rattle.plurals_check.proofs.run.answer_to_reader.Goals as goal
 
 pub returns-in_err-input-clause-answers : goal.returns-in_err-input-clause-answers
 returns-in_err-input-clause-answers g c =
