@@ -1,4 +1,4 @@
-use Rattle.std.proofs.Common.{◌≡◌, ◌++◌, [], rules, string_bytes, append_assoc, append-nil, subst, sym, ap, ◌∙◌}
+use Rattle.std.proofs.Common.{◌≡◌, ◌++◌, [], string_bytes, append_assoc, append-nil, subst, sym, ap, ◌∙◌}
 use Rattle.std.specs.Str.Iter.{split_inclusive_pattern, split_inclusive_text}
 use Rattle.std.specs.Str.Pattern.{EndsAtFirstMatch, FindsChar}
 use Rattle.plural_message.specs.Messages.{IsFilling}
