@@ -1,85 +1,180 @@
--- How a text is filled: without a `{}` it stays, else the first one is replaced and the rest filled.
-use Rattle.std.proofs.Common.{◌≡◌, ℕ, ◌<◌, List, [], ◌∷◌, ◌++◌, flat_map, length, take, drop, ap, subst, sym, ◌∙◌}
-use Rattle.std.proofs.Common.{append_assoc, append-nil, arith, length-append, length-take, Some, None, true, false, refl}
+-- How a text is filled: piece by piece, each up to a `}`, so that a placeholder ends its piece.
+use Rattle.std.proofs.Common.{◌≡◌, ℕ, ◌<◌, ◌≤◌, ◌+◌, ◌-◌, List, [], ◌∷◌, ◌++◌, flat_map, length, take, drop, get_or}
+use Rattle.std.proofs.Common.{ap, subst, sym, ◌∙◌, refl, append_assoc, arith, length-append, length-take, Some, None, ⊎_elim}
+use Rattle.std.proofs.Common.{get_or-append-add, get_or-take}
 use Rattle.std.specs.List.{AllByRecursion}
 use Rattle.std.specs.Str.Iter.{HasSubslice}
-use Rattle.std.specs.Str.Pattern.{FindsText, HasTextAt, LacksTextAt, SplitsAroundMatch}
-use Rattle.std.proofs.lemmas.List.{drop_at, take-append-drop}
-use Rattle.std.proofs.lemmas.Str.Pattern.{contains_text}
+use Rattle.std.specs.Str.Pattern.{EndsAtFirstMatch, FindsChar, FindsTextSuffix, StripsSuffix}
+use Rattle.std.proofs.Math.Nat.{eq-or-lt_of_le}
+use Rattle.std.proofs.Math.Seq.{get_or-append_seam, take-append-add, take-append_seam}
+use Rattle.std.proofs.lemmas.Bool.{cases_lt}
+use Rattle.std.proofs.lemmas.Str.{len_utf8_ascii}
+use Rattle.std.proofs.lemmas.Str.Pattern.{NoCharPasses-char}
 use Rattle.plural_message.specs.Messages.{placeholder, joined_by, IsFilling}
 
--- ---- A piece more
+-- in none of the pieces stands a placeholder
+abbrev AreUncut : List (List ℕ) → Type 0
+AreUncut pieces = AllByRecursion (λ piece. ¬ (HasSubslice piece placeholder)) pieces
 
--- no placeholder stands in the empty text
-pub none_in_empty : ¬ (HasSubslice [] placeholder)
-none_in_empty h = omega (arith, ap length h.2, length-append h.0 (placeholder ++ h.1))
+-- none stands in a list that is shorter
+none_in_short : (xs : List ℕ) → length xs ≤ 1 → ¬ (HasSubslice xs placeholder)
+none_in_short xs short h = omega (arith, short, ap length h.2, length-append h.0 (placeholder ++ h.1))
 
--- a text without a placeholder is one piece
-pub filling-plain : (number text : List ℕ) → ¬ (HasSubslice text placeholder) → IsFilling number text text
-filling-plain number text none =
-    record { pieces = text ∷ []; uncut = (none, tt); cut = sym (append-nil text); filled_is = sym (append-nil text) }
+-- nothing is filled by nothing
+pub filling-nil : (number rest : List ℕ) → length rest ≡ 0 → IsFilling number rest []
+filling-nil number [] none = record { pieces = []; uncut = tt; cut = refl; filled_is = refl }
+filling-nil number (x ∷ rest) none = absurd (omega (arith, none))
 
--- one piece more before others, or before nothing, which is an empty piece
-joined_by-more : (separator piece : List ℕ) (p : List ℕ) (ps : List (List ℕ))
-    → piece ++ (separator ++ joined_by separator (p ∷ ps)) ≡ joined_by separator (piece ∷ p ∷ ps)
-joined_by-more separator piece p ps = ap (λ l. piece ++ l) (sym (append_assoc separator p (flat_map (λ q. separator ++ q) ps)))
+-- ---- A placeholder in front
 
--- a piece more before pieces that fill what stands behind it
-more : (number before after rest : List ℕ) (pieces : List (List ℕ)) → ¬ (HasSubslice before placeholder)
-    → AllByRecursion (λ piece. ¬ (HasSubslice piece placeholder)) pieces → after ≡ joined_by placeholder pieces
-    → rest ≡ joined_by number pieces
-    → IsFilling number (before ++ (placeholder ++ after)) (before ++ (number ++ rest))
-more number before after rest [] none uncut cut filled =
+-- an empty piece before others
+joined_by-empty : (separator p : List ℕ) (ps : List (List ℕ))
+    → separator ++ joined_by separator (p ∷ ps) ≡ joined_by separator ([] ∷ p ∷ ps)
+joined_by-empty separator p ps = sym (append_assoc separator p (flat_map (λ q. separator ++ q) ps))
+
+-- the pieces behind it, of which no one is an empty one
+placeholder_more : (number text filled : List ℕ) (pieces : List (List ℕ)) → AreUncut pieces
+    → text ≡ joined_by placeholder pieces → filled ≡ joined_by number pieces
+    → IsFilling number (placeholder ++ text) (number ++ filled)
+placeholder_more number text filled [] uncut cut filled_is =
     record {
-      pieces = before ∷ [] ∷ [];
-      uncut = (none, (none_in_empty, tt));
-      cut = ap (λ l. before ++ (placeholder ++ l)) cut ∙ joined_by-more placeholder before [] [];
-      filled_is = ap (λ l. before ++ (number ++ l)) filled ∙ joined_by-more number before [] [];
+      pieces = [] ∷ [] ∷ [];
+      uncut = (none_in_short [] (omega arith), (none_in_short [] (omega arith), tt));
+      cut = ap (λ l. placeholder ++ l) cut ∙ joined_by-empty placeholder [] [];
+      filled_is = ap (λ l. number ++ l) filled_is ∙ joined_by-empty number [] [];
     }
-more number before after rest (p ∷ ps) none uncut cut filled =
+placeholder_more number text filled (p ∷ ps) uncut cut filled_is =
     record {
-      pieces = before ∷ p ∷ ps;
-      uncut = (none, uncut);
-      cut = ap (λ l. before ++ (placeholder ++ l)) cut ∙ joined_by-more placeholder before p ps;
-      filled_is = ap (λ l. before ++ (number ++ l)) filled ∙ joined_by-more number before p ps;
+      pieces = [] ∷ p ∷ ps;
+      uncut = (none_in_short [] (omega arith), uncut);
+      cut = ap (λ l. placeholder ++ l) cut ∙ joined_by-empty placeholder p ps;
+      filled_is = ap (λ l. number ++ l) filled_is ∙ joined_by-empty number p ps;
     }
 
--- what stands before the first placeholder, the number, and the rest filled
-pub filling-placeholder : (number before after rest : List ℕ) → ¬ (HasSubslice before placeholder) → IsFilling number after rest
-    → IsFilling number (before ++ (placeholder ++ after)) (before ++ (number ++ rest))
-filling-placeholder number before after rest none filling =
-    more number before after rest filling.pieces none filling.uncut filling.cut filling.filled_is
+-- the number in its place
+filling-placeholder : (number text filled : List ℕ) → IsFilling number text filled
+    → IsFilling number (placeholder ++ text) (number ++ filled)
+filling-placeholder number text filled filling =
+    placeholder_more number text filled filling.pieces filling.uncut filling.cut filling.filled_is
 
--- ---- What `split_once` cuts
+-- ---- Characters in front that begin no placeholder
 
--- it is not in a text where it isn't found
-none_found : (text : List ℕ) → FindsText placeholder text None → ¬ (HasSubslice text placeholder)
-none_found text none h = let found : false ≡ true = (contains_text false placeholder text none).1 h in cc
+-- none stands in a first piece that has such a character before it
+none_behind : (x : ℕ) (text piece : List ℕ) (pieces : List (List ℕ)) → ((rest : List ℕ) → x ∷ text ≡ placeholder ++ rest → ⊥)
+    → ¬ (HasSubslice piece placeholder) → text ≡ joined_by placeholder (piece ∷ pieces)
+    → (a b : List ℕ) → x ∷ piece ≡ a ++ (placeholder ++ b) → ⊥
+none_behind x text piece pieces begins none cut [] b e =
+    let behind = flat_map (λ q. placeholder ++ q) pieces in
+    begins (b ++ behind) (ap (λ l. x ∷ l) cut ∙ ap (λ l. l ++ behind) e ∙ append_assoc placeholder b behind)
+none_behind x text piece pieces begins none cut (y ∷ a) b e = none (a, b, ap (λ l. drop 1 l) e)
 
--- it is not found before the placeholder where it is found first
-none_before : (text : List ℕ) (i : ℕ) → ((k : ℕ) → k < i → LacksTextAt placeholder text k) → ¬ (HasSubslice (take i text) placeholder)
-none_before text i lacks h =
-    let a = h.0 in
-    let b = h.1 in
-    let whole : text ≡ a ++ (placeholder ++ (b ++ drop i text)) =
-    sym (take-append-drop i text) ∙ ap (λ l. l ++ drop i text) h.2 ∙ append_assoc a (placeholder ++ b) (drop i text) in
-    let inside : length a < i = omega (arith, ap length h.2, length-take i text, length-append a (placeholder ++ b)) in
-    lacks (length a) inside (b ++ drop i text) (ap (drop (length a)) whole ∙ drop_at a (placeholder ++ (b ++ drop i text)) (length a) refl)
+-- the character joins the first piece
+character_more : (number : List ℕ) (x : ℕ) (text filled : List ℕ) (pieces : List (List ℕ))
+    → ((rest : List ℕ) → x ∷ text ≡ placeholder ++ rest → ⊥)
+    → AreUncut pieces → text ≡ joined_by placeholder pieces → filled ≡ joined_by number pieces → IsFilling number (x ∷ text) (x ∷ filled)
+character_more number x text filled [] begins uncut cut filled_is =
+    record {
+      pieces = (x ∷ []) ∷ [];
+      uncut = (none_in_short (x ∷ []) (omega arith), tt);
+      cut = ap (λ l. x ∷ l) cut;
+      filled_is = ap (λ l. x ∷ l) filled_is;
+    }
+character_more number x text filled (p ∷ ps) begins uncut cut filled_is =
+    record {
+      pieces = (x ∷ p) ∷ ps;
+      uncut = (λ h. none_behind x text p ps begins uncut.0 cut h.0 h.1 h.2, uncut.1);
+      cut = ap (λ l. x ∷ l) cut;
+      filled_is = ap (λ l. x ∷ l) filled_is;
+    }
 
--- the text at a placeholder, cut there
-cut_at : (text : List ℕ) (i j : ℕ) → HasTextAt placeholder text i j → text ≡ take i text ++ (placeholder ++ drop j text)
-cut_at text i j found = sym (take-append-drop i text) ∙ ap (λ l. take i text ++ l) found.split
+-- no placeholder of the whole begins in the front
+abbrev BeginsNone : List ℕ → List ℕ → Type 0
+BeginsNone front text = (a b : List ℕ) → front ++ text ≡ a ++ (placeholder ++ b) → length front ≤ length a
 
--- what isn't cut is filled by nothing
-pub uncut_filling : (number text : List ℕ) → FindsText placeholder text None → IsFilling number text text
-uncut_filling number text none = filling-plain number text (none_found text none)
+-- such a front stays as it is
+filling-front : (number front text filled : List ℕ) → BeginsNone front text → IsFilling number text filled
+    → IsFilling number (front ++ text) (front ++ filled)
+filling-front number [] text filled behind filling = filling
+filling-front number (x ∷ front) text filled behind filling =
+    let f = filling-front number front text filled (λ a b e. omega (arith, behind (x ∷ a) b (ap (λ l. x ∷ l) e))) filling in
+    character_more number x (front ++ text) (front ++ filled) f.pieces (λ b e. omega (arith, behind [] b e)) f.uncut f.cut f.filled_is
 
--- what is cut at the first placeholder is filled as what stands behind it
-pub cut_filling : (number text before after rest : List ℕ) → SplitsAroundMatch (FindsText placeholder) text before after
-    → IsFilling number after rest
-    → IsFilling number text (before ++ (number ++ rest))
-cut_filling number text before after rest (i, j, found, front, back, _, _, _) filled =
-    let whole : text ≡ before ++ (placeholder ++ after) =
-    cut_at text i j found.1 ∙ (λ k. sym front k ++ (placeholder ++ sym back k)) in
-    let none = subst (λ l. ¬ (HasSubslice l placeholder)) (sym front) (none_before text i found.0) in
-    subst (λ l. IsFilling number l (before ++ (number ++ rest))) (sym whole) (filling-placeholder number before after rest none filled)
+-- ---- The pieces that `split_inclusive` cuts at each `}`
+
+-- a piece at the front of its text: no `}` stands before its end, and it ends with one, or with the text
+record IsPiece (text piece : List ℕ) : Type 0 where
+  least : (k : ℕ) → k < length text → get_or text k 0 ≡ 125 → length piece ≤ k + 1
+  ends : length piece < length text → get_or text (length piece - 1) 0 ≡ 125
+
+-- what the iterator says of a piece
+is_piece : (text piece : List ℕ) → EndsAtFirstMatch (FindsChar 125) text piece → IsPiece text piece
+is_piece text piece (None, found, whole) =
+    record {
+      least = λ k inside is. absurd (NoCharPasses-char 125 text k found (omega arith) inside is);
+      ends = λ shorter. absurd (omega (arith, shorter, ap length whole.0));
+    }
+is_piece text piece (Some (i, j), found, cut) =
+    let next : j ≡ i + 1 = found.1.ends ∙ ap (λ n. i + n) (len_utf8_ascii 125 (omega arith)) in
+    let sizes : length piece ≡ length (take j text) = ap length (cut (omega (arith, next))) in
+    let before : (k : ℕ) → k < length text → get_or text k 0 ≡ 125 → k < i → ⊥ =
+    λ k inside is below. NoCharPasses-char 125 (take i text) k found.0 (omega arith) (omega (arith, inside, below, length-take i text))
+    (get_or-take i text k 0 below ∙ is) in
+    record {
+      least =
+          λ k inside is. ⊎_elim (λ below. absurd (before k inside is below))
+          (λ above. omega (arith, above, next, sizes, length-take j text)) (cases_lt k i);
+      ends = λ shorter. ap (λ n. get_or text n 0) (omega (arith, shorter, next, sizes, length-take j text)) ∙ found.1.byte (omega arith);
+    }
+
+-- a placeholder ends no earlier than the piece
+placeholder_ends : (text piece a b : List ℕ) → IsPiece text piece → text ≡ a ++ (placeholder ++ b) → length piece ≤ length a + 2
+placeholder_ends text piece a b is e =
+    omega (
+      arith,
+      is.least (length a + 1) (omega (arith, ap length e, length-append a (placeholder ++ b)))
+          (ap (λ l. get_or l (length a + 1) 0) e ∙ get_or-append-add a (placeholder ++ b) 1 0),
+    )
+
+-- a piece is filled that ends with a placeholder: what stands before it stays
+pub cut_filling : (number text piece before rest filled : List ℕ) → EndsAtFirstMatch (FindsChar 125) text piece → text ≡ piece ++ rest
+    → StripsSuffix (FindsTextSuffix placeholder) piece before → IsFilling number rest filled
+    → IsFilling number text (before ++ (number ++ filled))
+cut_filling number text piece before rest filled found whole (n, suffix, front, _) filling =
+    let ends : piece ≡ before ++ placeholder = suffix.1 ∙ ap (λ l. l ++ placeholder) (sym front) in
+    let parts : text ≡ before ++ (placeholder ++ rest) = whole ∙ ap (λ l. l ++ rest) ends ∙ append_assoc before placeholder rest in
+    let behind : BeginsNone before (placeholder ++ rest) =
+    λ a b e. omega (
+      arith,
+      placeholder_ends text piece a b (is_piece text piece found) (parts ∙ e),
+      ap length ends,
+      length-append before placeholder,
+    ) in
+    subst (λ l. IsFilling number l (before ++ (number ++ filled))) (sym parts)
+    (filling-front number before (placeholder ++ rest) (number ++ filled) behind (filling-placeholder number rest filled filling))
+
+-- none begins in a piece that ends with none
+begins_none : (text piece rest : List ℕ) → IsPiece text piece → text ≡ piece ++ rest
+    → ((front : List ℕ) → piece ≡ front ++ placeholder → ⊥) → BeginsNone piece rest
+begins_none text piece rest is whole none a b e =
+    let at : text ≡ a ++ (placeholder ++ b) = whole ∙ e in
+    let longer : length text ≡ length a + length (placeholder ++ b) = ap length at ∙ length-append a (placeholder ++ b) in
+    let front : take (length piece) (a ++ (placeholder ++ b)) ≡ piece =
+    ap (λ l. take (length piece) l) (sym e) ∙ take-append_seam piece rest in
+    let not_with_it : length piece ≡ length a + 2 → ⊥ =
+    λ same. none a (sym front ∙ ap (λ n. take n (a ++ (placeholder ++ b))) same ∙ take-append-add a (placeholder ++ b) 2) in
+    let brace : get_or text (length a) 0 ≡ 123 = ap (λ l. get_or l (length a) 0) at ∙ get_or-append_seam a 123 (125 ∷ b) 0 in
+    let not_in_it : length piece ≡ length a + 1 → ⊥ =
+    λ same. let last : length a ≡ length piece - 1 = omega (arith, same) in
+    let closing : get_or text (length a) 0 ≡ 125 = ap (λ n. get_or text n 0) last ∙ is.ends (omega (arith, same, longer)) in
+    omega (arith, brace, closing) in
+    ⊎_elim (λ same. absurd (not_with_it same))
+    (λ less. ⊎_elim (λ same. absurd (not_in_it same)) (λ below. omega (arith, below)) (eq-or-lt_of_le (omega (arith, less))))
+    (eq-or-lt_of_le (placeholder_ends text piece a b is at))
+
+-- any other piece stays
+pub uncut_filling : (number text piece rest filled : List ℕ) → EndsAtFirstMatch (FindsChar 125) text piece → text ≡ piece ++ rest
+    → FindsTextSuffix placeholder piece None → IsFilling number rest filled
+    → IsFilling number text (piece ++ filled)
+uncut_filling number text piece rest filled found whole none filling =
+    subst (λ l. IsFilling number l (piece ++ filled)) (sym whole)
+    (filling-front number piece rest filled (begins_none text piece rest (is_piece text piece found) whole none) filling)

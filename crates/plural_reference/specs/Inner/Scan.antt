@@ -1,6 +1,6 @@
 -- Not a definition of the subject: the tokens of a text, byte by byte, for the view of the lexer and its private contracts.
 -- That these are the tokens of the text's pieces is proved.
-use Rattle.std.specs.Prelude.{ℕ, ◌+◌, ◌*◌, List, [], ◌∷◌, ◌++◌, Option, Some, None, nat_eq, cond, nat_le, codes}
+use Rattle.std.specs.Prelude.{ℕ, ◌+◌, ◌*◌, List, [], ◌∷◌, ◌++◌, nat_eq, cond, nat_le, codes}
 use Rattle.std.specs.Str.{byte}
 use Rattle.std.specs.Char.{is_ascii_digit, digit_value}
 use Rattle.plural_reference.specs.declared.ast.Operand.TheVariants.{N, I, F, T, V, W, C}
@@ -101,7 +101,3 @@ tokens_of text = tokens_from between text
 abbrev pub keyword_tokens : List ℕ → Token → List ℕ → List Token
 keyword_tokens [] t rest = t ∷ tokens_of rest
 keyword_tokens (k ∷ ks) t rest = tokens_from (in_keyword k ks t) rest
-
--- the number, if a token holds it
-abbrev pub bounded : ℕ → Option ℕ
-bounded n = cond (nat_le n max_number) (Some n) None

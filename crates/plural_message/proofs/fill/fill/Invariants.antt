@@ -1,13 +1,11 @@
-use Rattle.std.proofs.Common.{ℕ, List, ◌++◌, length, string_bytes}
-use denote.Text.{Utf8}
-use denote.Shadow.{shadow}
+use Rattle.std.proofs.Common.{◌≡◌, ℕ, List, ◌++◌, string_bytes}
+use Rattle.std.specs.Str.Iter.{split_inclusive_pattern, split_inclusive_text}
 use Rattle.plural_message.specs.Messages.{IsFilling}
 use Rattle.plural_message.proofs.fill.fill.Given as goal
 
--- What is left, filled, behind what is there, is the whole, filled; and what is left is text.
-abbrev pub invariant-loop-before : goal.invariant-loop-before
-invariant-loop-before l =
-    shadow (Utf8 l.rest) × ((out : List ℕ) → IsFilling l.number l.rest out → IsFilling l.number l.text (string_bytes l.filled ++ out))
-
-abbrev pub decreases-loop-before : goal.decreases-loop-before
-decreases-loop-before l = length l.rest
+-- What is left, filled, behind what is there, is the whole, filled; and it is cut at each `}`.
+abbrev pub invariant-loop-piece : goal.invariant-loop-piece
+invariant-loop-piece l =
+    (split_inclusive_pattern l.piece-iterator ≡ 125)
+    × ((out : List ℕ) → IsFilling l.number (split_inclusive_text l.piece-iterator) out
+    → IsFilling l.number l.text (string_bytes l.filled ++ out))
