@@ -3,7 +3,7 @@
 -- locale's ranges.
 --     IsReportOf value report      this is the report of a document's value
 use Rattle.std.specs.Prelude.{◌≡◌, ◌≢◌, ℕ, ◌+◌, ◌&&◌, not, List, [], ◌∷◌, ◌++◌, codes, count_by, map}
-use Rattle.std.specs.Prelude.{Bool, true, false, IsTrue, IsFalse}
+use Rattle.std.specs.Prelude.{Bool, true, IsTrue, IsFalse}
 use Rattle.std.specs.Prelude.{Option, Some, None, is_some, if◌then◌else◌}
 use Rattle.serde_json.specs.Data.{Data}
 use Rattle.serde_json.specs.Find.{get, as_null, as_str}

@@ -168,12 +168,7 @@ fn add_faults(
 }
 
 // The line for a fault of a text.
-fn fault_line(
-    alloc: Global,
-    part: Part,
-    locale: &str,
-    fault: &Fault,
-) -> Result<String, AllocError>
+fn fault_line(alloc: Global, part: Part, locale: &str, fault: &Fault) -> Result<String, AllocError>
     ensures { IfOk result (λ line. string_bytes line ≡ fault_line part locale.now fault.now) }
 {
     format!(in alloc; "{} {} {}", part.as_str(), locale, fault)

@@ -108,7 +108,13 @@ impl Report {
         ensures { IfOk result (λ line. string_bytes line ≡ counts_of self.now) }
     {
         let found = &self.found;
-        counts_line(alloc, self.locales, found.rules(), found.numbers(), found.len())
+        counts_line(
+            alloc,
+            self.locales,
+            found.rules(),
+            found.numbers(),
+            found.len(),
+        )
     }
 }
 

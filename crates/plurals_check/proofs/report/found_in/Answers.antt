@@ -1,4 +1,4 @@
-use Rattle.std.proofs.Common.{ap, subst, ◌≡◌, ◌∙◌}
+use Rattle.std.proofs.Common.{ap, subst, ◌∙◌}
 use Rattle.serde_json.specs.Data.{Members}
 use Rattle.serde_json.specs.View.{view}
 use Rattle.plurals_check.specs.CheckedDocument.{members_or_none}

@@ -1,6 +1,6 @@
-use Rattle.std.proofs.Common.{ℕ, List, Bool, true, false, string_bytes, Ok, Err, refl, sym, ◌∙◌, subst, rules}
+use Rattle.std.proofs.Common.{Ok, Err, refl, rules}
 use Rattle.std.proofs.lemmas.Result.{err_from_is_err_and}
-use Rattle.plurals_check.specs.CheckAnswer.{Answer, AnswersDocument, AnswersInput}
+use Rattle.plurals_check.specs.CheckAnswer.{AnswersDocument, AnswersInput}
 use Rattle.plurals_check.specs.CheckedDocument.{value_in}
 use Rattle.plurals_check.specs.Inner.CheckViews.{answer_view}
 use Rattle.plurals_check.proofs.CheckFaults.{handed_on}
