@@ -1,4 +1,4 @@
--- Reports grow by one finding behind the other.
+-- Reports grow by one finding after the other.
 use Rattle.std.proofs.Common.{◌≡◌, ◌⊎◌, ℕ, ◌+◌, ◌<◌, ◌≤◌, List, [], ◌∷◌, ◌++◌, length, take, get_or, refl, ap, sym, ◌∙◌}
 use Rattle.std.proofs.Common.{subst, inl, inr, arith, append_assoc}
 use Rattle.std.proofs.lemmas.List.{append-nil, take_more}
@@ -9,13 +9,13 @@ use Rattle.plural_checker.specs.declared.report.Report.{Report}
 
 -- ---- Findings
 
--- findings with these parts
+-- findings with equal parts are equal
 same_findings : (a b : Findings) → a.faults ≡ b.faults → a.numbers ≡ b.numbers → a ≡ b
 same_findings a b faults numbers =
     ap (λ (l : List Fault). let f : Findings = record { faults = l; numbers = a.numbers } in f) faults
     ∙ ap (λ (n : ℕ). let f : Findings = record { faults = b.faults; numbers = n } in f) numbers
 
--- nothing besides
+-- adding nothing changes nothing
 both-nothing : (a : Findings) → both a nothing ≡ a
 both-nothing a = same_findings (both a nothing) a (append-nil a.faults) (omega arith)
 
@@ -26,7 +26,7 @@ both_assoc : (a b c : Findings) → both (both a b) c ≡ both a (both b c)
 both_assoc a b c =
     same_findings (both (both a b) c) (both a (both b c)) (append_assoc a.faults b.faults c.faults) (omega arith)
 
--- one thing more behind a list
+-- one thing more at the end of a list
 each-snoc : {A : Type 0} (Finds : A → Findings → Type 0) (xs : List A) (x : A) (a b : Findings)
     → EachFinds Finds xs a → Finds x b → EachFinds Finds (xs ++ x ∷ []) (both a b)
 each-snoc Finds [] x a b none here =
@@ -36,7 +36,7 @@ each-snoc Finds (y ∷ ys) x a b (first, rest, finds, each, is) here =
 
 -- ---- Counts
 
--- a count of a count and of more
+-- adding to a capped count gives the capped count of the whole sum
 counted_twice : (most a b c f g : ℕ)
     → (b ≡ a + f) ⊎ ((most ≤ b) × (most ≤ a + f)) → (c ≡ b + g) ⊎ ((most ≤ c) × (most ≤ b + g))
     → (c ≡ a + (f + g)) ⊎ ((most ≤ c) × (most ≤ a + (f + g)))
@@ -54,14 +54,14 @@ grows_by_nothing a = (sym (append-nil a.faults), inl (omega arith))
 pub adds_nothing : (a : Report) → Adds (λ found. found ≡ nothing) a a
 adds_nothing a = (nothing, refl, grows_by_nothing a)
 
--- a report that grows twice
+-- a report that grows twice grows by both findings
 grows_twice : (a b c : Report) (f g : Findings) → Grows a f b → Grows b g c → Grows a (both f g) c
 grows_twice a b c f g (first, count) (second, more) = (
   second ∙ ap (λ l. l ++ g.faults) first ∙ append_assoc a.faults f.faults g.faults,
   counted_twice most_counted a.numbers b.numbers c.numbers f.numbers g.numbers count more,
 )
 
--- two checks, one behind the other
+-- two checks, one after the other
 pub adds_both : (First Second : Findings → Type 0) (a b c : Report) → Adds First a b → Adds Second b c → Adds (Then First Second) a c
 adds_both First Second a b c (f, finds, grows) (g, more, grows_more) =
     (both f g, (f, g, finds, more, refl), grows_twice a b c f g grows grows_more)
@@ -77,13 +77,13 @@ adds_one_more Finds xs i x a b c found within is (f, each, grows) finds grows_mo
       grows_twice a b c f found grows grows_more,
     )
 
--- one fault more, and no number
+-- one fault more, and the same count of numbers
 pub grows_by_fault : (a c : Report) (fault : Fault) → c ≡ record a { faults = a.faults ++ fault ∷ [] } → Grows a (one_fault fault) c
 grows_by_fault a c fault is =
     let counted : c.numbers ≡ a.numbers = ap (λ (r : Report). r.numbers) is in
     (ap (λ (r : Report). r.faults) is, inl (omega arith))
 
--- findings with these parts, and a report that has them and no others
+-- an empty report that grows is the report of what was found
 pub reported : (a c : Report) (found : Findings) → a.faults ≡ [] → a.numbers ≡ 0 → Grows a found c → IsReportOf found c
 reported a c found empty zero_counted (faults, counted) = (
   faults ∙ ap (λ l. l ++ found.faults) empty,

@@ -2,5 +2,5 @@
 pub mod Growth
 -- the digits of an end
 pub mod AllDigits
--- what is read of a text
+-- what is read from a text
 pub mod TextsRead

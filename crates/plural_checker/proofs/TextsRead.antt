@@ -1,4 +1,4 @@
--- What is read of a text.
+-- What is read from a text.
 use Rattle.std.proofs.Common.{◌≡◌, ◌≢◌, ◌⊎◌, ℕ, List, Some, None, Result, Ok, Err, IfOk, refl, inl, inr, subst}
 use Rattle.std.specs.Result.{result_err}
 use Rattle.std.specs.declared.alloc.AllocError.{AllocError}
@@ -16,13 +16,13 @@ use Rattle.icu_plurals.specs.Samples.{ReadsRule, FaultyRule}
 use Rattle.plural_checker.specs.Inner.TextAnswers.{IsTreeOf}
 use Rattle.plural_checker.specs.TextChecks.{IsRead}
 
--- every text has a list of tokens, and no other
+-- every text has exactly one list of tokens
 abbrev HaveOneList : Type 0
 HaveOneList =
     (text : List ℕ)
     → (tokens : List Token) × AreTokensOf text tokens × ((others : List Token) → AreTokensOf text others → others ≡ tokens)
 
--- a rule is read of the tokens
+-- a rule is read from the tokens
 pub text_reads : (text bytes : List ℕ) (rule : Rule) → bytes ≡ text → HaveOneList → AnswersExactly ReadsRule FaultyRule bytes (Ok rule)
     → TextReads ReadsRule text rule
 text_reads text bytes rule is one answers =
@@ -36,7 +36,7 @@ text_gives_fault text bytes kind is one answers =
     let faulty : TextFaulty FaultyRule text kind = subst (λ b. TextFaulty FaultyRule b kind) is (t.0, t.1, answers.only t.0 t.1) in
     inr (kind, faulty, refl)
 
--- what packing answers of a text
+-- what packing a text returns: its result, or out of memory
 abbrev Gave : List ℕ → Result (List PackedRelation) RuleError → Type 0
 Gave text gave = TextGives text gave ⊎ (gave ≡ Err Memory)
 
@@ -51,14 +51,14 @@ read_answer : (text : List ℕ) (packed : List PackedRelation) (r : Result (Resu
 read_answer text packed (Ok answer) gives tree = read_tree text packed answer gives tree
 read_answer text packed (Err error) gives tree = tt
 
--- a text that packing doesn't refuse is read as its tree
+-- a text that can be packed is read as its tree
 pub reads_tree : (text : List ℕ) (gave : Result (List PackedRelation) RuleError) (r : Result (Result Rule RuleError) AllocError)
     → result_err gave ≡ None → Gave text gave → IfOk r (λ answer. IsTreeOf text answer) → IfOk r (λ answer. IsRead text answer)
 reads_tree text (Ok packed) r kept (inl gives) tree = read_answer text packed r gives tree
 reads_tree text (Ok packed) r kept (inr none) tree = absurd cc
 reads_tree text (Err error) r kept gives tree = absurd cc
 
--- a text that packing refuses for another reason than memory
+-- a text that packing refuses for a reason other than out of memory
 pub reads_refused : (text : List ℕ) (gave : Result (List PackedRelation) RuleError) (error : RuleError)
     → result_err gave ≡ Some error → error ≢ Memory → Gave text gave → IsRead text (Err error)
 reads_refused text (Ok packed) error refused other gives = absurd cc

@@ -1,7 +1,7 @@
--- Which categories the elements of a message have, and which have a rule. Other isn't asked for: it is always there, and needs no
+-- Which categories have an element in a message, and which have a rule. Other is left out: a message always has it, and it needs no
 -- rule.
---     categories_with_rule rules      those whose rule is there
---     without set others      those of a set that are not in another
+--     categories_with_rule rules      the categories that have a rule
+--     without set others      the categories of one set that are not in another
 use Rattle.std.specs.Prelude.{not, ◌&&◌, is_some}
 use Rattle.icu_plurals.specs.FiveRules.{FiveRules}
 use Rattle.plural_checker.specs.declared.coverage.CategorySet.{CategorySet}

@@ -1,6 +1,6 @@
--- What a check finds: faults in their order, and how many numbers were looked at.
+-- What a check finds: faults in their order, and how many numbers were checked.
 --     nothing      no fault and no number
---     Then First Second found      what two checks find, one behind the other
+--     Then First Second found      what two checks find, the first's findings before the second's
 --     EachFinds Finds things found      what a check finds in each thing of a list, in the order of the list
 --     Adds Finds old new      the report has grown by what a check finds
 use Rattle.std.specs.Prelude.{◌≡◌, ◌⊎◌, ℕ, ◌+◌, ◌-◌, ◌^◌, ◌≤◌, List, [], ◌∷◌, ◌++◌}
@@ -18,7 +18,7 @@ nothing = record { faults = []; numbers = 0 }
 abbrev pub one_fault : Fault → Findings
 one_fault fault = record { faults = fault ∷ []; numbers = 0 }
 
--- the faults of the first stand before those of the second
+-- the faults of the first come before those of the second
 abbrev pub both : Findings → Findings → Findings
 both first second = record { faults = first.faults ++ second.faults; numbers = first.numbers + second.numbers }
 
@@ -35,11 +35,11 @@ EachFinds Finds (x ∷ xs) found = Then (Finds x) (EachFinds Finds xs) found
 abbrev pub most_counted : ℕ
 most_counted = 2 ^ 64 - 1
 
--- the count of so many, or the largest where there are as many or more
+-- the count is this number, or both are at least the largest count
 abbrev pub IsCountOf : ℕ → ℕ → Type 0
 IsCountOf count many = (count ≡ many) ⊎ ((most_counted ≤ count) × (most_counted ≤ many))
 
--- the report with what was found besides
+-- the report has grown by what was found
 abbrev pub Grows : Report → Findings → Report → Type 0
 Grows old found new = (new.faults ≡ old.faults ++ found.faults) × IsCountOf new.numbers (old.numbers + found.numbers)
 

@@ -1,2 +1,2 @@
--- No definitions of the subject: what private calls answer.
+-- No definitions of the subject: results of private calls.
 pub mod TextAnswers

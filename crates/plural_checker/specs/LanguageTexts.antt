@@ -1,6 +1,6 @@
--- The texts of a language's rules of one type: of the five rules, and that of other, which has samples alone.
---     six_texts texts      the texts behind the references
---     has_rule texts category      the category is other, or its text is there
+-- The texts of a language's rules of one type: those of the five rules, and that of other, which has only samples.
+--     six_texts texts      the texts that the references refer to
+--     has_rule texts category      the category is other, or its text is present
 use Rattle.std.specs.Prelude.{ℕ, Bool, true, List, Option, is_some}
 use Rattle.std.specs.Option.{option_copied}
 use Rattle.icu_plurals.specs.declared.PluralCategory.{PluralCategory}

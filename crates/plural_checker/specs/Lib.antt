@@ -1,11 +1,11 @@
 -- the numbers of samples, and what is wrong with them
 pub mod SampleNumbers
 pub mod NumberChecks
--- findings, and those of texts
+-- findings, and the findings of texts
 pub mod LanguageTexts
 pub mod Findings
 pub mod TextChecks
--- what translators need
+-- for translators: the categories that a message lacks, and those without a rule
 pub mod Coverage
 -- the texts of faults
 pub mod PluralCheckerErrors

@@ -1,9 +1,9 @@
--- What is wrong with the numbers of a sample that stands under a category. The rules are those of the language's five texts;
--- where one of these gives none, no category is told, and only a text that writes no number is wrong.
+-- What is wrong with the numbers of a sample that is listed under a category. The rules are those of the language's five texts;
+-- if one of these gives none, categories aren't checked, and only a text that writes no number is wrong.
 --     IsCheckedNumber rules category x fault      a number
 --     IsCheckedText rules category text fault      a text
 --     AreCheckedNumbers rules category numbers fault      the first wrong number
---     IsCheckedRange rules category range fault count      a range of samples, which has so many numbers
+--     IsCheckedRange rules category range fault count      a range of samples, and the count of its numbers
 use Rattle.std.specs.Prelude.{◌≡◌, ◌≢◌, ◌⊎◌, ℕ, ◌<◌, List, Option, Some, None, Ok, Err}
 use Rattle.icu_plurals.specs.declared.DecimalError.{DecimalError}
 use Rattle.icu_plurals.specs.declared.PluralCategory.{PluralCategory}
@@ -24,12 +24,12 @@ use Rattle.plural_checker.specs.declared.sample_range.SampleNumbers.{SampleNumbe
 abbrev pub IsBounded : FiveRules → CompactNumber → Type 0
 IsBounded rules x = IsWithinBound x.significand.absolute x.exponent (moduli_of rules)
 
--- the rules choose this category for the number: by what is kept of it, and within the bound by the number itself
+-- the rules choose this category for the number: for what is kept of it, and, within the bound, for the number itself
 abbrev pub HasCategory : FiveRules → CompactNumber → PluralCategory → Type 0
 HasCategory rules x category =
     IsKeptChoice rules x.significand.absolute x.exponent category × IsExactChoice rules x.significand.absolute x.exponent category
 
--- the number has the category under whose name it stands, or another, or is outside the bound
+-- the number has the category under which it is listed, or another, or is outside the bound
 abbrev pub IsCheckedBy : FiveRules → PluralCategory → CompactNumber → Option NumberFault → Type 0
 IsCheckedBy rules category x None = IsBounded rules x × HasCategory rules x category
 IsCheckedBy rules category x (Some (Category other)) = IsBounded rules x × HasCategory rules x other × (other ≢ category)
@@ -41,7 +41,7 @@ abbrev pub IsCheckedNumber : Option FiveRules → PluralCategory → CompactNumb
 IsCheckedNumber None category x fault = fault ≡ None
 IsCheckedNumber (Some rules) category x fault = IsCheckedBy rules category x fault
 
--- the number of the text, or that it writes none
+-- the text writes a number, or none
 abbrev pub IsCheckedText : Option FiveRules → PluralCategory → List ℕ → Option NumberFault → Type 0
 IsCheckedText rules category text fault =
     ((x : CompactNumber) × GivesNumber text (Ok x) × IsCheckedNumber rules category x fault)
@@ -49,11 +49,11 @@ IsCheckedText rules category text fault =
 
 -- ---- Ranges of samples
 
--- nothing is wrong with the first numbers, so many
+-- nothing is wrong with the numbers before an index
 abbrev pub AreRightBelow : Option FiveRules → PluralCategory → SampleNumbers → ℕ → Type 0
 AreRightBelow rules category numbers end = (k : ℕ) → k < end → IsCheckedText rules category (text_at numbers k) None
 
--- this is wrong with the number at a place, and nothing with those before it
+-- this is wrong with the number at an index, and nothing with those before it
 pub record IsFirstWrong (rules : Option FiveRules) (category : PluralCategory) (numbers : SampleNumbers) (text : List ℕ)
     (fault : NumberFault) : Type 0 where
   pub place : ℕ
@@ -62,13 +62,13 @@ pub record IsFirstWrong (rules : Option FiveRules) (category : PluralCategory) (
   pub text_is : text ≡ text_at numbers place
   pub wrong : IsCheckedText rules category text (Some fault)
 
--- nothing is wrong with the numbers, or this with the first that is wrong
+-- nothing is wrong with the numbers, or this is wrong with the first wrong one
 abbrev pub AreCheckedNumbers : Option FiveRules → PluralCategory → SampleNumbers → Option SampleFault → Type 0
 AreCheckedNumbers rules category numbers None = AreRightBelow rules category numbers (count_of numbers)
 AreCheckedNumbers rules category numbers (Some (Number text fault)) = IsFirstWrong rules category numbers text fault
 AreCheckedNumbers rules category numbers (Some (Range range fault)) = ⊥
 
--- the range has numbers and this is wrong with them, or it has none
+-- the range has numbers, and this is wrong with them; or it has none
 abbrev pub IsCheckedRange : Option FiveRules → PluralCategory → SampleRange → Option SampleFault → ℕ → Type 0
 IsCheckedRange rules category range fault count =
     ((why : RangeFault) × AreNumbersOf range (Err why) × (fault ≡ Some (Range range why)) × (count ≡ 0))

@@ -1,10 +1,10 @@
 -- The numbers of a sample, or of a range of samples (UTS 35 Part 3, Samples).
---     compact_text sample      the sample's text, with `c` for an `e`
+--     compact_text sample      the sample's text, with `c` in place of an `e`
 --     GivesNumber text answer      the number that a text writes, or why it writes none
---     number_text places parts exponent      so many parts of 10 ^ places, written with so many fraction digits, and an exponent
+--     number_text places parts exponent      the text of this many parts of 10 ^ places and of an exponent
 --     numbers_between a b      those from a to b in steps of the last visible digit, or why there are none
 --     AreNumbersOf range answer      the numbers of a range, or why it has none
---     count_of numbers, text_at numbers k      how many they are, and the text of each, counted from 0
+--     count_of numbers, text_at numbers k      how many there are, and the text of each, counted from 0
 use Rattle.std.specs.Prelude.{◌≡◌, ◌⊎◌, ℕ, zero, suc, ◌+◌, ◌-◌, ◌/◌, ◌%◌, ◌==◌, nat_lt, Bool, not, if◌then◌else◌, ◌&&◌, ◌||◌}
 use Rattle.std.specs.Prelude.{List, [], ◌∷◌, ◌++◌, length, Option, Some, None, Result, Ok, Err, codes}
 use Rattle.std.specs.Fmt.{decimal}
@@ -23,18 +23,18 @@ use Rattle.plural_checker.specs.declared.sample_range.SampleNumbers.TheVariants.
 
 -- ---- Texts of samples
 
--- where the first `e` stands, or the length where there is none
+-- the index of the first `e`, or the length if there is none
 abbrev pub place_of_e : List ℕ → ℕ
 place_of_e text = position_or_len (λ b. b == letter_e) text
 
--- an `e` and a `c` begin the same exponent
+-- `e` and `c` begin an exponent of the same meaning
 abbrev pub compact_text : DecimalValue → List ℕ
 compact_text text =
     if nat_lt (place_of_e text) (length text)
     then before_first (λ b. b == letter_e) text ++ codes "c" ++ after_first (λ b. b == letter_e) text
     else text
 
--- the text writes the number, or none, or one over a limit
+-- the text writes this number, or no number, or one over a limit
 abbrev pub GivesNumber : List ℕ → Result CompactNumber DecimalError → Type 0
 GivesNumber text (Ok x) = WritesCompact text x
 GivesNumber text (Err Syntax) = (x : CompactNumber) → ¬ (WritesCompact text x)
@@ -47,17 +47,17 @@ GivesNumber text (Err Memory) = ⊥
 abbrev pub digit_text : ℕ → List ℕ
 digit_text d = (48 + d) ∷ []
 
--- a point stands before the first fraction digit
+-- a point precedes the first fraction digit
 abbrev pub point_at : ℕ → List ℕ
 point_at zero = codes "."
 point_at (suc places) = []
 
--- a number of parts with so many fraction digits: the last digit stands behind the text of the others
+-- this many parts, with this many fraction digits: the text of the digits before the last, and then the last digit
 abbrev pub parts_text : ℕ → ℕ → List ℕ
 parts_text zero parts = decimal parts
 parts_text (suc places) parts = parts_text places (parts / 10) ++ point_at places ++ digit_text (parts % 10)
 
--- `c` and the exponent, where it isn't 0
+-- `c` and the exponent, if it isn't 0
 abbrev pub exponent_text : ℕ → List ℕ
 exponent_text exponent = if exponent == 0 then [] else codes "c" ++ decimal exponent
 
@@ -66,15 +66,15 @@ number_text places parts exponent = parts_text places parts ++ exponent_text exp
 
 -- ---- The numbers of a range
 
--- so many numbers a range may have
+-- the most numbers that a range may have
 abbrev pub most_numbers : ℕ
 most_numbers = 100
 
--- the number that all written digits write: the number itself is so many parts of a power of ten
+-- the number that all written digits write: the number itself is this many parts of a power of ten
 abbrev pub parts_of : CompactNumber → ℕ
 parts_of x = all_digits_value x.significand.absolute
 
--- how many fraction digits it shows
+-- how many fraction digits the number shows
 abbrev pub places_of : CompactNumber → ℕ
 places_of x = length x.significand.absolute.fraction
 
@@ -82,11 +82,11 @@ places_of x = length x.significand.absolute.fraction
 abbrev pub is_long : CompactNumber → Bool
 is_long x = nat_lt kept_places (length x.significand.absolute.whole + places_of x)
 
--- as many fraction digits, and the same exponent
+-- both have the same count of fraction digits and the same exponent
 abbrev pub are_even : CompactNumber → CompactNumber → Bool
 are_even a b = (places_of a == places_of b) && (a.exponent == b.exponent)
 
--- from a number in steps of its last digit to another
+-- the numbers from one to another, in steps of the last digit
 abbrev pub stepped : CompactNumber → CompactNumber → SampleNumbers
 stepped a b =
     Stepped (record { places = places_of a; first = parts_of a; count = parts_of b - parts_of a + 1; exponent = a.exponent })
@@ -98,7 +98,7 @@ numbers_between a b =
     else (if nat_lt (parts_of b) (parts_of a) then Err Down
     else (if nat_lt (parts_of b - parts_of a) most_numbers then Ok (stepped a b) else Err Wide)))
 
--- the numbers between two ends that write some, or the fault of the first end that writes none
+-- the numbers between two ends that both write a number, or the fault of the first end that writes none
 abbrev pub AreNumbersBetween : DecimalValue → DecimalValue → Result SampleNumbers RangeFault → Type 0
 AreNumbersBetween lower upper answer =
     ((e : DecimalError) × GivesNumber (compact_text lower) (Err e) × (answer ≡ Err (End e)))
@@ -107,7 +107,7 @@ AreNumbersBetween lower upper answer =
     ⊎ ((a b : CompactNumber)
     × GivesNumber (compact_text lower) (Ok a) × GivesNumber (compact_text upper) (Ok b) × (answer ≡ numbers_between a b))
 
--- a sample alone is its number
+-- a single sample has one number, written by its own text
 abbrev pub AreNumbersFrom : DecimalValue → Option DecimalValue → Result SampleNumbers RangeFault → Type 0
 AreNumbersFrom lower None answer = answer ≡ Ok (Single (compact_text lower))
 AreNumbersFrom lower (Some upper) answer = AreNumbersBetween lower upper answer
@@ -121,7 +121,7 @@ abbrev pub count_of : SampleNumbers → ℕ
 count_of (Single text) = 1
 count_of (Stepped steps) = steps.count
 
--- the number so many steps behind the first
+-- the number that is this many steps after the first
 abbrev pub text_at : SampleNumbers → ℕ → List ℕ
 text_at (Single text) k = text
 text_at (Stepped steps) k = number_text steps.places (steps.first + k) steps.exponent

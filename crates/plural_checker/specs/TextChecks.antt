@@ -31,7 +31,7 @@ use Rattle.plural_checker.specs.declared.report.Report.{Report}
 
 -- ---- The rules
 
--- each text that is there gives its rule, or one gives none
+-- each text that is present gives its rule; or there are no rules, since one text gives none
 abbrev pub AreRulesIfRead : Five (Option (List ℕ)) → Option FiveRules → Type 0
 AreRulesIfRead texts (Some rules) = AreRulesOf texts rules
 AreRulesIfRead texts None =
@@ -39,12 +39,12 @@ AreRulesIfRead texts None =
 
 -- ---- The samples of one text
 
--- the fault of a sample, where it has one
+-- the fault of a sample, if it has one
 abbrev pub sample_faults : PluralCategory → SampleType → Option SampleFault → List Fault
 sample_faults category type None = []
 sample_faults category type (Some fault) = record { category = category; kind = Sample type fault } ∷ []
 
--- that fault, and so many numbers
+-- that fault, and this many numbers
 abbrev pub sample_findings : PluralCategory → SampleType → Option SampleFault → ℕ → Findings
 sample_findings category type fault count = record { faults = sample_faults category type fault; numbers = count }
 
@@ -53,12 +53,12 @@ IsFoundInRange rules category type range found =
     (fault : Option SampleFault) × (count : ℕ)
     × IsCheckedRange rules category range fault count × (found ≡ sample_findings category type fault count)
 
--- in a list, from the left
+-- in a list, from left to right
 abbrev pub IsFoundInList : Option FiveRules → PluralCategory → SampleType → Option SampleList → Findings → Type 0
 IsFoundInList rules category type None found = found ≡ nothing
 IsFoundInList rules category type (Some list) found = EachFinds (IsFoundInRange rules category type) list.sample_ranges found
 
--- in the integers before the decimals
+-- in the integers, then in the decimals
 abbrev pub IsFoundInSamples : Option FiveRules → PluralCategory → Option samples.Samples → Findings → Type 0
 IsFoundInSamples rules category None found = found ≡ nothing
 IsFoundInSamples rules category (Some lists) found =
@@ -70,31 +70,31 @@ IsFoundInSamples rules category (Some lists) found =
 abbrev pub HaveSameTokens : List ℕ → List ℕ → Type 0
 HaveSameTokens text other = (tokens : List Token) × AreTokensOf text tokens × AreTokensOf other tokens
 
--- they have different ones
+-- the two texts have different tokens
 abbrev pub HaveOtherTokens : List ℕ → List ℕ → Type 0
 HaveOtherTokens text other =
     (tokens others : List Token) × AreTokensOf text tokens × AreTokensOf other others × (tokens ≢ others)
 
--- the rule that a text is read as, which can be packed, or why it gives none
+-- the rule that a text is read as and that can be packed, or why it gives none
 abbrev pub IsRead : List ℕ → Result Rule RuleError → Type 0
 IsRead text (Ok rule) = TextReads ReadsRule text rule × ((packed : List PackedRelation) × TextGives text (Ok packed))
 IsRead text (Err error) = TextGives text (Err error)
 
--- the tokens of the text are those of what was read, printed, or they aren't: then something of it isn't read
+-- the text has the tokens of the printed rule; if not, part of the text isn't read
 abbrev pub IsFoundInReading : PluralCategory → List ℕ → Rule → Findings → Type 0
 IsFoundInReading category text rule found =
     (HaveSameTokens text (rule_text rule) × (found ≡ nothing))
     ⊎ (HaveOtherTokens text (rule_text rule)
     × (found ≡ one_fault (record { category = category; kind = Partly (rule_text rule) })))
 
--- the text gives no rule, or one is read of it, and its samples are looked at
+-- the text gives no rule; or it gives one, and its samples are checked
 abbrev pub IsFoundInText : Option FiveRules → PluralCategory → List ℕ → Findings → Type 0
 IsFoundInText rules category text found =
     ((error : RuleError) × IsRead text (Err error) × (found ≡ one_fault (record { category = category; kind = Unread error })))
     ⊎ ((rule : Rule) × IsRead text (Ok rule)
     × Then (IsFoundInReading category text rule) (IsFoundInSamples rules category rule.samples) found)
 
--- in a text that is there
+-- in a text, if it is present
 abbrev pub IsFoundIn : Option FiveRules → PluralCategory → Option (List ℕ) → Findings → Type 0
 IsFoundIn rules category None found = found ≡ nothing
 IsFoundIn rules category (Some text) found = IsFoundInText rules category text found
@@ -107,7 +107,7 @@ IsFoundInSix rules texts =
     (Then (IsFoundIn rules Two texts.five.two) (Then (IsFoundIn rules Few texts.five.few)
     (Then (IsFoundIn rules Many texts.five.many) (IsFoundIn rules Other texts.other)))))
 
--- under rules, if there are some
+-- under the rules, if there are any
 abbrev pub AreFindingsUnder : Option FiveRules → SixTexts → Report → Type 0
 AreFindingsUnder rules texts report = (found : Findings) × IsFoundInSix rules texts found × IsReportOf found report
 

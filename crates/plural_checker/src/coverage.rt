@@ -1,4 +1,4 @@
-//! Which categories a translation lacks, and which it has in vain.
+//! Which categories a translation lacks, and which of its categories are unused.
 
 ghost use Rattle.std.specs.Prelude.{◌≡◌};
 ghost use Rattle.icu_plurals.specs.FiveRules.{rules_of};
@@ -6,7 +6,7 @@ ghost use Rattle.plural_checker.specs.Coverage.{categories_with_rule, without};
 
 use icu_plurals::provider::PluralRulesData;
 
-/// A set of the categories but other.
+/// A set of categories, without other.
 #[derive(Clone, Copy, Debug, Default, PartialEq, Eq)]
 pub struct CategorySet {
     /// Whether `zero` is in it.
@@ -22,7 +22,7 @@ pub struct CategorySet {
 }
 
 impl CategorySet {
-    /// The categories whose rule is there.
+    /// Returns the categories that have a rule.
     pub fn of_rules(rules: &PluralRulesData<'_>) -> CategorySet
         ensures { result ≡ categories_with_rule (rules_of rules.now) }
     {
@@ -35,7 +35,7 @@ impl CategorySet {
         }
     }
 
-    /// The categories of this set that are not in another.
+    /// Returns the categories of this set that are not in another.
     pub fn without(self, others: CategorySet) -> CategorySet
         ensures { result ≡ without self others }
     {
@@ -49,17 +49,17 @@ impl CategorySet {
     }
 }
 
-/// How the categories of a translated message fit a language's rules (UTS 35 Part 3, Language Plural Rules).
+/// How the categories of a translated message match a language's rules (UTS 35 Part 3, Language Plural Rules).
 #[derive(Clone, Copy, Debug, PartialEq, Eq)]
 pub struct Coverage {
-    /// Those whose rule is there and that the message lacks: their numbers have other's element.
+    /// The categories that have a rule and that the message lacks: their numbers use the element of other.
     pub lacking: CategorySet,
-    /// Those that the message has and that have no rule: no number has their element.
+    /// The categories that the message has and that have no rule: no number uses their element.
     pub unused: CategorySet,
 }
 
 impl Coverage {
-    /// How the categories for which a message has an element fit the rules.
+    /// Compares the categories for which a message has an element with the rules.
     pub fn of(elements: CategorySet, rules: &PluralRulesData<'_>) -> Coverage
         ensures lacking { result.lacking ≡ without (categories_with_rule (rules_of rules.now)) elements }
         ensures unused { result.unused ≡ without elements (categories_with_rule (rules_of rules.now)) }

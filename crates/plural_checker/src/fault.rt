@@ -26,11 +26,11 @@ pub struct Fault {
 /// What is wrong with a text.
 #[derive(Debug, Drop)]
 pub enum TextFault {
-    /// It can't be read as a rule. It is never want of memory.
+    /// It can't be read as a rule. The reason is never out of memory.
     Unread(RuleError),
-    /// Something of it isn't read: its tokens aren't those of this text, in which what was read is printed.
+    /// Part of it isn't read: it has other tokens than the printed text of the rule that was read, which is kept here.
     Partly(PrintedRule),
-    /// Something is wrong with a sample of the list of this type.
+    /// Something is wrong with a sample in the list of this type.
     Sample(SampleType, SampleFault),
 }
 
@@ -48,33 +48,33 @@ pub enum SampleType {
 pub enum SampleFault {
     /// The range has no numbers.
     Range(SampleRange, RangeFault),
-    /// The number is wrong, the first of its range that is.
+    /// This number, the first wrong one of its range, is wrong.
     Number(DecimalValue, NumberFault),
 }
 
 /// Why a range of samples has no numbers.
 #[derive(Clone, Copy, Debug, PartialEq, Eq)]
 pub enum RangeFault {
-    /// An end writes no number, or one over a limit. It is never want of memory.
+    /// An end writes no number, or one over a limit. The error is never out of memory.
     End(DecimalError),
-    /// The ends differ in their count of fraction digits, or in their exponents.
+    /// The ends have different counts of fraction digits, or different exponents.
     Uneven,
     /// An end has more than 18 digits.
     Long,
-    /// The second end is below the first.
+    /// The second end is less than the first.
     Down,
-    /// There would be more than 100 numbers.
+    /// It would have more than 100 numbers.
     Wide,
 }
 
 /// Why a number is wrong.
 #[derive(Clone, Copy, Debug, PartialEq, Eq)]
 pub enum NumberFault {
-    /// The text writes none, or one over a limit. It is never want of memory.
+    /// The text writes no number, or one over a limit. The error is never out of memory.
     Text(DecimalError),
     /// It is outside the exactness bound of the rules.
     Outside,
-    /// It has this category, and not the one under whose name it stands.
+    /// It has this category, and not the one whose text lists it.
     Category(PluralCategory),
 }
 

@@ -1,4 +1,4 @@
-//! The numbers of samples against the category under whose name they stand.
+//! Checks the numbers of samples against the category whose text lists them.
 
 ghost use Rattle.std.specs.Prelude.{◌≡◌, ◌<◌, IfOk};
 ghost use Rattle.std.specs.Option.{option_copied};
@@ -12,7 +12,7 @@ use icu_plurals::provider::rules::reference::ast::DecimalValue;
 use icu_plurals::{CompactDecimal, PluralCategory, PluralRules};
 use std::alloc::{AllocError, Global};
 
-// The fault of the first number that is wrong.
+// Returns the fault of the first number that is wrong, if there is one.
 pub(crate) fn check_numbers(
     alloc: Global,
     rules: Option<&PluralRules<'_>>,
@@ -30,7 +30,7 @@ pub(crate) fn check_numbers(
     Ok(None)
 }
 
-// The fault of a text that stands under a category.
+// Returns the fault of a text that is listed under a category.
 fn check_text(
     alloc: Global,
     rules: Option<&PluralRules<'_>>,
@@ -45,7 +45,7 @@ fn check_text(
     }
 }
 
-// The fault of a number that stands under a category: none without rules.
+// Returns the fault of a number that is listed under a category; `None` without rules.
 fn check_number(
     rules: Option<&PluralRules<'_>>,
     category: PluralCategory,
@@ -59,7 +59,7 @@ fn check_number(
     }
 }
 
-// The fault of a number under these rules.
+// Returns the fault of a number under these rules.
 fn check_by(
     rules: &PluralRules<'_>,
     category: PluralCategory,

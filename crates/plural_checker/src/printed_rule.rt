@@ -9,7 +9,7 @@ use std::alloc::{AllocError, Global};
 use std::fmt;
 use std::marker::Model;
 
-/// The text that a rule is printed as. Contracts see its bytes.
+/// The text that a rule prints. Contracts see its bytes.
 #[derive(Debug, Drop)]
 pub struct PrintedRule(pub String);
 
@@ -22,8 +22,8 @@ impl Model for PrintedRule {
 }
 
 impl PrintedRule {
-    /// The text of a rule (UTS 35 Part 3, Plural Rules Syntax and Samples). It takes memory, and the only error is that there is
-    /// none.
+    /// Returns the text of a rule (UTS 35 Part 3, Plural Rules Syntax and Samples). It takes memory; the only error is out of
+    /// memory.
     pub fn of(alloc: Global, rule: &Rule) -> Result<PrintedRule, AllocError>
         ensures { IfOk result (λ printed. printed ≡ rule_text rule.now) }
     {

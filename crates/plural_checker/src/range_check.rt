@@ -1,4 +1,4 @@
-//! The samples of a text against the category under whose name they stand.
+//! Checks the samples of a text against the text's category.
 
 ghost use Rattle.std.specs.Prelude.{◌≡◌, List, ℕ, IfOk, OnOk};
 ghost use Rattle.std.specs.Option.{option_copied};
@@ -45,7 +45,7 @@ pub(crate) fn check_samples(
     )
 }
 
-// Adds what is wrong with a list of samples, if it is there.
+// Adds what is wrong with a list of samples, if it is present.
 fn check_list(
     alloc: Global,
     rules: Option<&PluralRules<'_>>,
@@ -88,7 +88,7 @@ fn check_ranges(
     Ok(())
 }
 
-// The fault of a range of samples, and how many numbers it has.
+// Returns the fault of a range of samples, and the count of its numbers.
 fn check_range(
     alloc: Global,
     rules: Option<&PluralRules<'_>>,

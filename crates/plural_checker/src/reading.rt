@@ -8,10 +8,10 @@ use icu_plurals::provider::rules::reference::ast::DecimalValue;
 use icu_plurals::{CompactDecimal, DecimalError, UnsignedDecimal};
 use std::alloc::{AllocError, Global};
 
-// The most digits of an end of a range.
+// The most digits that an end of a range may have.
 const MOST_DIGITS: usize = 18;
 
-// The number that a sample writes, or why it writes none.
+// Returns the number that a sample writes, or why it writes none.
 pub(crate) fn read_sample(
     alloc: Global,
     sample: &DecimalValue,
@@ -22,7 +22,7 @@ pub(crate) fn read_sample(
     read_number(alloc, text.0.as_str())
 }
 
-// The sample's text, in which `c` stands for an `e`.
+// Returns the sample's text, with `c` in place of an `e`.
 pub(crate) fn compact_text(alloc: Global, sample: &DecimalValue) -> Result<DecimalValue, AllocError>
     ensures { IfOk result (λ text. text ≡ compact_text sample.now) }
 {
@@ -37,7 +37,7 @@ pub(crate) fn compact_text(alloc: Global, sample: &DecimalValue) -> Result<Decim
     Ok(DecimalValue(compact))
 }
 
-// The number that a text writes, or why it writes none.
+// Returns the number that a text writes, or why it writes none.
 pub(crate) fn read_number(
     alloc: Global,
     text: &str,
@@ -52,14 +52,14 @@ pub(crate) fn read_number(
     }
 }
 
-// How many fraction digits a number shows.
+// Returns how many fraction digits a number shows.
 pub(crate) fn places_of(number: &CompactDecimal) -> usize
     ensures { result ≡ places_of number.now }
 {
     number.significand().absolute.places_after(0).1
 }
 
-// The number that all digits write, where they are at most 18.
+// Returns the number that all digits write, if there are at most 18.
 pub(crate) fn parts_of(number: &CompactDecimal) -> Option<u64>
     ensures { result ≡ (if is_long number.now then None else Some (parts_of number.now)) }
 {
@@ -71,7 +71,7 @@ pub(crate) fn parts_of(number: &CompactDecimal) -> Option<u64>
     Some(value_of_all(digits, whole + fraction))
 }
 
-// The number that all digits write, of which there are so many.
+// Returns the number that all digits write, given their count.
 fn value_of_all(digits: &UnsignedDecimal, count: usize) -> u64
     requires all { count ≡ length digits.now.whole + length digits.now.fraction }
     requires few { count ≤ MOST_DIGITS }

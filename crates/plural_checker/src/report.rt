@@ -12,12 +12,12 @@ use std::alloc::{AllocError, Global};
 pub struct Report {
     /// The faults, in the order of [`check_texts`](crate::check_texts).
     pub faults: Sequence<Fault>,
-    /// How many numbers the samples have; `u64::MAX` where there are more.
+    /// How many numbers the samples have, or `u64::MAX` if there are more.
     pub numbers: u64,
 }
 
 impl Report {
-    // No fault and no number.
+    // Returns a report of no fault and no number.
     pub(crate) fn new(alloc: Global) -> Report
         ensures { result ≡ record { faults = []; numbers = 0 } }
     {
@@ -27,7 +27,7 @@ impl Report {
         }
     }
 
-    // Adds a fault behind those that are there.
+    // Appends a fault.
     pub(crate) fn add(&mut self, fault: Fault) -> Result<(), AllocError>
         ensures { OnOk result (self.new ≡ record self.old { faults = self.old.faults ++ fault ∷ [] }) }
     {
@@ -36,7 +36,7 @@ impl Report {
         Ok(())
     }
 
-    // Adds so many numbers.
+    // Adds this many numbers.
     pub(crate) fn count(&mut self, numbers: u64)
         ensures faults { self.new.faults ≡ self.old.faults }
         ensures numbers { IsCountOf self.new.numbers (self.old.numbers + numbers) }

@@ -10,10 +10,11 @@ use icu_plurals::CompactDecimal;
 use icu_plurals::provider::rules::reference::ast::{DecimalValue, SampleRange};
 use std::alloc::{AllocError, Global};
 
-// The most numbers of a range.
+// The most numbers that a range may have.
 const MOST_NUMBERS: u64 = 100;
 
-/// The numbers of a range of samples: so many, from the first on, each one part of `10^places` above the one before.
+/// The numbers of a range of samples: a first number and a count. Each number after the first is one part of `10^places` more
+/// than the number before it.
 #[derive(Clone, Copy, Debug, PartialEq, Eq)]
 pub struct Steps {
     /// How many fraction digits each number shows.
@@ -29,20 +30,21 @@ pub struct Steps {
 /// The numbers of a sample or of a range of samples (UTS 35 Part 3, Samples).
 #[derive(Debug, Drop)]
 pub enum SampleNumbers {
-    /// The sample's own text, in which `c` stands for an `e`.
+    /// The text of a single sample, with `c` in place of an `e`.
     Single(DecimalValue),
     /// The numbers of a range.
     Stepped(Steps),
 }
 
 impl SampleNumbers {
-    /// The numbers of a range: of a sample alone its own text, of `a~b` those from a to b in steps of the last visible digit.
+    /// Returns the numbers of a range: for a single sample its own text, for `a~b` those from a to b in steps of the last visible
+    /// digit.
     ///
-    /// The inner error says why `a~b` has none, the first that is so: [`RangeFault::End`] where an end writes no number, or one
-    /// over a limit; [`RangeFault::Uneven`] where the ends differ in their count of fraction digits or in their exponents;
-    /// [`RangeFault::Long`] where one has more than 18 digits; [`RangeFault::Down`] where b is below a; and
-    /// [`RangeFault::Wide`] where there would be more than 100. Signs, which no sample of a text has, aren't looked at. The
-    /// outer error is want of memory.
+    /// The inner error says why `a~b` has none; the first of these that applies: [`RangeFault::End`] if an end writes no number, or
+    /// one over a limit; [`RangeFault::Uneven`] if the ends have different counts of fraction digits, or different exponents;
+    /// [`RangeFault::Long`] if one has more than 18 digits; [`RangeFault::Down`] if b is less than a;
+    /// [`RangeFault::Wide`] if there would be more than 100. Signs are ignored: no sample that is read from a text has one. The
+    /// outer error is out of memory.
     pub fn of(
         alloc: Global,
         range: &SampleRange,
@@ -58,7 +60,7 @@ impl SampleNumbers {
         }
     }
 
-    /// How many numbers there are: 1 to 100 of a range that was read.
+    /// Returns how many numbers there are: 1 to 100 for a range that was read.
     pub fn count(&self) -> u64
         ensures { result ≡ count_of self.now }
     {
@@ -68,7 +70,7 @@ impl SampleNumbers {
         }
     }
 
-    /// The text of a number, the first at 0. It takes memory, and the only error is that there is none.
+    /// Returns the text of a number, counted from 0. It takes memory; the only error is out of memory.
     pub fn text(&self, alloc: Global, index: u64) -> Result<DecimalValue, AllocError>
         ensures { IfOk result (λ text. text ≡ text_at self.now index) }
     {
@@ -82,7 +84,7 @@ impl SampleNumbers {
     }
 }
 
-// The numbers from one sample to another.
+// Returns the numbers from one sample to another.
 fn between(
     alloc: Global,
     lower: &DecimalValue,
@@ -100,7 +102,7 @@ fn between(
     }
 }
 
-// The numbers from one number to another.
+// Returns the numbers from one number to another.
 fn stepped(first: &CompactDecimal, last: &CompactDecimal) -> Result<SampleNumbers, RangeFault>
     ensures { result ≡ numbers_between first.now last.now }
 {

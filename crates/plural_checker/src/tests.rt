@@ -1,4 +1,4 @@
-//! What no clause says: worked samples and texts, printed faults, and that there is an answer where there is memory.
+//! What no contract says: worked samples and texts, printed faults, and that the calls succeed if there is memory.
 
 mod assertion;
 
@@ -10,7 +10,7 @@ use icu_plurals::provider::rules::reference::ast::{DecimalValue, SampleRange};
 use std::alloc::{AllocError, Global};
 use std::test::Fail;
 
-// The range of two samples, or of one.
+// Returns the range of two samples, or of one.
 fn range_of(alloc: Global, lower: &str, upper: Option<&str>) -> Result<SampleRange, AllocError> {
     let upper_val = match upper {
         Some(upper) => Some(DecimalValue(upper.to_string(alloc)?)),
@@ -22,7 +22,7 @@ fn range_of(alloc: Global, lower: &str, upper: Option<&str>) -> Result<SampleRan
     })
 }
 
-// The numbers of a range, a space behind each, or why it has none.
+// Returns the numbers of a range, each with a space after it, or why it has none.
 fn shown(alloc: Global, range: &SampleRange) -> Result<String, AllocError> {
     match SampleNumbers::of(alloc, range)? {
         Ok(numbers) => {
@@ -95,7 +95,7 @@ fn a_range_may_have_100_numbers(rt: HostRuntime) -> Result<(), Fail> {
     Ok(())
 }
 
-// The faults of a report, a line for each.
+// Returns the faults of a report, one per line.
 fn lines(alloc: Global, report: &Report) -> Result<String, AllocError> {
     let mut text = String::new(alloc);
     for fault in report.faults.iter() {
@@ -106,7 +106,7 @@ fn lines(alloc: Global, report: &Report) -> Result<String, AllocError> {
     Ok(text)
 }
 
-// Russian's cardinal rules.
+// The cardinal rules of Russian.
 const RUSSIAN: LanguageTexts<'static> = LanguageTexts {
     zero: None,
     one: Some(
@@ -130,7 +130,7 @@ fn right_samples_have_no_fault(rt: HostRuntime) -> Result<(), Fail> {
     Ok(())
 }
 
-// A language with one text beside those of one and other.
+// Returns a language with texts for one and other, and this one for few.
 fn with_few(few: &str) -> LanguageTexts<'_> {
     LanguageTexts {
         zero: None,
@@ -190,7 +190,7 @@ fn faults_are_printed(rt: HostRuntime) -> Result<(), Fail> {
     Ok(())
 }
 
-// Without five rules no category is told, but what needs no rule is.
+// Without five rules no category is checked; the faults that need no rule are still reported.
 #[test]
 fn other_texts_are_looked_at_without_rules(rt: HostRuntime) -> Result<(), Fail> {
     let texts = LanguageTexts {
@@ -238,7 +238,7 @@ fn a_message_lacks_what_it_has_no_element_for(rt: HostRuntime) -> Result<(), Fai
     Ok(())
 }
 
-// At most one growth is refused: the call answers want of memory once at most, and answers again.
+// At most one growth is refused, so at most one of the two calls runs out of memory.
 #[test]
 fn growth_of_a_report_may_be_refused(rt: HostRuntime) -> Result<(), Fail> {
     let rows = [

@@ -18,7 +18,7 @@ use icu_plurals::provider::rules::runtime::ast::{Rule as PackedRule, RuleError};
 use icu_plurals::{PluralCategory, PluralRules};
 use std::alloc::{AllocError, Global};
 
-// Adds what is wrong with a category's text, if it is there.
+// Adds what is wrong with a category's text, if it is present.
 pub(crate) fn check_if_there(
     alloc: Global,
     rules: Option<&PluralRules<'_>>,
@@ -57,7 +57,7 @@ fn check_text(
     }
 }
 
-// Adds that something of the text isn't read, if it is so.
+// Adds a fault if part of the text isn't read.
 fn check_reading(
     alloc: Global,
     category: PluralCategory,
@@ -75,7 +75,7 @@ fn check_reading(
     report.add(Fault { category, kind })
 }
 
-// The rule that a text is read as, or why it gives none.
+// Returns the rule that a text is read as, or why it gives none.
 fn rule_of(alloc: Global, text: &str) -> Result<Result<Rule, RuleError>, AllocError>
     ensures { IfOk result (λ answer. IsRead text.now answer) }
 {
@@ -87,7 +87,7 @@ fn rule_of(alloc: Global, text: &str) -> Result<Result<Rule, RuleError>, AllocEr
     }
 }
 
-// The tree of a text, or why it is none.
+// Returns the tree of a text, or why it has none.
 fn tree_of(alloc: Global, text: &str) -> Result<Result<Rule, RuleError>, AllocError>
     ensures { IfOk result (λ answer. IsTreeOf text.now answer) }
 {
@@ -99,14 +99,14 @@ fn tree_of(alloc: Global, text: &str) -> Result<Result<Rule, RuleError>, AllocEr
     }
 }
 
-// Whether two texts have the same tokens.
+// Returns whether two texts have the same tokens.
 fn has_tokens_of(text: &str, other: &str) -> bool
     ensures { MatchBool result (HaveSameTokens text.now other.now) (HaveOtherTokens text.now other.now) }
 {
     are_equal(Lexer::new(text.as_bytes()), Lexer::new(other.as_bytes()))
 }
 
-// Whether the tokens that are left are the same.
+// Returns whether the remaining tokens are the same.
 fn are_equal(mut tokens: Lexer<'_>, mut others: Lexer<'_>) -> bool
     ensures { MatchBool result (tokens.entry ≡ others.entry) (tokens.entry ≢ others.entry) }
 {

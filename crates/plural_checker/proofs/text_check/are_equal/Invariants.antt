@@ -1,7 +1,7 @@
 use Rattle.std.proofs.Common.{◌≡◌, length}
 use Rattle.plural_checker.proofs.text_check.are_equal.Given as goal
 
--- what is left is the same exactly if all was
+-- the remaining tokens are equal exactly if all tokens were
 abbrev pub invariant-loop-token : goal.invariant-loop-token
 invariant-loop-token l =
     (l.tokens ≡ l.others → l.initial.tokens ≡ l.initial.others) × (l.initial.tokens ≡ l.initial.others → l.tokens ≡ l.others)
