@@ -1,4 +1,4 @@
--- Which of its texts a number has, where they are packed and where they are named in two ways.
+-- Which text a number has among packed texts, and that the two ways to name its choice agree.
 use Rattle.std.proofs.Common.{◌≡◌, ◌∙◌, ℕ, List, ap, subst, inl, inr}
 use Rattle.icu_plurals.specs.Elements.{Elements, IsExactElement, IsKeptElement, KeptElementIsExact, element_at}
 use Rattle.icu_plurals.specs.FiveRules.{FiveRules}
@@ -9,20 +9,20 @@ use Rattle.icu_plurals.specs.Written.{CompactNumber}
 use Rattle.plural_message.specs.Messages.{IsFilling, IsMessageOf, IsMessageWith}
 use Rattle.uses.specs.PackedTexts.{AreTextsOf}
 
--- what the law `packed_elements_answer` says
+-- the statement of the law `packed_elements_answer`
 abbrev pub PackedElementsAnswer : Type 0
 PackedElementsAnswer =
     (e : Elements PackedValue) (op : Operands) (rules : FiveRules)
     → element_at (elements_of (packed_of e)) op rules ≡ element_at e op rules
 
--- packed texts answer every number as the texts that they stand for
+-- packed texts give every number the same text as the texts that they stand for
 pub answered_alike : PackedElementsAnswer → (packed : PackedElements) (texts : Elements PackedValue) → AreTextsOf packed texts
     → (op : Operands) (rules : FiveRules) → element_at (elements_of packed) op rules ≡ element_at texts op rules
 answered_alike law packed texts (inl held) op rules = ap (λ (e : Elements PackedValue). element_at e op rules) held
 answered_alike law packed texts (inr source) op rules =
     ap (λ (p : PackedElements). element_at (elements_of p) op rules) source ∙ law texts op rules
 
--- so the message that the kept operands choose among packed texts is the one that they choose among these
+-- so the kept operands choose the same message among packed texts as among the texts that they stand for
 pub kept_message : PackedElementsAnswer → (packed : PackedElements) (texts : Elements PackedValue) → AreTextsOf packed texts
     → (rules : FiveRules) (number message : List ℕ)
     → IsMessageOf (IsKeptElement (elements_of packed) rules) number message → IsMessageOf (IsKeptElement texts rules) number message
@@ -30,14 +30,14 @@ kept_message law packed texts are rules number message m =
     let chosen = m.2.1 in
     (m.0, m.1, (m.2.0, (chosen.0, chosen.1, chosen.2 ∙ answered_alike law packed texts are chosen.0 rules), m.2.2))
 
--- what the kept operands choose is what the number itself has, within the bound
+-- within the bound, the kept operands choose what the number itself has
 pub exact_message : KeptElementIsExact PackedValue → (texts : Elements PackedValue) (rules : FiveRules) (number message : List ℕ)
     → IsMessageOf (IsKeptElement texts rules) number message → IsMessageOf (IsExactElement texts rules) number message
 exact_message law texts rules number message m =
     let x : CompactNumber = m.0 in
     (x, m.1, (m.2.0, law texts rules x.significand.absolute x.exponent m.2.0 m.1.2.1.digits m.2.1, m.2.2))
 
--- the same texts and the same text for the number give the same message
+-- equal texts and an equal shown number give the same message
 pub same_message : (IsChosen : Elements PackedValue → Places → ℕ → PackedValue → Type 0) (texts others : Elements PackedValue)
     (shown other : List ℕ) (x : CompactNumber) (message : List ℕ) → texts ≡ others → shown ≡ other
     → IsMessageWith (IsChosen texts) x shown message → IsMessageWith (IsChosen others) x other message

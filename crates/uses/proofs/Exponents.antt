@@ -1,11 +1,11 @@
--- What stands before a number's exponent.
+-- What precedes a number's exponent.
 use Rattle.std.proofs.Common.{◌≡◌, ◌∙◌, ℕ, List, Option, Some, None, arith, ap, sym, take, unwrap_or}
 use Rattle.std.proofs.Math.Seq.{take-length}
 use Rattle.std.proofs.lemmas.Str.Pattern.{IsSplitOnceResult, split_once_first}
 use Rattle.std.specs.Borrow.{Bor}
 use Rattle.uses.specs.CompactUnits.{before_exponent, exponent_letter}
 
--- what `split_once` cuts off at the letter, or the whole text where there is none
+-- what `split_once` returns before the letter, or the whole text if there is no letter
 pub cut_before : (number : List ℕ) (cut : Option (Bor (List ℕ) × Bor (List ℕ))) (whole parts : Bor (List ℕ) × Bor (List ℕ))
     → IsSplitOnceResult exponent_letter number cut → whole.0.now ≡ number → parts ≡ unwrap_or cut whole
     → parts.0.now ≡ before_exponent number

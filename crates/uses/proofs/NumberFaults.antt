@@ -1,4 +1,4 @@
--- A fault of a number's text is handed on.
+-- A fault in a number's text is passed on.
 use Rattle.std.proofs.Common.{◌≡◌, ◌↔◌, Result, Err}
 use Rattle.icu_plurals.specs.declared.DecimalError.{DecimalError}
 use Rattle.icu_plurals.specs.declared.DecimalError.TheVariants.{Syntax, Limit, Memory as no_memory}
@@ -6,7 +6,7 @@ use Rattle.plural_message.specs.declared.MessageError.{MessageError}
 use Rattle.plural_message.specs.declared.MessageError.TheVariants.{Number}
 use Rattle.plural_message.specs.PluralMessageErrors.{number_error}
 
--- a fault of the form is handed on, and nothing else looks like one
+-- a fault of syntax is passed on, and no other error becomes one
 pub handed_on : {T U P : Type 0} (r : Result T DecimalError) (answer : Result U MessageError) (fault : DecimalError)
     → r ≡ Err fault → answer ≡ Err (number_error fault) → (r ≡ Err Syntax) ↔ P → (answer ≡ Err (Number Syntax)) ↔ P
 handed_on r answer Syntax was is told = (λ _. told.0 was, λ _. is)

@@ -1,6 +1,6 @@
 -- Compact numbers with their units, such as `1.2 million` (UTS 35 Part 3, Plural Operand Meanings: c and e).
 --     unit_of units exponent      the texts for an exponent
---     shown_of exponent number      what stands in them for the number
+--     shown_of exponent number      the text that they show for the number
 --     IsCompactText IsChosen rules units number text      the text for a number
 use Rattle.std.specs.Prelude.{◌==◌, if◌then◌else◌, ℕ, List}
 use Rattle.std.specs.List.{before_first}
@@ -12,11 +12,11 @@ use Rattle.plural_message.specs.Messages.{IsMessageWith}
 use Rattle.uses.specs.PackedTexts.{TextChoice}
 use Rattle.uses.specs.declared.compact_units.CompactUnits.{CompactUnits}
 
--- thousand is ten to the power of 3, and million to that of 6; no other power has a unit
+-- thousand is ten to the power of 3, and million is ten to the power of 6; no other power has a unit
 abbrev pub unit_of : CompactUnits → ℕ → Elements PackedValue
 unit_of units exponent = if exponent == 3 then units.thousand else (if exponent == 6 then units.million else units.plain)
 
--- the letter `c`, behind which the exponent is written
+-- the letter `c`, which precedes the exponent
 abbrev pub exponent_letter : ℕ
 exponent_letter = 99
 
@@ -24,13 +24,13 @@ exponent_letter = 99
 abbrev pub before_exponent : List ℕ → List ℕ
 before_exponent number = before_first (λ byte. byte == exponent_letter) number
 
--- beside a unit the exponent isn't shown
+-- with a unit, the exponent isn't shown
 abbrev pub shown_of : ℕ → List ℕ → List ℕ
 shown_of exponent number =
     if exponent == 3 then before_exponent number else (if exponent == 6 then before_exponent number else number)
 
--- The number's text writes a number, and the text is the one that this number, all of it, has among those of its unit, with what
--- is shown of the number in the place of each `{}`.
+-- The number's text writes a number, and the text is the one that this whole number has among those of its unit, with the shown
+-- text of the number in place of each `{}`.
 abbrev pub IsCompactText : TextChoice → FiveRules → CompactUnits → List ℕ → List ℕ → Type 0
 IsCompactText IsChosen rules units number text =
     (x : CompactNumber) × WritesCompact number x

@@ -1,4 +1,4 @@
--- A rule and texts that are kept as bytes.
+-- A rule and texts that are stored as bytes.
 --     IsStoredIn store one texts      the bytes are those of the store's rule and of its texts
 --     IsTextFor IsChosen store number text      the text for a number
 use Rattle.std.specs.Prelude.{◌≡◌, ℕ, List, Some, None}
@@ -10,7 +10,7 @@ use Rattle.icu_plurals.specs.Written.{CompactNumber}
 use Rattle.uses.specs.PackedTexts.{AreTextsOf, TextChoice}
 use Rattle.uses.specs.declared.store.Store.{Store}
 
--- the rules with one for `one` alone
+-- the rules with a rule for `one` only
 abbrev pub rules_with_one : List PackedRelation → FiveRules
 rules_with_one rule = five None (Some rule) None None None
 
@@ -20,7 +20,7 @@ pub record IsStoredIn (store : Store) (one texts : List ℕ) : Type 0 where
   pub rules : store.rules ≡ rules_with_one rule
   pub texts_bytes : ElementsBytes store.texts texts
 
--- Whatever texts were packed into the store: the text is the one that the number has among them.
+-- For all texts that the store may hold: the text is the one that the number has among them.
 abbrev pub IsTextFor : TextChoice → Store → CompactNumber → List ℕ → Type 0
 IsTextFor IsChosen store number text =
     (texts : Elements PackedValue) → AreTextsOf store.texts texts

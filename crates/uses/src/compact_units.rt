@@ -8,7 +8,7 @@ use icu_plurals::{CompactDecimal, DecimalError, PluralRules};
 use plural_message::{Message, MessageError};
 use std::alloc::Global;
 
-/// The texts of the units thousand and million, and those of a number without one.
+/// The texts for the units thousand and million, and those for a number without a unit.
 #[derive(Debug, Drop)]
 pub struct CompactUnits<'a> {
     pub thousand: Message<'a>,
@@ -19,7 +19,7 @@ pub struct CompactUnits<'a> {
 impl<'a> CompactUnits<'a> {
     ghost use Rattle.uses.specs.CompactUnits.{IsCompactText, shown_of, unit_of};
 
-    /// The text for a number whose compact exponent names its unit. The errors are those of [`Message::format`].
+    /// Returns the text for a number whose compact exponent names its unit. The errors are those of [`Message::format`].
     pub fn format(
         &self,
         alloc: Global,
@@ -39,7 +39,7 @@ impl<'a> CompactUnits<'a> {
         Ok(texts.format_number(alloc, &compact, shown, rules)?)
     }
 
-    // The texts for an exponent, and what stands in them for the number.
+    // Returns the texts for an exponent, and the text that they show for the number.
     fn said_by<'b>(&'b self, exponent: u8, number: &'b str) -> (&'b Message<'a>, &'b str)
         ensures texts { result.0.now ≡ unit_of self.now exponent }
         ensures shown { result.1.now ≡ shown_of exponent number.now }

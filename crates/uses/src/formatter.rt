@@ -10,7 +10,7 @@ use icu_plurals::{DecimalError, PluralRules};
 use plural_message::{Message, MessageError};
 use std::alloc::Global;
 
-/// The rules of a language and the texts of a message in it, such as `{} item` and `{} items`.
+/// The rules of a language, and the texts of a message in that language, such as `{} item` and `{} items`.
 #[derive(Debug, Drop)]
 pub struct Formatter {
     pub rules: PluralRules<'static>,
@@ -20,7 +20,7 @@ pub struct Formatter {
 impl Formatter {
     ghost use Rattle.uses.specs.Formatter.{IsFormatted};
 
-    /// The message of a number: the text that the number has, with the number as it was written in the place of
+    /// Returns the message for a number: the text for its category, with the number as it was written in place of
     /// each `{}`. The errors are those of [`Message::format`].
     pub fn format(&self, alloc: Global, number: &str) -> Result<String, MessageError>
         ensures kept { IfOk result (λ text. IsFormatted IsKeptElement self.now number.now (string_bytes text)) }

@@ -9,7 +9,7 @@ use icu_plurals::{
 };
 use std::alloc::{AllocError, Global};
 
-/// A number that was read, and the text that stands for it.
+/// A number, and the text that it is shown as.
 #[derive(Clone, Copy, Debug)]
 pub struct ShownNumber<'a> {
     pub number: &'a CompactDecimal,
@@ -26,7 +26,7 @@ pub struct RangeLabels<'a> {
 impl<'a> RangeLabels<'a> {
     ghost use Rattle.uses.specs.RangeLabels.{IsRangeLabel};
 
-    /// The label of a range. Nobody checks that it ends behind its start. The only error is want of memory.
+    /// Returns the label of a range. That the end is after the start isn't checked. The only error is out of memory.
     pub fn label(
         &self,
         alloc: Global,
@@ -43,7 +43,7 @@ impl<'a> RangeLabels<'a> {
         format!(in alloc; "{} to {} {noun}", start.text, end.text)
     }
 
-    // The noun of a category.
+    // Returns the noun of a category.
     fn noun(&self, category: PluralCategory) -> &'a str
         ensures { result.now ≡ (of_category self.now.nouns category).now }
     {

@@ -11,16 +11,16 @@ use std::alloc::Global;
 /// The texts of a unit of time.
 #[derive(Debug, Drop)]
 pub struct RelativeTime<'a> {
-    /// What is still to come, such as `in {} day` and `in {} days`.
+    /// The texts for the future, such as `in {} day` and `in {} days`.
     pub future: Message<'a>,
-    /// What is past, such as `{} day ago` and `{} days ago`.
+    /// The texts for the past, such as `{} day ago` and `{} days ago`.
     pub past: Message<'a>,
 }
 
 impl<'a> RelativeTime<'a> {
     ghost use Rattle.uses.specs.RelativeTime.{IsRelativeTime, IsSaidBy};
 
-    /// The text for an amount: what is written behind `-` is past, anything else is still to come. The errors are
+    /// Returns the text for an amount: with a leading `-` it is past, otherwise future. The errors are
     /// those of [`Message::format`].
     pub fn format(
         &self,
@@ -41,7 +41,7 @@ impl<'a> RelativeTime<'a> {
         Ok(texts.format_number(alloc, &number, shown, rules)?)
     }
 
-    // The texts for an amount, and what stands in them for it.
+    // Returns the texts for an amount, and the text that they show for it.
     fn said_by<'b>(&'b self, amount: &'b str) -> (&'b Message<'a>, &'b str)
         ensures { IsSaidBy self.now amount.now result.0.now result.1.now }
     {

@@ -1,4 +1,4 @@
-//! What no clause says: worked texts, and that there is one where there is memory.
+//! What no contract says: worked texts, and that the calls succeed if there is memory.
 
 mod assertion;
 mod compact_units;
@@ -11,13 +11,13 @@ use icu_plurals::provider::{PluralElementsPackedCow, PluralRulesData};
 use icu_plurals::{ElementsPackError, PluralElements, PluralRules, RulesTextError};
 use std::alloc::Global;
 
-// Rules with one alone.
+// Returns rules with a rule for one only.
 fn rules(alloc: Global, one: &str) -> Result<PluralRules<'static>, RulesTextError> {
     let rules = PluralRulesData::from_texts(alloc, None, Some(one), None, None, None)?;
     Ok(PluralRules::from_data(rules))
 }
 
-// Texts of one and of other.
+// Returns texts for one and for other.
 fn texts(
     alloc: Global,
     one: &str,

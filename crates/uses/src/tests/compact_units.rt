@@ -1,4 +1,4 @@
-//! Worked compact numbers. The category is that of the whole number: 1000000 has the text of one here.
+//! Worked compact numbers. The category is that of the whole number: 1000000 has the text for one here.
 
 use crate::CompactUnits;
 use crate::tests::assertion::holds;

@@ -1,4 +1,4 @@
-//! A store that was packed a moment before.
+//! A store that was packed just before.
 
 use crate::Store;
 use crate::tests::assertion::holds;

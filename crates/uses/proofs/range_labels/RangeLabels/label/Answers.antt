@@ -8,11 +8,11 @@ use Rattle.icu_plurals.specs.FiveRules.{FiveRules}
 use Rattle.uses.specs.RangeLabels.{IsCategoryOf, noun_for}
 use Rattle.uses.proofs.range_labels.RangeLabels.label.Goals as goal
 
--- the pieces of a label, grouped from the left and from the right
+-- the pieces of a label, grouped from the left or from the right
 regrouped : (start to end space noun : List ℕ) → start ++ (to ++ (end ++ (space ++ noun))) ≡ (((start ++ to) ++ end) ++ space) ++ noun
 regrouped start to end space noun = sym (simp append_assoc)
 
--- a label that ends in the same noun
+-- the label, with an equal noun in place of its own
 with_noun : (start to end space noun other label : List ℕ) → label ≡ start ++ (to ++ (end ++ (space ++ noun))) → noun ≡ other
     → label ≡ (((start ++ to) ++ end) ++ space) ++ other
 with_noun start to end space noun other label is same =
