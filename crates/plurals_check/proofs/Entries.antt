@@ -10,7 +10,7 @@ use Rattle.plurals_check.specs.DocumentReport.{HasEntryFault, HasValueFault, IsR
 use Rattle.plurals_check.specs.declared.entry.EntryFault.{EntryFault}
 use Rattle.plurals_check.specs.declared.entry.EntryFault.TheVariants.{RangeKey, NoText, RangeValue, NoRule}
 
--- under the text of a range the entry has the fault of its value
+-- an entry whose key names a range has the fault of its value
 pub of_value : (texts : SixTexts) (key : List ℕ) (value : Data) (fault : Option EntryFault) → IsRangeText key
     → HasValueFault texts value fault → HasEntryFault texts key value fault
 of_value texts key value (Some RangeKey) range h = absurd h
@@ -19,13 +19,13 @@ of_value texts key value (Some RangeValue) range h = (range, h)
 of_value texts key value (Some (NoRule category)) range h = (range, h)
 of_value texts key value None range h = (range, h)
 
--- a text that gives no range is none's
+-- a text that gives no range names no range
 pub no_range : (key : List ℕ)
     → ((range : UnvalidatedPluralRange) → ◌≡◌ {A = Option UnvalidatedPluralRange} None (Some range) ↔ IsKeyOfText key range)
     → ¬ (IsRangeText key)
 no_range key only range = let there : ◌≡◌ {A = Option UnvalidatedPluralRange} None (Some range.0) = (only range.0).1 range.1 in cc
 
--- a text that gives no category is the name of none
+-- a text that gives no category names no category
 pub no_category : (name : List ℕ)
     → ((category : PluralCategory) → ◌≡◌ {A = Option PluralCategory} None (Some category) ↔ (name ≡ name_of category))
     → (category : PluralCategory) → name ≡ name_of category → ⊥

@@ -17,11 +17,11 @@ use Rattle.plurals_check.specs.ReportText.{ended_line}
 use Rattle.plurals_check.specs.declared.place.Part.{Part}
 use Rattle.plurals_check.specs.Inner.Additions.{Adds, lines_alone}
 
--- nothing more is the same
+-- adding nothing at the end changes nothing
 pub together-nothing : (a : Found) → together a nothing ≡ a
 together-nothing a = rw (append-nil a.lines, add-zero a.rules, add-zero a.numbers) refl
 
--- nothing before is the same
+-- adding nothing at the beginning changes nothing
 pub nothing-together : (a : Found) → together nothing a ≡ a
 nothing-together a = rw (zero-add a.rules, zero-add a.numbers) refl
 
@@ -29,7 +29,7 @@ pub together_assoc : (a b c : Found) → together (together a b) c ≡ together 
 together_assoc a b c =
     rw (append_assoc a.lines b.lines c.lines, add_assoc a.rules b.rules c.rules, add_assoc a.numbers b.numbers c.numbers) refl
 
--- lines and then numbers are both
+-- adding lines and then numbers adds both
 pub lines_and_numbers : (old a : Found) (lines : List (List ℕ)) (n : ℕ) (one two three : Found)
     → one ≡ together old a → two ≡ together one (lines_alone lines) → three ≡ together two (record nothing { numbers = n })
     → three ≡ together old (together a (record { lines = lines; rules = 0; numbers = n }))
@@ -43,7 +43,7 @@ lines_and_numbers old a lines n one two three first second third =
     joined : together (lines_alone lines) (record nothing { numbers = n }) ≡ record { lines = lines; rules = 0; numbers = n }
     joined = rw (append-nil lines, zero-add n) refl
 
--- three, one after the other
+-- three additions, one after the other
 pub three_added : (a b c one two three : Found) → one ≡ together nothing a → two ≡ together one b → three ≡ together two c
     → three ≡ together a (together b c)
 three_added a b c one two three first second third =
@@ -51,23 +51,23 @@ three_added a b c one two three first second third =
     ∙ ap (λ (f : Found). together f c) (second ∙ ap (λ (f : Found). together f b) (first ∙ nothing-together a))
     ∙ together_assoc a b c
 
--- two, one after the other
+-- two additions, one after the other
 pub two_added : (old a b one two : Found) → one ≡ together old a → two ≡ together one b → two ≡ together old (together a b)
 two_added old a b one two first second = second ∙ ap (λ (f : Found). together f b) first ∙ together_assoc old a b
 
 -- ---- Member by member
 
--- whatever is found in the members that are left completes what was found so far
+-- whatever is found in the remaining members completes what was found so far
 abbrev pub Completes : (List ℕ → Data → Found → Type 0) → Members → Members → Found → Found → Type 0
 Completes Is left all now first =
     (rest : Found) → IsFoundIn Is left rest → (whole : Found) × IsFoundIn Is all whole × (together now rest ≡ together first whole)
 
 module _ (Is : List ℕ → Data → Found → Type 0) (all : Members) (first : Found) where
-  -- so it is at first
+  -- this holds at first
   pub begins : (left : Members) → left ≡ all → Completes Is left all first first
   begins left same rest h = (rest, subst (λ (ms : Members). IsFoundIn Is ms rest) same h, refl)
 
-  -- and after a member
+  -- and after each member
   pub goes_on : (key : List ℕ) (value : Data) (left : Members) (now next : Found)
       → Completes Is (member key value left) all now first → Adds (Is key value) now next → Completes Is left all next first
   goes_on key value left now next so_far added rest h =
@@ -77,14 +77,14 @@ module _ (Is : List ℕ → Data → Found → Type 0) (all : Members) (first : 
         ap (λ (f : Found). together f rest) added.2 ∙ together_assoc now added.0 rest ∙ whole.2,
       )
 
-  -- at the end it is all
+  -- at the end all is found
   pub ends : (now : Found) → Completes Is no_members all now first → Adds (IsFoundIn Is all) first now
   ends now so_far =
       let whole = so_far nothing refl in (whole.0, whole.1, sym (together-nothing now) ∙ whole.2)
 
 -- ---- One thing after the other
 
--- what is found under the next category comes behind what was found so far
+-- what is found under the next category comes after what was found so far
 pub next_under : (part : Part) (locale : List ℕ) (value : Data) (categories : List PluralCategory) (i : ℕ) (d : PluralCategory)
     (now next : Found) → i < length categories
     → next ≡ together now (found_under part locale (get_or categories i d) (get (name_of (get_or categories i d)) value))
@@ -138,12 +138,12 @@ numbered lines rules numbers new n e = rw (append-nil lines, add-zero rules, e) 
 
 -- ---- What a call adds
 
--- what follows from what holds at an Ok holds there
+-- what follows from the statement for an `Ok` also holds for the `Ok`
 pub on_ok : {A E P Q : Type 0} (r : Result A E) → (P → Q) → OnOk r P → OnOk r Q
 on_ok (Ok x) f h = f h
 on_ok (Err e) f h = tt
 
--- what is neither null nor a text has a line
+-- a value that is neither null nor a text has a line
 pub no_text : (part : Part) (locale : List ℕ) (category : PluralCategory) (value : Data)
     → is_some (as_null value) ≡ false → is_some (as_str value) ≡ false
     → found_under part locale category (Some value) ≡ one_line (no_text_line part locale category)

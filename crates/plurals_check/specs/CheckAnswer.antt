@@ -1,4 +1,4 @@
--- What the program answers to its input, and what it reads and writes.
+-- The program's answer to its input, and what it reads and writes.
 --     AnswersInput has_words input answer      the answer: a report's text with its verdict, or the first fault
 use Rattle.std.specs.Prelude.{◌≡◌, ℕ, ◌+◌, ◌==◌, Bool, List, length, Option, Some, None, Result, Ok, Err, ⊤, if◌then◌else◌}
 use Rattle.std.specs.Io.KnownBytes.{Appends, Consumes, IsAtEnd, Keeps}
@@ -35,19 +35,19 @@ AnswersDocument (Ok document) (Ok answer) = IsAnswerTo document answer
 AnswersDocument (Ok document) (Err fault) = ⊥
 AnswersDocument (Err fault) answer = answer ≡ Err fault
 
--- words are a fault that comes before those of the input
+-- arguments are a fault, which comes before the faults of the input
 abbrev pub AnswersInput : Bool → List ℕ → Result Answer CheckError → Type 0
 AnswersInput has_words input = AnswersDocument (if has_words then Err Usage else value_in input)
 
 -- ---- What is read and written
 
--- the input is what the reader has left, where that is known
+-- the input is what remains in the reader, if that is known
 abbrev pub IsInput : Option (List ℕ) → List ℕ → Type 0
 IsInput None input = ⊤
 IsInput (Some left) input = input ≡ left
 
--- What was answered, and what the writer took: the answer's text and nothing else, or the answer's fault and nothing at all. Want
--- of memory, a failed read and a failed write come from outside; only the last may have let something out.
+-- The result, and what the writer took: the answer's text and nothing else, or a fault and nothing at all. Out of memory, a
+-- failed read and a failed write come from outside; only after a failed write may something have been written.
 abbrev pub IsAnswered : (Result Answer CheckError → Type 0) → Option (List ℕ) → Option (List ℕ) → Result Verdict CheckError
     → Type 0
 IsAnswered IsAnswer old new (Ok verdict) =
@@ -57,15 +57,15 @@ IsAnswered IsAnswer old new (Err Read) = Keeps old new
 IsAnswered IsAnswer old new (Err Write) = (answer : Answer) × IsAnswer (Ok answer)
 IsAnswered IsAnswer old new (Err fault) = IsAnswer (Err fault) × Keeps old new
 
--- What was read: all of the input; of one that is too long a byte more than it may have. Where the reader failed, or memory was
--- wanting, it may be anything.
+-- What was read: all of the input; if it is too long, one byte more than the limit. If the reader failed or memory ran out, it
+-- may be anything.
 abbrev pub IsRead : {A : Type 0} → Option (List ℕ) → Option (List ℕ) → Result A CheckError → Type 0
 IsRead old new (Err Read) = ⊤
 IsRead old new (Err Memory) = ⊤
 IsRead old new (Err TooLong) = (bytes : List ℕ) × Consumes old new bytes × (length bytes ≡ most_bytes + 1)
 IsRead old new result = IsAtEnd new
 
--- the status that the program ends with
+-- the exit status of the program
 abbrev pub status_of : CheckError → ℕ
 status_of Usage = 2
 status_of fault = 1

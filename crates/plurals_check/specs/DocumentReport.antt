@@ -1,6 +1,6 @@
--- The report of a document: what is found in its rules for cardinal numbers, then in those for ordinal ones, then in its ranges,
--- and how many locales it has (docs/JSON.md). In a part the locales stand in the order of their bytes, and so do the entries of a
--- locale's ranges.
+-- The report of a document: what is found in its rules for cardinal numbers, then in those for ordinal numbers, then in its
+-- ranges, and how many locales it has (docs/JSON.md). The locales of a part are in the order of their bytes, and so are the
+-- entries of a locale's ranges.
 --     IsReportOf value report      this is the report of a document's value
 use Rattle.std.specs.Prelude.{◌≡◌, ◌≢◌, ℕ, ◌+◌, ◌&&◌, not, List, [], ◌∷◌, ◌++◌, codes, count_by, map}
 use Rattle.std.specs.Prelude.{Bool, true, IsTrue, IsFalse}
@@ -36,7 +36,7 @@ use Rattle.plurals_check.specs.declared.report.Report.{Report}
 abbrev pub locale_place : Part → List ℕ → List ℕ
 locale_place part locale = part_name part ++ codes " " ++ locale
 
--- what stands under a category is no text
+-- the value of a category is no text
 abbrev pub no_text_line : Part → List ℕ → PluralCategory → List ℕ
 no_text_line part locale category = locale_place part locale ++ codes " " ++ name_of category ++ codes ": no text"
 
@@ -44,7 +44,7 @@ no_text_line part locale category = locale_place part locale ++ codes " " ++ nam
 abbrev pub fault_line : Part → List ℕ → Fault → List ℕ
 fault_line part locale fault = locale_place part locale ++ codes " " ++ fault_text fault
 
--- a text counts; what is neither absent, null nor a text has a line
+-- a text is counted; a value that is neither null nor a text has a line
 abbrev pub found_under : Part → List ℕ → PluralCategory → Option Data → Found
 found_under part locale category None = nothing
 found_under part locale category (Some value) =
@@ -57,11 +57,11 @@ found_under_all part locale value [] = nothing
 found_under_all part locale value (category ∷ categories) =
     together (found_under part locale category (get (name_of category) value)) (found_under_all part locale value categories)
 
--- the categories in the order of the rules
+-- the categories, in the order of the rules
 abbrev pub text_order : List PluralCategory
 text_order = Zero ∷ One ∷ Two ∷ Few ∷ Many ∷ Other ∷ []
 
--- the faults of the texts, and their numbers
+-- the faults of the texts, and the count of their numbers
 abbrev pub found_by_check : Part → List ℕ → Checked → Found
 found_by_check part locale checked =
     record { lines = map (fault_line part locale) checked.faults; rules = 0; numbers = checked.numbers }
@@ -70,7 +70,7 @@ found_by_check part locale checked =
 abbrev pub all_texts_in : Data → SixTexts
 all_texts_in value = record { five = texts_in value; other = text_under Other value }
 
--- what is found in the rules of a locale: what is no text, and then what is wrong with the texts
+-- what is found in the rules of a locale: first the values that are no texts, then the faults of the texts
 abbrev pub IsFoundInRules : Part → List ℕ → Data → Found → Type 0
 IsFoundInRules part locale value found =
     (checked : Checked) × AreFindingsOf (all_texts_in value) checked
@@ -78,7 +78,7 @@ IsFoundInRules part locale value found =
 
 -- ---- The ranges of a locale
 
--- the texts of a locale's cardinal rules, where it has some
+-- the texts of a locale's cardinal rules, if it has any
 abbrev pub texts_at : Option Data → SixTexts
 texts_at None = record { five = five None None None None None; other = None }
 texts_at (Some value) = all_texts_in value
@@ -87,7 +87,7 @@ texts_at (Some value) = all_texts_in value
 abbrev pub IsRangeText : List ℕ → Type 0
 IsRangeText key = (range : UnvalidatedPluralRange) × IsKeyOfText key range
 
--- whether a range's category has a fault: it is the name of other, or of a category whose cardinal rule is there
+-- the fault of a range's category, if it has one: the value must name other, or a category that has a cardinal rule
 abbrev pub HasValueFault : SixTexts → Data → Option EntryFault → Type 0
 HasValueFault texts value (Some RangeKey) = ⊥
 HasValueFault texts value (Some NoText) = as_str value ≡ None
@@ -97,12 +97,12 @@ HasValueFault texts value (Some (NoRule category)) = (as_str value ≡ Some (nam
 HasValueFault texts value None =
     (category : PluralCategory) × (as_str value ≡ Some (name_of category)) × IsTrue (has_rule texts category)
 
--- whether an entry has a fault: its key is the text of a range, and its value is the range's category
+-- the fault of an entry, if it has one: the key must name a range, and the value its category
 abbrev pub HasEntryFault : SixTexts → List ℕ → Data → Option EntryFault → Type 0
 HasEntryFault texts key value (Some RangeKey) = ¬ (IsRangeText key)
 HasEntryFault texts key value fault = IsRangeText key × HasValueFault texts value fault
 
--- what is printed of the fault
+-- the printed text of the fault
 abbrev pub entry_fault_text : EntryFault → List ℕ
 entry_fault_text RangeKey = codes "range key"
 entry_fault_text NoText = codes "no text"
@@ -126,7 +126,7 @@ abbrev pub found_of_rules : List ℕ → Option Data → Found
 found_of_rules locale None = one_line (locale_place Ranges locale ++ codes ": no cardinal rules")
 found_of_rules locale (Some rules) = nothing
 
--- what is found in the ranges of a locale: that it has no cardinal rules, and then what is wrong with the entries
+-- what is found in the ranges of a locale: first that it has no cardinal rules, then the faults of its entries
 abbrev pub IsFoundInRanges : Data → List ℕ → Data → Found → Type 0
 IsFoundInRanges document locale value found =
     let rules = value_of_locale (part_name Cardinal) locale document in
@@ -138,13 +138,13 @@ IsFoundInRanges document locale value found =
 abbrev pub has_locale : Part → Data → List ℕ → Bool
 has_locale part document locale = is_some (value_of_locale (part_name part) locale document)
 
--- a locale counts in the first part that has it
+-- a locale is counted in the first part that has it
 abbrev pub is_first_in : Part → Data → List ℕ → Bool
 is_first_in Cardinal document locale = true
 is_first_in Ordinal document locale = not (has_locale Cardinal document locale)
 is_first_in Ranges document locale = not (has_locale Cardinal document locale) && not (has_locale Ordinal document locale)
 
--- how many locales are in a part and in none before it
+-- how many locales are in a part but in no earlier part
 abbrev pub first_count : Part → Data → ℕ
 first_count part document = count_by (is_first_in part document) (keys_in (members_at part document))
 

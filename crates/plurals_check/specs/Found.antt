@@ -1,4 +1,4 @@
--- What is found: the line of each fault, and how many rule texts and numbers were looked at.
+-- What is found: the line of each fault, and how many rule texts and numbers were checked.
 use Rattle.std.specs.Prelude.{◌≡◌, ℕ, ◌+◌, List, [], ◌∷◌, ◌++◌}
 use Rattle.serde_json.specs.Data.{Data, Members, no_members, member}
 
@@ -10,11 +10,11 @@ pub record Found : Type 0 where
 abbrev pub nothing : Found
 nothing = record { lines = []; rules = 0; numbers = 0 }
 
--- a line alone
+-- a line only
 abbrev pub one_line : List ℕ → Found
 one_line line = record { lines = line ∷ []; rules = 0; numbers = 0 }
 
--- a rule text alone
+-- a rule text only
 abbrev pub one_rule : Found
 one_rule = record { lines = []; rules = 1; numbers = 0 }
 

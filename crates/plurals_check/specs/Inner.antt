@@ -1,4 +1,4 @@
--- No definitions of the subject: what private contracts speak of.
+-- No definitions of the subject: words of private contracts.
 pub mod Additions
 pub mod CheckViews
 pub mod CheckCalls

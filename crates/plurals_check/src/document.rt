@@ -1,4 +1,4 @@
-//! The JSON value of an input, and what a document has.
+//! The JSON value of an input, and the members of a document.
 
 ghost use Rattle.std.specs.Prelude.{◌≡◌, option_map};
 ghost use Rattle.std.specs.Option.{option_and_then};
@@ -15,7 +15,7 @@ use crate::place::Part;
 use serde_json::{Map, Value};
 use std::alloc::Global;
 
-// The document that the bytes write: a value whose parts and locales are objects.
+// Returns the document that the bytes write: a value whose parts and locales are objects.
 pub(crate) fn value_of(alloc: Global, bytes: &[u8]) -> Result<Value, CheckError>
     ensures { GivesValue view (value_of bytes.now) result }
 {
@@ -24,7 +24,7 @@ pub(crate) fn value_of(alloc: Global, bytes: &[u8]) -> Result<Value, CheckError>
     Ok(value)
 }
 
-// The JSON value that the bytes write.
+// Returns the JSON value that the bytes write.
 fn json_of(alloc: Global, bytes: &[u8]) -> Result<Value, CheckError>
     ensures { GivesValue view (or_fault Json (json_of bytes.now)) result }
 {
@@ -40,7 +40,7 @@ fn json_of(alloc: Global, bytes: &[u8]) -> Result<Value, CheckError>
     }
 }
 
-// What a part of a document has under each locale.
+// Returns the members of a part of a document, by locale.
 pub(crate) fn members_of(document: &Value, part: Part) -> Option<&Map<String, Value>>
     ensures { option_map (λ m. members_view m.now.entries) result
         ≡ option_and_then as_object (get (part_name part) (view document.now)) }
@@ -48,7 +48,7 @@ pub(crate) fn members_of(document: &Value, part: Part) -> Option<&Map<String, Va
     document.get(part.as_str())?.as_object()
 }
 
-// What a part of a document has under a locale.
+// Returns the value of a locale in a part of a document.
 pub(crate) fn value_at<'a>(document: &'a Value, part: Part, locale: &str) -> Option<&'a Value>
     ensures { option_map (λ v. view v.now) result ≡ option_and_then (get locale.now) (get (part_name part) (view document.now)) }
 {

@@ -15,13 +15,13 @@ use std::fmt;
 /// What is wrong with an entry.
 #[derive(Clone, Copy, Debug, PartialEq, Eq)]
 pub enum EntryFault {
-    /// The key is the text of no range.
+    /// The key names no range.
     RangeKey,
     /// The value is no text.
     NoText,
-    /// The text is no category's name.
+    /// The text names no category.
     RangeValue,
-    /// The category isn't other, and its cardinal rule isn't there.
+    /// The category isn't other, and has no cardinal rule.
     NoRule(PluralCategory),
 }
 
@@ -38,7 +38,7 @@ impl fmt::Display for EntryFault {
     }
 }
 
-// The fault of an entry under these cardinal rules, if it has one.
+// Returns the fault of an entry under these cardinal rules, if it has one.
 pub(crate) fn entry_fault(texts: &LanguageTexts<'_>, key: &str, value: &Value) -> Option<EntryFault>
     ensures { HasEntryFault (six_texts texts.now) key.now (view value.now) result }
 {
@@ -48,7 +48,7 @@ pub(crate) fn entry_fault(texts: &LanguageTexts<'_>, key: &str, value: &Value) -
     }
 }
 
-// The fault of a range's category.
+// Returns the fault of an entry's value, if it has one.
 fn value_fault(texts: &LanguageTexts<'_>, value: &Value) -> Option<EntryFault>
     ensures { HasValueFault (six_texts texts.now) (view value.now) result }
 {

@@ -8,10 +8,10 @@ use thiserror::Error;
 
 const USAGE: &str = "usage: plurals_check < DOCUMENT";
 
-/// Why there is no report. Faults are looked for in this order.
+/// Why there is no report. The program checks for these in this order.
 #[derive(Debug, Drop, Error)]
 pub enum CheckError {
-    /// There are words, and the program takes none.
+    /// There are command-line arguments; the program takes none.
     #[error("{}", USAGE)]
     Usage,
     /// The reader failed.
@@ -23,22 +23,22 @@ pub enum CheckError {
     /// The input is no JSON text.
     #[error("input is not JSON")]
     Json,
-    /// A number that is no integer of 64 bits stands somewhere in the document.
+    /// The document contains a number that is no 64-bit integer.
     #[error("document: float")]
     Float,
-    /// There is no object at this place, which is the first such one.
+    /// There is no object at this place, where one is expected; it is the first such place.
     #[error("{0}: no object")]
     NoObject(Place),
-    /// The writer failed; how much went out isn't told.
+    /// The writer failed; how much was written isn't known.
     #[error("cannot write output")]
     Write,
-    /// There was no memory. Nothing was written.
+    /// Memory ran out. Nothing was written.
     #[error("out of memory")]
     Memory,
 }
 
 impl CheckError {
-    /// The status that the program ends with: 2 for words, else 1.
+    /// Returns the exit status of the program: 2 for [`Usage`](CheckError::Usage), otherwise 1.
     pub fn status(&self) -> u8
         ensures { result ≡ status_of self.now }
     {

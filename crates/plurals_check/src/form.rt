@@ -1,4 +1,4 @@
-//! The form of a document: it has no float, and it, its parts and what they have under each locale are objects.
+//! The form of a document: it has no float; it, its parts and the value of each locale in a part are objects.
 
 ghost use Rattle.std.specs.Prelude.{◌≡◌, is_some, option_map};
 ghost use Rattle.std.specs.Option.{option_and_then};
@@ -17,7 +17,7 @@ use plural_base::holds_float;
 use serde_json::{Map, Value};
 use std::alloc::Global;
 
-// Tells the first place of a document that has another form.
+// Checks the form of a document. The error names the first place that has another form.
 pub(crate) fn check_document(alloc: Global, value: &Value) -> Result<(), CheckError>
     ensures { GivesValue (λ done. done) (document_formed (view value.now)) result }
 {
@@ -30,7 +30,7 @@ pub(crate) fn check_document(alloc: Global, value: &Value) -> Result<(), CheckEr
     check_parts(alloc, value)
 }
 
-// The same of its three parts.
+// Checks its three parts.
 fn check_parts(alloc: Global, value: &Value) -> Result<(), CheckError>
     ensures { GivesValue (λ done. done) (parts_formed (view value.now)) result }
 {
@@ -39,14 +39,14 @@ fn check_parts(alloc: Global, value: &Value) -> Result<(), CheckError>
     check_part(alloc, Part::Ranges, value)
 }
 
-// The same of one part.
+// Checks one part.
 fn check_part(alloc: Global, part: Part, value: &Value) -> Result<(), CheckError>
     ensures { GivesValue (λ done. done) (part_formed part (get (part_name part) (view value.now))) result }
 {
     check_members(alloc, part, value.get(part.as_str()))
 }
 
-// The same of what a document has for a part, which may be absent or null.
+// Checks the value of a part, which may be absent or null.
 fn check_members(alloc: Global, part: Part, value: Option<&Value>) -> Result<(), CheckError>
     ensures { GivesValue (λ done. done) (part_formed part (option_map (λ v. view v.now) value.entry)) result }
 {
@@ -62,7 +62,7 @@ fn check_members(alloc: Global, part: Part, value: Option<&Value>) -> Result<(),
     }
 }
 
-// The same of what a part has under each locale.
+// Checks the value of each locale in a part.
 fn check_locales(alloc: Global, part: Part, members: &Map<String, Value>) -> Result<(), CheckError>
     ensures { GivesValue (λ done. done) (locales_formed part (members_view members.now.entries)) result }
 {
@@ -74,7 +74,7 @@ fn check_locales(alloc: Global, part: Part, members: &Map<String, Value>) -> Res
     Ok(())
 }
 
-// Whether what a locale has is of the part's form.
+// Returns whether a locale's value has the form of the part.
 fn has_form(part: Part, value: &Value) -> bool
     ensures { result ≡ has_form part (view value.now) }
 {
@@ -84,14 +84,14 @@ fn has_form(part: Part, value: &Value) -> bool
     }
 }
 
-// What a locale has under `ranges`, where that is an object.
+// Returns the value of `ranges` in a locale's value, if it is an object.
 pub(crate) fn table_in(value: &Value) -> Option<&Map<String, Value>>
     ensures { option_map (λ m. members_view m.now.entries) result ≡ table_in (view value.now) }
 {
     value.get("ranges")?.as_object()
 }
 
-// The fault of a locale.
+// Returns the error for a locale.
 fn no_object(alloc: Global, part: Part, locale: &str) -> CheckError
     ensures { GivesFault (λ fault. fault ≡ NoObject (place.Locale part locale.now)) result }
 {

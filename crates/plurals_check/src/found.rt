@@ -12,7 +12,7 @@ use serde_json::{Map, Value};
 use std::alloc::{AllocError, Global};
 use std::marker::Model;
 
-// The line of each fault, and how many rule texts and numbers were looked at.
+// The line of each fault, and how many rule texts and numbers were checked.
 #[derive(Debug, Drop)]
 pub struct Found {
     lines: Vec<String>,
@@ -34,7 +34,7 @@ impl Model for Found {
 }
 
 impl Found {
-    // Nothing.
+    // Returns no lines, with counts of 0.
     pub(crate) fn new(alloc: Global) -> Found
         ensures { result ≡ nothing }
     {
@@ -45,28 +45,28 @@ impl Found {
         }
     }
 
-    // The lines.
+    // Returns the lines.
     pub(crate) fn lines(&self) -> &[String]
         ensures { map string_bytes result.now ≡ self.now.lines }
     {
         self.lines.as_slice()
     }
 
-    // How many lines there are.
+    // Returns how many lines there are.
     pub(crate) fn len(&self) -> usize
         ensures { result ≡ length self.now.lines }
     {
         self.lines.len()
     }
 
-    // How many rule texts were looked at.
+    // Returns how many rule texts were checked.
     pub(crate) fn rules(&self) -> u64
         ensures { result ≡ self.now.rules }
     {
         self.rules
     }
 
-    // How many numbers were looked at.
+    // Returns how many numbers were checked.
     pub(crate) fn numbers(&self) -> u64
         ensures { result ≡ self.now.numbers }
     {
@@ -81,7 +81,7 @@ impl Found {
         Ok(())
     }
 
-    // Counts a rule text. That it can't be counted is want of memory.
+    // Counts a rule text. A count that is too large is reported as out of memory.
     pub(crate) fn add_rule(&mut self) -> Result<(), AllocError>
         ensures { OnOk result (self.new ≡ together self.old one_rule) }
     {
@@ -89,7 +89,7 @@ impl Found {
         Ok(())
     }
 
-    // Counts numbers. That they can't be counted is want of memory.
+    // Counts numbers. A count that is too large is reported as out of memory.
     pub(crate) fn add_numbers(&mut self, numbers: u64) -> Result<(), AllocError>
         ensures { OnOk result (self.new ≡ together self.old (record nothing { numbers = numbers })) }
     {
@@ -98,7 +98,7 @@ impl Found {
     }
 }
 
-// The sum of two counts.
+// Returns the sum of two counts, or an error if it is too large.
 pub(crate) fn sum(first: u64, second: u64) -> Result<u64, AllocError>
     ensures { IfOk result (λ both. both ≡ first + second) }
 {
@@ -108,7 +108,7 @@ pub(crate) fn sum(first: u64, second: u64) -> Result<u64, AllocError>
     }
 }
 
-// What looks at the members of an object.
+// A check of the members of an object.
 pub(crate) trait MemberCheck {
     // What is found in a member.
     ghost finds: { Self → List ℕ → Data → seen.Found → Type 0 };
@@ -141,7 +141,7 @@ pub(crate) fn add_members<C: MemberCheck>(
     }
 }
 
-// The same of members that are there.
+// Adds what is found in each of these members.
 fn add_all<C: MemberCheck>(
     alloc: Global,
     check: &C,

@@ -9,7 +9,7 @@ use crate::error::CheckError;
 use std::alloc::Global;
 use std::io::{ErrorKind, Read};
 
-// So many bytes an input may have.
+// The most bytes that an input may have.
 const MOST_BYTES: usize = 4_194_304;
 
 // Why there is no input.
@@ -20,7 +20,7 @@ enum InputError {
     Memory,
 }
 
-// The input: all that the reader has left. Of what is too long, one byte more is read than it may have.
+// Returns the input: all that remains in the reader. If it is too long, one byte more than the limit is read.
 pub(crate) fn read_input<R: Read>(alloc: Global, reader: &mut R) -> Result<Vec<u8>, CheckError>
     ensures input { GivesInput (R.remaining reader.old) result }
     ensures read { IsRead (R.remaining reader.old) (R.remaining reader.new) result }

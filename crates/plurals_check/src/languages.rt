@@ -29,7 +29,7 @@ const TEXT_ORDER: [PluralCategory; 6] = [
     PluralCategory::Other,
 ];
 
-// The check of what a part has under a locale, the rules of a language.
+// Checks the value of a locale in a part: the rules of a language.
 #[derive(Clone, Copy)]
 pub(crate) struct LanguageCheck {
     pub(crate) part: Part,
@@ -53,7 +53,7 @@ impl MemberCheck for LanguageCheck {
     }
 }
 
-// The texts that a language has.
+// Returns the texts of a language's rules.
 pub(crate) fn texts_of(value: &Value) -> LanguageTexts<'_>
     ensures { six_texts result ≡ all_texts_in (view value.now) }
 {
@@ -67,21 +67,21 @@ pub(crate) fn texts_of(value: &Value) -> LanguageTexts<'_>
     }
 }
 
-// The text under the name of a category.
+// Returns the text under the name of a category.
 fn text_under(value: &Value, category: PluralCategory) -> Option<&str>
     ensures { option_copied result ≡ text_under category (view value.now) }
 {
     value.get(name_of(category))?.as_str()
 }
 
-// The name of a category.
+// Returns the name of a category.
 pub(crate) fn name_of(category: PluralCategory) -> &'static str
     ensures { result.now ≡ name_of category }
 {
     RawPluralCategory::from(category).as_str()
 }
 
-// Adds a line for what stands under a category and is no text, and counts the texts.
+// Adds a line for each category whose value is no text, and counts the texts.
 fn add_texts(
     alloc: Global,
     part: Part,
@@ -98,7 +98,7 @@ fn add_texts(
     Ok(())
 }
 
-// The same of what stands under one category.
+// Checks the value of one category, which may be absent.
 fn add_text(
     alloc: Global,
     part: Part,
@@ -116,7 +116,7 @@ fn add_text(
     }
 }
 
-// The same of a value.
+// Checks the value of one category.
 fn add_value(
     alloc: Global,
     part: Part,
@@ -137,7 +137,7 @@ fn add_value(
     found.add_line(line)
 }
 
-// The line for what stands under a category and is no text.
+// Returns the line for a category whose value is no text.
 fn no_text_line(
     alloc: Global,
     part: Part,
@@ -167,7 +167,7 @@ fn add_faults(
     Ok(())
 }
 
-// The line for a fault of a text.
+// Returns the line for a fault of a text.
 fn fault_line(alloc: Global, part: Part, locale: &str, fault: &Fault) -> Result<String, AllocError>
     ensures { IfOk result (λ line. string_bytes line ≡ fault_line part locale.now fault.now) }
 {

@@ -22,7 +22,7 @@ use std::rt::Env;
 #[cfg(test)]
 mod tests;
 
-// Whether there is a word after the program's name.
+// Returns whether there is an argument after the program's name.
 fn has_words<E: Env>(env: &E) -> bool {
     let mut first = [0u8; 1];
     !matches!(env.arg(1, &mut first), Err(FillError::NotPresent))

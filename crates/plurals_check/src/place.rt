@@ -1,4 +1,4 @@
-//! The parts of a document, and the places where an object has to stand.
+//! The parts of a document, and the places where an object is expected.
 
 ghost use Rattle.std.specs.Prelude.{◌≡◌, IfOk};
 ghost use Rattle.plurals_check.specs.Parts.{part_name};
@@ -10,16 +10,16 @@ use std::marker::Model;
 /// A part of a document.
 #[derive(Clone, Copy, Debug, PartialEq, Eq)]
 pub enum Part {
-    /// `cardinal`: the rules of locales for cardinal numbers.
+    /// `cardinal`: rules for cardinal numbers, by locale.
     Cardinal,
-    /// `ordinal`: those for ordinal numbers.
+    /// `ordinal`: rules for ordinal numbers, by locale.
     Ordinal,
-    /// `ranges`: the categories of ranges.
+    /// `ranges`: categories of ranges, by locale.
     Ranges,
 }
 
 impl Part {
-    /// The part's key in a document.
+    /// Returns the part's key in a document.
     pub fn as_str(self) -> &'static str
         ensures { result.now ≡ part_name self }
     {
@@ -31,7 +31,7 @@ impl Part {
     }
 }
 
-/// A locale's key, which is a place of its own text.
+/// A locale's key, with its own copy of the text.
 #[derive(Debug, Drop)]
 pub struct Locale {
     text: String,
@@ -46,7 +46,7 @@ impl Model for Locale {
 }
 
 impl Locale {
-    /// The locale of a key. It takes memory.
+    /// Copies the key of a locale. It takes memory; the only error is out of memory.
     pub fn from_str(alloc: Global, key: &str) -> Result<Locale, AllocError>
         ensures { IfOk result (λ locale. locale ≡ key.now) }
     {
@@ -55,7 +55,7 @@ impl Locale {
         })
     }
 
-    /// Its text.
+    /// Returns the text of the key.
     pub fn as_str(&self) -> &str
         ensures { result.now ≡ self.now }
     {
@@ -63,14 +63,14 @@ impl Locale {
     }
 }
 
-/// A place where an object has to stand.
+/// A place where an object is expected.
 #[derive(Debug, Drop)]
 pub enum Place {
     /// The document itself.
     Document,
-    /// What a document has under a part's key.
+    /// The value of a part.
     Part(Part),
-    /// What a part has under a locale.
+    /// The value of a locale in a part.
     Locale(Part, Locale),
 }
 

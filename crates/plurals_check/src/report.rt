@@ -29,14 +29,14 @@ pub struct Report {
 /// Whether a document has a fault.
 #[derive(Clone, Copy, Debug, PartialEq, Eq)]
 pub enum Verdict {
-    /// It has none.
+    /// The document has no fault.
     NoFaults,
-    /// It has some.
+    /// The document has at least one fault.
     Faults,
 }
 
 impl Verdict {
-    /// The status that the program ends with: 0 without faults, 1 with some.
+    /// Returns the exit status of the program: 0 without faults, 1 with some.
     pub fn status(self) -> u8
         ensures { result ≡ verdict_status self }
     {
@@ -47,7 +47,7 @@ impl Verdict {
     }
 }
 
-// The report of a document.
+// Returns the report of a document.
 pub(crate) fn report_of(alloc: Global, document: &Value) -> Result<Report, AllocError>
     ensures { IfOk result (λ report. IsReportOf (view document.now) report) }
 {
@@ -56,7 +56,7 @@ pub(crate) fn report_of(alloc: Global, document: &Value) -> Result<Report, Alloc
     Ok(Report { locales, found })
 }
 
-// What is found in the three parts.
+// Returns what is found in the three parts.
 fn found_in(alloc: Global, document: &Value) -> Result<Found, AllocError>
     ensures { IfOk result (λ found. IsFoundInDocument (view document.now) found) }
 {
@@ -82,7 +82,7 @@ fn add_rules(
 }
 
 impl Report {
-    // Whether it has a fault.
+    // Returns whether the document has a fault.
     pub(crate) fn verdict(&self) -> Verdict
         ensures { result ≡ verdict_of self.now }
     {
@@ -93,7 +93,7 @@ impl Report {
         }
     }
 
-    // Its text: a line for each fault, and one with the counts.
+    // Returns the text of the report: a line for each fault, and a line with the counts.
     pub(crate) fn text(&self, alloc: Global) -> Result<String, AllocError>
         ensures { IfOk result (λ text. string_bytes text ≡ report_text self.now) }
     {
@@ -103,7 +103,7 @@ impl Report {
         Ok(text)
     }
 
-    // The line with the counts.
+    // Returns the line with the counts of the report.
     fn counts(&self, alloc: Global) -> Result<String, AllocError>
         ensures { IfOk result (λ line. string_bytes line ≡ counts_of self.now) }
     {
@@ -118,7 +118,7 @@ impl Report {
     }
 }
 
-// The line with these counts.
+// Returns the line with these counts.
 fn counts_line(
     alloc: Global,
     locales: u64,
@@ -131,7 +131,7 @@ fn counts_line(
     format!(in alloc; "locales: {locales}, rules: {rules}, numbers: {numbers}, faults: {faults}\n")
 }
 
-// Appends the lines, each with its end.
+// Appends the lines, each followed by a newline.
 fn push_lines(text: &mut String, lines: &[String]) -> Result<(), AllocError>
     ensures { OnOk result (string_bytes text.new ≡ string_bytes text.old ++ flat_map ended_line (map string_bytes lines.now)) }
 {

@@ -1,4 +1,4 @@
-//! Answers an input.
+//! Reads an input and writes the answer to it.
 
 ghost use Rattle.std.specs.Prelude.{◌≡◌, Err, IfOk, List, ℕ, IsFalse, IsTrue};
 ghost use Rattle.plurals_check.specs.CheckAnswer.{AnswersDocument, AnswersInput, IsAnswered, IsAnswerTo, IsInput, IsRead};
@@ -16,7 +16,7 @@ use serde_json::Value;
 use std::alloc::{AllocError, Global};
 use std::io::{Read, Write};
 
-// What is written for a document, and whether it has a fault.
+// The text that is written for a document, and whether the document has a fault.
 #[derive(Drop)]
 pub(crate) struct Answer {
     pub(crate) text: String,
@@ -25,25 +25,25 @@ pub(crate) struct Answer {
 
 /// Writes the report of a document, and nothing else.
 ///
-/// The input is read to its end, or to the first byte that is too many, as a JSON document: rules of
+/// The input is read to its end, or to the first byte past the limit, as a JSON document: rules of
 /// locales for cardinal and for ordinal numbers, and categories of ranges (UTS 35 Part 3, Language
-/// Plural Rules). The report has a line for each fault: of the texts of rules and of their samples, as
-/// `plural_checker` tells them, and of the entries of ranges; and then a line with the counts of
+/// Plural Rules). The report has a line for each fault: in the texts of rules and in their samples, as
+/// reported by `plural_checker`, and in the entries of ranges; and then a line with the counts of
 /// locales, rule texts, numbers and faults. It takes memory.
 ///
-/// The errors, in the order in which they are looked for: [`CheckError::Usage`] where there are words;
-/// [`CheckError::Read`] where the reader failed, [`CheckError::TooLong`] above 4194304 bytes,
-/// [`CheckError::Json`] where the input is no JSON text, [`CheckError::Float`] where it has a float, and
-/// [`CheckError::NoObject`] where the document, a part of it or what a part has under a locale is no
-/// object; [`CheckError::Write`] where the writer failed; [`CheckError::Memory`] where memory ran out.
-/// Nothing was written then, a failed write aside.
+/// The errors, in the order in which they are checked: [`CheckError::Usage`] if there are arguments;
+/// [`CheckError::Read`] if the reader failed, [`CheckError::TooLong`] above 4194304 bytes,
+/// [`CheckError::Json`] if the input is no JSON text, [`CheckError::Float`] if it has a float, and
+/// [`CheckError::NoObject`] if the document, one of its parts or the value of a locale is no
+/// object; [`CheckError::Write`] if the writer failed; [`CheckError::Memory`] if memory ran out.
+/// After an error other than a failed write, nothing was written.
 pub fn run<R: Read, W: Write>(
     alloc: Global,
     has_words: bool,
     reader: &mut R,
     writer: &mut W,
 ) -> Result<Verdict, CheckError>
-    // The answer is that of some input, which is what the reader had left, where that is known.
+    // The answer is that of some input: what remained in the reader, if that is known.
     ensures answers { (input : List ℕ) × IsInput (R.remaining reader.old) input
         × IsAnswered (AnswersInput has_words input) (W.contents writer.old) (W.contents writer.new) result }
     ensures reads { IsFalse has_words → IsRead (R.remaining reader.old) (R.remaining reader.new) result }
@@ -59,7 +59,7 @@ pub fn run<R: Read, W: Write>(
     }
 }
 
-// The answer to what the reader gives.
+// Returns the answer to the input of a reader.
 fn answer_to_reader<R: Read>(alloc: Global, reader: &mut R) -> Result<Answer, CheckError>
     ensures answers { (input : List ℕ) × IsInput (R.remaining reader.old) input
         × GivesAfterReading (AnswersDocument (value_in input)) result }
@@ -69,7 +69,7 @@ fn answer_to_reader<R: Read>(alloc: Global, reader: &mut R) -> Result<Answer, Ch
     answer_to(alloc, input.as_slice())
 }
 
-// The answer to the bytes of an input.
+// Returns the answer to the bytes of an input.
 pub(crate) fn answer_to(alloc: Global, bytes: &[u8]) -> Result<Answer, CheckError>
     ensures { Gives answer_view (AnswersDocument (value_of bytes.now)) result }
 {
@@ -80,7 +80,7 @@ pub(crate) fn answer_to(alloc: Global, bytes: &[u8]) -> Result<Answer, CheckErro
     }
 }
 
-// The answer to a document.
+// Returns the answer to a document.
 fn answer_of(alloc: Global, document: &Value) -> Result<Answer, AllocError>
     ensures { IfOk result (λ answer. IsAnswerTo (view document.now) (answer_view answer)) }
 {

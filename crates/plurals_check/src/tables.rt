@@ -16,7 +16,7 @@ use plural_checker::LanguageTexts;
 use serde_json::Value;
 use std::alloc::{AllocError, Global};
 
-// The check of a locale's ranges, in a document.
+// Checks a locale's ranges, in a document.
 #[derive(Clone, Copy)]
 pub(crate) struct TableCheck<'a> {
     pub(crate) document: &'a Value,
@@ -43,7 +43,7 @@ impl<'a> MemberCheck for TableCheck<'a> {
     }
 }
 
-// The check of an entry of a locale's ranges, under the texts of its cardinal rules.
+// Checks an entry of a locale's ranges, under the texts of its cardinal rules.
 #[derive(Clone, Copy)]
 struct EntryCheck<'a> {
     texts: LanguageTexts<'a>,
@@ -67,7 +67,7 @@ impl<'a> MemberCheck for EntryCheck<'a> {
     }
 }
 
-// The line for a fault of an entry.
+// Returns the line for a fault of an entry.
 fn entry_line(
     alloc: Global,
     locale: &str,
@@ -80,7 +80,7 @@ fn entry_line(
     format!(in alloc; "{} {} {}: {}", part, locale, key, fault)
 }
 
-// The texts of cardinal rules, where there are some.
+// Returns the texts of cardinal rules, if there are any.
 fn texts_at(rules: Option<&Value>) -> LanguageTexts<'_>
     ensures { six_texts result ≡ texts_at (option_map (λ v. view v.now) rules.entry) }
 {
@@ -97,7 +97,7 @@ fn texts_at(rules: Option<&Value>) -> LanguageTexts<'_>
     }
 }
 
-// Adds a line for a locale without cardinal rules.
+// Adds a line if a locale has no cardinal rules.
 fn add_rules(
     alloc: Global,
     locale: &str,

@@ -1,4 +1,4 @@
-//! What no clause says: worked documents, texts and statuses, failing readers and writers.
+//! What no contract says: worked documents, texts and statuses, failing readers and writers.
 
 mod answers;
 mod assertion;

@@ -2,10 +2,10 @@
 use Rattle.std.specs.Prelude.{◌≡◌, ℕ, List}
 use Rattle.plurals_check.specs.Found.{Found, together}
 
--- this is found more
+-- what was found has grown by something of this kind
 abbrev pub Adds : (Found → Type 0) → Found → Found → Type 0
 Adds Is old new = (more : Found) × Is more × (new ≡ together old more)
 
--- lines and nothing else
+-- only lines
 abbrev pub lines_alone : List (List ℕ) → Found
 lines_alone lines = record { lines = lines; rules = 0; numbers = 0 }

@@ -1,4 +1,4 @@
--- Not a definition of the subject: what private calls answer.
+-- Not a definition of the subject: the results of private calls.
 use Rattle.std.specs.Prelude.{◌≡◌, Result, Ok, Err, ⊤}
 use Rattle.plurals_check.specs.CheckAnswer.{Answer}
 use Rattle.plurals_check.specs.Inner.CheckViews.{answer_view}
@@ -6,25 +6,25 @@ use Rattle.plurals_check.specs.declared.error.CheckError.{CheckError}
 use Rattle.plurals_check.specs.declared.error.CheckError.TheVariants.{Read, Write, Memory}
 use Rattle.plurals_check.specs.declared.run.Answer.{Answer as CodeAnswer}
 
--- ---- Answers
+-- ---- Results
 
--- a fault of this kind, or want of memory; nothing is read or written
+-- a fault of this kind, or out of memory; the call neither reads nor writes
 abbrev pub GivesFault : (CheckError → Type 0) → CheckError → Type 0
 GivesFault IsFault Memory = ⊤
 GivesFault IsFault Read = ⊥
 GivesFault IsFault Write = ⊥
 GivesFault IsFault fault = IsFault fault
 
--- the answer, seen so, or want of memory
+-- the result, in the words of the definitions, or out of memory
 abbrev pub Gives : {A B : Type 0} → (A → B) → (Result B CheckError → Type 0) → Result A CheckError → Type 0
 Gives seen IsAnswer (Ok x) = IsAnswer (Ok (seen x))
 Gives seen IsAnswer (Err e) = GivesFault (λ fault. IsAnswer (Err fault)) e
 
--- the same where there is one answer
+-- the same if there is only one result
 abbrev pub GivesValue : {A B : Type 0} → (A → B) → Result B CheckError → Result A CheckError → Type 0
 GivesValue seen value = Gives seen (λ answer. value ≡ answer)
 
--- an answer of a call that reads, and may fail at it
+-- the result of a call that reads, which may fail
 abbrev pub GivesAfterReading : (Result Answer CheckError → Type 0) → Result CodeAnswer CheckError → Type 0
 GivesAfterReading IsAnswer (Err Read) = ⊤
 GivesAfterReading IsAnswer result = Gives answer_view IsAnswer result

@@ -1,4 +1,4 @@
-//! What is answered to a document.
+//! The answer to a document.
 
 use crate::error::CheckError;
 use crate::run::run;
@@ -9,7 +9,7 @@ use std::io;
 use std::io::{Read, Write};
 use std::process::Abort;
 
-// Takes these bytes and no others, without memory.
+// A writer that accepts these bytes and no others, without memory.
 #[derive(Drop)]
 struct Awaits<'t> {
     left: &'t [u8],
@@ -31,12 +31,12 @@ impl<'t> Write for Awaits<'t> {
     }
 }
 
-// Whether the writer still awaits the fault's status and text, and nothing else.
+// Returns whether the writer still expects the fault's status and text, and nothing else.
 fn awaits_fault<'t>(mut writer: Awaits<'t>, fault: &CheckError) -> bool {
     write!(writer, "{}: {fault}\n", fault.status()).is_ok() && writer.left.is_empty()
 }
 
-// Whether the line has the fault's status and text.
+// Returns whether the line has the fault's status and text.
 pub(crate) fn is_told(fault: &CheckError, line: &str) -> bool {
     let writer = Awaits {
         left: line.as_bytes(),
@@ -44,8 +44,8 @@ pub(crate) fn is_told(fault: &CheckError, line: &str) -> bool {
     awaits_fault(writer, fault)
 }
 
-// Whether this is answered over the reader: the report, whose status is 0 where it tells of no fault, or the status and the text
-// of a fault. None where memory ran out and nothing was written.
+// Returns whether this is the answer: the report, whose status is 0 if it counts no fault, or the status and the text of a
+// fault. `None` if memory ran out and nothing was written.
 pub(crate) fn gives<R: Read>(
     alloc: Global,
     has_words: bool,
@@ -65,7 +65,7 @@ pub(crate) fn gives<R: Read>(
     }
 }
 
-// Each document of the table gives the lines that follow it. Before a document stands `< `.
+// Checks that each document of the table gives the lines that follow it. `< ` precedes a document.
 pub(crate) fn table_holds(rt: &impl Abort, alloc: Global, table: &str) {
     for row in table.split("< ").skip(1) {
         let (document, answer) = row.split_once('\n').unwrap_or((row, ""));

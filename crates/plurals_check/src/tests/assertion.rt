@@ -1,4 +1,4 @@
-//! An assertion for tests: it tells its condition and the row of a table, and is proved in a fraction of the time that
+//! An assertion for tests: it prints its condition and the row of a table, and is proved in a fraction of the time that
 //! `assert_eq!` takes.
 
 ghost use Rattle.std.specs.Prelude.{IsTrue};
@@ -6,14 +6,14 @@ ghost use Rattle.std.specs.Prelude.{IsTrue};
 use std::fmt::Debug;
 use std::process::Abort;
 
-/// Ends the test, telling the condition and the row, unless the condition holds.
+/// Ends the test and prints the condition and the row, unless the condition holds.
 pub fn fail_unless(rt: &impl Abort, holds: bool, condition: &str, row: &str)
     ensures { IsTrue holds }
 {
     assert!(rt; holds, "{row}: {condition}");
 }
 
-/// The same for a row that isn't named by a text.
+/// [`fail_unless`] for a row that isn't named by a text.
 pub fn fail_unless_at(rt: &impl Abort, holds: bool, condition: &str, row: &impl Debug)
     ensures { IsTrue holds }
 {

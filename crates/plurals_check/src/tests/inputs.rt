@@ -14,7 +14,7 @@ const DOCUMENT: &[u8] =
 
 const REPORT: &str = "locales: 1, rules: 2, numbers: 17, faults: 0\n";
 
-// A reader with a text and so many spaces after it, which then fails, or is at its end.
+// A reader of a text and then this many spaces, which ends or fails after them.
 #[derive(Drop)]
 pub(crate) struct Input<'a> {
     text: &'a [u8],
@@ -38,7 +38,7 @@ impl<'a> Read for Input<'a> {
 }
 
 impl<'a> Input<'a> {
-    // The text, or where there is none a reader that fails at each call.
+    // Returns a reader of the text, or one that fails at each call if there is none.
     pub(crate) fn of(text: Option<&'a [u8]>) -> Input<'a> {
         Input {
             text: text.unwrap_or(b""),
@@ -52,7 +52,7 @@ impl<'a> Input<'a> {
     }
 }
 
-// The document with spaces up to a length.
+// Returns the document with spaces up to a length.
 fn document_up_to(length: usize, fails: bool) -> Input<'static> {
     Input {
         text: DOCUMENT,

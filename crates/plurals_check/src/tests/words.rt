@@ -1,4 +1,4 @@
-//! The words of the command line.
+//! The arguments of the command line.
 
 use crate::has_words;
 use crate::tests::assertion::holds;

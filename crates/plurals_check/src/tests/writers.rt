@@ -7,7 +7,7 @@ use std::alloc::Global;
 use std::io;
 use std::io::Write;
 
-// A writer that takes one byte at a call. After so many it refuses each call, or takes no byte. It can't be flushed.
+// A writer that takes one byte per call. After this many, it refuses each call, or takes no byte. It can't be flushed.
 #[derive(Drop)]
 struct Taking {
     left: usize,
@@ -31,7 +31,7 @@ impl Write for Taking {
     }
 }
 
-// Whether the report of no locale fails over a writer that takes so many bytes.
+// Returns whether the report of a document without locales fails over a writer that takes this many bytes.
 fn fails_after(alloc: Global, left: usize, refuses: bool) -> bool {
     let mut input: &[u8] = b"{}";
     let answer = run(alloc, false, &mut input, &mut Taking { left, refuses });
@@ -40,7 +40,7 @@ fn fails_after(alloc: Global, left: usize, refuses: bool) -> bool {
 
 #[test]
 fn a_refused_write_is_a_fault_and_nothing_is_flushed(rt: HostRuntime) {
-    // The length of `locales: 0, rules: 0, numbers: 0, faults: 0` and its end.
+    // The length of `locales: 0, rules: 0, numbers: 0, faults: 0` and its newline.
     let length = 44;
     for count in 0..length {
         holds!(rt; fails_after(rt.alloc(), count, true), at count);

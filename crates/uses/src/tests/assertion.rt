@@ -1,4 +1,4 @@
-//! An assertion for tests. It prints its condition and the row of a table, and is proved in a fraction of the time that
+//! An assertion for tests: it prints its condition and the row of a table, and is proved in a fraction of the time that
 //! `assert_eq!` takes.
 
 ghost use Rattle.std.specs.Prelude.{IsTrue};
@@ -13,7 +13,7 @@ pub fn fail_unless(rt: &impl Abort, holds: bool, condition: &str, row: &str)
     assert!(rt; holds, "{row}: {condition}");
 }
 
-/// The same for a row that has no text to name it.
+/// [`fail_unless`] for a row that isn't named by a text.
 pub fn fail_unless_at(rt: &impl Abort, holds: bool, condition: &str, row: &impl Debug)
     ensures { IsTrue holds }
 {

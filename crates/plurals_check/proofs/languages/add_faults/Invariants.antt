@@ -4,7 +4,7 @@ use Rattle.plurals_check.specs.Found.{together}
 use Rattle.plurals_check.specs.Inner.Additions.{lines_alone}
 use Rattle.plurals_check.proofs.languages.add_faults.Given as goal
 
--- the lines of the faults that are left complete what was found so far
+-- the lines of the remaining faults complete what was found so far
 abbrev pub invariant-loop-fault : goal.invariant-loop-fault
 invariant-loop-fault l =
     together l.found (lines_alone (map (fault_line l.part l.locale) (drop l.fault-index l.faults)))

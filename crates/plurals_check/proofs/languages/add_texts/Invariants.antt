@@ -4,7 +4,7 @@ use Rattle.plurals_check.specs.Found.{together}
 use Rattle.serde_json.specs.View.{view}
 use Rattle.plurals_check.proofs.languages.add_texts.Given as goal
 
--- what is found under the categories that are left completes what was found so far
+-- what is found under the remaining categories completes what was found so far
 abbrev pub invariant-loop-category : goal.invariant-loop-category
 invariant-loop-category l =
     together l.found (found_under_all l.part l.locale (view l.value) (drop l.category-index text_order))

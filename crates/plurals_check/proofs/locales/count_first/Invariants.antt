@@ -5,7 +5,7 @@ use Rattle.plurals_check.specs.DocumentReport.{is_first_in}
 use Rattle.serde_json.specs.View.{members_view, view}
 use Rattle.plurals_check.proofs.locales.count_first.Given as goal
 
--- those so far, and those that are left
+-- the count so far, plus the count of the remaining ones
 abbrev pub invariant-loop-locale : goal.invariant-loop-locale
 invariant-loop-locale l =
     let first = is_first_in l.part (view l.document) in

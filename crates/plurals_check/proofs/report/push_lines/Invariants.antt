@@ -3,7 +3,7 @@ use Rattle.std.specs.List.{flat_map}
 use Rattle.plurals_check.specs.ReportText.{ended_line}
 use Rattle.plurals_check.proofs.report.push_lines.Given as goal
 
--- the text so far, and the lines that are left
+-- the text so far, and then the remaining lines
 abbrev pub invariant-loop-line : goal.invariant-loop-line
 invariant-loop-line l =
     string_bytes l.text ++ flat_map ended_line (map string_bytes (drop l.line-index l.lines))
