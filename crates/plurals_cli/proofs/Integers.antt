@@ -15,17 +15,17 @@ use Rattle.plurals_cli.specs.declared.error.RunError.TheVariants.{Number}
 digits : IsNumeralModel (λ ds. list_all is_ascii_digit ds ≡ true) (digits_value 10)
 digits = numerals_by_value _ (search rules)
 
--- of two that are true together each is
+-- if a conjunction is true, both its parts are
 both_true : (a b : Bool) → (a && b) ≡ true → (a ≡ true) × (b ≡ true)
 both_true true b h = (refl, h)
 both_true false b h = cc
 
--- a length that isn't 0 is more
+-- a length that isn't 0 is more than 0
 some_length : (n : ℕ) → not (n == 0) ≡ true → 0 < n
 some_length zero h = cc
 some_length (suc n) h = omega arith
 
--- a word in form whose value is 2 ^ 64 or more is over the limit
+-- a well-formed word whose value is at least 2 ^ 64 is over the limit
 limit_of : (b : Bool) (n : ℕ) → b ≡ true → 2 ^ 64 ≤ n
     → ◌≡◌ {A = Result ℕ RunError} (cond (not b) (Err (Number Syntax)) (cond (nat_lt n (2 ^ 64)) (Ok n) (Err (Number Limit))))
     (Err (Number Limit))

@@ -1,4 +1,4 @@
--- The length of an input is no fault of its bytes.
+-- The bytes of an input give no fault for its length.
 use Rattle.std.proofs.Common.{◌≡◌, ℕ, codes, List, Option, Some, None, Result, Ok, Err, sym, ap}
 use Rattle.serde_json.specs.Data.{Data}
 use Rattle.serde_json.specs.Find.{get}
@@ -14,28 +14,28 @@ use Rattle.plurals_cli.specs.Steps.{After, ◌>>=◌, or_fault}
 use Rattle.plurals_cli.specs.declared.error.RunError.{RunError}
 use Rattle.plurals_cli.specs.declared.error.RunError.TheVariants.{TooLong, Json, Locale}
 
--- it is none of two steps, where it is none of either
+-- two steps don't fail for length if neither step does
 steps_not_long : {A B : Type 0} (value : Result A RunError) (next : A → Result B RunError)
     → (value ≡ Err TooLong → ⊥) → ((x : A) → next x ≡ Err TooLong → ⊥) → (value >>= next) ≡ Err TooLong → ⊥
 steps_not_long (Ok x) next first second h = second x h
 steps_not_long {A} (Err e) next first second h = let same : e ≡ TooLong = cc in first (ap Err same)
 
--- it is none of a locale that isn't there
+-- nor does the lookup of a locale
 locale_not_long : {A : Type 0} (o : Option A) → or_fault Locale o ≡ Err TooLong → ⊥
 locale_not_long None h = cc
 locale_not_long (Some x) h = cc
 
--- nor of a text that is no JSON
+-- nor a text that is no JSON
 value_not_long : {A : Type 0} (o : Option A) → or_fault Json o ≡ Err TooLong → ⊥
 value_not_long None h = cc
 value_not_long (Some x) h = cc
 
--- nor of a document that is refused
+-- nor a document that is refused
 stands_not_long : {A : Type 0} (s : Result A JsonError) → or_bad s ≡ Err TooLong → ⊥
 stands_not_long (Ok x) h = cc
 stands_not_long (Err e) h = cc
 
--- the bytes of a document aren't too long
+-- the document of bytes isn't refused for length
 document_not_long : (bytes : List ℕ) → document_of bytes ≡ Err TooLong → ⊥
 document_not_long bytes =
     steps_not_long (or_fault Json (json_of bytes)) document_with (value_not_long (json_of bytes))
@@ -47,7 +47,7 @@ rules_not_long : (type : PluralRuleType) (locale : List ℕ) (document : WholeDo
     → rules_for type locale document ≡ Err TooLong → ⊥
 rules_not_long type locale document = locale_not_long (found locale (rows_for type document.maps))
 
--- nor are these with its ranges
+-- nor are its rules with its ranges
 ranged_not_long : (type : PluralRuleType) (locale : List ℕ) (document : WholeDocument)
     → ranged_for type locale document ≡ Err TooLong → ⊥
 ranged_not_long type locale document =
@@ -67,13 +67,13 @@ elements_not_long type locale document =
     (λ elements. steps_not_long (rules_for type locale document) (λ rules. Ok (record { elements = elements; rules = rules }))
     (rules_not_long type locale document) (λ rules h. cc))
 
--- where nothing that is given is too long, no answer says so
+-- if the given value isn't a fault for length, neither is the answer
 from_not_long : {A : Type 0} (IsText : A → List ℕ → Type 0) (given : Result A RunError)
     → (given ≡ Err TooLong → ⊥) → AnswersFrom IsText given (Err TooLong) → ⊥
 from_not_long IsText (Ok x) none h = h
 from_not_long IsText (Err e) none h = let same : TooLong ≡ e = cc in none (ap Err (sym same))
 
--- no document answers that the input is too long
+-- no query of a document gives the answer that the input is too long
 lookup_not_long : (lookup : Lookup) (document : WholeDocument) → AnswersLookup lookup document (Err TooLong) → ⊥
 lookup_not_long (number_category locale type x) document =
     from_not_long (IsCategoryLine x) (rules_for type locale document) (rules_not_long type locale document)
@@ -86,7 +86,7 @@ lookup_not_long (number_element locale type x) document =
 lookup_not_long (number_message locale type x word) document =
     from_not_long (IsMessageLine x word) (elements_for type locale document) (elements_not_long type locale document)
 
--- nor do the bytes of one
+-- nor does a query of its bytes
 pub text_not_long : (lookup : Lookup) (bytes : List ℕ)
     → After (AnswersLookup lookup) (document_of bytes) (Err TooLong) → ⊥
 text_not_long lookup bytes = by_document (document_of bytes) (document_not_long bytes)

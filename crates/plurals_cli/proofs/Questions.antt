@@ -1,4 +1,4 @@
--- What a command asks.
+-- What a command asks for.
 use Rattle.std.proofs.Common.{◌≡◌, ◌↔◌, ℕ, List, Option, Result, Ok, Err, refl}
 use Rattle.icu_plurals.specs.declared.DecimalError.{DecimalError}
 use Rattle.icu_plurals.specs.declared.DecimalError.TheVariants as decimal
@@ -12,7 +12,7 @@ use Rattle.plurals_cli.specs.declared.error.RunError.{RunError}
 use Rattle.plurals_cli.specs.declared.query.Query.{Query as CodeQuery}
 use Rattle.plurals_cli.proofs.Faults.{no_fault_of_both}
 
--- what is asked is no fault
+-- a query is no fault
 pub asked_has_no_fault : (query : Query) → HasNoFault (IsAsked query)
 asked_has_no_fault query fault h = cc
 
@@ -33,7 +33,7 @@ read_has_no_fault word x syntax limit e h = of_fault h.0 h.2
     of_fault decimal.Limit there = no_fault_of_number x decimal.Limit (limit.1 there)
     of_fault decimal.Memory there = there
 
--- what `?` hands on is a fault of the command
+-- `?` passes on a fault of the command
 pub refused_command : (command : Option Command) (e : RunError) (r : Result CodeQuery RunError)
     → r ≡ Err e → GivesFault (λ fault. CommandAsks command (Err fault)) e → GivesQuery command r
 refused_command command e r is h = rw is h
@@ -46,12 +46,12 @@ pub number_asked : (word : List ℕ) (query : CompactNumber → Query) (x : Comp
 number_asked word query x is none =
     ((Ok x, is, refl), no_fault_of_both (ReadsNumberWord word) (λ n. IsAsked (query n)) none (λ n. asked_has_no_fault (query n)))
 
--- what a command of a document asks is asked of it
+-- a command that asks a document gives a query of a document
 pub needs : (command : Option Command) (query : Query) → IsOfKind command query → AsksDocument command → IsOfDocument query
 needs command (truth condition n) kind asks = kind asks
 needs command (of_document lookup) kind asks = tt
 
--- and what is asked of a document has no fault, and comes from such a command
+-- a query of a document comes from such a command, without a fault
 pub settled : (command : Option Command) (query : Query) → IsOfKind command query
     → ¬ (AsksDocument command × HasNoFault (CommandAsks command)) → ¬ (IsOfDocument query)
 settled command (truth condition n) kind none h = h

@@ -1,4 +1,4 @@
--- What is answered after the input was read, or wasn't.
+-- The answer after the input was read, or could not be read.
 use Rattle.std.proofs.Common.{◌≡◌, ◌≤◌, ℕ, List, length, Option, Some, None, Result, Ok, Err, refl, sym, subst}
 use Rattle.std.specs.Prelude.{⊤}
 use Rattle.std.specs.Io.KnownBytes.{IsAtEnd, Keeps}
@@ -12,9 +12,9 @@ use Rattle.plurals_cli.specs.declared.error.RunError.TheVariants.{Usage, Conditi
 use Rattle.plurals_cli.specs.declared.error.RunError.TheVariants.{Json, Document, Locale, Write, Memory}
 use Rattle.plurals_cli.proofs.Inputs.{beyond, some_input, within}
 
--- ---- An answer of a call that may read
+-- ---- The answer of a call that may read
 
--- what a call gives that doesn't read, one that reads may give
+-- what a call without reading gives, a call with reading may give
 pub without_reading : (IsAnswer : Result (List ℕ) RunError → Type 0) (r : Result Text RunError)
     → GivesText IsAnswer r → GivesAfterReading IsAnswer r
 without_reading IsAnswer (Ok text) h = h
@@ -29,7 +29,7 @@ without_reading IsAnswer (Err Locale) h = h
 without_reading IsAnswer (Err Write) h = h
 without_reading IsAnswer (Err Memory) h = tt
 
--- where each answer of one kind is one of another, a call that gives the first gives the second
+-- a call that gives an answer of one kind also gives an answer of a wider kind
 pub implied : (P Q : Result (List ℕ) RunError → Type 0) → ((a : Result (List ℕ) RunError) → P a → Q a)
     → (r : Result Text RunError) → GivesAfterReading P r → GivesAfterReading Q r
 implied P Q f (Ok text) h = f _ h
@@ -44,9 +44,9 @@ implied P Q f (Err Locale) h = f _ h
 implied P Q f (Err Write) h = h
 implied P Q f (Err Memory) h = tt
 
--- ---- The input isn't there
+-- ---- The input can't be read
 
--- an input that is too long, or can't be read, is the answer's fault
+-- if the input is too long or can't be read, that fault is the answer
 of_input : (Next : WholeDocument → Result (List ℕ) RunError → Type 0) (left : Option (List ℕ)) (e : RunError)
     → GivesInput left (Err e) → (input : List ℕ) × IsInput left input × GivesAfterReading (After Next (document_in input)) (Err e)
 of_input Next left Usage h = absurd h
@@ -61,7 +61,7 @@ of_input Next left Locale h = absurd h
 of_input Next left Write h = absurd h
 of_input Next left Memory h = let i = some_input left in (i.0, i.1, tt)
 
--- what `?` hands on is such a fault
+-- `?` passes on such a fault
 pub no_input : (Next : WholeDocument → Result (List ℕ) RunError → Type 0) (left : Option (List ℕ)) (e : RunError)
     (r : Result Text RunError) → r ≡ Err e → GivesInput left (Err e)
     → (input : List ℕ) × IsInput left input × GivesAfterReading (After Next (document_in input)) r
@@ -69,7 +69,7 @@ no_input Next left e r is h = rw is (of_input Next left e h)
 
 -- ---- The input was read to its end
 
--- the answer of the bytes is that of the input
+-- the answer to the bytes is the answer to the input
 pub of_all : (Next : WholeDocument → Result (List ℕ) RunError → Type 0) (input bytes : List ℕ)
     → length input ≤ most_bytes → bytes ≡ input → (r : Result Text RunError)
     → GivesText (After Next (document_of bytes)) r → GivesAfterReading (After Next (document_in input)) r
@@ -78,7 +78,7 @@ of_all Next input bytes short same r h =
     subst (λ (document : Result WholeDocument RunError). GivesAfterReading (After Next document) r) (sym (within input short))
     (without_reading (After Next (document_of input)) r all)
 
--- where no answer says that the input is too long, it was read as a call is to
+-- if no answer says that the input is too long, it was read to its end
 pub to_the_end : (IsAnswer : Result (List ℕ) RunError → Type 0) (old new : Option (List ℕ)) → (IsAnswer (Err TooLong) → ⊥) → IsAtEnd new
     → (r : Result Text RunError) → GivesText IsAnswer r → IsRead old new r
 to_the_end IsAnswer old new none end (Ok text) h = end
@@ -95,7 +95,7 @@ to_the_end IsAnswer old new none end (Err Memory) h = tt
 
 -- ---- Nothing is read
 
--- a fault of words that have none is want of memory, at which anything may have been read
+-- if the words have no fault, the only error is out of memory, after which anything may have been read
 pub faultless : (A : Type 0) (IsFault : RunError → Type 0) (old new : Option (List ℕ)) → ((fault : RunError) → ¬ (IsFault fault))
     → (e : RunError) → GivesFault IsFault e → IsRead {A = A} old new (Err e)
 faultless A IsFault old new none Usage h = absurd (none _ h)
@@ -109,7 +109,7 @@ faultless A IsFault old new none Locale h = absurd (none _ h)
 faultless A IsFault old new none Write h = absurd h
 faultless A IsFault old new none Memory h = tt
 
--- a fault of words doesn't blame the reader
+-- a fault of words is no read error
 pub not_blamed : (A : Type 0) (IsFault : RunError → Type 0) (e : RunError) → GivesFault IsFault e → IsNotRead {A = A} (Err e)
 not_blamed A IsFault Usage h = tt
 not_blamed A IsFault (Condition k) h = tt
@@ -122,14 +122,14 @@ not_blamed A IsFault Locale h = tt
 not_blamed A IsFault Write h = tt
 not_blamed A IsFault Memory h = tt
 
--- ---- Nothing is written at a fault
+-- ---- Nothing is written after a fault
 
--- what is left as it was is kept
+-- what is unchanged is kept
 pub kept : (known : Option (List ℕ)) → Keeps known known
 kept None = tt
 kept (Some xs) = refl
 
--- a fault is answered, and nothing is written
+-- a fault is the answer, and nothing is written
 of_fault : (IsAnswer : Result (List ℕ) RunError → Type 0) (known : Option (List ℕ)) (e : RunError)
     → GivesAfterReading IsAnswer (Err e) → IsAnswered IsAnswer known known (Err e)
 of_fault IsAnswer known Usage h = (h, kept known)
@@ -143,7 +143,7 @@ of_fault IsAnswer known Locale h = (h, kept known)
 of_fault IsAnswer known Write h = absurd h
 of_fault IsAnswer known Memory h = kept known
 
--- what `?` hands on is such a fault
+-- `?` passes on such a fault
 pub not_written : (IsAnswer : Result (List ℕ) RunError → Type 0) (known : Option (List ℕ)) (e : RunError) (r : Result ⊤ RunError)
     → r ≡ Err e → GivesAfterReading IsAnswer (Err e) → IsAnswered IsAnswer known known r
 not_written IsAnswer known e r is h = rw is (of_fault IsAnswer known e h)

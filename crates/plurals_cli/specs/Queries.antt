@@ -1,7 +1,7 @@
--- What the words of a command line ask for: a command, its condition and its numbers read.
---     Query, Lookup      what may be asked for, and the part of it that a document answers
---     Asks words asked      the words ask for this, or have this as their first fault
---     NeedsInput words      they have no fault, and ask something of a document
+-- What the words of a command line ask for: a query, which is a command with its condition and its numbers read.
+--     Query, Lookup      a query, and a query of a document
+--     Asks words asked      the words ask for this query, or have this as their first fault
+--     NeedsInput words      the words have no fault, and ask for a query of a document
 use Rattle.std.specs.Prelude.{◌≡◌, ℕ, List, Option, Some, None, Result, Ok, Err, ⊤}
 use Rattle.icu_plurals.specs.declared.PluralRuleType.{PluralRuleType}
 use Rattle.icu_plurals.specs.declared.provider.rules.reference.ast.Condition.{Condition as Tree}
@@ -12,7 +12,7 @@ use Rattle.plurals_cli.specs.Steps.{After, HasNoFault, Then}
 use Rattle.plurals_cli.specs.declared.error.RunError.{RunError}
 use Rattle.plurals_cli.specs.declared.error.RunError.TheVariants.{Usage}
 
--- What is asked of a document, for a locale and a type: the category of a number or of the range of two, the rules, the element
+-- A query of a document, for a locale and a type: the category of a number or of the range of two, the rules, the element
 -- of a number, or the message of a number with its word.
 pub data Lookup : Type 0 where
   number_category : List ℕ → PluralRuleType → CompactNumber → Lookup
@@ -21,12 +21,12 @@ pub data Lookup : Type 0 where
   number_element : List ℕ → PluralRuleType → CompactNumber → Lookup
   number_message : List ℕ → PluralRuleType → CompactNumber → List ℕ → Lookup
 
--- whether a condition is true of an integer, or what a document has
+-- a query: whether a condition is true of an integer, or a query of a document
 pub data Query : Type 0 where
   truth : Tree → ℕ → Query
   of_document : Lookup → Query
 
--- this is asked for
+-- this query is asked for
 abbrev pub IsAsked : Query → Result Query RunError → Type 0
 IsAsked query asked = asked ≡ Ok query
 
@@ -46,11 +46,11 @@ CommandAsks (Some (select locale type number)) =
 CommandAsks (Some (message locale type number)) =
     Then (ReadsNumberWord number) (λ x. IsAsked (of_document (number_message locale type x number)))
 
--- what the words ask for, or their first fault
+-- the query that the words ask for, or their first fault
 abbrev pub Asks : List (List ℕ) → Result Query RunError → Type 0
 Asks words = CommandAsks (command_of words)
 
--- the command asks something of a document
+-- the command asks for a query of a document
 abbrev pub AsksDocument : Option Command → Type 0
 AsksDocument None = ⊥
 AsksDocument (Some (test condition integer)) = ⊥

@@ -1,4 +1,4 @@
-//! The answer to what is asked of a document.
+//! The answer to a query of a document.
 
 ghost use Rattle.plurals_cli.specs.Answer.{AnswersLookup};
 ghost use Rattle.plurals_cli.specs.Input.{document_of};
@@ -17,7 +17,7 @@ use crate::select_command::element_line;
 use std::alloc::Global;
 use std::borrow::CowStr;
 
-// The answer of the document that the bytes write.
+// Returns the answer to a query of the document that the bytes write.
 pub(crate) fn text_in(
     alloc: Global,
     bytes: &[u8],
@@ -29,7 +29,7 @@ pub(crate) fn text_in(
     text_of(alloc, &document, lookup)
 }
 
-// The answer of a document.
+// Returns the answer to a query of a document.
 fn text_of(
     alloc: Global,
     document: &Document,

@@ -10,7 +10,7 @@ use thiserror::Error;
 const USAGE: &str =
     "usage: test CONDITION INTEGER; category LOCALE TYPE NUMBER; range LOCALE TYPE START END; print LOCALE TYPE; select LOCALE TYPE NUMBER; message LOCALE TYPE NUMBER";
 
-/// Why the program fails. Faults are looked for in this order.
+/// Why the program fails. The program checks for these in this order.
 #[derive(Debug, Drop, Error)]
 pub enum RunError {
     /// The words are no command, are too few or too many for it, or name no type.
@@ -46,7 +46,7 @@ pub enum RunError {
 }
 
 impl RunError {
-    /// The status that the program ends with: 2 for words that are no command, else 1.
+    /// Returns the exit status of the program: 2 for words that are no command, otherwise 1.
     pub fn status(&self) -> u8
         ensures { result ≡ status_of self.now }
     {

@@ -20,7 +20,7 @@ enum InputError {
     Memory,
 }
 
-// The input: all that the reader has left. If it is too long, it is read to one byte past the limit.
+// Returns the input: all that remains in the reader. If it is too long, one byte more than the limit is read.
 pub(crate) fn read_input<R: Read>(alloc: Global, reader: &mut R) -> Result<Vec<u8>, RunError>
     ensures input { GivesInput (R.remaining reader.old) result }
     ensures read { IsRead (R.remaining reader.old) (R.remaining reader.new) result }

@@ -1,4 +1,4 @@
-//! What the words of a command line ask for.
+//! The query that the words of a command line ask for.
 
 ghost use Rattle.std.specs.Prelude.{map, Some};
 ghost use Rattle.plurals_cli.specs.Commands.{command_of};
@@ -14,7 +14,7 @@ use icu_plurals::provider::rules::reference::ast::Condition;
 use icu_plurals::{CompactDecimal, PluralRuleType};
 use std::alloc::Global;
 
-// What is asked.
+// A query.
 #[derive(Drop)]
 pub(crate) enum Query<'a> {
     // Whether the condition is true of the integer.
@@ -23,7 +23,7 @@ pub(crate) enum Query<'a> {
     Document(Lookup<'a>),
 }
 
-// What is asked of a document.
+// A query of a document.
 #[derive(Drop)]
 pub(crate) enum Lookup<'a> {
     // Locale, type and number.
@@ -38,7 +38,7 @@ pub(crate) enum Lookup<'a> {
     Message(&'a str, PluralRuleType, CompactDecimal, &'a str),
 }
 
-// What the words ask for.
+// Returns the query of the words.
 pub(crate) fn query_of<'a>(alloc: Global, words: &[&'a str]) -> Result<Query<'a>, RunError>
     ensures { GivesQuery (command_of (map (λ w. w.now) words.now)) result }
 {
@@ -48,7 +48,7 @@ pub(crate) fn query_of<'a>(alloc: Global, words: &[&'a str]) -> Result<Query<'a>
     }
 }
 
-// What a command asks for: its condition and its numbers are read, the first word first.
+// Returns the query of a command. Its condition and its numbers are read in the order of its words.
 fn read_words<'a>(alloc: Global, command: Command<'a>) -> Result<Query<'a>, RunError>
     ensures { GivesQuery (Some (command_view command.entry)) result }
 {

@@ -24,13 +24,13 @@ use std::io::{Read, Write};
 /// | `range LOCALE TYPE START END` | the name of the category of the numbers' range (Plural Ranges) |
 /// | `print LOCALE TYPE` | a line for each rule |
 /// | `select LOCALE TYPE NUMBER` | the text of the element that the number chooses |
-/// | `message LOCALE TYPE NUMBER` | this text with the word of the number in the place of each `{}` |
+/// | `message LOCALE TYPE NUMBER` | this text with the word of the number in place of each `{}` |
 ///
 /// `test` reads nothing. The others take the rules and ranges of the locale and the type, and the
 /// elements, from the input, a JSON document; they read it to its end, or to one byte past the limit.
 /// All take memory.
 ///
-/// The errors, in the order in which they are looked for: [`RunError::Usage`] if the words are no
+/// The errors, in the order in which they are checked: [`RunError::Usage`] if the words are no
 /// command; [`RunError::Condition`] if the condition can't be read; [`RunError::Number`] if the integer
 /// or the number is out of form, or above its limit; of the input [`RunError::Read`] if the reader
 /// failed, [`RunError::TooLong`] above 4194304 bytes, [`RunError::Json`] if it is no JSON text,
@@ -44,7 +44,7 @@ pub fn run<R: Read, W: Write>(
     reader: &mut R,
     writer: &mut W,
 ) -> Result<(), RunError>
-    // The answer is that of some input, which is what the reader had left, if that is known.
+    // The answer is that of some input: what remained in the reader, if that is known.
     ensures answers { (input : List ℕ) × IsInput (R.remaining reader.old) input
         × IsAnswered (AnswersWords (map (λ w. w.now) words.now) input) (W.contents writer.old) (W.contents writer.new) result }
     ensures reads { NeedsInput (map (λ w. w.now) words.now) → IsRead (R.remaining reader.old) (R.remaining reader.new) result }
@@ -58,7 +58,7 @@ pub fn run<R: Read, W: Write>(
     }
 }
 
-// The answer to what is asked. A truth value needs no input.
+// Returns the answer to a query. A truth value needs no input.
 fn answer<R: Read>(
     alloc: Global,
     query: &Query<'_>,
@@ -75,7 +75,7 @@ fn answer<R: Read>(
     }
 }
 
-// The answer of the document that the reader gives.
+// Returns the answer to a query of the document in the reader.
 fn looked_up<R: Read>(
     alloc: Global,
     lookup: &Lookup<'_>,

@@ -1,4 +1,4 @@
-//! What no clause says: worked commands, texts and statuses, failing readers and writers.
+//! What no contract says: worked commands, texts and statuses, failing readers and writers.
 
 mod arguments;
 mod assertion;

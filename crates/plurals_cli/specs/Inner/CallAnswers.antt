@@ -22,7 +22,7 @@ GivesFault IsFault Read = ⊥
 GivesFault IsFault Write = ⊥
 GivesFault IsFault fault = IsFault fault
 
--- the result, seen so, or out of memory
+-- the result, in the words of the definitions, or out of memory
 abbrev pub Gives : {A B : Type 0} → (A → B) → (Result B RunError → Type 0) → Result A RunError → Type 0
 Gives seen IsAnswer (Ok x) = IsAnswer (Ok (seen x))
 Gives seen IsAnswer (Err e) = GivesFault (λ fault. IsAnswer (Err fault)) e
@@ -47,17 +47,17 @@ GivesAfterReading IsAnswer result = GivesText IsAnswer result
 
 -- ---- Words
 
--- a number, of a word that has no fault, or the word's fault
+-- a number, for a word without a fault, or the word's fault
 abbrev pub GivesNumber : List ℕ → Result CompactNumber RunError → Type 0
 GivesNumber word (Ok x) = IsNumberOf word x × HasNoFault (ReadsNumberWord word)
 GivesNumber word (Err e) = GivesFault (λ fault. ReadsNumberWord word (Err fault)) e
 
--- something is asked of a document
+-- the query needs a document
 abbrev pub IsOfDocument : Query → Type 0
 IsOfDocument (truth condition n) = ⊥
 IsOfDocument (of_document lookup) = ⊤
 
--- a command that asks for this asks a document and has no fault, or doesn't ask one
+-- a query of a document comes from a command that asks a document and has no fault; another query from one that asks none
 abbrev pub IsOfKind : Option Command → Query → Type 0
 IsOfKind command (truth condition n) = ¬ (AsksDocument command)
 IsOfKind command (of_document lookup) = AsksDocument command × HasNoFault (CommandAsks command)

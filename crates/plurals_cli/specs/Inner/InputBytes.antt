@@ -1,4 +1,4 @@
--- Not a definition of the subject: what reading the input gives.
+-- Not a definition of the subject: the result of reading the input.
 use Rattle.std.specs.Prelude.{◌≤◌, ◌<◌, ℕ, List, length, ⊤, Option, Result, Ok, Err, Vec}
 use Rattle.std.specs.declared.alloc.Global.{Global}
 use Rattle.plurals_cli.specs.Answer.{IsInput}
@@ -6,7 +6,7 @@ use Rattle.plurals_cli.specs.Input.{most_bytes}
 use Rattle.plurals_cli.specs.declared.error.RunError.{RunError}
 use Rattle.plurals_cli.specs.declared.error.RunError.TheVariants.{Read, TooLong, Memory}
 
--- the bytes are the input, which isn't too long; a fault is that of the reader, of the length or of memory
+-- the bytes are the input, which isn't too long; an error is from the reader, for the length, or out of memory
 abbrev pub GivesInput : Option (List ℕ) → Result (Vec ℕ Global) RunError → Type 0
 GivesInput left (Ok bytes) = IsInput left bytes.items × (length bytes.items ≤ most_bytes)
 GivesInput left (Err TooLong) = (input : List ℕ) × IsInput left input × (most_bytes < length input)

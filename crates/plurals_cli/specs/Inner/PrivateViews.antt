@@ -1,4 +1,4 @@
--- Not a definition of the subject: the values of private types, as the definitions have them.
+-- Not a definition of the subject: the values of private types, in the words of the definitions.
 use Rattle.serde_json.specs.View.{view}
 use Rattle.plurals_cli.specs.Commands.{Command, test, category, range, print, select, message}
 use Rattle.plurals_cli.specs.Input.{RuledElements, WholeDocument}
@@ -13,7 +13,7 @@ use Rattle.plurals_cli.specs.declared.query.Lookup.TheVariants as look_up
 use Rattle.plurals_cli.specs.declared.query.Query.{Query as CodeQuery}
 use Rattle.plurals_cli.specs.declared.query.Query.TheVariants as query
 
--- the command with its words' bytes
+-- the command, with the bytes of its words
 abbrev pub command_view : CodeCommand → Command
 command_view (words.Test condition integer) = test condition.now integer.now
 command_view (words.Category locale type number) = category locale.now type number.now
@@ -22,7 +22,7 @@ command_view (words.Print locale type) = print locale.now type
 command_view (words.Select locale type number) = select locale.now type number.now
 command_view (words.Message locale type number) = message locale.now type number.now
 
--- what is asked of a document, likewise
+-- the query of a document, likewise
 abbrev pub lookup_view : CodeLookup → Lookup
 lookup_view (look_up.Category locale type number) = number_category locale.now type number
 lookup_view (look_up.Range locale type start end) = range_category locale.now type start end
@@ -34,7 +34,7 @@ abbrev pub query_view : CodeQuery → Query
 query_view (query.Test condition integer) = truth condition integer
 query_view (query.Document lookup) = of_document (lookup_view lookup)
 
--- the document with its value's data
+-- the document, with the data of its value
 abbrev pub document_view : CodeDocument → WholeDocument
 document_view document = record { value = view document.value; maps = document.maps }
 

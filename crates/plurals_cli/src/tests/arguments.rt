@@ -35,7 +35,7 @@ impl<'a> Env for Line<'a> {
 
 #[test]
 fn only_the_words_after_the_name_are_texts(rt: HostRuntime) {
-    // The arguments, and how many words they are; none if one isn't UTF-8.
+    // The arguments, and the count of words; `None` if one isn't UTF-8.
     let rows: [(&[&[u8]], Option<usize>); 6] = [
         (&[], Some(0)),
         (&[b"plurals"], Some(0)),

@@ -83,7 +83,7 @@ $ a|cardinal|1c256
     table_holds(&rt, rt.alloc(), &["select", "message"], faults, Some(input))
 }
 
-// Over each document the line of `select` and the one of `message`.
+// The document, then the line of `select`, then the line of `message`.
 #[test]
 fn every_place_is_filled_and_texts_stay_as_they_are(rt: HostRuntime) {
     let elements = r#"< {"cardinal":{"a":{}},"elements":{"other":[0,"{} of {}"]}}
@@ -141,7 +141,7 @@ fn elements_stand_between_the_maps_and_the_locale(rt: HostRuntime) {
     documents_hold(&rt, rt.alloc(), &lines, table)
 }
 
-// What `select` and `message` give for a text of this many `x` for other, and with it `y` for one if the end has it.
+// Returns what `select` and `message` give for a text of this many `x` for other, and also `y` for one if `end` has it.
 fn long_default_gives(
     rt: &impl Abort,
     alloc: Global,

@@ -10,7 +10,7 @@ use std::test::Fail;
 // The most bytes that an input may have.
 const MOST: usize = 4_194_304;
 
-// A reader with a text and a number of spaces after it, which then fails, or is at its end.
+// A reader of a text and then a number of spaces, which ends or fails after them.
 #[derive(Drop)]
 pub(crate) struct Input<'a> {
     text: &'a [u8],
@@ -34,7 +34,7 @@ impl<'a> Read for Input<'a> {
 }
 
 impl<'a> Input<'a> {
-    // A reader of the text; if it is absent, one that fails at each call.
+    // Returns a reader of the text, or one that fails at each call if there is none.
     pub(crate) fn of(text: Option<&'a [u8]>) -> Input<'a> {
         Input {
             text: text.unwrap_or(b""),

@@ -1,4 +1,4 @@
-//! Conditions as CLDR has them, against the categories that its samples show.
+//! Conditions from CLDR, against the categories that its samples show.
 
 use crate::tests::assertion::holds;
 use crate::tests::inputs::Input;

@@ -9,7 +9,7 @@ use std::io;
 use std::io::{Read, Write};
 use std::process::Abort;
 
-// Takes these bytes and no others, without memory.
+// A writer that accepts these bytes and no others, without memory.
 #[derive(Drop)]
 struct Awaits<'t> {
     left: &'t [u8],
@@ -31,12 +31,12 @@ impl<'t> Write for Awaits<'t> {
     }
 }
 
-// Whether the writer still awaits the fault's status and text, and nothing else.
+// Returns whether the writer still expects the fault's status and text, and nothing else.
 fn awaits_fault<'t>(mut writer: Awaits<'t>, fault: &RunError) -> bool {
     write!(writer, "{}: {fault}\n", fault.status()).is_ok() && writer.left.is_empty()
 }
 
-// Whether the line has the fault's status and text.
+// Returns whether the line has the fault's status and text.
 pub(crate) fn is_told(fault: &RunError, line: &str) -> bool {
     let writer = Awaits {
         left: line.as_bytes(),
@@ -44,7 +44,7 @@ pub(crate) fn is_told(fault: &RunError, line: &str) -> bool {
     awaits_fault(writer, fault)
 }
 
-// Whether the words give this answer over the reader: what is printed, or the status and the text of a fault. None if memory
+// Returns whether this is the answer to the words: what is printed, or the status and the text of a fault. `None` if memory
 // ran out and nothing was written.
 pub(crate) fn gives<R: Read>(
     alloc: Global,
@@ -83,8 +83,8 @@ pub(crate) fn row_gives<'w, R: Read>(
     gives(alloc, words.get(..count)?, reader, answer)
 }
 
-// Each row of the table gives, with each of the commands, the lines that follow it. A row begins with `$ `. Without an input,
-// reading fails.
+// Checks that each row of the table gives, with each of the commands, the lines that follow it. `$ ` precedes a row. Without
+// an input, reading fails.
 pub(crate) fn table_holds(
     rt: &impl Abort,
     alloc: Global,
@@ -101,8 +101,8 @@ pub(crate) fn table_holds(
     }
 }
 
-// Over each document of the table the command gives, with each of the rows of words, the lines that follow the document.
-// A document begins with `< `.
+// Checks that, over each document of the table, the commands and words give the lines that follow the document.
+// `< ` precedes a document.
 pub(crate) fn documents_hold(rt: &impl Abort, alloc: Global, lines: &[(&str, &str)], table: &str) {
     for row in table.split("< ").skip(1) {
         let (document, answer) = row.split_once('\n').unwrap_or((row, ""));

@@ -8,7 +8,7 @@ use std::alloc::Global;
 use std::io;
 use std::io::Write;
 
-// A writer that takes one byte at a call, `left` times. Then it refuses each call, or takes no byte. It can't be flushed.
+// A writer that takes one byte per call, `left` times. Then it refuses each call, or takes no byte. It can't be flushed.
 #[derive(Drop)]
 struct Taking {
     left: usize,

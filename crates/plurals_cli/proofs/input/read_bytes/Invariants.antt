@@ -3,7 +3,7 @@ use Rattle.std.specs.Io.KnownBytes.{Consumes}
 use Rattle.plurals_cli.specs.declared.input.TheConstants.{MOST_BYTES}
 use Rattle.plurals_cli.proofs.input.read_bytes.Given as goal
 
--- what was read so far isn't too much
+-- what was read so far isn't too long
 abbrev pub invariant-loop : goal.invariant-loop
 invariant-loop g l =
     (vec_len l.bytes ≤ MOST_BYTES)
