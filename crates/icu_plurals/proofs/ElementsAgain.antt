@@ -21,19 +21,19 @@ use Rattle.icu_plurals.specs.Inner.ElementsReading.{AreGoodParts, AreShown}
 
 -- ---- items
 
--- an item that was packed is read as it was
+-- a packed item is read as it was
 pub item_again : (item : PackedItem) → IsPackedItem item → read_item (item_bytes item) ≡ item
 item_again item is =
     let key : (16 * item.key + item.value.metadata) / 16 ≡ item.key = omega (arith, is.value.metadata) in
     let metadata : (16 * item.key + item.value.metadata) % 16 ≡ item.value.metadata = omega (arith, is.value.metadata) in
     rw (key, metadata) refl
 
--- packed items are read as they were, one after the other
+-- a list of packed items is read as it was
 pub items_again : (items : List PackedItem) → AllByRecursion IsPackedItem items → map read_item (map item_bytes items) ≡ items
 items_again [] are = refl
 items_again (item ∷ items) are = rw (item_again item are.0, items_again items are.1) refl
 
--- it is good
+-- a packed item is good
 pub packed_is_item : (item : PackedItem) → IsPackedItem item → is_item (item_bytes item) ≡ true
 packed_is_item item is =
     let key : (16 * item.key + item.value.metadata) / 16 ≤ 6 = omega (arith, is.value.metadata, is.key) in
@@ -141,7 +141,7 @@ one_parts parts others bytes h g = one_parts_with parts.first parts.text parts.r
 abbrev pub PackedItems : Type 0
 PackedItems = (items : List (List ℕ)) (bytes : List ℕ) → ListBytes items bytes → items_in bytes ≡ items
 
--- where no items follow, all that stands behind the first byte is the default's text
+-- if no items follow, all bytes after the first are the default's text
 behind_alone : (metadata : ℕ) (text : List ℕ) → metadata < 16
     → read_behind metadata text ≡ record { default = record { metadata = metadata; text = text }; items = None }
 behind_alone metadata [] h =
@@ -152,7 +152,7 @@ behind_alone metadata (byte ∷ text) h =
     let l : nat_lt metadata 128 ≡ true = lt-ltb metadata 128 (omega (arith, h)) in
     rw (l, e) refl
 
--- where items follow, the default's text and the items are read as they were packed
+-- if items follow, the default's text and the items are read as they were packed
 behind_items : PackedItems → (default : PackedValue) (items : List PackedItem) → IsPackedValue default
     → AllByRecursion IsPackedItem items → CanPack (map item_bytes items)
     → read_behind (128 + default.metadata)
@@ -175,7 +175,7 @@ unfolding read_elements
 read_with law default None is are can = behind_alone default.metadata default.text is.metadata
 read_with law default (Some items) is are can = behind_items law default items is are can.list
 
--- bytes are those of one packed elements at most
+-- bytes are those of at most one value of packed elements
 pub elements_in_one : PackedItems → (packed : PackedElements) (bytes : List ℕ) → ElementsBytes packed bytes → read_elements bytes ≡ packed
 elements_in_one law packed bytes h = ap read_elements h.spelled ∙ read_with law packed.default packed.items h.default h.items h.can_pack
 
@@ -211,7 +211,7 @@ parts_shown packed parts bytes h are =
 
 -- ---- good parts
 
--- where two tests in a row tell no fault, the first is false and the second true
+-- if two tests in a row find no fault, the first is false and the second is true
 pub two_tests : (high text : Bool) (fault other : ElementsBytesError)
     → (if high then Some fault else (if text then None else Some other)) ≡ None → (high ≡ false) × (text ≡ true)
 two_tests true text fault other h = (cc, cc)
@@ -225,12 +225,12 @@ item_passes place (byte ∷ text) h =
     let t = two_tests (nat_lt 6 (byte / 16)) (is_utf8 text) (errors.Key place) (errors.ItemText place) h in
     rw (le-leb (byte / 16) 6 (ltb-false 6 (byte / 16) t.0), t.1) refl
 
--- the first of two faults is none only where both are none
+-- the first of two faults is absent only if both are
 pub neither : (first other : Option ElementsBytesError) → option_or first other ≡ None → (first ≡ None) × (other ≡ None)
 neither None other h = (refl, h)
 neither (Some fault) other h = (cc, cc)
 
--- a list in which no bad item is found has good items alone
+-- a list in which no bad item is found has only good items
 pub items_pass : (place : ℕ) (items : List (List ℕ)) → first_element_fault place items ≡ None → list_all is_item items ≡ true
 items_pass place [] h = refl
 items_pass place (item ∷ items) h =
@@ -253,7 +253,7 @@ first_element_fault-none place (item ∷ items) h =
     (element_fault-none place item (first_so (is_item item) (list_all is_item items) h))
     ∙ first_element_fault-none (place + 1) items (second_so (is_item item) (list_all is_item items) h)
 
--- bit 7 aside, the first byte without padding is metadata
+-- apart from bit 7, the first byte without padding is metadata
 no_padding : (first : ℕ) → ¬ (HasPadding first) → first % 128 < 16
 no_padding first n = lt_of_not-le n
 

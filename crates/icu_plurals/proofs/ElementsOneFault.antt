@@ -21,12 +21,12 @@ parts_not_empty : (first : ℕ) (text : List ℕ) (rest : Option (List ℕ)) (by
 parts_not_empty first text None bytes h e = cc
 parts_not_empty first text (Some rest) bytes h e = cc
 
--- a first byte without bit 7 says of no length that it follows
+-- a first byte without bit 7 announces no length
 single_not_short : (first : ℕ) (text : List ℕ) → first < 128 → IsShort (first ∷ text) → ⊥
 single_not_short first [] h s = omega (arith, h, s)
 single_not_short first (len ∷ text) h s = omega (arith, h, s.0)
 
--- bytes that are made of parts have all the bytes that they say
+-- bytes that are made of parts have all the bytes that they announce
 parts_not_short : (first : ℕ) (text : List ℕ) (rest : Option (List ℕ)) (bytes : List ℕ) → PartsWith first text rest bytes
     → IsShort bytes → ⊥
 parts_not_short first text None bytes h s = single_not_short first text h.0 (subst IsShort h.1 s)
@@ -119,7 +119,7 @@ of_items place (item ∷ items) fault h = elim (either (element_fault place item
 
 -- ---- faults of parts
 
--- what is wrong with the items is wrong with parts that are good before them
+-- a fault of the items is a fault of the parts, if everything before the items is good
 pub items_fault_is : (parts : ElementsParts) (rest : List ℕ) (fault : ElementsBytesError) → parts.rest ≡ Some rest
     → ¬ (HasPadding parts.first) → IsTrue (is_utf8 parts.text)
     → HasItemsFault rest fault → HasPartsFault parts fault
@@ -132,7 +132,7 @@ items_fault_is parts rest (ItemEmpty place) e low text h = (low, text, subst (λ
 items_fault_is parts rest (Key place) e low text h = (low, text, subst (λ all. HasRestFault all (Key place)) (sym e) h)
 items_fault_is parts rest (ItemText place) e low text h = (low, text, subst (λ all. HasRestFault all (ItemText place)) (sym e) h)
 
--- and what is wrong with such parts is wrong with what is left
+-- and a fault of such parts is a fault of the rest
 pub rest_fault : (parts : ElementsParts) (fault : ElementsBytesError) → ¬ (HasPadding parts.first)
     → IsTrue (is_utf8 parts.text) → HasPartsFault parts fault → HasRestFault parts.rest fault
 rest_fault parts Padding low text h = absurd (low h)
@@ -144,7 +144,7 @@ rest_fault parts (ItemEmpty place) low text h = h.2
 rest_fault parts (Key place) low text h = h.2
 rest_fault parts (ItemText place) low text h = h.2
 
--- padding is looked for first
+-- if there is padding, it is the only fault of the parts
 pub padding_only : (parts : ElementsParts) (fault : ElementsBytesError) → HasPadding parts.first → HasPartsFault parts fault
     → Padding ≡ fault
 padding_only parts Padding high h = refl
@@ -156,7 +156,7 @@ padding_only parts (ItemEmpty place) high h = absurd (h.0 high)
 padding_only parts (Key place) high h = absurd (h.0 high)
 padding_only parts (ItemText place) high h = absurd (h.0 high)
 
--- then the text
+-- otherwise, if the text isn't UTF-8, it is the only fault
 pub text_only : (parts : ElementsParts) (fault : ElementsBytesError) → ¬ (HasPadding parts.first)
     → is_utf8 parts.text ≡ false → HasPartsFault parts fault → DefaultText ≡ fault
 text_only parts Padding low text h = absurd (low h)
@@ -168,22 +168,22 @@ text_only parts (ItemEmpty place) low text h = let t : is_utf8 parts.text ≡ tr
 text_only parts (Key place) low text h = let t : is_utf8 parts.text ≡ true = h.1 in cc
 text_only parts (ItemText place) low text h = let t : is_utf8 parts.text ≡ true = h.1 in cc
 
--- without what is left there is no fault of it
+-- an absent rest has no fault
 no_rest_fault : (rest : Option (List ℕ)) (fault : ElementsBytesError) → rest ≡ None → HasRestFault rest fault → ⊥
 no_rest_fault None fault e h = h
 no_rest_fault (Some rest) fault e h = cc
 
--- what is left behind the default is never told to be no byte at all
+-- the rest after the default never has the fault of no bytes
 rest_not_empty : (rest : Option (List ℕ)) → HasRestFault rest Empty → ⊥
 rest_not_empty None h = h
 rest_not_empty (Some rest) h = of_items 0 h.0 Empty h.2
 
--- what is left behind the default is never told to be a short default
+-- the rest after the default never has the fault of a short default
 rest_not_short : (rest : Option (List ℕ)) → HasRestFault rest Short → ⊥
 rest_not_short None h = h
 rest_not_short (Some rest) h = of_items 0 h.0 Short h.2
 
--- what is wrong with parts is wrong with the bytes
+-- a fault of the parts is a fault of the bytes
 pub parts_fault_is : (bytes : List ℕ) (parts : ElementsParts) (fault : ElementsBytesError) → ArePartsOf parts bytes
     → HasPartsFault parts fault → HasElementsFault bytes fault
 parts_fault_is bytes parts Empty are h = absurd (rest_not_empty parts.rest h.2)
@@ -195,7 +195,7 @@ parts_fault_is bytes parts (ItemEmpty place) are h = (parts, are, h)
 parts_fault_is bytes parts (Key place) are h = (parts, are, h)
 parts_fault_is bytes parts (ItemText place) are h = (parts, are, h)
 
--- and the other way
+-- and a fault of the bytes is a fault of the parts
 pub fault_of_parts : (bytes : List ℕ) (parts : ElementsParts) (fault : ElementsBytesError) → ArePartsOf parts bytes
     → HasElementsFault bytes fault → HasPartsFault parts fault
 fault_of_parts bytes parts Empty are h = absurd (place_fault-no_parts bytes Empty parts h are)
@@ -213,26 +213,26 @@ fault_of_parts bytes parts (Key place) are h =
 fault_of_parts bytes parts (ItemText place) are h =
     subst (λ (all : ElementsParts). HasPartsFault all (ItemText place)) (one_parts h.0 parts bytes h.1 are) h.2
 
--- ---- one item more was looked at
+-- ---- one item more was checked
 
--- a fault that is there is the first of two
+-- the first of two faults is the first one if it is present
 option_or_some : (fault other : Option ElementsBytesError) → is_some fault ≡ true → option_or fault other ≡ fault
 option_or_some None other h = cc
 option_or_some (Some fault) other h = refl
 
--- where the first of two is none, the other is the first
+-- if the first of two is absent, the first fault is the other
 option_or_none : (fault other : Option ElementsBytesError) → is_some fault ≡ false → option_or fault other ≡ other
 option_or_none None other h = refl
 option_or_none (Some fault) other h = cc
 
--- the fault of the first item that is left is the first fault of all that are
+-- a fault of the first remaining item is the first fault of the remaining items
 pub found_here : (k : ℕ) (left : List (List ℕ)) (item : List ℕ) (behind : List (List ℕ)) (fault : Option ElementsBytesError)
     → left ≡ item ∷ behind → fault ≡ element_fault k item → is_some fault ≡ true → first_element_fault k left ≡ fault
 found_here k left item behind fault first told some =
     ap (first_element_fault k) first ∙ ap (λ f. option_or f (first_element_fault (k + 1) behind)) (sym told)
     ∙ option_or_some fault (first_element_fault (k + 1) behind) some
 
--- behind an item without a fault the first fault of all that are left is found
+-- if the first remaining item has no fault, the first fault is that of the items after it
 pub found_behind : (k : ℕ) (left : List (List ℕ)) (item : List ℕ) (behind : List (List ℕ)) (fault : Option ElementsBytesError)
     → left ≡ item ∷ behind → fault ≡ element_fault k item → is_some fault ≡ false
     → first_element_fault k left ≡ first_element_fault (k + 1) behind
@@ -240,7 +240,7 @@ found_behind k left item behind fault first told none =
     ap (first_element_fault k) first ∙ ap (λ f. option_or f (first_element_fault (k + 1) behind)) (sym told)
     ∙ option_or_none fault (first_element_fault (k + 1) behind) none
 
--- the fault of the first bad item is one of the list
+-- the fault of the first bad item is a fault of the list
 pub first_fault_is : (rest : List ℕ) (items : List (List ℕ)) (fault : ElementsBytesError) → ListBytes items rest
     → first_element_fault 0 items ≡ Some fault → HasItemsFault rest fault
 first_fault_is rest items (InList fault) list h = absurd (of_items 0 items (InList fault) h)
@@ -252,13 +252,13 @@ first_fault_is rest items (ItemEmpty place) list h = (items, list, h)
 first_fault_is rest items (Key place) list h = (items, list, h)
 first_fault_is rest items (ItemText place) list h = (items, list, h)
 
--- ---- what is answered of parts whose default is good
+-- ---- the result for parts whose default is good
 
--- good items are all that is asked of what is left
+-- good items are all that the rest needs
 good_rest : (parts : ElementsParts) (rest : List ℕ) → parts.rest ≡ Some rest → AreGoodItems rest → IsGoodRest parts.rest
 good_rest parts rest e good = subst IsGoodRest (sym e) good
 
--- an answer on the items answers for parts whose default is good
+-- if the default is good, a result for the items is a result for the parts
 pub parts_answer : {T : Type 0} (parts : ElementsParts) (rest : List ℕ) (answer : Result T ElementsBytesError)
     → parts.rest ≡ Some rest → ¬ (HasPadding parts.first) → IsTrue (is_utf8 parts.text)
     → MatchResult answer (λ _. AreGoodItems rest) (λ fault. HasItemsFault rest fault)

@@ -1,4 +1,4 @@
--- The bytes that are written are those that elements are packed as.
+-- The bytes that are written are those of the packed elements.
 use Rattle.std.proofs.Common.{◌≡◌, ◌↔◌, ℕ, ◌<◌, ◌≤◌, List, [], ◌∷◌, length, Bool, true, false, cond, Option, Some, None}
 use Rattle.std.proofs.Common.{refl, sym, ap, subst, ◌∙◌, arith, append-nil}
 use Rattle.std.specs.Prelude.{IsTrue, map, nat_lt, unwrap_or}
@@ -17,7 +17,7 @@ use Rattle.icu_plurals.proofs.ElementsAgain.{PackedItems}
 use Rattle.icu_plurals.proofs.CheckedElements.{same_elements}
 use Rattle.icu_plurals.proofs.PackedAgain.{answers_again}
 
--- as many items are lent as are packed
+-- there are as many borrowed items as packed items
 pub as_many : (lent : List Item) (items : List PackedItem) → lent_bytes lent ≡ map item_bytes items → length lent ≡ length items
 as_many [] [] h = refl
 as_many [] (item ∷ items) h = cc
@@ -26,20 +26,20 @@ as_many (x ∷ lent) (item ∷ items) h = let rest : lent_bytes lent ≡ map ite
 
 -- ---- the first of two faults, by their tests
 
--- the first fault is told exactly where its test is true
+-- the first fault is found exactly if its test is true
 first_fault : (long high : Bool) → (cond long (Some DefaultLimit) (cond high (Some StartLimit) None) ≡ Some DefaultLimit) ↔ (long ≡ true)
 first_fault true high = ((λ h. refl), (λ h. refl))
 first_fault false true = ((λ h. absurd cc), (λ h. cc))
 first_fault false false = ((λ h. absurd cc), (λ h. cc))
 
--- the second fault is told exactly where its test is true and the first one's isn't
+-- the second fault is found exactly if its test is true and the first test is false
 second_fault : (long high : Bool)
     → (cond long (Some DefaultLimit) (cond high (Some StartLimit) None) ≡ Some StartLimit) ↔ ((long ≡ false) × (high ≡ true))
 second_fault true high = ((λ h. absurd cc), (λ h. absurd (let e : true ≡ false = h.0 in cc)))
 second_fault false true = ((λ h. (refl, refl)), (λ h. refl))
 second_fault false false = ((λ h. absurd cc), (λ h. absurd (let e : false ≡ true = h.1 in cc)))
 
--- a default is too long where there are items beside it
+-- a default is too long only if there are items beside it
 long_beside : (default : PackedValue) (items : List PackedItem)
     → (fault_beside default (none_if_empty items) ≡ Some DefaultLimit) ↔ ((0 < length items) × (255 < length default.text))
 long_beside default [] = ((λ h. absurd cc), (λ h. absurd (omega (arith, h.0))))
@@ -47,7 +47,7 @@ long_beside default (item ∷ items) =
     let told = first_fault (nat_lt 255 (length default.text)) (has_high_start (map item_bytes (item ∷ items))) in
     ((λ h. (omega arith, ltb-true 255 (length default.text) (told.0 h))), (λ h. told.1 (lt-ltb 255 (length default.text) h.1)))
 
--- a start is too high where the default isn't too long
+-- a start is too high only if the default isn't too long
 high_beside : (default : PackedValue) (items : List PackedItem)
     → (fault_beside default (none_if_empty items) ≡ Some StartLimit) ↔
     ((length default.text ≤ 255) × IsTrue (has_high_start (map item_bytes items)))
@@ -60,24 +60,24 @@ high_beside default (item ∷ items) =
 
 -- ---- the bytes
 
--- a short default and a list that can be packed can stand side by side
+-- a short default and a list that can be packed can be packed together
 can_pack_items : (default : PackedValue) (items : List PackedItem) → (0 < length items → length default.text ≤ 255)
     → CanPack (map item_bytes items) → CanPackItems default (none_if_empty items)
 can_pack_items default [] short can = tt
 can_pack_items default (item ∷ items) short can = record { length = short (omega arith); list = can }
 
--- without items the default alone is written, else its length and the list too
+-- without items only the default is written; with items, also its length and the list
 spelled_with : (default : PackedValue) (items : List PackedItem)
     → bytes_with_items default (map item_bytes items) ≡ bytes_with default (none_if_empty items)
 spelled_with default [] = ap (λ text. default.metadata ∷ text) (append-nil default.text)
 spelled_with default (item ∷ items) = refl
 
--- each item is one also where the list of none is left out
+-- each item is valid, also if the list is left out because it is empty
 all_items : (items : List PackedItem) → AllByRecursion IsPackedItem items → AllByRecursion IsPackedItem (unwrap_or (none_if_empty items) [])
 all_items [] are = tt
 all_items (item ∷ items) are = are
 
--- what is written are the bytes of what elements are packed as
+-- the bytes that are written are those of the packed elements
 pub encoded : (e : Elements PackedValue) (lent : List Item) (bytes : List ℕ)
     → lent_bytes lent ≡ map item_bytes (packed_items e) → AllByRecursion IsPackedItem (packed_items e)
     → IsPackedValue e.other → (0 < length lent → length e.other.text ≤ 255) → CanPack (lent_bytes lent)
@@ -91,13 +91,13 @@ encoded e lent bytes same are valid short can spelled =
       spelled = spelled ∙ ap (bytes_with_items e.other) same ∙ spelled_with e.other (packed_items e);
     }
 
--- what has the bytes of what elements are packed as answers as they do
+-- bytes of the packed elements give every number the same value as the elements
 pub answers_as : (again : PackedItems) (e : Elements PackedValue) (bytes : List ℕ) → ElementsBytes (packed_of e) bytes → AnswersAs e bytes
 answers_as again e bytes h = λ packed are op rules.
     let same : packed ≡ packed_of e = same_elements again packed (packed_of e) bytes are h in
     ap (λ p. element_at (elements_of p) op rules) same ∙ answers_again e op rules
 
--- the refusals, as they are told of the default and the items that are lent
+-- the default and the borrowed items are refused exactly if the elements have that fault
 pub default_refused : (e : Elements PackedValue) (default : PackedValue) (lent : List Item) → default ≡ e.other
     → lent_bytes lent ≡ map item_bytes (packed_items e)
     → ((0 < length lent) × (255 < length default.text)) ↔ (pack_fault (packed_of e) ≡ Some DefaultLimit)
@@ -109,7 +109,7 @@ default_refused e default lent other same =
       (λ h. let told = beside.0 h in (omega (arith, told.0), omega (arith, told.1))),
     )
 
--- a start that is too high is told exactly where the elements have that fault
+-- a start is too high exactly if the elements have that fault
 pub start_refused : (e : Elements PackedValue) (default : PackedValue) (lent : List Item) → default ≡ e.other
     → lent_bytes lent ≡ map item_bytes (packed_items e)
     → ((length default.text ≤ 255) × IsTrue (has_high_start (lent_bytes lent))) ↔ (pack_fault (packed_of e) ≡ Some StartLimit)
@@ -119,11 +119,11 @@ start_refused e default lent other same =
     let high = ap has_high_start same in
     ((λ h. beside.1 (omega (arith, h.0), sym high ∙ h.1)), (λ h. let told = beside.0 h in (omega (arith, told.0), high ∙ told.1)))
 
--- what can stand beside a default has no fault
+-- a default and items that can be packed together have no fault
 fault_free : (default : PackedValue) (items : Option (List PackedItem)) → CanPackItems default items → fault_beside default items ≡ None
 fault_free default None can = refl
 fault_free default (Some items) can = rw (le-ltb 255 (length default.text) can.length, can.list.starts) refl
 
--- what has bytes has no fault
+-- elements that have bytes have no fault
 pub no_fault : (e : Elements PackedValue) (bytes : List ℕ) → ElementsBytes (packed_of e) bytes → pack_fault (packed_of e) ≡ None
 no_fault e bytes h = fault_free e.other (none_if_empty (packed_items e)) h.can_pack

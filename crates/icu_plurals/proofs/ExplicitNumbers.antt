@@ -1,4 +1,4 @@
--- Within the bound the kept operands of a number are exactly 0, or exactly 1, where the exact ones are.
+-- Within the bound, the kept operands of a number are exactly 0, or exactly 1, if the exact operands are.
 use Rattle.std.proofs.Common.{◌≡◌, ℕ, ◌<◌, List, [], ◌∷◌, false, arith, sym, ◌∙◌, lit<}
 use Rattle.std.specs.Prelude.{◌==◌, ◌&&◌, ◌||◌, nat_le, None, if◌then◌else◌}
 use Rattle.std.proofs.lemmas.Bool.Decides.{nat_tests}
@@ -20,19 +20,19 @@ equals operand n = record { operand = operand; modulus = 0; operator = Eq; range
 equal_from_ends : (n a : ℕ) → ((nat_le n a && nat_le a n) || false) ≡ (a == n)
 equal_from_ends n a = grind (arith, nat_tests)
 
--- numbers that one relation tells alike are both n, or neither is
+-- numbers on which one relation agrees are both n, or neither is
 same_test : (n a b : ℕ) → ((nat_le n a && nat_le a n) || false) ≡ ((nat_le n b && nat_le b n) || false) → (a == n) ≡ (b == n)
 same_test n a b e = sym (equal_from_ends n a) ∙ e ∙ equal_from_ends n b
 
 module _ (agree : RelationsAgree) (x : Places) (e : ℕ) (moduli : List ℕ) (kept exact : Operands) (is : IsKept x e moduli kept exact) where
-  -- a relation that says so is true of the kept operands where it is of the exact ones
+  -- a relation that says so is true of the kept operands exactly if it is true of the exact ones
   equals_alike : (operand : Operand) (n : ℕ) → n < kept_limit → IsListed operand 0 moduli
       → relation_truth kept (equals operand n) ≡ exact_relation_truth exact (equals operand n)
   equals_alike operand n small listed =
       let admitted : IsAdmitted moduli (equals operand n) = record { listed = listed; ends = (small, tt) } in
       agree x e moduli kept exact (equals operand n) is admitted
 
-  -- the kept operands are exactly a small n where the exact ones are
+  -- the kept operands are exactly a small n if the exact ones are
   is_exactly-exact : (n : ℕ) → n < kept_limit → is_exactly n kept ≡ is_exactly n exact
   is_exactly-exact n small =
       let none : 0 < kept_limit = omega (arith, small) in

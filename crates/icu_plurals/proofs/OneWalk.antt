@@ -1,4 +1,4 @@
--- One walk over items, in which each gives the value of its key unless one before it did, finds the first item of each key.
+-- One walk over items, in which each item sets the value of its key unless an earlier item did, finds the first item of each key.
 use Rattle.std.proofs.Common.{◌≡◌, ℕ, List, [], ◌∷◌, Bool, true, false, Option, Some, None, refl, sym, ◌∙◌}
 use Rattle.std.specs.Prelude.{◌==◌, find, option_map, if◌then◌else◌}
 use Rattle.std.specs.Option.{option_or}
@@ -11,7 +11,7 @@ abbrev pub with_items : Elements PackedValue → List PackedItem → Elements Pa
 with_items e [] = e
 with_items e (item ∷ items) = with_items (with_item e item) items
 
--- the values by key, and where there is none the first item's
+-- the value of a key, or the first item's if it is absent
 abbrev or_first : Elements PackedValue → List PackedItem → Elements PackedValue
 or_first e items = record {
   other = e.other;
@@ -24,7 +24,7 @@ or_first e items = record {
   explicit_one = option_or e.explicit_one (value_of_key 6 items);
 }
 
--- a value that is put where there is none is the first item's, if this has the key
+-- a value that is put in an absent place is the first item's, if that item has the key
 put-find : (has : Bool) (key : ℕ) (value : Option PackedValue) (item : PackedItem) (items : List PackedItem)
     → option_or (if has then option_or value (Some item.value) else value) (value_of_key key items)
     ≡ option_or value (option_map (λ (i : PackedItem). i.value) (if has then Some item else find (λ (i : PackedItem). i.key == key) items))
@@ -46,7 +46,7 @@ or_first-cons e item items = λ k. record {
   explicit_one = put-find (item.key == 6) 6 e.explicit_one item items k;
 }
 
--- nothing more is a value as it was
+-- a value, or else nothing, is the value
 option_or-none : (value : Option PackedValue) → option_or value None ≡ value
 option_or-none None = refl
 option_or-none (Some value) = refl
@@ -64,7 +64,7 @@ or_first-nil e = λ k. record {
   explicit_one = option_or-none e.explicit_one k;
 }
 
--- the walk puts the first item of each key where there is no value
+-- the walk puts the first item of each key where the value is absent
 with_items-first : (e : Elements PackedValue) (items : List PackedItem) → with_items e items ≡ or_first e items
 with_items-first e [] = sym (or_first-nil e)
 with_items-first e (item ∷ items) = with_items-first (with_item e item) items ∙ or_first-cons e item items
@@ -76,13 +76,13 @@ walked default items = with_items-first (only_other default) items
 
 -- ---- a value that is put at one key
 
--- seen as a packed value, it is put as well
+-- a value that is put is also put in the view of packed values
 pub put-map : {A B : Type 0} (f : A → B) (place new : Option A) (value : A) → new ≡ option_or place (Some value)
     → option_map f new ≡ option_or (option_map f place) (Some (f value))
 put-map f None new value h = (λ k. option_map f (h k))
 put-map f (Some old) new value h = (λ k. option_map f (h k))
 
--- at each of the seven keys, where the value there becomes the one that is put
+-- for each of the seven keys: putting a value at the key is a step of the walk
 
 pub put_zero : (e : Elements PackedValue) (value : PackedValue) (new : Option PackedValue) → new ≡ option_or e.zero (Some value)
     → record e { zero = new } ≡ with_item e (record { key = 0; value = value })

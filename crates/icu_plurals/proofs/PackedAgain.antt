@@ -1,4 +1,4 @@
--- What elements are packed as gives their values again.
+-- Packed elements have the values of the elements that they were packed from.
 use Rattle.std.proofs.Common.{◌≡◌, ℕ, List, [], ◌∷◌, ◌++◌, Bool, true, false, cond, Option, Some, None, refl, sym, ap, ◌∙◌}
 use Rattle.std.specs.Prelude.{◌==◌, ◌&&◌, unwrap_or}
 use Rattle.std.specs.Str.{bytes_eq}
@@ -15,24 +15,24 @@ use Rattle.icu_plurals.specs.PackedElements.{packed_items, packed_of, value_of_k
 
 -- ---- the value of a key among items
 
--- an item of another key is passed over
+-- an item of another key is skipped
 skip : (key other : ℕ) (value : Option PackedValue) (items : List PackedItem) → (other == key) ≡ false
     → value_of_key key (item_at other value ++ items) ≡ value_of_key key items
 skip key other None items h = refl
 skip key other (Some v) items h = rw h refl
 
--- where the only item has another key, there is no value of this one
+-- if the only item has another key, this key has no value
 skip_last : (key other : ℕ) (value : Option PackedValue) → (other == key) ≡ false → value_of_key key (item_at other value) ≡ None
 skip_last key other None h = refl
 skip_last key other (Some v) h = rw h refl
 
--- the first item of the key answers
+-- the first item of a key gives its value
 take_it : (key : ℕ) (value : Option PackedValue) (items : List PackedItem) → (key == key) ≡ true → value_of_key key items ≡ None
     → value_of_key key (item_at key value ++ items) ≡ value
 take_it key None items h none = none
 take_it key (Some v) items h none = rw h refl
 
--- the only item answers for its key
+-- the only item gives the value of its key
 take_last : (key : ℕ) (value : Option PackedValue) → (key == key) ≡ true → value_of_key key (item_at key value) ≡ value
 take_last key None h = refl
 take_last key (Some v) h = rw h refl
@@ -100,26 +100,26 @@ are_at v0 v1 v2 v3 v4 v5 v6 = record {
 
 -- ---- the elements again
 
--- whether there is no list or an empty one, there are the same items
+-- an absent list and an empty list have the same items
 items_again : (items : List PackedItem) → unwrap_or (none_if_empty items) [] ≡ items
 items_again [] = refl
 items_again (item ∷ items) = refl
 
--- what elements are packed as has their values, without those of the categories that equal other's
+-- packed elements have the values of the elements, except those of categories that equal other's
 pub packed_again : (e : Elements PackedValue) → elements_of (packed_of e) ≡ without_repeats e
 packed_again e =
     let kept : Option PackedValue → Option PackedValue = unless_equal is_same_value e.other in
     let all = are_at (kept e.zero) (kept e.one) (kept e.two) (kept e.few) (kept e.many) e.explicit_zero e.explicit_one in
     rw (items_again (packed_items e), all.at0, all.at1, all.at2, all.at3, all.at4, all.at5, all.at6) refl
 
--- ---- the answers again
+-- ---- the same value for every number
 
--- two tests pass together only where each does
+-- a conjunction of two tests is true only if both are
 both_true : (a b : Bool) → (a && b) ≡ true → (a ≡ true) × (b ≡ true)
 both_true true b h = (refl, h)
 both_true false b h = cc
 
--- values that are found to be the same are equal
+-- values that the test finds equal are equal
 is_same : (value other : PackedValue) → is_same_value value other ≡ true → value ≡ other
 is_same value other h =
     let both = both_true (value.metadata == other.metadata) (bytes_eq value.text other.text) h in
@@ -127,7 +127,7 @@ is_same value other h =
     let text : value.text ≡ other.text = (bytes_eq-Decides value.text other.text).0 both.1 in
     rw (metadata, text) refl
 
--- a value that is left out only where it equals other's is answered all the same
+-- a value that is left out because it equals other's is found as other's
 kept_by : (same : Bool) (value other : PackedValue) → (same ≡ true → value ≡ other) → unwrap_or (cond same None (Some value)) other ≡ value
 kept_by true value other h = sym (h refl)
 kept_by false value other h = refl
@@ -138,7 +138,7 @@ kept_or_other : (other : PackedValue) (value : Option PackedValue)
 kept_or_other other None = refl
 kept_or_other other (Some v) = kept_by (is_same_value v other) v other (is_same v other)
 
--- every category has its value, whether it was left out for other's or not
+-- every category has its value, whether or not it was left out
 category_again : (e : Elements PackedValue) (category : PluralCategory) → of_category (without_repeats e) category ≡ of_category e category
 category_again e Zero = kept_or_other e.other e.zero
 category_again e One = kept_or_other e.other e.one
@@ -147,7 +147,7 @@ category_again e Few = kept_or_other e.other e.few
 category_again e Many = kept_or_other e.other e.many
 category_again e Other = refl
 
--- what elements are packed as answers every number as they do
+-- packed elements give every number the same value as the elements
 pub answers_again : (e : Elements PackedValue) (op : Operands) (rules : FiveRules)
     → element_at (elements_of (packed_of e)) op rules ≡ element_at e op rules
 answers_again e op rules =

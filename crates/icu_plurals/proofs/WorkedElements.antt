@@ -14,7 +14,7 @@ plain text = record { metadata = 0; text = text }
 abbrev item : ℕ → List ℕ → PackedItem
 item key text = record { key = key; value = plain text }
 
--- ---- "abc" alone
+-- ---- only "abc"
 
 abbrev abc : PackedElements
 abc = record { default = plain (codes "abc"); items = None }
@@ -23,12 +23,12 @@ abc = record { default = plain (codes "abc"); items = None }
 abc_bytes : elements_bytes abc ≡ 0 ∷ 97 ∷ 98 ∷ 99 ∷ []
 abc_bytes = refl
 
--- these bytes are read as the default alone
+-- these bytes are read as only the default
 abc_read : read_elements (0 ∷ 97 ∷ 98 ∷ 99 ∷ []) ≡ abc
 unfolding read_elements
 abc_read = refl
 
--- and other's value alone is packed as this default
+-- and only other's value is packed as this default
 abc_packed : packed_of (only_other (plain (codes "abc"))) ≡ abc
 abc_packed = refl
 
@@ -51,21 +51,21 @@ abc_defg_read = refl
 abbrev items : Elements PackedValue
 items = record (only_other (plain (codes "items"))) { one = Some (plain (codes "item")); explicit_one = Some (plain (codes "items")) }
 
--- an explicit value that equals other's is packed
+-- an explicit value that equals other's is still packed
 items_bytes : elements_bytes
     (packed_of items) ≡ 128 ∷ 5 ∷ 105 ∷ 116 ∷ 101 ∷ 109 ∷ 115 ∷ 2 ∷ 0 ∷ 5 ∷ 0 ∷ 16 ∷ 105 ∷ 116 ∷ 101 ∷ 109 ∷ 96 ∷ 105 ∷ 116 ∷ 101
     ∷ 109 ∷ 115 ∷ []
 items_bytes = refl
 
--- the values are found again by their keys
+-- the values are found by their keys
 items_again : elements_of (packed_of items) ≡ items
 items_again = refl
 
--- a category's value that equals other's isn't, unless its metadata differs
+-- a category's value that equals other's isn't packed, unless its metadata differs
 equal_bytes : elements_bytes (packed_of (record (only_other (plain (codes "a"))) { one = Some (plain (codes "a")) })) ≡ 0 ∷ 97 ∷ []
 equal_bytes = refl
 
--- metadata 3 beside the same text makes an item
+-- metadata 3 with the same text makes an item
 metadata_bytes : elements_bytes
     (packed_of (record (only_other (plain (codes "a"))) { one = Some (record { metadata = 3; text = codes "a" }) })) ≡ 128 ∷ 1
     ∷ 97 ∷ 1 ∷ 0 ∷ 19 ∷ 97 ∷ []
@@ -76,16 +76,16 @@ metadata_bytes = refl
 abbrev one_twice : PackedElements
 one_twice = record { default = plain (codes "a"); items = Some (item 1 (codes "b") ∷ item 1 (codes "c") ∷ []) }
 
--- two items of one key may stand in bytes
+-- bytes may have two items of one key
 one_twice_read : read_elements (128 ∷ 1 ∷ 97 ∷ 2 ∷ 0 ∷ 2 ∷ 0 ∷ 16 ∷ 98 ∷ 16 ∷ 99 ∷ []) ≡ one_twice
 unfolding read_elements items_in
 one_twice_read = refl
 
--- the first of them answers
+-- the first of them gives the value
 one_twice_values : elements_of one_twice ≡ record (only_other (plain (codes "a"))) { one = Some (plain (codes "b")) }
 one_twice_values = refl
 
--- and alone is packed again
+-- and only it is packed again
 one_twice_again : elements_bytes (packed_of (elements_of one_twice)) ≡ 128 ∷ 1 ∷ 97 ∷ 1 ∷ 0 ∷ 16 ∷ 98 ∷ []
 one_twice_again = refl
 
@@ -96,7 +96,7 @@ nothing_read : read_elements (0 ∷ []) ≡ record { default = plain []; items =
 unfolding read_elements
 nothing_read = refl
 
--- bit 7 and the length 0 are an empty default beside an empty list
+-- bit 7 and the length 0 are an empty default and an empty list
 no_items_read : read_elements (128 ∷ 0 ∷ []) ≡ record { default = plain []; items = Some [] }
 unfolding read_elements items_in
 no_items_read = refl
@@ -107,6 +107,6 @@ no_items_read = refl
 empty_item : first_element_fault 0 ([] ∷ []) ≡ Some (errors.ItemEmpty 0)
 empty_item = refl
 
--- a key above the last one is told before a text that is no UTF-8
+-- a key above the last one is reported before a text that isn't UTF-8
 seventh_key : first_element_fault 0 ((112 ∷ 255 ∷ []) ∷ []) ≡ Some (errors.Key 0)
 seventh_key = refl

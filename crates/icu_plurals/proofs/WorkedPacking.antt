@@ -15,17 +15,17 @@ plain text = record { metadata = 0; text = text }
 abbrev items : Elements PackedValue
 items = record (only_other (plain (codes "items"))) { one = Some (plain (codes "item")); explicit_one = Some (plain (codes "items")) }
 
--- the category's item comes before the explicit one, which is packed though it equals other's
+-- the category's item comes before the explicit one, which is packed although it equals other's
 items_bytes : elements_bytes
     (packed_of items) ≡ 128 ∷ 5 ∷ 105 ∷ 116 ∷ 101 ∷ 109 ∷ 115 ∷ 2 ∷ 0 ∷ 5 ∷ 0 ∷ 16 ∷ 105 ∷ 116 ∷ 101 ∷ 109 ∷ 96 ∷ 105 ∷ 116 ∷ 101
     ∷ 109 ∷ 115 ∷ []
 items_bytes = refl
 
--- a value that equals other's is left out, an explicit one isn't; metadata tell values apart
+-- a value that equals other's is left out, but an explicit one isn't; values with different metadata differ
 equal_bytes : elements_bytes (packed_of (record (only_other (plain (codes "x"))) { two = Some (plain (codes "x")) })) ≡ 0 ∷ 120 ∷ []
 equal_bytes = refl
 
--- metadata 1 beside the same text makes an item
+-- metadata 1 with the same text makes an item
 marked_bytes : elements_bytes
     (packed_of (record (only_other (plain (codes "x"))) { one = Some (record { metadata = 1; text = codes "x" }) })) ≡ 128 ∷ 1
     ∷ 120 ∷ 1 ∷ 0 ∷ 17 ∷ 120 ∷ []
@@ -35,20 +35,20 @@ marked_bytes = refl
 equal_is_no_repeat : without_repeats (record items { two = Some (plain (codes "items")) }) ≡ items
 equal_is_no_repeat = refl
 
--- 255 and 256 bytes as the default, alone and beside an item
+-- 255 and 256 bytes as the default, without and with an item
 most_beside : pack_fault (packed_of (record (only_other (plain (replicate 255 97))) { one = Some (plain (98 ∷ [])) })) ≡ None
 most_beside = refl
 
--- 256 bytes are too many beside an item
+-- 256 bytes are too many with an item
 too_long_beside : pack_fault (packed_of (record (only_other (plain (replicate 256 97))) { one = Some (plain (98 ∷ [])) })) ≡ Some
     DefaultLimit
 too_long_beside = refl
 
--- alone they are not
+-- without an item they are not
 long_alone : pack_fault (packed_of (only_other (plain (replicate 256 97)))) ≡ None
 long_alone = refl
 
--- an item that starts at 65535, and one behind it
+-- an item that starts at 65535, and one after it
 last_start : pack_fault
     (packed_of (record (only_other (plain [])) { zero = Some (plain (replicate 65534 97)); one = Some (plain (98 ∷ [])) })) ≡ None
 last_start = refl
@@ -70,7 +70,7 @@ read_items : packed_of_json
     (member (codes "other") (pair 0 (codes "items")) (member (codes "two") null no_members))))) ≡ Ok (packed_of items)
 read_items = refl
 
--- and absent values are not written
+-- and absent values aren't written
 written_items : elements_json items ≡ object
     (member (codes "explicit_one") (pair 0 (codes "items"))
     (member (codes "one") (pair 0 (codes "item")) (member (codes "other") (pair 0 (codes "items")) no_members)))
@@ -80,7 +80,7 @@ written_items = refl
 metadata_16 : packed_of_json (object (member (codes "other") (pair 16 (codes "x")) no_members)) ≡ Err Shape
 metadata_16 = refl
 
--- other's value has to be there
+-- other's value must be present
 no_other : packed_of_json (object (member (codes "one") (pair 0 (codes "x")) no_members)) ≡ Err Shape
 no_other = refl
 

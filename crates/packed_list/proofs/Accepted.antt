@@ -13,17 +13,17 @@ use Rattle.packed_list.proofs.TwoBytes.{twice}
 abbrev pub is_high : ℕ → Bool
 is_high start = nat_lt 65535 start
 
--- from a place on, each start is not below the one before it, and none is above the end
+-- from a place on, no start is below the one before it, and none is above the end
 abbrev pub Rises : ℕ → List ℕ → ℕ → Type 0
 Rises from [] end = from ≤ end
 Rises from (start ∷ starts) end = (from ≤ start) × Rises start starts end
 
--- where starts rise up to an end, the first place is not above the end
+-- if starts rise up to an end, the first place is not above the end
 pub rises-within : (from : ℕ) (sts : List ℕ) (end : ℕ) → Rises from sts end → from ≤ end
 rises-within from [] end h = h
 rises-within from (s ∷ sts) end h = let again = rises-within s sts end h.1 in omega (arith, h.0, again)
 
--- a piece of bytes reaches from its first place to its last
+-- a piece of bytes extends from its first place to its last
 pub length-slice_range : (bytes : List ℕ) (from to : ℕ) → from ≤ to → to ≤ length bytes → from + length (slice_range bytes from to) ≡ to
 length-slice_range bytes from to h g =
     let l : to - from ≤ length (drop from bytes) = omega (arith, length-drop from bytes) in
@@ -47,26 +47,26 @@ concat-pieces from (s ∷ sts) bytes h =
     let d : drop s bytes ≡ drop (s - from) (drop from bytes) = ap (λ k. drop k bytes) n ∙ sym (drop-drop (s - from) from bytes) in
     ap (λ p. slice_range bytes from s ++ p) (concat-pieces s sts bytes h.1 ∙ d) ∙ take-append-drop (s - from) (drop from bytes)
 
--- there is one piece more than places
+-- there is one piece more than there are places
 pub length-pieces : (from : ℕ) (sts bytes : List ℕ) → length (pieces_from from sts bytes) ≡ suc (length sts)
 length-pieces from [] bytes = refl
 length-pieces from (s ∷ sts) bytes = ap suc (length-pieces s sts bytes)
 
--- so many pairs of bytes hold so many numbers
+-- this many pairs of bytes hold this many numbers
 pub length-numbers : (n : ℕ) (bytes : List ℕ) → 2 * n ≤ length bytes → length (numbers n bytes) ≡ n
 length-numbers zero bytes h = refl
 length-numbers (suc n) [] h = absurd (omega arith)
 length-numbers (suc n) (a ∷ []) h = absurd (omega arith)
 length-numbers (suc n) (a ∷ b ∷ bytes) h = ap suc (length-numbers n bytes (omega arith))
 
--- the two bytes of a number that is read of two bytes are these
+-- the two bytes of a number that is read from two bytes are those two bytes
 pub two_bytes-number : (a b : ℕ) → a < 256 → b < 256 → two_bytes (a + 256 * b) ≡ a ∷ b ∷ []
 two_bytes-number a b h g =
     let e : (a + 256 * b) % 256 ≡ a = omega arith in
     let f : (a + 256 * b) / 256 ≡ b = omega arith in
     rw (e, f) refl
 
--- the bytes of the numbers that are read of bytes are these
+-- the bytes of the numbers that are read from bytes are those bytes
 pub numbers_spelled : (n : ℕ) (bytes : List ℕ) → AreBytes bytes → 2 * n ≤ length bytes
     → flat_map two_bytes (numbers n bytes) ≡ take (2 * n) bytes
 numbers_spelled zero bytes is h = refl
@@ -86,20 +86,20 @@ numbers-small (suc n) (a ∷ b ∷ bytes) is =
     let e : is_high (a + 256 * b) ≡ false = le-ltb 65535 (a + 256 * b) (omega (arith, is 0, is 1)) in
     rw e (numbers-small n bytes (λ i. is (suc (suc i))))
 
--- what the test of bytes has seen
+-- what the test of bytes has checked
 pub record Passes (bytes : List ℕ) : Type 0 where
   pub two : 2 ≤ length bytes
   pub some : 0 < two_byte_number bytes 0
   pub header : 2 * two_byte_number bytes 0 ≤ length bytes
   pub rises : Rises 0 (numbers (two_byte_number bytes 0 - 1) (drop 2 bytes)) (length bytes - 2 * two_byte_number bytes 0)
 
--- the bytes of items, of which there are some
+-- the bytes of items, of which there is at least one
 pub list_bytes-cons : (items : List (List ℕ)) → 0 < length items
     → list_bytes items ≡ two_bytes (length items) ++ (flat_map two_bytes (drop 1 (item_starts items)) ++ concat items)
 list_bytes-cons [] h = absurd (omega arith)
 list_bytes-cons (item ∷ items) h = refl
 
--- bytes that pass the test are the list that is read of them
+-- bytes that pass the test are the list that is read from them
 pub passed : (bytes : List ℕ) → AreBytes bytes → Passes bytes → IsList bytes
 unfolding items_in
 passed [] is h = absurd (omega (arith, h.two))
@@ -143,7 +143,7 @@ drop-pair bytes place h =
 pub start_at-one : (bytes : List ℕ) (k : ℕ) → start_at bytes (k + 1) ≡ two_byte_number bytes (2 * suc k)
 start_at-one bytes k = let e : k + 1 ≡ suc k = omega arith in ap (start_at bytes) e
 
--- where each start is good, the starts rise up to the end of the data
+-- if each start is good, the starts rise up to the end of the data
 pub rises-good : (bytes : List ℕ) (end j m : ℕ)
     → ((k : ℕ) → j ≤ k → k < j + m → (start_at bytes k ≤ start_at bytes (suc k)) × (start_at bytes (suc k) ≤ end))
     → start_at bytes j ≤ end → 2 * (suc j + m) ≤ length bytes → Rises (start_at bytes j) (numbers m (drop (2 * suc j) bytes)) end
@@ -175,12 +175,12 @@ passes_from bytes two some header good =
           (omega arith) (omega arith);
     }
 
--- no byte is the empty list
+-- no bytes at all are the empty list
 pub empty_is_list : IsList []
 unfolding items_in
 empty_is_list = record { can_pack = record { count = lit≤ tt; starts = refl }; spelled = refl }
 
--- so are bytes of which there are none
+-- bytes of length 0 are the empty list too
 pub no_bytes : (bytes : List ℕ) → length bytes ≡ 0 → IsList bytes
 no_bytes [] h = empty_is_list
 no_bytes (a ∷ bytes) h = absurd (omega arith)

@@ -75,7 +75,7 @@ start-within place (item ∷ items) (suc k) s h =
     let l = length-append item (concat items) in
     (omega (arith, again.0), omega (arith, l, again.1))
 
--- what lies between the starts of an item and the next one
+-- the bytes between the start of an item and the start of the next one
 pub record LiesBetween (items : List (List ℕ)) (place k s t : ℕ) : Type 0 where
   pub below : s ≤ t
   pub within : t ≤ place + length (concat items)
@@ -112,7 +112,7 @@ lies_between place (item ∷ next ∷ items) (suc k) s t h g =
       item = again.item ∙ ap (λ p. Some (take (t - s) p)) (sym d);
     }
 
--- what lies behind the start of the last item
+-- the bytes from the start of the last item on
 pub record LiesBehind (items : List (List ℕ)) (place k s : ℕ) : Type 0 where
   pub within : s ≤ place + length (concat items)
   pub item : slice_get items k ≡ Some (drop (s - place) (concat items))
@@ -144,14 +144,14 @@ lies_behind place (item ∷ next ∷ items) (suc k) s h g =
       item = again.item ∙ ap Some (sym d);
     }
 
--- the start of each item is the one that the bytes say
+-- the start of each item is the one that the bytes give
 pub start_at-is : (items : List (List ℕ)) (bytes : List ℕ) → bytes ≡ list_bytes items → (k : ℕ) → k < length items
     → slice_get (item_starts items) k ≡ Some (start_at bytes k)
 start_at-is [] bytes h k below = absurd (omega arith)
 start_at-is (item ∷ items) bytes h zero below = refl
 start_at-is (item ∷ items) bytes h (suc k) below = start_is (item ∷ items) bytes h (suc k) (omega arith) below
 
--- what lies between where an item starts and where it ends
+-- the bytes between the start and the end of an item
 pub record IsPart (items : List (List ℕ)) (k s t : ℕ) : Type 0 where
   pub below : s ≤ t
   pub within : t ≤ length (concat items)
@@ -216,7 +216,7 @@ pub start_at-positive : (bytes : List ℕ) (k : ℕ) → (k ≡ 0 → ⊥) → s
 start_at-positive bytes zero h = absurd (h refl)
 start_at-positive bytes (suc k) h = refl
 
--- an iterator over the items that are left gives the item at its place
+-- an iterator over the remaining items gives the item at its place
 pub yields : (items : List (List ℕ)) (k : ℕ) (r : Option (Bor (List ℕ))) → k < length items
     → option_map (λ (x : Bor (List ℕ)). x.now) r ≡ slice_get items k
     → YieldsFirstRef (λ items. items) (drop k items) r (drop (k + 1) items)
@@ -255,7 +255,7 @@ end_behind items k t h e = elim (cases_lt (k + 1) (length items)) [
       ∙ ap (λ l. length (concat l)) (sym (take_all (k + 1) items past))
 ]
 
--- the item behind those that were given
+-- the item after those that were given
 pub next_part : (items : List (List ℕ)) (k s t : ℕ) → k < length items → s ≡ length (concat (take k items))
     → t ≡ unwrap_or (slice_get (item_starts items) (k + 1)) (length (concat items)) → IsPart items k s t
 next_part items k s t h e f = item_is items k s t h (start_behind items k h ∙ ap Some (sym e)) f

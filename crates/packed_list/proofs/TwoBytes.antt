@@ -10,7 +10,7 @@ use Rattle.packed_list.specs.Inner.ListReading.{numbers}
 pub two_bytes_again : (n : ℕ) → (n % 256) + 256 * (n / 256) ≡ n
 two_bytes_again n = omega arith
 
--- two bytes in front
+-- two bytes at the front
 pub two_byte_number-cons : (a b : ℕ) (bytes : List ℕ) (place : ℕ)
     → two_byte_number (a ∷ b ∷ bytes) (suc (suc place)) ≡ two_byte_number bytes place
 two_byte_number-cons a b bytes place =
@@ -26,7 +26,7 @@ pub length-flat_map_two_bytes : (ns : List ℕ) → length (flat_map two_bytes n
 length-flat_map_two_bytes [] = refl
 length-flat_map_two_bytes (n ∷ ns) = let h = length-flat_map_two_bytes ns in omega arith
 
--- the number at a place is in the two bytes there
+-- the number at a place is in the two bytes at that place
 pub two_byte_number-flat_map : (ns rest : List ℕ) (k : ℕ) → k < length ns
     → slice_get ns k ≡ Some (two_byte_number (flat_map two_bytes ns ++ rest) (2 * k))
 two_byte_number-flat_map [] rest k h = absurd (omega arith)

@@ -12,27 +12,27 @@ use Rattle.std.proofs.lemmas.Str.{len_utf8_ascii}
 use Rattle.std.proofs.lemmas.Str.Pattern.{NoCharPasses-char}
 use Rattle.plural_message.specs.Messages.{placeholder, joined_by, IsFilling}
 
--- in none of the pieces stands a placeholder
+-- none of the pieces contains a placeholder
 abbrev AreUncut : List (List ℕ) → Type 0
 AreUncut pieces = AllByRecursion (λ piece. ¬ (HasSubslice piece placeholder)) pieces
 
--- none stands in a list that is shorter
+-- a list that is shorter than a placeholder contains none
 none_in_short : (xs : List ℕ) → length xs ≤ 1 → ¬ (HasSubslice xs placeholder)
 none_in_short xs short h = omega (arith, short, ap length h.2, length-append h.0 (placeholder ++ h.1))
 
--- nothing is filled by nothing
+-- filling nothing gives nothing
 pub filling-nil : (number rest : List ℕ) → length rest ≡ 0 → IsFilling number rest []
 filling-nil number [] none = record { pieces = []; uncut = tt; cut = refl; filled_is = refl }
 filling-nil number (x ∷ rest) none = absurd (omega (arith, none))
 
--- ---- A placeholder in front
+-- ---- A placeholder at the front
 
 -- an empty piece before others
 joined_by-empty : (separator p : List ℕ) (ps : List (List ℕ))
     → separator ++ joined_by separator (p ∷ ps) ≡ joined_by separator ([] ∷ p ∷ ps)
 joined_by-empty separator p ps = sym (append_assoc separator p (flat_map (λ q. separator ++ q) ps))
 
--- the pieces behind it, of which no one is an empty one
+-- a placeholder before a text, given the text's pieces
 placeholder_more : (number text filled : List ℕ) (pieces : List (List ℕ)) → AreUncut pieces
     → text ≡ joined_by placeholder pieces → filled ≡ joined_by number pieces
     → IsFilling number (placeholder ++ text) (number ++ filled)
@@ -51,15 +51,15 @@ placeholder_more number text filled (p ∷ ps) uncut cut filled_is =
       filled_is = ap (λ l. number ++ l) filled_is ∙ joined_by-empty number p ps;
     }
 
--- the number in its place
+-- a placeholder is replaced by the number
 filling-placeholder : (number text filled : List ℕ) → IsFilling number text filled
     → IsFilling number (placeholder ++ text) (number ++ filled)
 filling-placeholder number text filled filling =
     placeholder_more number text filled filling.pieces filling.uncut filling.cut filling.filled_is
 
--- ---- Characters in front that begin no placeholder
+-- ---- Characters at the front that begin no placeholder
 
--- none stands in a first piece that has such a character before it
+-- a first piece with such a character before it contains no placeholder
 none_behind : (x : ℕ) (text piece : List ℕ) (pieces : List (List ℕ)) → ((rest : List ℕ) → x ∷ text ≡ placeholder ++ rest → ⊥)
     → ¬ (HasSubslice piece placeholder) → text ≡ joined_by placeholder (piece ∷ pieces)
     → (a b : List ℕ) → x ∷ piece ≡ a ++ (placeholder ++ b) → ⊥
@@ -87,11 +87,11 @@ character_more number x text filled (p ∷ ps) begins uncut cut filled_is =
       filled_is = ap (λ l. x ∷ l) filled_is;
     }
 
--- no placeholder of the whole begins in the front
+-- no placeholder of the whole text begins in the front part
 abbrev BeginsNone : List ℕ → List ℕ → Type 0
 BeginsNone front text = (a b : List ℕ) → front ++ text ≡ a ++ (placeholder ++ b) → length front ≤ length a
 
--- such a front stays as it is
+-- such a front part stays as it is
 filling-front : (number front text filled : List ℕ) → BeginsNone front text → IsFilling number text filled
     → IsFilling number (front ++ text) (front ++ filled)
 filling-front number [] text filled behind filling = filling
@@ -101,7 +101,7 @@ filling-front number (x ∷ front) text filled behind filling =
 
 -- ---- The pieces that `split_inclusive` cuts at each `}`
 
--- a piece at the front of its text: no `}` stands before its end, and it ends with one, or with the text
+-- a piece at the front of its text: it has no `}` before its end, and it ends with a `}`, or with the text
 record IsPiece (text piece : List ℕ) : Type 0 where
   least : (k : ℕ) → k < length text → get_or text k 0 ≡ 125 → length piece ≤ k + 1
   ends : length piece < length text → get_or text (length piece - 1) 0 ≡ 125
@@ -135,7 +135,7 @@ placeholder_ends text piece a b is e =
           (ap (λ l. get_or l (length a + 1) 0) e ∙ get_or-append-add a (placeholder ++ b) 1 0),
     )
 
--- a piece is filled that ends with a placeholder: what stands before it stays
+-- a piece that ends with a placeholder is filled: the part before the placeholder stays
 pub cut_filling : (number text piece before rest filled : List ℕ) → EndsAtFirstMatch (FindsChar 125) text piece → text ≡ piece ++ rest
     → StripsSuffix (FindsTextSuffix placeholder) piece before → IsFilling number rest filled
     → IsFilling number text (before ++ (number ++ filled))
@@ -152,7 +152,7 @@ cut_filling number text piece before rest filled found whole (n, suffix, front, 
     subst (λ l. IsFilling number l (before ++ (number ++ filled))) (sym parts)
     (filling-front number before (placeholder ++ rest) (number ++ filled) behind (filling-placeholder number rest filled filling))
 
--- none begins in a piece that ends with none
+-- no placeholder begins in a piece that doesn't end with one
 begins_none : (text piece rest : List ℕ) → IsPiece text piece → text ≡ piece ++ rest
     → ((front : List ℕ) → piece ≡ front ++ placeholder → ⊥) → BeginsNone piece rest
 begins_none text piece rest is whole none a b e =

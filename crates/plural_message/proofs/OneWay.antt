@@ -1,4 +1,4 @@
--- A text is cut at its places in one way, so it is filled in one.
+-- A text is cut at its placeholders in one way, so it is filled in one way.
 -- The two characters of a placeholder are o and c, which differ: `{` and `}`.
 use Rattle.std.proofs.Common.{◌≡◌, ℕ, ◌≤◌, List, [], ◌∷◌, ◌++◌, flat_map, length, refl, ap, sym, ◌∙◌, append_assoc}
 use Rattle.std.proofs.Common.{append-nil, arith, length-append, ⊎_elim}
@@ -10,25 +10,25 @@ use Rattle.plural_message.specs.Messages.{joined_by, OneFilling}
 abbrev mark : ℕ → ℕ → List ℕ
 mark o c = o ∷ c ∷ []
 
--- no placeholder stands in the list
+-- the list contains no placeholder
 abbrev Lacks : ℕ → ℕ → List ℕ → Type 0
 Lacks o c piece = ¬ (HasSubslice piece (mark o c))
 
--- nor in one of the pieces
+-- nor does one of the pieces
 abbrev AreUncut : ℕ → ℕ → List (List ℕ) → Type 0
 AreUncut o c pieces = AllByRecursion (Lacks o c) pieces
 
--- a list of at most one number holds no placeholder
+-- a list of at most one number contains no placeholder
 lacks_short : (o c : ℕ) (xs : List ℕ) → length xs ≤ 1 → Lacks o c xs
 lacks_short o c xs short h = omega (arith, ap length h.2, length-append h.0 (mark o c ++ h.1))
 
--- what holds no placeholder holds none behind its first number either
+-- a list without a placeholder has none after its first number either
 lacks_behind : (o c x : ℕ) (xs : List ℕ) → Lacks o c (x ∷ xs) → Lacks o c xs
 lacks_behind o c x xs none h = none (x ∷ h.0, h.1, ap (λ l. x ∷ l) h.2)
 
 -- ---- One cut at most
 
--- what stands before the first placeholder of a text, and what stands behind it
+-- the parts before and after the first placeholder of a text are unique
 same_cut : (o c : ℕ) → ¬ (o ≡ c) → (a b xs ys : List ℕ) → Lacks o c a → Lacks o c b
     → a ++ (mark o c ++ xs) ≡ b ++ (mark o c ++ ys) → (a ≡ b) × (xs ≡ ys)
 same_cut o c apart [] [] xs ys none other e = (refl, cc)
@@ -45,12 +45,12 @@ joined_by-cons : (separator p q : List ℕ) (ps : List (List ℕ))
     → joined_by separator (p ∷ q ∷ ps) ≡ p ++ (separator ++ joined_by separator (q ∷ ps))
 joined_by-cons separator p q ps = ap (λ l. p ++ l) (append_assoc separator q (flat_map (λ r. separator ++ r) ps))
 
--- a piece without a placeholder is no text with one
+-- a piece without a placeholder equals no text with one
 no_more : (o c : ℕ) (p q r : List ℕ) (ps : List (List ℕ)) → Lacks o c p
     → joined_by (mark o c) (p ∷ []) ≡ joined_by (mark o c) (q ∷ r ∷ ps) → ⊥
 no_more o c p q r ps none e = none (q, joined_by (mark o c) (r ∷ ps), sym (append-nil p) ∙ e ∙ joined_by-cons (mark o c) q r ps)
 
--- the pieces of one text
+-- two lists of pieces of one text are filled alike
 same_pieces : (o c : ℕ) → ¬ (o ≡ c) → (number p q : List ℕ) (ps qs : List (List ℕ)) → AreUncut o c (p ∷ ps) → AreUncut o c (q ∷ qs)
     → joined_by (mark o c) (p ∷ ps) ≡ joined_by (mark o c) (q ∷ qs) → joined_by number (p ∷ ps) ≡ joined_by number (q ∷ qs)
 same_pieces o c apart number p q [] [] left right e = e
@@ -63,14 +63,14 @@ same_pieces o c apart number p q (r ∷ ps) (s ∷ qs) left right e =
     ∙ (λ k. cut.0 k ++ (number ++ same_pieces o c apart number r s ps qs left.1 right.1 cut.1 k))
     ∙ sym (joined_by-cons number q s qs)
 
--- no pieces are an empty one
+-- pieces that join like a list that has a first piece
 record IsSomePieces (o c : ℕ) (pieces : List (List ℕ)) : Type 0 where
   first : List ℕ
   rest : List (List ℕ)
   uncut : AreUncut o c (first ∷ rest)
   alike : (separator : List ℕ) → joined_by separator pieces ≡ joined_by separator (first ∷ rest)
 
--- every list of pieces joins as one that has a first piece
+-- every list of pieces joins like one that has a first piece
 some_pieces : (o c : ℕ) (pieces : List (List ℕ)) → AreUncut o c pieces → IsSomePieces o c pieces
 some_pieces o c [] uncut = record { first = []; rest = []; uncut = (lacks_short o c [] (omega arith), tt); alike = λ _. refl }
 some_pieces o c (p ∷ ps) uncut = record { first = p; rest = ps; uncut = uncut; alike = λ _. refl }
@@ -94,7 +94,7 @@ record IsCut (o c : ℕ) (text : List ℕ) : Type 0 where
   uncut : AreUncut o c (first ∷ rest)
   whole : text ≡ joined_by (mark o c) (first ∷ rest)
 
--- a placeholder in front
+-- a placeholder at the front
 cut-placeholder : (o c x y : ℕ) (text : List ℕ) → x ≡ o → y ≡ c → IsCut o c text → IsCut o c (x ∷ y ∷ text)
 cut-placeholder o c x y text is_o is_c cut =
     record {
@@ -104,7 +104,7 @@ cut-placeholder o c x y text is_o is_c cut =
       whole = λ k. is_o k ∷ is_c k ∷ cut.whole k;
     }
 
--- a character in front that begins no placeholder
+-- a character at the front that begins no placeholder
 cut-character : (o c x : ℕ) (text : List ℕ) → ((rest : List ℕ) → x ∷ text ≡ mark o c ++ rest → ⊥) → IsCut o c text → IsCut o c (x ∷ text)
 cut-character o c x text begins_none cut =
     record {

@@ -1,4 +1,4 @@
-//! What no clause says: worked messages, and that there is one if there is memory.
+//! What no contract says: worked messages, and that the calls succeed if there is memory.
 
 mod assertion;
 

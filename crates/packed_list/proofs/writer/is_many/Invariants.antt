@@ -1,7 +1,7 @@
 use Rattle.std.proofs.Common.{◌≡◌, ◌+◌, ◌≤◌, length}
 use Rattle.packed_list.proofs.writer.is_many.Given as goal
 
--- Those that are counted and those that are left are all items.
+-- The counted and the remaining items are all items.
 abbrev pub invariant-loop-count : goal.invariant-loop-count
 invariant-loop-count g l = record {
   count : l.count + length (g.I.ByteItems.items l.left) ≡ length (g.I.ByteItems.items l.fn.items);

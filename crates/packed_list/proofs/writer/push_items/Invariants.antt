@@ -2,7 +2,7 @@ use Rattle.std.proofs.Common.{◌≡◌, ◌++◌, length}
 use Rattle.std.specs.List.{concat}
 use Rattle.packed_list.proofs.writer.push_items.Given as goal
 
--- What is written and the items that are left are all items.
+-- What is written and the remaining items are all items.
 abbrev pub invariant-loop-item : goal.invariant-loop-item
 invariant-loop-item g l = l.bytes.items ++ concat (g.I.ByteItems.items l.left)
     ≡ l.fn.bytes.items ++ concat (g.I.ByteItems.items l.fn.items)

@@ -4,7 +4,7 @@ use Rattle.std.specs.List.{list_any}
 use Rattle.packed_list.specs.ListBytes.{starts_from, two_bytes}
 use Rattle.packed_list.proofs.writer.push_starts.Given as goal
 
--- What is written and the starts that are left are all starts, and there is room for those that are left.
+-- What is written and the remaining starts are all starts, and there is room for the remaining ones.
 abbrev pub invariant-loop-item : goal.invariant-loop-item
 invariant-loop-item g l = record {
   room : vec_len l.bytes + 2 * length (g.I.ByteItems.items l.left) ≤ vec_capacity l.bytes;

@@ -4,7 +4,7 @@ use Rattle.std.specs.List.{concat, list_any}
 use Rattle.packed_list.specs.ListBytes.{has_high_start, starts_from}
 use Rattle.packed_list.proofs.writer.sizes.Given as goal
 
--- The starts that are left decide, since none so far is too high.
+-- The remaining starts decide, since none so far is too high.
 abbrev pub invariant-loop-item : goal.invariant-loop-item
 invariant-loop-item g l = record {
   count : l.count + length (g.I.ByteItems.items l.left) ≡ length (g.I.ByteItems.items l.fn.items);

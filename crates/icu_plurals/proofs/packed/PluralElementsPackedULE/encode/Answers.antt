@@ -10,28 +10,28 @@ use Rattle.icu_plurals.proofs.Encoded.{answers_as, encoded, default_refused, sta
 use Rattle.icu_plurals.proofs.packed.PluralElementsPackedULE.encode.Goals as goal
 use Rattle.icu_plurals.proofs.packed.PluralElementsPackedULE.encode.Goals.{After-list_beside, In-Ok}
 
--- the elements, their default as it is lent, and the bytes of their items
+-- the values of the borrowed elements
 abbrev values : After-list_beside → Elements PackedValue
 values c = each_by lent_value c.args.elements.now
 
--- what is packed as the default is other's value
+-- the default that is packed is other's value
 default_is : (c : After-list_beside) → lent_value c.other-default.result.now ≡ (values c).other
 default_is c = ap lent_value c.other-default.ensures
 
--- the items that are lent are those that the elements are packed as
+-- the borrowed items are the packed items of the elements
 items_are : (c : After-list_beside) → lent_bytes c.as_slice-items.result.now ≡ map item_bytes (packed_items (values c))
 items_are c = ap lent_bytes c.as_slice-items.ensures.value ∙ c.items_of-items.ensures.bytes
 
 -- ---- the refusals
 
--- a default that is too long is told exactly where the elements have this fault
+-- a default is refused as too long exactly if the elements have this fault
 long : (c : After-list_beside) → (c.list_beside.result ≡ Err DefaultLimit) ↔ (pack_fault (packed_of (values c)) ≡ Some DefaultLimit)
 long c =
     let told = default_refused (values c) (lent_value c.other-default.result.now) c.as_slice-items.result.now (default_is c)
     (items_are c) in
     ((λ h. told.0 (c.list_beside.ensures.default_limit.0 h)), (λ h. c.list_beside.ensures.default_limit.1 (told.1 h)))
 
--- a start that is too high is told exactly where the elements have this fault
+-- a start is refused as too high exactly if the elements have this fault
 high : (c : After-list_beside) → (c.list_beside.result ≡ Err StartLimit) ↔ (pack_fault (packed_of (values c)) ≡ Some StartLimit)
 high c =
     let told = start_refused (values c) (lent_value c.other-default.result.now) c.as_slice-items.result.now (default_is c) (items_are c) in
@@ -79,7 +79,7 @@ returns-in-Err-clause-start_limit c =
 
 -- ---- the bytes
 
--- what is written are the bytes of what the elements are packed as
+-- the bytes that are written are those of the packed elements
 is_encoded : (c : In-Ok) → ElementsBytes (packed_of (each_by lent_value c.args.elements.now)) c.in-Ok.bytes.items
 is_encoded c =
     let e = each_by lent_value c.args.elements.now in

@@ -12,7 +12,7 @@ not_utf8 bytes n = by (is_utf8 bytes) refl
     by true e = absurd (n (IsUtf8-from_is_utf8 bytes e))
     by false e = sym e
 
--- what a reader of texts answers tells whether the bytes are one
+-- the result of reading a text says whether the bytes are UTF-8
 tells : {T E : Type 0} (read : Result T E) (bytes : List ℕ) (P : T → Type 0) (Q : E → Type 0)
     → MatchResult read (λ text. P text × IsUtf8 bytes) (λ fault. (¬ (IsUtf8 bytes)) × Q fault) → is_ok read ≡ is_utf8 bytes
 tells (Ok text) bytes P Q h = sym (is_utf8-from_IsUtf8 bytes h.1)

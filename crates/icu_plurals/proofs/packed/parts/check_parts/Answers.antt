@@ -7,7 +7,7 @@ use Rattle.icu_plurals.proofs.ElementsOneFault.{parts_answer, rest_fault}
 use Rattle.icu_plurals.proofs.packed.parts.check_parts.Goals.{After-check_items}
 use Rattle.icu_plurals.proofs.packed.parts.check_parts.Goals as goal
 
--- no bit of 4 to 6 of the first byte is set
+-- none of bits 4 to 6 of the first byte is set
 no_padding : (c : After-check_items) → ¬ (HasPadding c.args.parts.now.first)
 no_padding c = λ high. omega (arith, high, c.if-parts-gt15.false)
 
@@ -19,7 +19,7 @@ has_text c = by c.is_text.result refl
     by true e = sym c.is_text.ensures ∙ e
     by false e = cc
 
--- what was looked at is what is left behind the default
+-- what was checked is the rest after the default
 is_rest : (c : After-check_items) → (lent_parts c.args.parts.now).rest ≡ Some c.in-Some.rest.now
 is_rest c = ap (option_map (λ rest. rest.now)) c.in-Some.is
 

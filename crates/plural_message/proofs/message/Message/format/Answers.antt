@@ -13,7 +13,7 @@ returns-clause-kept c = (c.in_ok-compact.compact, c.in_ok-compact.ensures.number
 pub returns-clause-exact : goal.returns-clause-exact
 returns-clause-exact c = (c.in_ok-compact.compact, c.in_ok-compact.ensures.number.0, c.in_ok-format_number.ensures.exact)
 
--- a fault of the form is handed on, and nothing else looks like one
+-- a fault of syntax is passed on, and no other error becomes one
 handed_on : {T U P : Type 0} (r : Result T DecimalError) (answer : Result U MessageError) (fault : DecimalError)
     → r ≡ Err fault → answer ≡ Err (number_error fault) → (r ≡ Err Syntax) ↔ P → (answer ≡ Err (Number Syntax)) ↔ P
 handed_on r answer Syntax was is told = (λ _. told.0 was, λ _. is)

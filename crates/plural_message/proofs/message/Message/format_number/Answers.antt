@@ -8,7 +8,7 @@ use Rattle.icu_plurals.specs.FiveRules.{FiveRules}
 use Rattle.icu_plurals.specs.PackedElements.{PackedValue}
 use Rattle.plural_message.proofs.message.Message.format_number.Goals as goal
 
--- the element that is answered at the kept operands
+-- the element that the kept operands choose
 kept_element : (e elements : Elements PackedValue) (rules : FiveRules) (x : Places) (exponent : ℕ) (kept : Operands) (element : PackedValue)
     → AreKept x exponent kept → element ≡ element_at e kept rules → e ≡ elements → IsKeptElement elements rules x exponent element
 kept_element e elements rules x exponent kept element are_kept is same = (kept, are_kept, is ∙ ap (λ l. element_at l kept rules) same)

@@ -6,7 +6,7 @@ use Rattle.icu_plurals.specs.Inner.ElementsViews.{lent_value, lent_values}
 use Rattle.icu_plurals.proofs.OneWalk.{with_items}
 use Rattle.icu_plurals.proofs.packed.values.Values.by_key.Given as goal
 
--- The items that are left, put into what is there, give all values by key.
+-- The remaining items, put into the present values, give all values by key.
 abbrev pub invariant-loop-item : goal.invariant-loop-item
 invariant-loop-item l = record {
   items : IsTrue (list_all is_item l.item-iterator);
