@@ -24,11 +24,11 @@ use Rattle.plural_base.specs.FiveRules.{modulus_on, moduli_of_relation}
 
 -- ---- Moduli
 
--- the list has each of these
+-- the list contains each of these
 abbrev pub Covers : List ℕ → List ℕ → Type 0
 Covers moduli some = (m : ℕ) → Contains some m → Contains moduli m
 
--- where a modulus on n or i is covered, it is listed; on other operands there is nothing to list
+-- if a modulus on n or i is covered, it is listed; on other operands nothing needs to be listed
 listed_of : (moduli : List ℕ) (operand : Operand) (modulus : ℕ) → Covers moduli (modulus_on operand modulus)
     → IsListed operand modulus moduli
 listed_of moduli N modulus covers = λ _. covers modulus (Contains-push [] modulus)
@@ -44,7 +44,7 @@ listed_of moduli E modulus covers = tt
 abbrev pub HasListed : List ℕ → RelationMeaning → Type 0
 HasListed moduli meaning = IsListed meaning.operand meaning.modulus moduli
 
--- what packed relations say is listed where all their moduli are covered
+-- what packed relations say is listed if all their moduli are covered
 packed_listed : (moduli : List ℕ) (relations : List PackedRelation) → Covers moduli (flat_map moduli_of_relation relations)
     → AllByRecursion (λ relation. HasListed moduli relation.meaning) relations
 packed_listed moduli [] covers = tt
@@ -55,7 +55,7 @@ packed_listed moduli (relation ∷ relations) covers = (
       (λ m here. covers m (Contains-append_right (moduli_of_relation relation) (flat_map moduli_of_relation relations) m here)),
 )
 
--- ---- From packed relations to a tree's
+-- ---- From packed relations to the relations of a tree
 
 -- what holds of what each packed relation says
 abbrev pub Says : (RelationMeaning → Type 0) → PackedRelation → Type 0
@@ -65,25 +65,25 @@ Says P relation = P relation.meaning
 abbrev pub Means : (RelationMeaning → Type 0) → Relation → Type 0
 Means P relation = P (meaning_of relation)
 
--- what holds of all of two lists joined holds of all of each
+-- what holds of all of two joined lists holds of all of each
 split_all : (P : PackedRelation → Type 0) (xs ys : List PackedRelation) → AllByRecursion P (xs ++ ys)
     → AllByRecursion P xs × AllByRecursion P ys
 split_all P [] ys all = (tt, all)
 split_all P (x ∷ xs) ys all = let both = split_all P xs ys all.1 in ((all.0, both.0), both.1)
 
--- what holds of relations that are marked And holds of those of the tree
+-- what holds of relations that are marked And holds of the tree's relations
 of_marked : (P : RelationMeaning → Type 0) (relations : List Relation) → AllByRecursion (Says P) (map (packed_relation And) relations)
     → AllByRecursion (Means P) relations
 of_marked P [] all = tt
 of_marked P (relation ∷ relations) all = (all.0, of_marked P relations all.1)
 
--- so it does of an and-condition, however its first relation is marked
+-- so it does for an and-condition, however its first relation is marked
 of_group : (P : RelationMeaning → Type 0) (mark : AndOr) (group : List Relation)
     → AllByRecursion (Says P) (packed_and_condition mark group) → AllByRecursion (Means P) group
 of_group P mark [] all = tt
 of_group P mark (relation ∷ relations) all = (all.0, of_marked P relations all.1)
 
--- so it does of each and-condition behind the first
+-- so it does for each and-condition after the first
 of_later : (P : RelationMeaning → Type 0) (gs : List (List Relation)) → AllByRecursion (Says P) (flat_map (packed_and_condition Or) gs)
     → AllByRecursion (AllByRecursion (Means P)) gs
 of_later P [] all = tt
@@ -91,7 +91,7 @@ of_later P (group ∷ gs) all =
     let both = split_all (Says P) (packed_and_condition Or group) (flat_map (packed_and_condition Or) gs) all in
     (of_group P Or group both.0, of_later P gs both.1)
 
--- so it does of all and-conditions of a tree
+-- so it does for all and-conditions of a tree
 of_groups : (P : RelationMeaning → Type 0) (gs : List (List Relation)) → AllByRecursion (Says P) (packed_groups gs)
     → AllByRecursion (AllByRecursion (Means P)) gs
 of_groups P [] all = tt
@@ -99,7 +99,7 @@ of_groups P (group ∷ gs) all =
     let both = split_all (Says P) (packed_and_condition And group) (flat_map (packed_and_condition Or) gs) all in
     (of_group P And group both.0, of_later P gs both.1)
 
--- each relation of a condition has its modulus listed, where those of the packed relations are covered
+-- each relation of a condition has its modulus listed, if those of the packed relations are covered
 condition_listed : (moduli : List ℕ) (condition : Condition) → Covers moduli (flat_map moduli_of_relation (packed condition))
     → AllByRecursion (AllByRecursion (Means (HasListed moduli))) (groups_of condition)
 unfolding packed
@@ -108,7 +108,7 @@ condition_listed moduli condition covers =
 
 -- ---- Ends
 
--- an or that is false has neither side
+-- if a disjunction is false, both its sides are
 neither : (a b : Bool) → (a || b) ≡ false → (a ≡ false) × (b ≡ false)
 neither false false e = (refl, refl)
 neither false true e = cc
@@ -118,12 +118,12 @@ neither true b e = cc
 is_small : (value : Value) → is_large value ≡ false → value.0 < 10 ^ 18
 is_small value e = grind (arith, nat_tests)
 
--- so is the end of an item whose values fit
+-- so is the end of an item whose values fit 32 bits
 item_small : (item : RangeListItem) → is_large_item item ≡ false → (ends_of item).1 < 10 ^ 18
 item_small (items.Range start end) e = is_small end (neither (is_large start) (is_large end) e).1
 item_small (items.Value value) e = is_small value e
 
--- so are the ends of all items, where none is large
+-- so are the ends of all items, if none is large
 items_small : (list : List RangeListItem) → list_any is_large_item list ≡ false
     → AllByRecursion (λ range. range.1 < 10 ^ 18) (map ends_of list)
 items_small [] e = tt
@@ -155,7 +155,7 @@ groups_small (group ∷ gs) e =
     let both = neither (list_any is_large_relation group) (list_any (list_any is_large_relation) gs) e in
     (group_small group both.0, groups_small gs both.1)
 
--- a large value is looked for in the same lists, with or without the wrapping of an and-condition
+-- large values are looked for in the same lists, with or without the wrapping of an and-condition
 large_groups : (gs : List AndCondition)
     → list_any (λ group. list_any is_large_relation group.0) gs ≡ list_any (list_any is_large_relation) (map (λ group. group.0) gs)
 large_groups [] = refl
@@ -169,7 +169,7 @@ condition_small condition e = groups_small (groups_of condition) (sym (large_gro
 
 -- ---- Both
 
--- where moduli are listed and ends are small, the relations of a group are admitted
+-- if moduli are listed and ends are small, the relations of a group are admitted
 group_both : (moduli : List ℕ) (group : List Relation) → AllByRecursion (Means (HasListed moduli)) group
     → AllByRecursion (Means HasSmallEnds) group
     → AllByRecursion (Means (IsAdmitted moduli)) group
@@ -183,7 +183,7 @@ groups_both : (moduli : List ℕ) (gs : List (List Relation)) → AllByRecursion
 groups_both moduli [] listed ends = tt
 groups_both moduli (group ∷ gs) listed ends = (group_both moduli group listed.0 ends.0, groups_both moduli gs listed.1 ends.1)
 
--- each relation of a condition without large values is admitted, where the moduli of what it is packed to are listed
+-- each relation of a condition without large values is admitted, if the moduli of its packed relations are listed
 pub condition_admitted : (moduli : List ℕ) (condition : Condition) → has_large_value condition ≡ false
     → Covers moduli (flat_map moduli_of_relation (packed condition))
     → AllByRecursion (AllByRecursion (λ relation. IsAdmitted moduli (meaning_of relation))) (groups_of condition)

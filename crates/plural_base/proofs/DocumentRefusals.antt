@@ -1,4 +1,4 @@
--- What refuses a map of a document refuses the document.
+-- An error of a map of a document is an error of the document.
 use Rattle.std.proofs.Common.{◌≡◌, true, codes, if◌then◌else◌, is_some, Option, Ok, Err, refl, sym, ap, ◌∙◌}
 use Rattle.plural_base.specs.declared.json.error.JsonError.{JsonError}
 use Rattle.plural_base.specs.declared.json.error.JsonError.TheVariants.{Float, Shape, Rule, RangeKey, RangeValue, Pack, Memory}
@@ -11,7 +11,7 @@ use Rattle.plural_base.specs.RulesJson.{rules_meant}
 use Rattle.serde_json.specs.Data.{Data}
 use Rattle.serde_json.specs.Find.{get, as_object}
 
--- a refusal is that of the whole, where the whole has that of the part
+-- a refusal of a part is a refusal of the whole, if the whole gives the part's error
 refused_with : {A B : Type 0} (e : JsonError) (part : Stands A) (whole : Stands B) → (part ≡ Err e → whole ≡ Err e)
     → IsRefusal e part → IsRefusal e whole
 refused_with Float part whole carry h = carry h
@@ -22,12 +22,12 @@ refused_with RangeValue part whole carry h = carry h
 refused_with (Pack fault) part whole carry h = carry h
 refused_with Memory part whole carry h = tt
 
--- behind two maps that are read the third is refused
+-- after two maps that are read, the third is refused
 third_of_three : (cardinal ordinal : Stands (Rows FiveRules)) (ranges : Stands (Rows PluralRanges)) (c o : Rows FiveRules) (e : JsonError)
     → cardinal ≡ Ok c → ordinal ≡ Ok o → ranges ≡ Err e → all_maps cardinal ordinal ranges ≡ Err e
 third_of_three cardinal ordinal ranges c o e first second third = rw (first, second, third) refl
 
--- what refuses the ranges refuses the document, where both maps of rules are read
+-- an error of the ranges is an error of the document, if both maps of rules are read
 pub ranges_refused : (value : Data) (a b r : Option Data) (c o : Rows FiveRules) (e : JsonError)
     → true ≡ is_some (as_object value)
     → a ≡ get (codes "cardinal") value → b ≡ get (codes "ordinal") value → r ≡ get (codes "ranges") value

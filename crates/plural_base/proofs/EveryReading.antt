@@ -11,7 +11,7 @@ use Rattle.plural_runtime.specs.RuleOfText.{IsPackedFrom}
 use Rattle.plural_base.specs.FiveRules.{Paired}
 use Rattle.plural_base.specs.RuleTexts.{IsRuleOf, IsAnswerFor, HaveEveryReading}
 
--- what a text is read as in two ways is one condition
+-- two readings of a text are one condition
 one_condition : HaveOneListOfTokens → HaveOneReading → (text : List ℕ) (a b : Condition)
     → TextReads Reads text a → TextReads Reads text b → a ≡ b
 one_condition one_list one_reading text a b g h =
@@ -30,7 +30,7 @@ condition_of_rule text condition h =
     let read = h.2.1 in
     subst P h.2.2 (h.0, h.1, (read.0, read.1))
 
--- a condition that is read of a text that gives a rule is that of the rule, which is its packing
+-- the condition that is read from a text that gives a rule is the rule's condition, which packs to the rule
 rule_again : HaveOneListOfTokens → HaveOneReading → (text : List ℕ) (condition : Condition) (rule : List PackedRelation)
     → IsPackedFrom text (Ok rule) → TextReads Reads text condition → TextReads ReadsCondition text condition × (packing condition ≡ Ok rule)
 rule_again one_list one_reading text condition rule known reading =
@@ -38,7 +38,7 @@ rule_again one_list one_reading text condition rule known reading =
     subst P (one_condition one_list one_reading text known.0 condition (condition_of_rule text known.0 known.1) reading)
     (known.1, sym known.2)
 
--- so it is where the text may be absent
+-- so it is if the text may be absent
 optional_again : HaveOneListOfTokens → HaveOneReading
     → (text : Option (List ℕ)) (condition : Option Condition) (rule : Option (List PackedRelation))
     → IsRuleOf text rule → Paired (TextReads Reads) text condition
@@ -66,11 +66,11 @@ every_condition one_list one_reading = λ texts conditions rules gives readings.
 
 -- ---- Readings of other kinds
 
--- what is read of a text is read as a condition
+-- what is read from a text is read as a condition
 abbrev AreConditions : (List ℕ → Condition → Type 0) → Type 0
 AreConditions Read = (text : List ℕ) (condition : Condition) → Read text condition → TextReads Reads text condition
 
--- so it is where the text may be absent
+-- so it is if the text may be absent
 as_condition : (Read : List ℕ → Condition → Type 0) → AreConditions Read → (text : Option (List ℕ)) (condition : Option Condition)
     → Paired Read text condition → Paired (TextReads Reads) text condition
 as_condition Read to None None reading = reading
@@ -94,7 +94,7 @@ every_reading Read to one_list one_reading = λ texts conditions rules gives rea
 pub every_rule : HaveOneListOfTokens → HaveOneReading → HaveEveryReading (TextReads ReadsCondition)
 every_rule = every_reading (TextReads ReadsCondition) condition_of_rule
 
--- by the conditions that are answered
+-- by the conditions that the parser returns
 pub every_answer : HaveOneListOfTokens → HaveOneReading → HaveEveryReading IsAnswerFor
 every_answer one_list one_reading =
     let read : AreConditions IsAnswerFor = λ text condition h.

@@ -1,4 +1,4 @@
--- Where a text is split at its first two hyphens.
+-- How a text is split at its first two hyphens.
 use Rattle.std.proofs.Common.{◌≡◌, ℕ, zero, suc, ◌+◌, ◌<◌, ◌≤◌, ◌==◌, List, [], ◌∷◌, ◌++◌, length, take, drop, Bool, true, false, not}
 use Rattle.std.proofs.Common.{◌&&◌, codes, MatchOption, Option, Some, None, sym, ap, subst, inl, inr, ◌∙◌, arith, append_assoc}
 use Rattle.std.proofs.Common.{length-append}
@@ -32,7 +32,7 @@ SplitsAtHyphens text r =
     (λ x. (i : ℕ) × (j : ℕ) × FindsText (codes "--") text (Some (i, j)) × (x.0.now ≡ take i text) × (x.1.now ≡ drop j text) × (i ≤ j) ×
     (length x.0.now ≡ i) × (length x.1.now + j ≡ length text))
 
--- behind its front a text goes on with the hyphens
+-- after its front, the text continues with the hyphens
 behind_front : (text front back : List ℕ) → text ≡ front ++ codes "--" ++ back → drop (length front) text ≡ codes "--" ++ back
 behind_front text front back is =
     ap (drop (length front)) (is ∙ append_assoc front (codes "--") back) ∙ drop-append_seam front (codes "--" ++ back)

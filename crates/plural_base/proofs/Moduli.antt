@@ -17,7 +17,7 @@ use Rattle.plural_base.specs.Inner.ModulusTests.{divides_ten_to_18}
 false_ne : (a b : ℕ) → (a == b) ≡ false → a ≡ b → ⊥
 false_ne a b e same = let t : (a == b) ≡ true = eq-eqb a b same in cc
 
--- the test of one modulus holds exactly where it divides, if it is above 0
+-- the test of one modulus holds exactly if it divides, if it is above 0
 divides_cases : (m n : ℕ) (none zero_left : Bool) → (m == 0) ≡ none → (n % m == 0) ≡ zero_left
     → IsTrue (none || zero_left) ↔ (0 < m → m ∣ n)
 divides_cases m n true left e f = (λ _ above. absurd (omega (arith, eqb-true m 0 e)), λ _. refl)
@@ -34,24 +34,24 @@ test_tells m = divides_cases m (10 ^ 18) (m == 0) (10 ^ 18 % m == 0) refl refl
 
 -- ---- Lists of moduli
 
--- an and that holds has both sides
+-- if a conjunction is true, both its sides are
 both_so : (a b : Bool) → IsTrue (a && b) → IsTrue a × IsTrue b
 both_so true true h = (refl, refl)
 both_so true false h = cc
 both_so false b h = cc
 
--- and with both sides it holds
+-- if both sides are true, the conjunction is
 and_so : (a b : Bool) → IsTrue a → IsTrue b → IsTrue (a && b)
 and_so true true h k = refl
 and_so true false h k = cc
 and_so false b h k = cc
 
--- two lists joined pass where each passes
+-- two joined lists pass if each passes
 pub tests_of_both : (xs ys : List ℕ)
     → list_all divides_ten_to_18 (xs ++ ys) ≡ (list_all divides_ten_to_18 xs && list_all divides_ten_to_18 ys)
 tests_of_both xs ys = list_all-append divides_ten_to_18 xs ys
 
--- the test of a list passes exactly where all of it divide
+-- the test of a list passes exactly if all its members divide
 pub tests_tell : (moduli : List ℕ) → IsTrue (list_all divides_ten_to_18 moduli) ↔ AllDivide moduli (10 ^ 18)
 tests_tell [] = (λ _ m here. absurd (omega (arith, here.1)), λ _. refl)
 tests_tell (modulus ∷ moduli) =

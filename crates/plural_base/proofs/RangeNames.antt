@@ -20,7 +20,7 @@ find_passes : {X : Type 0} (p : X → Bool) (xs : List X) (x : X) → find p xs 
 find_passes p [] x found = absurd cc
 find_passes p (y ∷ ys) x found = found_passes p (p y) y x (find p ys) refl (find_passes p ys x) found
 
--- nothing is there where nothing can be
+-- an option that can hold no value is absent
 none_there : {X : Type 0} (o : Option X) → ((x : X) → o ≡ Some x → ⊥) → o ≡ None
 none_there None never = refl
 none_there (Some x) never = absurd (never x refl)

@@ -1,4 +1,4 @@
--- What ranges are never refused by.
+-- Errors that ranges never give.
 use Rattle.std.proofs.Common.{◌≡◌, ◌≢◌, sym, Option, Some, None, Ok, Err, codes}
 use Rattle.std.specs.Option.{option_and_then}
 use Rattle.plural_runtime.specs.declared.error.RuleError.{RuleError}
@@ -12,15 +12,15 @@ use Rattle.plural_base.specs.Json.{Stands, ◌>>=◌, there_or, Answers}
 use Rattle.serde_json.specs.Data.{Data, Members, no_members, member}
 use Rattle.serde_json.specs.Find.{get, as_object, as_str}
 
--- a refusal that none of the parts has
+-- an error that none of the parts gives
 module _ (bad : JsonError) where
-  -- two steps aren't refused so, if neither is
+  -- two steps don't give it, if neither does
   never_then : {A B : Type 0} (first : Stands A) (next : A → Stands B) → first ≢ Err bad → ((x : A) → next x ≢ Err bad)
       → (first >>= next) ≢ Err bad
   never_then (Ok x) next no_first no_next = no_next x
   never_then (Err e) next no_first no_next = λ h. no_first cc
 
-  -- nor is what may be absent, by another refusal
+  -- nor does a value that may be absent, if its absence is another error
   never_there : {A : Type 0} (e : JsonError) (o : Option A) → e ≢ bad → there_or e o ≢ Err bad
   never_there e None other = λ h. other cc
   never_there e (Some x) other = λ h. absurd cc
@@ -46,7 +46,7 @@ module _ (bad : JsonError) where
         never_then (there_or Shape (option_and_then as_object (get (codes "ranges") value))) (members_meant no_ranges)
         (never_there Shape (option_and_then as_object (get (codes "ranges") value)) no_shape) (λ members. never_members members no_ranges)
 
--- want of memory
+-- ranges never give out of memory
 pub ranges_no_memory : (value : Data) → ranges_meant value ≢ Err Memory
 ranges_no_memory = never_ranges Memory (λ h. absurd cc) (λ h. absurd cc) (λ h. absurd cc)
 
@@ -58,7 +58,7 @@ ranges_no_rule category fault = never_ranges (Rule category fault) (λ h. absurd
 pub ranges_no_float : (value : Data) → ranges_meant value ≢ Err Float
 ranges_no_float = never_ranges Float (λ h. absurd cc) (λ h. absurd cc) (λ h. absurd cc)
 
--- what a call answers exactly, it answers
+-- if the result is exactly what is expected, the call returns it
 pub exactly_answered : {A : Type 0} (result stands : Stands A) → result ≡ stands → Answers (λ x. x) result stands
 exactly_answered (Ok x) stands is = sym is
 exactly_answered (Err Float) stands is = sym is

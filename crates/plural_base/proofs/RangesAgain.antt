@@ -25,12 +25,12 @@ use Rattle.plural_base.proofs.RawCategories.{at-each, at-put_at, by_category, sa
 
 -- ---- Members in the order of their keys
 
--- under a text below all keys stands nothing
+-- nothing is found under a text that is below all keys
 absent : (text : List ℕ) (ms : Members) → Below text (keys_in ms) → get_member text ms ≡ None
 absent text no_members h = refl
 absent text (member k d ms) h = ap (λ o. match_ordering o (get_member text ms) (Some d) (get_member text ms)) h.0 ∙ absent text ms h.1
 
--- under the key of the first member stands its value
+-- the value of the first member is found under its key
 here : (key : List ℕ) (d : Data) (ms : Members) → get_member key (member key d ms) ≡ Some d
 here key d ms = ap (λ o. match_ordering o (get_member key ms) (Some d) (get_member key ms)) (tied_itself nat_list_cmp_total key)
 
@@ -39,7 +39,7 @@ same_below : (text key : List ℕ) (keys : List (List ℕ)) → slice_cmp nat_cm
 same_below text key [] is h = tt
 same_below text key (y ∷ ys) is h = (nat_list_cmp_total.congr text key y is ∙ h.0, same_below text key ys is h.1)
 
--- what is found behind a member is found with it
+-- what is found after a member is found with it
 later : (o : Ordering) (text key : List ℕ) (d e : Data) (ms : Members) → slice_cmp nat_cmp text key ≡ o → Below key (keys_in ms)
     → get_member text ms ≡ Some e
     → match_ordering o (get_member text ms) (Some d) (get_member text ms) ≡ Some e
@@ -147,11 +147,11 @@ none_at s e = ap (λ row. at row e) (at-each (λ start. each (λ end. None)) s) 
 -- ---- Reading
 
 module _ (ranges : PluralRanges) where
-  -- a pair is read already, or a member of it comes
+  -- a pair is read already, or its member is still to come
   abbrev Settled : PluralRanges → Members → RawPluralCategory → RawPluralCategory → Type 0
   Settled acc ms s e = (category_at acc s e ≡ category_at ranges s e) ⊎ ((d : Data) × (get_member (range_text s e) ms ≡ Some d))
 
-  -- where no members are left, what is settled is read
+  -- if no members remain, what is settled is read
   is_read : (acc : PluralRanges) (s e : RawPluralCategory) → Settled acc no_members s e → category_at acc s e ≡ category_at ranges s e
   is_read acc s e (inl is) = is
   is_read acc s e (inr there) = absurd (let found = there.1 in cc)
@@ -170,7 +170,7 @@ module _ (ranges : PluralRanges) where
         ap (λ (r : Range). category_at after r.0 r.1) pair ∙ with_here acc h.start h.end h.category ∙ sym h.category_is
         ∙ sym (ap (λ (r : Range). category_at ranges r.0 r.1) pair)
 
-    -- a pair whose member comes is read with this one or comes behind it
+    -- a pair whose member is still to come is read with this one or comes after it
     comes : (o : Ordering) (v : Data) → slice_cmp nat_cmp (range_text s e) k ≡ o
         → match_ordering o (get_member (range_text s e) ms) (Some d) (get_member (range_text s e) ms) ≡ Some v
         → Settled after ms s e

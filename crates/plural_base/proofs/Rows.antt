@@ -42,7 +42,7 @@ below_middle : (first : List ℕ) (keys : List (List ℕ)) (k : List ℕ) (more 
 below_middle first [] k more h = h.0
 below_middle first (x ∷ keys) k more h = below_middle first keys k more h.1
 
--- it is put last
+-- a key above all keys is put last
 pub put_last : {A : Type 0} (rows : Rows A) (k : List ℕ) (v : A) (more : List (List ℕ)) → Ascend (keys_of rows ++ k ∷ more)
     → insert_entry (slice_cmp nat_cmp) rows k v ≡ rows ++ (k, v) ∷ []
 unfolding IsStrictlySortedBy
@@ -52,7 +52,7 @@ put_last (row ∷ rows) k v more h =
     ∙ ap ordering_reverse (below_middle row.0 (keys_of rows) k more h.0) in
     rw above (ap (λ rest. row ∷ rest) (put_last rows k v more h.1))
 
--- a key that is pushed stands behind the others
+-- a key that is pushed comes after the others
 keys_of-push : {A : Type 0} (rows : Rows A) (k : List ℕ) (v : A) (more : List (List ℕ))
     → keys_of (rows ++ (k, v) ∷ []) ++ more ≡ keys_of rows ++ k ∷ more
 keys_of-push [] k v more = refl
@@ -77,13 +77,13 @@ ascend_bytes (e ∷ es) h = (all_bytes e.0 es h.0, ascend_bytes es h.1)
 
 -- ---- What is found
 
--- what is found is seen as what stands there
+-- what is found is the view of the entry under the key
 found_or : {A B : Type 0} (f : A → B) (b : Bool) (x : A) (rest : Option A) (rest' : Option B) → rest' ≡ option_map f rest
     → cond b (Some (f x)) rest' ≡ option_map f (cond b (Some x) rest)
 found_or f true x rest rest' h = refl
 found_or f false x rest rest' h = h
 
--- what is found of a key is what stands under it
+-- what is found for a key is what is under it
 pub found_rows : {V A : Type 0} (seen : V → A) (locale : List ℕ) (es : List (String Global × V))
     → found locale (rows_by seen es) ≡ option_map seen (lookup (is_at (λ k. slice_cmp nat_cmp locale (string_bytes k))) es)
 found_rows seen locale [] = refl

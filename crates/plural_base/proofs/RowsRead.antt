@@ -10,18 +10,18 @@ use Rattle.std.specs.Ordering.{nat_cmp}
 use Rattle.plural_base.proofs.Rows.{Ascend, put_last, ascend_push}
 use Rattle.serde_json.specs.Data.{Data, Members, member}
 
--- rows that are read behind others
+-- rows that are read after others
 abbrev pub behind : {A : Type 0} → Rows A → Stands (Rows A) → Stands (Rows A)
 behind rows (Ok more) = Ok (rows ++ more)
 behind rows (Err e) = Err e
 
--- behind none
+-- after no rows
 pub behind_none : {A : Type 0} (more : Stands (Rows A)) → more ≡ behind [] more
 behind_none (Ok more) = refl
 behind_none (Err e) = refl
 
 module _ {A : Type 0} (meant : Data → Stands A) (rows : Rows A) (k : List ℕ) (d : Data) (ms : Members) where
-  -- a row behind others, before those that are left, is pushed to them
+  -- a row after others, before the remaining ones, is pushed to them
   push_behind : (first : A) (more : Stands (Rows A))
       → behind rows (more >>= λ rest. Ok ((k, first) ∷ rest)) ≡ behind (rows ++ (k, first) ∷ []) more
   push_behind first (Ok more) = ap Ok (sym (append_assoc rows ((k, first) ∷ []) more))
@@ -35,7 +35,7 @@ module _ {A : Type 0} (meant : Data → Stands A) (rows : Rows A) (k : List ℕ)
 -- ---- A step
 
 module _ {A : Type 0} (rows new : Rows A) (k : List ℕ) (first : A) (keys : List (List ℕ)) where
-  -- what is put behind keys that ascend is put last
+  -- a row whose key is above all keys is put last
   put_behind : new ≡ insert_entry (slice_cmp nat_cmp) rows k first → Ascend (keys_of rows ++ k ∷ keys) → new ≡ rows ++ (k, first) ∷ []
   put_behind put h = put ∙ put_last rows k first keys h
 

@@ -16,14 +16,14 @@ refused_as category text (fault.Parse kind) told = rw (sym told) refl
 refused_as category text fault.StartLimit told = rw (sym told) refl
 refused_as category text fault.Memory told = tt
 
--- want of memory may be answered in any case
+-- out of memory may be returned in any case
 refused_memory : (category : Option PluralCategory) (e : RuleError) {B : Type 0} (s : Stands B) → e ≡ fault.Memory
     → IsRefusal (refusal_of category e) s
 refused_memory category (fault.Parse kind) s h = absurd cc
 refused_memory category fault.StartLimit s h = absurd cc
 refused_memory category fault.Memory s h = tt
 
--- what is answered of a text that gives no rule is its refusal
+-- the error that is returned for a text that gives no rule is its refusal
 pub text_refused : (category : Option PluralCategory) (s : Option (List ℕ)) (text : List ℕ) (answer : RuleAnswer) (e : RuleError)
     → s ≡ Some text → answer ≡ Err e → (answer ≡ rule_of_text text) ⊎ (answer ≡ Err fault.Memory)
     → IsRefusal (refusal_of category e) (text_meant category s)

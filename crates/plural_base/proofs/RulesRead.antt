@@ -22,21 +22,21 @@ use Rattle.plural_base.specs.RuleTexts.{AreRulesOf, IsRuleOf}
 use Rattle.serde_json.specs.Data.{Data, null, boolean, number, string, array, object, Members, no_members, member}
 use Rattle.serde_json.specs.Find.{get, get_member, as_object, as_str}
 
--- what is answered without a refusal is one thing
+-- an `Ok` has one value
 same_ok : {A : Type 0} (x y : A) → ◌≡◌ {A = Stands A} (Ok x) (Ok y) → x ≡ y
 same_ok x y same = cc
 
 -- ---- One rule
 
--- a rule as contracts see it
+-- a rule, as contracts see it
 abbrev pub Rule : Type 0
 Rule = List PackedRelation
 
--- each text gives what the reader says
+-- each text gives what the reader gives
 abbrev pub AreGiven : Type 0
 AreGiven = (text : List ℕ) → TextGives text (rule_of_text text)
 
--- by the law that a text gives what the reader says
+-- by the law that a text gives what the reader gives
 pub are_given : TextsGiveOneAnswer → AreGiven
 are_given one_answer text = (one_answer text (rule_of_text text)).1 refl
 
@@ -60,7 +60,7 @@ optional_taken given category (Some (object ms)) rule h = absurd cc
 
 -- ---- Five rules
 
--- five that are all there
+-- five rules that are all present
 record AreFive {A : Type 0} (zero one two few many : Stands A) (all : Five A) : Type 0 where
   pub zero_is : zero ≡ Ok all.zero
   pub one_is : one ≡ Ok all.one
@@ -80,7 +80,7 @@ are_five (Ok z) (Ok o) (Ok t) (Ok f) (Ok m) all h =
     subst (AreFive (Ok z) (Ok o) (Ok t) (Ok f) (Ok m)) (same_ok _ _ h)
     (record { zero_is = refl; one_is = refl; two_is = refl; few_is = refl; many_is = refl })
 
--- five rules that are there are those of the texts under the five names
+-- five rules that are present are those of the texts under the five names
 taken_members : AreGiven → (value : Data) (rules : FiveRules)
     → AreFive (member_meant Zero value) (member_meant One value) (member_meant Two value) (member_meant Few value)
     (member_meant Many value) rules
@@ -107,7 +107,7 @@ rules_taken given value rules h =
 
 module _ {A : Type 0} (meant : Data → Stands A) (Reads : Data → A → Type 0)
     (taken : (value : Data) (thing : A) → meant value ≡ Ok thing → Reads value thing) (locale : List ℕ) where
-  -- at the key of a row stands what is read of its value, at another what the others have
+  -- under the key of a row is what is read from its value, under another key what the other rows have
   at_key : (o : Ordering) (value : Data) (thing : A) (there : Option Data) (there' : Option A) → Reads value thing
       → Paired Reads there there'
       → Paired Reads (match_ordering o there (Some value) there) (cond (is_eq o) (Some thing) there')
@@ -115,7 +115,7 @@ module _ {A : Type 0} (meant : Data → Stands A) (Reads : Data → A → Type 0
   at_key Equal value thing there there' h g = h
   at_key Greater value thing there there' h g = g
 
-  -- a row is read where its key is there, and so are the others
+  -- what is found for a locale is read from its member, in the first row or in the others
   row_read : (k : List ℕ) (value : Data) (ms : Members) (first : Stands A) (more : Stands (Rows A)) (rows : Rows A)
       → meant value ≡ first → ((rest : Rows A) → more ≡ Ok rest → Paired Reads (get_member locale ms) (found locale rest))
       → (first >>= λ x. (more >>= λ rest. Ok ((k, x) ∷ rest))) ≡ Ok rows
@@ -127,12 +127,12 @@ module _ {A : Type 0} (meant : Data → Stands A) (Reads : Data → A → Type 0
       (subst (λ b. Paired Reads (get_member locale (member k value ms)) (cond b (Some x) (found locale rest))) (is_eq-slice_cmp locale k)
       (at_key (slice_cmp nat_cmp locale k) value x _ _ (taken value x read) (others rest refl)))
 
-  -- a row is read where its key is there
+  -- what is found for a locale is read from its member
   rows_read : (ms : Members) (rows : Rows A) → rows_meant meant ms ≡ Ok rows → Paired Reads (get_member locale ms) (found locale rows)
   rows_read no_members rows h = subst (λ r. Paired Reads None (found locale r)) (same_ok _ _ h) tt
   rows_read (member k value ms) rows h = row_read k value ms _ _ rows refl (λ rest read. rows_read ms rest read) h
 
-  -- what a locale has in a map is read of the value under its key
+  -- what a map has for a locale is read from the value under its key
   map_read : (value : Option Data) (rows : Rows A) → map_meant meant value ≡ Ok rows
       → Paired Reads (option_and_then (get locale) value) (found locale rows)
   map_read None rows h = subst (λ r. Paired Reads None (found locale r)) (same_ok _ _ h) tt
@@ -145,7 +145,7 @@ module _ {A : Type 0} (meant : Data → Stands A) (Reads : Data → A → Type 0
 
 -- ---- A document
 
--- three maps that are all there
+-- three maps that are all present
 record AreMaps (cardinal ordinal : Stands (Rows FiveRules)) (ranges : Stands (Rows PluralRanges)) (document : Document) : Type 0 where
   pub cardinal_is : cardinal ≡ Ok document.cardinal
   pub ordinal_is : ordinal ≡ Ok document.ordinal
@@ -161,7 +161,7 @@ are_maps (Ok c) (Ok o) (Err e) document h = absurd cc
 are_maps (Ok c) (Ok o) (Ok r) document h =
     subst (AreMaps (Ok c) (Ok o) (Ok r)) (same_ok _ _ h) (record { cardinal_is = refl; ordinal_is = refl; ranges_are = refl })
 
--- each map of a document is read from what stands under its key
+-- each map of a document is read from the value under its key
 module _ (given : AreGiven) (value : Data) where
   -- the maps of a document are those under its keys
   maps_of : (document : Document) → document_meant value ≡ Ok document

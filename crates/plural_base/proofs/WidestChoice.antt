@@ -13,32 +13,32 @@ use Rattle.plural_base.specs.declared.category.PluralCategory.TheVariants.{One, 
 use Rattle.plural_base.specs.ChoiceLaws.{only_one, leaves, alone, BoundIsWidestForChoice}
 use Rattle.plural_base.specs.FiveRules.{first_category}
 
--- one group of one relation is true where the relation is
+-- one group of one relation is true if the relation is
 test_alone : (b : Bool) → ((b && true) || false) ≡ b
 test_alone true = refl
 test_alone false = refl
 
--- rules with one alone choose it where its thing passes
+-- rules with a rule for one only choose it if its test passes
 chosen_one : {A : Type 0} (test : A → Bool) (thing : A) (truth : Bool) → test thing ≡ truth
     → first_category test (only_one thing) ≡ (if truth then One else Other)
 chosen_one test thing truth same = ap (λ b. if b then One else Other) same
 
--- the rule alone is true of the exact number where its relation is
+-- the only rule is true of the exact number if its relation is
 exact_at : (exact : Operands) (m : ℕ)
     → exact_truth exact (alone (leaves m (2 * 10 ^ 18 % m))) ≡ exact_relation_truth exact (left_of_twice m)
 exact_at exact m = test_alone (exact_relation_truth exact (left_of_twice m))
 
--- packed, it is true of the kept operands where its relation is
+-- the packed rule is true of the kept operands if its relation is
 kept_at : (kept : Operands) (m : ℕ)
     → packed_truth kept (packed (alone (leaves m (2 * 10 ^ 18 % m)))) ≡ relation_truth kept (left_of_twice m)
 unfolding packed_truth packed
 kept_at kept m = test_alone (relation_truth kept (left_of_twice m))
 
--- where neither value is large, none in the condition is
+-- if neither value is large, none in the condition is
 none_large : (a b : Bool) → a ≡ false → b ≡ false → (((a || (b || false)) || false) || false) ≡ false
 none_large a b e f = rw (e, f) refl
 
--- neither the modulus nor what it leaves is above 32 bits
+-- neither the modulus nor the remainder is above 32 bits
 small : (m r : ℕ) → m < 2 ^ 32 → r < 2 ^ 32 → has_large_value (alone (leaves m r)) ≡ false
 unfolding has_large_value
 small m r h k =

@@ -3,7 +3,7 @@ use Rattle.std.proofs.Common.{◌≡◌, ℕ, zero, suc, ◌+◌, ◌≤◌, sym
 use Rattle.std.specs.Prelude.{min}
 use Rattle.std.specs.Fn.{iterate}
 
--- so many steps and more are those steps, and then the others
+-- m + n steps are m steps and then n steps
 iterate-add : {A : Type 0} (f : A → A) (m n : ℕ) (x : A) → iterate f (m + n) x ≡ iterate f n (iterate f m x)
 iterate-add f zero n x = let e : zero + n ≡ n = omega arith in ap (λ k. iterate f k x) e
 iterate-add f (suc m) n x = let e : suc m + n ≡ suc (m + n) = omega arith in ap (λ k. iterate f k x) e ∙ iterate-add f m n (f x)

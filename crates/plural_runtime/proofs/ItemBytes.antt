@@ -231,7 +231,7 @@ relation_spelled (a ∷ b ∷ c ∷ d ∷ e ∷ bytes) is h =
     ∙ ap (λ q. a ∷ (q ++ flat_map range_bytes (ranges_in bytes))) n
     ∙ ap (λ q. a ∷ b ∷ c ∷ d ∷ e ∷ q) r
 
--- what is behind a place in bytes are bytes
+-- the rest of bytes after a place is bytes
 pub get-bytes : (bytes : List ℕ) (n i : ℕ) → AreBytes bytes → get_or (drop n bytes) i 0 < 256
 get-bytes bytes n i is = rw (get_or-drop n bytes i 0) (is (n + i))
 

@@ -46,7 +46,7 @@ joined_more separator text xs k x h e =
     ∙ joined-push separator text (take k xs) x
     ∙ sym (ap (joined separator text) (take_next xs k x e))
 
--- the parts behind the first one, each with the separator before it
+-- the first part, and the parts after it, each with the separator before it
 pub joined-flat_map : {A : Type 0} (separator : List ℕ) (text : A → List ℕ) (x : A) (xs : List A)
     → joined separator text (x ∷ xs) ≡ text x ++ flat_map (λ y. separator ++ text y) xs
 joined-flat_map separator text x [] = sym (append-nil (text x))

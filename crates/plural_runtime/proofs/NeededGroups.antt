@@ -44,7 +44,7 @@ all-append test (x ∷ earlier) member = ap (λ b. test x && b) (all-append test
     and_assoc true b c = refl
     and_assoc false b c = refl
 
--- the ranges of a list, behind earlier ones of which some or none holds the value
+-- the needed ranges of a list, after earlier ranges of which some or none contains the value
 pub needed-behind : (value : ℕ) (earlier ranges : List (ℕ × ℕ)) (found : Bool) → list_any (range_holds value) earlier ≡ found
     → count_by (λ at. not (is_in_ranges at.0 value)) (with_earlier_from earlier ranges)
     ≡ (if found then 0 else needed_from value ranges)
@@ -74,7 +74,7 @@ needed_in_group number [] = 0
 needed_in_group number (relation ∷ group) =
     needed_of_relation number relation.meaning + (if is_true_at number relation then needed_in_group number group else 0)
 
--- the needed ranges of relations behind earlier ones, all of which are true or not
+-- the needed ranges of relations, after earlier relations that are all true or not
 pub group-behind : (number : Operands) (earlier group : List PackedRelation) (so_far : Bool) → group_truth number earlier ≡ so_far
     → sum_by (λ at. if group_truth number at.0 then needed_of_relation number at.1.meaning else 0)
     (with_earlier_from earlier group) ≡ (if so_far then needed_in_group number group else 0)
@@ -108,7 +108,7 @@ needed_in_groups number [] = 0
 needed_in_groups number (group ∷ groups) =
     needed_in_group number group + (if group_truth number group then 0 else needed_in_groups number groups)
 
--- the needed ranges of groups behind earlier ones, of which some or none is true
+-- the needed ranges of groups, after earlier groups of which some or none is true
 pub groups-behind : (number : Operands) (earlier groups : List (List PackedRelation)) (found : Bool)
     → list_any (group_truth number) earlier ≡ found
     → sum_by (λ at. if list_any (group_truth number) at.0 then 0 else needed_of_group number at.1)

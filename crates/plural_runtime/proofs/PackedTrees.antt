@@ -1,4 +1,4 @@
--- What packing a tree answers.
+-- The result of packing a tree.
 use Rattle.std.proofs.Common.{◌≡◌, ℕ, ◌+◌, ◌-◌, ◌*◌, ◌<◌, ◌≤◌, ◌^◌, List, [], ◌∷◌, ◌++◌, length, map, refl, ap, ◌∙◌, arith, Bool}
 use Rattle.std.proofs.Common.{true, false, Some, None}
 use Rattle.std.specs.Prelude.{◌||◌, nat_lt, Option, Ok, Err, flat_map}
@@ -20,7 +20,7 @@ use Rattle.plural_runtime.specs.PackedRelations.{PackedRelation, FitsBytes, rela
 use Rattle.plural_runtime.specs.PackedTree.{packed, packed_groups, packed_and_condition, packed_relation, has_large_value, is_large}
 use Rattle.plural_runtime.specs.PackedTree.{is_large_item, is_large_modulus, is_large_relation, packing}
 
--- ---- the three answers
+-- ---- the three results
 
 -- a large value anywhere is refused first
 pub packing-large : (condition : Condition) → has_large_value condition ≡ true → packing condition ≡ Err (Parse ValueTooLarge)
@@ -130,7 +130,7 @@ relation_length : (relation : PackedRelation) → 5 ≤ length (relation_bytes r
 unfolding relation_bytes
 relation_length relation = omega arith
 
--- behind a place that is high enough for the relations that follow, some start is high
+-- if the place is high enough for the relations that follow, some start after it is high
 high_behind : (bound place : ℕ) (relations : List PackedRelation) → 0 < length relations
     → bound < place + 5 * (length relations - 1)
     → list_any (λ start. nat_lt bound start) (starts_from place (map relation_bytes relations)) ≡ true

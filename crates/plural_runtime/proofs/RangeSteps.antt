@@ -65,13 +65,13 @@ range_step value bytes range rest holds h e f g =
 pub nothing_needed : (value : ℕ) (bytes : List ℕ) → length bytes < 8 → needed_from value (ranges_in bytes) ≡ 0
 nothing_needed value bytes h = ap (needed_from value) (ranges-short bytes h)
 
--- what is left behind a range is whole, and holds one where it isn't empty
+-- the rest after a range is whole, and contains a range unless it is empty
 pub record WholeRest (rest : List ℕ) : Type 0 where
   pub whole : (length rest % 8 == 0) ≡ true
   pub some : (length rest == 0) ≡ false → 8 ≤ length rest
   pub short : (length rest == 0) ≡ true → length rest < 8
 
--- what is left behind a first range of whole ranges is whole
+-- the rest after the first of whole ranges is whole
 pub whole_rest : (bytes rest : List ℕ) → (length bytes % 8 == 0) ≡ true → 8 ≤ length bytes → rest ≡ drop 8 bytes → WholeRest rest
 whole_rest bytes rest h l e =
     let n : length rest ≡ length bytes - 8 = ap length e ∙ omega (arith, length-drop 8 bytes) in

@@ -70,12 +70,12 @@ group_shown-cons : (relation : PackedRelation) (group : List PackedRelation)
     → group_shown (relation ∷ group) ≡ relation_shown relation.meaning ++ ands group
 group_shown-cons relation group = joined-flat_map (codes " and ") (λ (r : PackedRelation). relation_shown r.meaning) relation group
 
--- the groups behind the first relation
+-- the groups after the first relation
 abbrev tail_shown : List (List PackedRelation) → List ℕ
 tail_shown [] = []
 tail_shown (group ∷ gs) = ands group ++ ors gs
 
--- one relation more at the front, behind the first one
+-- one relation more at the front, after the first one
 step_shown : (mark : AndOr) (relation : PackedRelation) (group : List PackedRelation) (gs : List (List PackedRelation)) →
     tail_shown (cut_before mark (at_front relation (group ∷ gs)))
     ≡ (mark_text false mark ++ relation_shown relation.meaning) ++ tail_shown (group ∷ gs)
@@ -87,7 +87,7 @@ step_shown Or relation group gs =
     four : (a b c d : List ℕ) → (a ++ (b ++ c)) ++ d ≡ (a ++ b) ++ (c ++ d)
     four a b c d = simp append_assoc
 
--- the relations behind the first one are printed by groups, or one after the other
+-- the relations after the first one are printed by groups, or one after the other
 others_shown-is : (relations : List PackedRelation) → tail_shown (groups relations) ≡ others_shown relations
 others_shown-is [] = refl
 others_shown-is (relation ∷ relations) =
@@ -149,7 +149,7 @@ pub shown_none : (is_first : Bool) → shown_from is_first [] ≡ []
 shown_none true = refl
 shown_none false = refl
 
--- a relation and those behind it
+-- a relation and those after it
 pub shown_more : (is_first : Bool) (so_far : List ℕ) (relation : PackedRelation) (relations : List PackedRelation)
     → so_far ++ shown_from is_first (relation ∷ relations)
     ≡ (so_far ++ (mark_text is_first relation.and_or ++ relation_shown relation.meaning)) ++ shown_from false relations
@@ -175,7 +175,7 @@ pub ranges_none : (is_first : Bool) → ranges_from is_first [] ≡ []
 ranges_none true = refl
 ranges_none false = refl
 
--- a range and those behind it
+-- a range and those after it
 pub ranges_more : (is_first : Bool) (so_far : List ℕ) (range : RangeOrValue) (ranges : List RangeOrValue)
     → so_far ++ ranges_from is_first (range ∷ ranges)
     ≡ (so_far ++ ((if is_first then [] else codes ", ") ++ range_shown range)) ++ ranges_from false ranges

@@ -80,7 +80,7 @@ is_same_relation-Decides relation other =
       (λ h. same.1 (ap relation_numbers h)),
     )
 
--- lent relations are the same if their parts are
+-- borrowed relations are the same if their parts are
 pub lent_same : (a b : Relation) → a.kind ≡ b.kind → a.modulo ≡ b.modulo → ranges_in a.ranges.now ≡ ranges_in b.ranges.now
     → lent_relation a ≡ lent_relation b
 lent_same a b kind modulo ranges =
@@ -109,7 +109,7 @@ kind_of relation = record {
       packed_operand_of relation.meaning.operand;
 }
 
--- so the kind of a lent relation comes back from its meaning
+-- so the kind of a borrowed relation is determined by its meaning
 kind_again : (a : Relation) → record {
   and_or = a.kind.and_or;
   polarity = polarity_of (operator_of a.kind.polarity);

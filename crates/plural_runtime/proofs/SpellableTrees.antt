@@ -109,7 +109,7 @@ groups-ands (relation ∷ relations) more =
     ap (at_front (packed_relation And relation)) (groups-ands relations more)
     ∙ front_more (packed_relation And relation) (map (packed_relation And) relations) (groups more)
 
--- each and-condition whose first relation is marked Or is a group, behind an empty first one
+-- each and-condition whose first relation is marked Or is a group, after an empty first group
 groups-ors : (gs : List (List Relation)) → AllByRecursion NotEmpty gs
     → groups (flat_map (packed_and_condition Or) gs) ≡ [] ∷ map (packed_and_condition Or) gs
 groups-ors [] h = refl

@@ -28,7 +28,7 @@ told_is_given : TextsAreRead → (text : List ℕ) (answer : RuleAnswer) (outcom
 told_is_given law text answer (Ok condition) e h = inl (condition, ((law text).0 condition).1 e, h)
 told_is_given law text answer (Err kind) e h = inr (kind, ((law text).1 kind).1 e, h)
 
--- a text that is read as a condition gives what packing it answers, want of memory aside
+-- a text that is read as a condition gives the result of packing it, unless that is out of memory
 pub gives_when_read : (text : List ℕ) (condition : Condition) (answer : RuleAnswer)
     → TextReads ReadsCondition text condition → Packs condition answer → TextGives text answer ⊎ (answer ≡ Err Memory)
 gives_when_read text condition answer reads (inl is) = inl (inl (condition, reads, is))

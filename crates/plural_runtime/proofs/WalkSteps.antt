@@ -65,7 +65,7 @@ skips number (item ∷ skipped) rest marked =
     let more = skips number skipped rest marked.1 in
     record { truth = one.truth ∙ more.truth; needed = one.needed ∙ more.needed }
 
--- behind a false group the first one of the next group is read
+-- after a false group, the first relation of the next group is read
 pub reads_next_group : (number : Operands) (items skipped : List (List ℕ)) (item : List ℕ) (rest : List (List ℕ)) → AreOfGroup skipped
     → items ≡ skipped ++ item ∷ rest → (relation_in item).and_or ≡ Or → ReadsNext number false items item rest
 reads_next_group number items skipped item rest marked whole mark =
@@ -77,7 +77,7 @@ reads_next_group number items skipped item rest marked whole mark =
       needed = ap (needed_left number false) same ∙ behind.needed ∙ read.needed;
     }
 
--- behind the last group there is none
+-- after the last group there is no relation to read
 pub none_is_left : (number : Operands) (items : List (List ℕ)) → AreOfGroup items → ReadsNoMore number false items
 none_is_left number [] marked = record { truth = refl; needed = refl }
 none_is_left number (item ∷ items) marked =
@@ -176,7 +176,7 @@ all_skipped items left so_far none =
 
 -- ---- Items that are relations
 
--- the first one and those behind it
+-- the first relation and those after it
 pub relations_behind : (items : List (List ℕ)) (item : List ℕ) (rest : List (List ℕ)) → items ≡ item ∷ rest
     → IsTrue (list_all is_relation items)
     → IsTrue (is_relation item) × IsTrue (list_all is_relation rest)
@@ -184,7 +184,7 @@ relations_behind items item rest whole all =
     let parts : IsTrue (list_all is_relation (item ∷ rest)) = subst (λ l. IsTrue (list_all is_relation l)) whole all in
     (first_so (is_relation item) (list_all is_relation rest) parts, second_so (is_relation item) (list_all is_relation rest) parts)
 
--- those behind others
+-- the relations after skipped ones
 pub relations_after : (skipped rest : List (List ℕ)) → IsTrue (list_all is_relation (skipped ++ rest))
     → IsTrue (list_all is_relation rest)
 relations_after [] rest all = all

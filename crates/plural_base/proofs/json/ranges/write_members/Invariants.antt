@@ -4,7 +4,7 @@ use Rattle.plural_base.specs.Inner.JsonSteps.{put_row, range_members}
 use Rattle.serde_json.specs.View.{members_view}
 use Rattle.plural_base.proofs.json.ranges.write_members.Given as goal
 
--- the rows that are left are put behind those so far
+-- the remaining rows are put after those so far
 abbrev pub invariant-loop-start : goal.invariant-loop-start
 invariant-loop-start l =
     fold (put_row l.ranges) (members_view l.members.entries) (drop l.start-index all_raw_categories) ≡ range_members l.ranges

@@ -5,7 +5,7 @@ use Rattle.plural_base.specs.Ranges.{category_at}
 use Rattle.serde_json.specs.View.{members_view}
 use Rattle.plural_base.proofs.json.ranges.write_row.Given as goal
 
--- the ends that are left are put behind those so far
+-- the remaining ends are put after those so far
 abbrev pub invariant-loop-end : goal.invariant-loop-end
 invariant-loop-end l =
     fold (λ ms end. put_range l.start end ms (category_at l.ranges l.start end)) (members_view l.members.entries)

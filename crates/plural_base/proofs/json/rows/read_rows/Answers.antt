@@ -11,7 +11,7 @@ use Rattle.plural_base.proofs.RowsRead.{behind, behind_none, rows_kept, order_ke
 use Rattle.plural_base.proofs.json.rows.read_rows.Goals as goal
 use Rattle.plural_base.proofs.json.rows.read_rows.Goals.{After-into_iter-locale-iterator, In_ok-put}
 
--- all members are left at first
+-- all members remain at first
 all_left : (g : _) (c : After-into_iter-locale-iterator g) → c.into_iter-locale-iterator.result ≡ c.args.members.now.entries
 all_left g c = c.into_iter-locale-iterator.ensures.into_iter_gives ∙ c.iter-locale-items.ensures.rest
 
@@ -22,7 +22,7 @@ loop-locale-init g c =
       rw (c.new-rows.ensures.empty, left) (ascend_bytes c.args.members.now.entries c.iter-locale-items.ensures.ordered),
     )
 
--- the member's row is put, and its key is behind those before it
+-- the member's row is put, and its key is after those before it
 is_put : (g : _) (c : In_ok-put g) → rows_by g.T.FromJson.seen c.put.new.rows.entries
     ≡ insert_entry (slice_cmp nat_cmp) (rows_by g.T.FromJson.seen c.loop-locale.rows.entries) (string_bytes c.in-Some.locale.now)
     (g.T.FromJson.seen c.in_ok-row.row)
@@ -32,7 +32,7 @@ is_put g c =
     (seen c.in_ok-row.row))
     c.in_ok-clone.ensures.cases c.in_ok-put.ensures
 
--- the keys so far, the member's and those that are left ascend
+-- the keys so far, the member's key and the remaining keys ascend
 in_order : (g : _) (c : In_ok-put g)
     → Ascend
     (keys_of (rows_by g.T.FromJson.seen c.loop-locale.rows.entries) ++ string_bytes c.in-Some.locale.now ∷ key_bytes c.next.new.self)

@@ -6,7 +6,7 @@ use Rattle.plural_base.specs.declared.category.raw.RawPluralCategory.{RawPluralC
 use Rattle.plural_base.specs.Ranges.{range_byte}
 use Rattle.plural_base.proofs.ranges.key.UnvalidatedPluralRange.to_json.Goals as goal
 
--- a byte that names a range is refused by no key
+-- a byte that names a range isn't refused as a key
 named : {A : Type 0} (r : Result A JsonError) (byte : ℕ) (start end : RawPluralCategory) → byte ≡ range_byte start end
     → (r ≡ Err RangeKey → ⊥)
     → (r ≡ Err RangeKey) ↔ ((s : RawPluralCategory) (e : RawPluralCategory) → byte ≢ range_byte s e)
