@@ -116,7 +116,7 @@ scaled (suc m) a f part some below =
     ∙ scaled_remainder a f part (suc m) (omega arith) below
     ∙ sym (ap (λ n. n * part + f) (remainder-some (suc m) a (omega arith)))
 
--- so many whole ones and f parts are whole just where f is 0
+-- a whole parts and f more are a whole number exactly if f is 0
 whole_of-parts : (a f part : ℕ) → f < part → whole_of part (a * part + f) ≡ cond (eqb f 0) (Some a) None
 whole_of-parts a f part below =
     ap (λ n. cond (eqb n 0) (Some ((a * part + f) / part)) None) (mod-mul-add a part f below)

@@ -55,7 +55,7 @@ holds_whole_numbers ranges modulus o = (
 
 -- ---- the bound before the shift
 
--- the point moved to the right: so many more integer places, and fewer fraction places
+-- moving the point to the right adds that many integer places, and removes at most that many fraction places
 pub shifted_places : ShiftedPlaces
 shifted_places x e = (length-whole e x, length-fraction e x)
 

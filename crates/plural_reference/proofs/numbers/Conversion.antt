@@ -137,7 +137,7 @@ first_fraction_digits w f n = ap (λ ds. take n ds) (drop-append_seam w f)
 
 -- ---- the two sides
 
--- The last m integer digits are those from the place on that so many places are left from.
+-- The last m integer digits are those that start m places before the end of the integer digits.
 pub last_from : (e : ℕ) (x : Places) (m : ℕ) → m ≤ length (shift_right e x).whole
     → digits_from x (length (shift_right e x).whole - m) m ≡ drop (length (shift_right e x).whole - m) (shift_right e x).whole
 last_from e x m h =
@@ -145,7 +145,7 @@ last_from e x m h =
     let a : length (y.whole ++ y.fraction) ≡ length y.whole + length y.fraction = length-append y.whole y.fraction in
     digits_from-part e x (length y.whole - m) m (omega arith) ∙ last_digits y.whole y.fraction m h
 
--- The first n fraction digits are those from the first place behind the integer digits on.
+-- The first n fraction digits are those from the first place after the integer digits on.
 pub first_from : (e : ℕ) (x : Places) (n : ℕ) → n ≤ length (shift_right e x).fraction
     → digits_from x (length (shift_right e x).whole) n ≡ take n (shift_right e x).fraction
 first_from e x n h =

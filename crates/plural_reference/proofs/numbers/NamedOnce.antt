@@ -30,7 +30,7 @@ one_exponent text c d (inr (more, h, e)) (inr (rest, k, f)) =
 
 -- ---- the same parts name the same operands
 
--- The same digits and exponent behind a point name the same operands.
+-- The same digits and exponent after a point name the same operands.
 one_behind_point : (i : ℕ) (text : List ℕ) (x y : Operands) → WritesBehindPoint i text x → WritesBehindPoint i text y → x ≡ y
 one_behind_point i text x y (xs, r, same, w, f, p, e) (ys, s, other, u, g, q, k) =
     let word : HasWord text xs r = record { word = w; spelled = e; whole = exponent_begins r x.c p } in
@@ -46,7 +46,7 @@ no_point : (rest more : List ℕ) (c : ℕ) → rest ≡ 46 ∷ more → WritesE
 no_point rest more c e (inl h) = none_and_some rest more 46 h.0 e
 no_point rest more c e (inr (others, h, k)) = let b : 46 ≡ 101 = other_head 46 101 more others (sym e ∙ k) in omega (arith, b)
 
--- without a point, or behind it
+-- without a point, or after one
 one_behind : (i : ℕ) (rest : List ℕ) (x y : Operands)
     → ((more : List ℕ) × (rest ≡ 46 ∷ more) × WritesBehindPoint i more x) ⊎ (WritesExponent rest x.c × HasFraction x 0 0 × (x.i ≡ i))
     → ((more : List ℕ) × (rest ≡ 46 ∷ more) × WritesBehindPoint i more y) ⊎ (WritesExponent rest y.c × HasFraction y 0 0 × (y.i ≡ i))
@@ -58,7 +58,7 @@ one_behind i rest x y (inr (p, f, h)) (inl (more, e, k)) = absurd (no_point rest
 one_behind i rest x y (inr (p, f, h)) (inr (q, g, k)) =
     one_record x y (h ∙ sym k) (one_fraction x y 0 0 f g) (one_exponent rest x.c y.c p q)
 
--- Without a sign it names one, by its count and what stands behind it.
+-- Without a sign, a text names one list of operands, by its count and the rest after it.
 one_unsigned : (text : List ℕ) (x y : Operands) → WritesUnsignedOperands text x → WritesUnsignedOperands text y → x ≡ y
 one_unsigned text x y h k =
     let parts : (fraction exponent : List ℕ) × HasCount text x.i (fraction ++ exponent) × WritesFraction fraction x

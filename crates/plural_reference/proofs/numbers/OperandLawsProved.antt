@@ -74,13 +74,13 @@ same_six a b i v w f t c = cc
 pub one_record : (a b : Operands) → a.i ≡ b.i → SameFraction a b → a.c ≡ b.c → a ≡ b
 one_record a b i s c = six_parts a ∙ same_six a b i s.v s.w s.f s.t c ∙ sym (six_parts b)
 
--- so many digits are left of a written fraction without its last zeros, and t is their number
+-- w is the count of digits of a written fraction without its last zeros, and t is the number that they write
 record IsLeast (shown written w t : ℕ) : Type 0 where
   pub divides : 10 ^ (shown - w) ∣ written
   pub least : (k : ℕ) → 10 ^ (shown - k) ∣ written → w ≤ k
   pub quotient : t ≡ written / 10 ^ (shown - w)
 
--- a count that writes the fraction with zeros behind it, as no smaller one does, is the least
+-- a count that writes the fraction with zeros after it, and than which no smaller count does, is the least
 found : (left number shown written : ℕ) → written ≡ number * 10 ^ (shown - left)
     → ((k : ℕ) → 10 ^ (shown - k) ∣ written → left ≤ k) → IsLeast shown written left number
 found left number shown written e l = record {

@@ -297,7 +297,7 @@ pub no_count : (text : List ℕ) → ((ds rest : List ℕ) → ¬ (HasWord (with
 no_count text none n rest h = let w : (ds : List ℕ) × HasWord (without_sign 43 text) ds rest × (value_of ds ≡ n) =
     word_of_count text n rest h in none w.0 rest w.1
 
--- a count behind which the text ends
+-- a count after which the text ends
 pub whole_count : (text : List ℕ) (n : ℕ) (rest : List ℕ) → rest ≡ [] → HasCount text n rest → WritesCount text n
 whole_count text n rest empty (front, w, e, whole) =
     subst (λ (l : List ℕ). WritesCount l n) (sym (e ∙ ap (λ l. front ++ l) empty ∙ append-nil front)) w
@@ -324,7 +324,7 @@ answer_exponent text rest None e a = refused
     refused c (inl h) = let z : 0 ≡ suc (length rest) = ap length (sym h.0 ∙ e) in omega (arith, z)
     refused c (inr (more, w, k)) = a c (subst (λ (l : List ℕ). WritesCount l c) (same_tail 101 101 more rest (sym k ∙ e)) w)
 
--- ---- behind the point
+-- ---- after the point
 
 pub word_behind_point : (i : ℕ) (text : List ℕ) (o : Operands) → WritesBehindPoint i text o
     → (ds rest : List ℕ) × HasWord text ds rest × WritesExponent rest o.c
@@ -350,7 +350,7 @@ behind_point i text ds rest o h whole f x = (ds, rest, whole, h.word, f, x, h.sp
 
 -- ---- without a sign
 
--- the integer, and what stands behind it
+-- the integer, and the rest after it
 pub count_of_unsigned : (text : List ℕ) (o : Operands) → WritesUnsignedOperands text o
     → (fraction exponent : List ℕ) × HasCount text o.i (fraction ++ exponent) × WritesFraction fraction o × WritesExponent exponent o.c
 count_of_unsigned text o (whole, fraction, exponent, w, inl f, x, e) = (
@@ -386,7 +386,7 @@ no_unsigned text none o h =
     = count_of_unsigned text o h in
     none o.i (parts.0 ++ parts.1) parts.2
 
--- what stands behind the integer: a point and digits, or no point
+-- the rest after the integer: a point and digits, or no point
 pub unsigned_behind : (text : List ℕ) (i : ℕ) (rest : List ℕ) (o : Operands) → HasCount text i rest → WritesUnsignedOperands text o
     → ((more : List ℕ) × (rest ≡ 46 ∷ more) × WritesBehindPoint i more o) ⊎ (WritesExponent rest o.c × HasFraction o 0 0 × (o.i ≡ i))
 unsigned_behind text i rest o h k = behind (count_of_unsigned text o k)
@@ -438,7 +438,7 @@ no_unpointed text i rest h other none o u =
       | inr p ↦ none o.c p.0
     ]
 
--- ---- behind a `-`
+-- ---- after a `-`
 
 -- a count has a first byte, and it is no `-`
 unsigned_without : (text : List ℕ) (o : Operands) → WritesUnsignedOperands text o → without_sign 45 text ≡ text
@@ -449,7 +449,7 @@ unsigned_without text o (whole, fraction, exponent, (ds, w, v, inr e), f, x, k) 
     let spelled : text ≡ 43 ∷ (text_of ds ++ (fraction ++ exponent)) = k ∙ ap (λ l. l ++ (fraction ++ exponent)) e in
     ap (without_sign 45) spelled ∙ with_other 45 43 (text_of ds ++ (fraction ++ exponent)) (λ z. omega (arith, z)) ∙ sym spelled
 
--- what a text names is what is named behind its `-`
+-- what a text names is what is named after its `-`
 pub named_unsigned : (text : List ℕ) (o : Operands) → WritesOperands text o → WritesUnsignedOperands (without_sign 45 text) o
 named_unsigned text o (inl h) = subst (λ (l : List ℕ). WritesUnsignedOperands l o) (sym (unsigned_without text o h)) h
 named_unsigned text o (inr (rest, h, e)) =

@@ -34,7 +34,7 @@ use Rattle.plural_reference.proofs.tokens.TokensFit.{TokenFits, AllFit, fit_left
 
 -- ---- a sample
 
--- a text that is not empty is not empty with another behind it
+-- a text that isn't empty, with another text after it, isn't empty
 append_nonempty : (a b : List ℕ) → a ≢ [] → a ++ b ≢ []
 append_nonempty [] b h = absurd (h refl)
 append_nonempty (x ∷ xs) b h = λ e. cc

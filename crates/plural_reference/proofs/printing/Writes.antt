@@ -8,13 +8,13 @@ use Rattle.std.specs.List.{concat, FoldsTo}
 use Rattle.plural_reference.specs.Serializer.{joined}
 
 module _ {W : Type 0} (took : W → List ℕ → W → Type 0) where
-  -- calls behind calls
+  -- calls after calls
   calls_append : (w : W) (xs : List (List ℕ)) (v : W) (ys : List (List ℕ)) (u : W)
       → FoldsTo took w xs v → FoldsTo took v ys u → FoldsTo took w (xs ++ ys) u
   calls_append w [] v ys u p q = subst (λ (x : W). FoldsTo took x ys u) (sym p) q
   calls_append w (x ∷ xs) v ys u p q = (p.0, p.1, calls_append p.0 xs v ys u p.2 q)
 
-  -- texts behind texts
+  -- texts after texts
   concat_append : (xs ys : List (List ℕ)) → concat (xs ++ ys) ≡ concat xs ++ concat ys
   concat_append [] ys = refl
   concat_append (x ∷ xs) ys = ap (λ l. x ++ l) (concat_append xs ys) ∙ sym (append_assoc x (concat xs) (concat ys))
@@ -27,7 +27,7 @@ module _ {W : Type 0} (took : W → List ℕ → W → Type 0) where
   pub one_call : (w : W) (bs : List ℕ) (v : W) → took w bs v → WritesInCalls took w bs v
   one_call w bs v t = record { parts = bs ∷ []; calls = (v, t, refl); whole = append-nil bs }
 
-  -- what is written behind a text follows it
+  -- what is written after a text follows it
   pub then_writes : (w : W) (a : List ℕ) (v : W) (b : List ℕ) (u : W)
       → WritesInCalls took w a v → WritesInCalls took v b u → WritesInCalls took w (a ++ b) u
   then_writes w a v b u p q = record {
@@ -41,7 +41,7 @@ abbrev between : {A : Type 0} → List ℕ → List A → List ℕ
 between separator [] = []
 between separator (x ∷ xs) = separator
 
--- one more part behind it
+-- one more part at the end
 joined-push : {A : Type 0} (separator : List ℕ) (text : A → List ℕ) (xs : List A) (y : A)
     → joined separator text (xs ++ y ∷ []) ≡ joined separator text xs ++ (between separator xs ++ text y)
 joined-push separator text [] y = refl

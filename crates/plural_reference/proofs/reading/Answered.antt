@@ -1,4 +1,4 @@
--- An answer that is read, or a fault that is there, is the exact one.
+-- A result that is read, or a fault that is present, is the exact result.
 use Rattle.std.proofs.Common.{◌≡◌, ℕ, List, [], true, Result, Ok, Err, refl, sym, ap, ◌∙◌, subst, inl, inr}
 use Rattle.plural_reference.specs.declared.ast.Condition.{Condition}
 use Rattle.plural_reference.specs.declared.ast.Rule.{Rule}
@@ -20,13 +20,13 @@ use Rattle.plural_reference.proofs.reading.Readings.{one_reading}
 use Rattle.plural_reference.proofs.samples.SampleSinks.{kept_is_read}
 use Rattle.plural_reference.proofs.reading.RuleReadings.{Given, given, one_rule}
 
--- ---- one answer
+-- ---- one result
 
 -- a text has one list of tokens
 same_tokens : (text : List ℕ) (a b : List Token) → AreTokensOf text a → AreTokensOf text b → a ≡ b
 same_tokens text a b h k = tokens_are text a h ∙ sym (tokens_are text b k)
 
--- where an answer was read or is a fault, a thing that is read is the answer
+-- if the result was read or is a fault, a thing that is read is the result
 read_of : {A : Type 0} (Read : List Token → A → Type 0) (Fault : List Token → ParseError → Type 0) (tokens : List Token) (x : A)
     (r : Result A ReadError)
     → HasOneReading Read Fault tokens → IsAnswer (Read tokens) (Fault tokens) r → Read tokens x → AnswersUnlessMemory r (Ok x)
@@ -44,7 +44,7 @@ fault_of Read Fault tokens e (Ok y) (inr one) h k = absurd (one.1 y h)
 fault_of Read Fault tokens e (Err (Parse f)) (inr one) h k = inl (ap (λ x. Err (Parse x)) (one.0.2 f h ∙ sym (one.0.2 e k)))
 fault_of Read Fault tokens e (Err Memory) (inr one) h k = inr refl
 
--- so such an answer is the exact one of the text
+-- so such a result is the exact one for the text
 exactly : {A : Type 0} (Read : List Token → A → Type 0) (Fault : List Token → ParseError → Type 0) (text : List ℕ) (tokens : List Token)
     (r : Result A ReadError)
     → AreTokensOf text tokens → HasOneReading Read Fault tokens → IsAnswer (Read tokens) (Fault tokens) r
@@ -64,7 +64,7 @@ condition_said tokens rest (Ok c) h = (rest, subst (Said tokens) h (said tokens)
 condition_said tokens rest (Err (Parse e)) h = subst (Said tokens) h (said tokens)
 condition_said tokens rest (Err Memory) h = tt
 
--- so a condition is answered exactly
+-- so the result for a condition is exact
 pub condition_answers : (text : List ℕ) (tokens rest : List Token) (r : Result Condition ReadError)
     → AreTokensOf text tokens → IsAnswer (λ c. run begin tokens ≡ Ok (c, rest)) (λ e. run begin tokens ≡ Err e) r
     → AnswersExactly Reads Faulty text r
@@ -80,13 +80,13 @@ rule_said tokens (Ok x) h = subst (Given tokens) h (given tokens)
 rule_said tokens (Err (Parse e)) h = subst (Given tokens) h (given tokens)
 rule_said tokens (Err Memory) h = tt
 
--- so a rule is answered exactly
+-- so the result for a rule is exact
 pub rule_answers : (text : List ℕ) (tokens : List Token) (r : Result Rule ReadError)
     → AreTokensOf text tokens → IsAnswer (λ x. rule_of tokens ≡ Ok x) (λ e. rule_of tokens ≡ Err e) r
     → AnswersExactly ReadsRule FaultyRule text r
 rule_answers text tokens r t h = exactly ReadsRule FaultyRule text tokens r t (one_rule tokens) (rule_said tokens r h)
 
--- a condition, and samples behind it
+-- a condition, and samples after it
 rule_is : (tokens middle rest : List Token) (rule : Rule)
     → run begin tokens ≡ Ok (rule.condition, middle) → ReadsAllSamples middle rule.samples rest → rule_of tokens ≡ Ok rule
 rule_is tokens middle rest rule h k =
@@ -102,7 +102,7 @@ kept_rule_is tokens middle rest rule h k = rule_is tokens middle rest rule h (ke
 pub condition_fault : (tokens : List Token) (kind : ParseError) → run begin tokens ≡ Err kind → rule_of tokens ≡ Err kind
 condition_fault tokens kind h = ap of_condition h
 
--- so is a fault of the samples behind it
+-- so is a fault of the samples after it
 pub samples_fault : (tokens middle : List Token) (c : Condition) (kind : ParseError)
     → run begin tokens ≡ Ok (c, middle) → run_samples (after_sections []) middle ≡ Err kind → rule_of tokens ≡ Err kind
 samples_fault tokens middle c kind h k = ap of_condition h ∙ ap (with_samples c) k
@@ -115,7 +115,7 @@ one_of_rules tokens (inl ((rule, read, only), none)) =
     inl ((rule.condition, (rule, read, refl), (λ c h. sym h.2 ∙ ap (λ (x : Rule). x.condition) (only h.0 h.1))), none)
 one_of_rules tokens (inr (one, none)) = inr (one, (λ c h. none h.0 h.1))
 
--- a condition, and samples behind it that are left out
+-- a condition, and samples after it that are left out
 pub without_samples_answers : (text : List ℕ) (tokens middle rest : List Token) (rule : Rule)
     → AreTokensOf text tokens → run begin tokens ≡ Ok (rule.condition, middle) → ReadsAllSamples middle rule.samples rest
     → AnswersExactly ReadsCondition FaultyRule text (Ok rule.condition)
@@ -124,7 +124,7 @@ without_samples_answers text tokens middle rest rule t h k =
     exactly ReadsCondition FaultyRule text tokens (Ok rule.condition) t (one_of_rules tokens (one_rule tokens))
     (rule, subst (Given tokens) (rule_is tokens middle rest rule h k) (given tokens), refl)
 
--- a fault of either, or want of memory
+-- a fault of either, or out of memory
 pub without_samples_refuses : (text : List ℕ) (tokens : List Token) (e : ReadError)
     → AreTokensOf text tokens → IsFault (λ kind. rule_of tokens ≡ Err kind) e → AnswersExactly ReadsCondition FaultyRule text (Err e)
 unfolding Given

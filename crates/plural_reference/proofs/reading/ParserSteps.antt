@@ -29,7 +29,7 @@ pub no_item : (old : List Token) (o : Opened) (xs : List RangeListItem)
     → value_fault (first old) ≡ Some ExpectedValue → run (before_item o xs) old ≡ Err ExpectedValue
 no_item old o xs h = before_item_stop o xs old ExpectedValue h
 
--- the same behind the dots of a range
+-- the same after the dots of a range
 pub no_end : (old middle after : List Token) (t : Token) (v : Value) (o : Opened) (xs : List RangeListItem)
     → old ≡ t ∷ middle → token_value t ≡ Some v → middle ≡ DotDot ∷ after → value_fault (first after) ≡ Some ExpectedValue
     → run (before_item o xs) old ≡ Err ExpectedValue
@@ -58,7 +58,7 @@ pub ruleset item_steps = (no_item, no_end, item_range, item_value)
 pub one_item : (old new : List Token) (x : RangeListItem) → ReadsItem old x new → ReadsItems old (x ∷ []) new
 one_item old new x h = record { front = []; item = x; items_are = refl; run_is = λ o. h.run_is o []; no_dots = h.no_dots }
 
--- an item behind Comma joins the list
+-- an item after Comma joins the list
 pub more_items : (old middle after new : List Token) (ys : List RangeListItem) (x : RangeListItem)
     → ReadsItems old ys middle → middle ≡ Comma ∷ after → ReadsItem after x new → ReadsItems old (ys ++ x ∷ []) new
 unfolding run
@@ -80,7 +80,7 @@ items_fault old middle after ys e h f k o = h.run_is o ∙ ap (run (after_item o
 
 -- ---- expressions
 
--- behind an operand that no modulus follows
+-- after an operand that no modulus follows
 after_operand_fault : (o : operand.Operand) (b : Before) (new : List Token)
     → first new ≢ Some Modulo → operator_fault (first new) ≡ Some ExpectedOperator → run (after_operand b o) new ≡ Err ExpectedOperator
 after_operand_fault o b [] n h = after_operand_stop b o [] ExpectedOperator h
@@ -107,7 +107,7 @@ expression_reduced old middle after new t u o v e h f g k = record {
   stops = λ b l. rw (e, h, f, g, k) (operator_stop b (record { operand = o; modulus = Some v }) new ExpectedOperator l);
 }
 
--- where no value stands behind Modulo, that is the fault
+-- if no value follows Modulo, that is the fault
 pub no_modulus : (old middle after : List Token) (t : Token) (o : operand.Operand)
     → old ≡ t ∷ middle → operand_of t ≡ Some o → middle ≡ Modulo ∷ after → value_fault (first after) ≡ Some ExpectedValue → (b : Before)
     → run (before_operand b) old ≡ Err ExpectedValue
@@ -145,14 +145,14 @@ relation_items_fault old middle after e op kind h f k b = h.goes_on b op after f
 
 -- ---- groups
 
--- Comma, dots and then And or Or stand behind a complete relation
+-- Comma, dots and then And or Or follow a complete relation
 pub goes_on_and : (from : State) (old middle after : List Token) (b : Before)
     → Completes from old b middle → middle ≡ And ∷ after → run from old ≡ run (before_operand b) after
 unfolding run
 goes_on_and from old middle after b h e =
     h.run_is ∙ ap (run (after_item h.opened h.front h.item)) e ∙ ap (λ (c : Before). run (before_operand c) after) h.complete
 
--- behind Or an operand is awaited, and the group is complete
+-- after Or an operand is expected, and the group is complete
 pub goes_on_or : (from : State) (old middle after : List Token) (b : Before)
     → Completes from old b middle → middle ≡ Or ∷ after → run from old ≡ run (before_operand (with_group b)) after
 unfolding run
@@ -172,20 +172,20 @@ completes_from from middle_state old middle new b e h = record {
   no_comma = h.no_comma;
 }
 
--- a relation behind And joins the group
+-- a relation after And joins the group
 pub more_relations : (from : State) (old middle after new : List Token) (b : Before) (r : Relation)
     → Completes from old b middle → middle ≡ And ∷ after → ((b : Before) → Completes (before_operand b) after (with_relation b r) new)
     → Completes from old (with_relation b r) new
 more_relations from old middle after new b r h e k =
     completes_from from (before_operand b) old after new (with_relation b r) (goes_on_and from old middle after b h e) (k b)
 
--- a fault of a relation behind And is one of the group
+-- a fault of a relation after And is a fault of the group
 pub and_fault : (from : State) (old middle after : List Token) (b : Before) (kind : ParseError)
     → Completes from old b middle → middle ≡ And ∷ after → ((b : Before) → run (before_operand b) after ≡ Err kind)
     → run from old ≡ Err kind
 and_fault from old middle after b kind h e k = goes_on_and from old middle after b h e ∙ k b
 
--- nothing behind And
+-- nothing after And
 some_relations : (groups : List AndCondition) (relations : List Relation) (r : Relation)
     → no_operand groups (relations ++ r ∷ []) ≡ refuse ExpectedRelation
 some_relations [] [] r = refl
@@ -201,7 +201,7 @@ unconditional_fault b [] kind u h = rw h refl
 unconditional_fault b (At ∷ ts) kind u h = rw h refl
 unconditional_fault b (_ ∷ ts) kind u h = absurd u
 
--- where none stands behind And, a relation is wanted
+-- if no relation follows And, a relation is expected
 pub no_relation : (from : State) (old middle after : List Token) (b : Before)
     → Completes from old b middle → middle ≡ And ∷ after → IsUnconditional after → run from old ≡ Err ExpectedRelation
 no_relation from old middle after b h e u =
@@ -212,7 +212,7 @@ no_relation from old middle after b h e u =
 
 -- ---- conditions
 
--- nothing behind Or
+-- nothing after Or
 some_groups : (groups : List AndCondition) (g : AndCondition) → no_operand (groups ++ g ∷ []) [] ≡ refuse ExpectedAndCondition
 some_groups [] g = refl
 some_groups (k ∷ ks) g = refl
@@ -224,7 +224,7 @@ pub one_group : (old new : List Token) (c : AndCondition)
     → ReadsGroups old (c ∷ []) new
 one_group old new c h = record { before = record { groups = []; relations = c.0 }; completes = h []; groups_are = refl }
 
--- a group behind Or joins the condition
+-- a group after Or joins the condition
 pub more_groups : (old middle after new : List Token) (gs : List AndCondition) (c : AndCondition)
     → ReadsGroups old gs middle → middle ≡ Or ∷ after
     → ((groups : List AndCondition)
@@ -241,14 +241,14 @@ more_groups old middle after new gs c h e k = record {
   groups_are = refl;
 }
 
--- a fault of a group behind Or is one of the condition
+-- a fault of a group after Or is a fault of the condition
 pub or_fault : (old middle after : List Token) (gs : List AndCondition) (kind : ParseError)
     → ReadsGroups old gs middle → middle ≡ Or ∷ after
     → ((groups : List AndCondition) → run (before_operand (record { groups = groups; relations = [] })) after ≡ Err kind)
     → run begin old ≡ Err kind
 or_fault old middle after gs kind h e k = goes_on_or begin old middle after h.before h.completes e ∙ k (with_group h.before).groups
 
--- where none stands behind Or, an and-condition is wanted
+-- if no group follows Or, an and-condition is expected
 pub no_group : (old middle after : List Token) (gs : List AndCondition)
     → ReadsGroups old gs middle → middle ≡ Or ∷ after → IsUnconditional after → run begin old ≡ Err ExpectedAndCondition
 no_group old middle after gs h e u =
@@ -286,7 +286,7 @@ no_condition (_ ∷ ts) new u e = absurd u
 
 -- ---- what an error passes on
 
--- a fault of a part is a fault of the whole, and want of memory stays want of memory
+-- a fault of a part is a fault of the whole, and out of memory stays out of memory
 pub passes_on : (Q Q' : ParseError → Type 0) (e : ReadError) → IsFault Q e → ((kind : ParseError) → Q kind → Q' kind) → IsFault Q' e
 passes_on Q Q' (Parse kind) h f = f kind h
 passes_on Q Q' Memory h f = tt

@@ -1,4 +1,4 @@
--- What the grammar spells is read, and a fault is answered: the tokens of a condition lead the reader to its end, and those of
+-- What the grammar spells is read, and a fault is returned: the tokens of a condition lead the reader to its end, and those of
 -- a waiting place lead it to a state that refuses what follows. From the grammar to the reader; Readings and RuleReadings cite
 -- the two last facts, ParserSteps the fault at each state, and the proofs on samples that of the last of a list.
 use Rattle.std.proofs.Common.{◌≡◌, List, [], ◌∷◌, ◌++◌, Option, Some, None, Ok, Err, refl, sym, ap, ◌∙◌, subst, append_assoc, inl, inr}
@@ -26,7 +26,7 @@ use Rattle.plural_reference.specs.Inner.Reader.{Before, Opened, State, before_op
 use Rattle.plural_reference.specs.Inner.Reader.{before_item, after_item, before_end, relation_of, with_relation, with_group}
 use Rattle.plural_reference.specs.Inner.Reader.{ended_condition, refuse, value_move, proceed, run, begin, Outcome, no_operand}
 
--- the tokens of an item lead behind it, where an item is awaited
+-- if an item is expected, the tokens of an item lead to the state after it
 pub run_item : (o : Opened) (xs : List RangeListItem) (tokens : List Token) (x : RangeListItem) (rest : List Token)
     → IsItem tokens x → run (before_item o xs) (tokens ++ rest) ≡ run (after_item o xs x) rest
 unfolding run
@@ -101,7 +101,7 @@ run_relation b tokens r h =
       complete = ap (λ xs. with_relation b (relation_of o xs)) more.items_are;
     }
 
--- And behind a complete relation leads to where the operand of the next one is awaited
+-- And after a complete relation leads to the state that expects the operand of the next one
 pub leads_and : (from : State) (tokens : List Token) (b : Before) (rest : List Token) → Leads from tokens b
     → run from (tokens ++ And ∷ rest) ≡ run (before_operand b) rest
 unfolding run
@@ -182,7 +182,7 @@ run_condition tokens c h = run_groups [] tokens c.0 h
 
 -- ---- the end of a condition
 
--- the last of a list with x put behind it is x
+-- the last of a list with x at its end is x
 pub last-push : {A : Type 0} (xs : List A) (x : A) → last (xs ++ x ∷ []) ≡ Some x
 last-push [] x = refl
 last-push (y ∷ []) x = refl
@@ -193,7 +193,7 @@ pub last_item-complete : (o : Opened) (front : List RangeListItem) (item : Range
     → last_item (ended_condition (with_relation o.before (relation_of o (front ++ item ∷ [])))) ≡ Some item
 last_item-complete o front item = rw (last-push, last-push, last-push) refl
 
--- a token that doesn't continue the condition ends it behind an item, and so does the end
+-- a token that doesn't continue the condition ends it after an item, and so does the end
 pub run_ends : (o : Opened) (front : List RangeListItem) (item : RangeListItem) (rest : List Token)
     → IfSome (first rest)
     (λ t. ¬ (Continues (ended_condition (with_relation o.before (relation_of o (front ++ item ∷ [])))) t))
@@ -208,14 +208,14 @@ run_ends o front (items.Value v) (DotDot ∷ ts) h = absurd (h (v, last_item-com
 run_ends o front (items.Range a b) (DotDot ∷ ts) h = refl
 run_ends o front item (_ ∷ ts) h = refl
 
--- the end or At at the beginning is answered with the condition without groups
+-- for the end or At at the beginning, the condition without groups is returned
 unconditional_run : (tokens : List Token) → IsUnconditional tokens → run begin tokens ≡ Ok (record { 0 = [] }, tokens)
 unfolding run
 unconditional_run [] h = refl
 unconditional_run (At ∷ ts) h = refl
 unconditional_run (_ ∷ ts) h = absurd h
 
--- what the grammar reads is answered
+-- what the grammar reads is returned
 pub reads_run : (tokens : List Token) (c : Condition) (rest : List Token) → ReadsUpTo tokens c rest → run begin tokens ≡ Ok (c, rest)
 unfolding run
 reads_run tokens c rest (inl h) = unconditional_run tokens h.2 ∙ ap Ok ((λ i. (sym h.0 i, sym h.1 i)))
@@ -268,19 +268,19 @@ arrives_before_operand p (inl h) = (record { groups = []; relations = [] }, λ r
 arrives_before_operand p (inr (inl h)) = let a = arrives_or p h in (with_group a.0, a.1)
 arrives_before_operand p (inr (inr h)) = let a = arrives_and p h in (with_relation a.0 a.1, a.2)
 
--- an operand leads behind it
+-- an operand leads to the state after it
 operand_next_run : (b : Before) (t : Token) (o : operand.Operand) (rest : List Token) → operand_of t ≡ Some o
     → run (before_operand b) (t ∷ rest) ≡ run (after_operand b o) rest
 unfolding run
 operand_next_run b t o rest h = rw h refl
 
--- tokens that end in an operand lead behind it
+-- tokens that end in an operand lead to the state after it
 arrives_after_operand : (p : List Token) → IsAfterOperand p → (b : Before) × (o : operand.Operand) × Arrives p (after_operand b o)
 arrives_after_operand p h =
     let a = arrives_before_operand h.0 h.4 in
     (a.0, h.2, arrives_more p h.0 h.1 _ _ h.3 a.1 (λ rest. operand_next_run a.0 h.1 h.2 rest h.5))
 
--- Modulo behind an operand leads to where a modulus is awaited
+-- Modulo after an operand leads to the state that expects a modulus
 modulo_next_run : (b : Before) (o : operand.Operand) (rest : List Token)
     → run (after_operand b o) (Modulo ∷ rest) ≡ run (after_modulo b o) rest
 unfolding run
@@ -292,7 +292,7 @@ arrives_after_modulo p h =
     let a = arrives_after_operand h.0 h.2 in
     (a.0, a.1, arrives_more p h.0 Modulo _ _ h.1 a.2 (modulo_next_run a.0 a.1))
 
--- a modulus leads behind the whole expression
+-- a modulus leads to the state after the whole expression
 modulus_next_run : (b : Before) (o : operand.Operand) (t : Token) (v : Value) (rest : List Token) → token_value t ≡ Some v
     → run (after_modulo b o) (t ∷ rest) ≡ run (after_modulus b (record { operand = o; modulus = Some v })) rest
 unfolding run
@@ -309,7 +309,7 @@ arrives_after_modulus p h =
 
 -- ---- the fault at each state
 
--- where an operand is awaited, the fault of what follows is answered, given the one of the end
+-- if an operand is expected, the fault of what follows is returned, given the fault at the end
 pub operand_stop : (b : Before) (ended : Option ParseError) (rest : List Token) (kind : ParseError)
     → ((e : ParseError) → ended ≡ Some e → no_operand b.groups b.relations ≡ refuse e)
     → operand_fault ended (first rest) ≡ Some kind → run (before_operand b) rest ≡ Err kind
@@ -318,7 +318,7 @@ operand_stop b ended [] kind stop h = rw (stop kind h) refl
 operand_stop b ended (At ∷ ts) kind stop h = rw (stop kind h) refl
 operand_stop b ended (_ ∷ ts) kind stop h = cc
 
--- the fault of what follows is answered where an operator is awaited
+-- if an operator is expected, the fault of what follows is returned
 pub operator_stop : (b : Before) (e : Expression) (rest : List Token) (kind : ParseError)
     → operator_fault (first rest) ≡ Some kind → run (after_modulus b e) rest ≡ Err kind
 unfolding run
@@ -326,7 +326,7 @@ operator_stop b e [] kind h = cc
 operator_stop b e (Operator op ∷ ts) kind h = cc
 operator_stop b e (_ ∷ ts) kind h = cc
 
--- the fault of what follows is answered behind an operand
+-- after an operand, the fault of what follows is returned
 pub after_operand_stop : (b : Before) (o : operand.Operand) (rest : List Token) (kind : ParseError)
     → fault places.after_operand (first rest) ≡ Some kind → run (after_operand b o) rest ≡ Err kind
 unfolding run
@@ -335,39 +335,39 @@ after_operand_stop b o (Modulo ∷ ts) kind h = cc
 after_operand_stop b o (Operator op ∷ ts) kind h = cc
 after_operand_stop b o (_ ∷ ts) kind h = cc
 
--- a token that is no value is answered with a fault, where a value is awaited
+-- if a value is expected, a token that is no value gives a fault
 value_stopped : (v : Option Value) (next : Value → State) (ts : List Token) (kind : ParseError) (k : State → Outcome)
     → (if is_some v then None else Some ExpectedValue) ≡ Some kind → proceed (value_move v next) ts k ≡ Err kind
 value_stopped None next ts kind k h = cc
 value_stopped (Some v) next ts kind k h = cc
 
--- the fault of what follows is answered where a modulus is awaited
+-- if a modulus is expected, the fault of what follows is returned
 pub after_modulo_stop : (b : Before) (o : operand.Operand) (rest : List Token) (kind : ParseError)
     → value_fault (first rest) ≡ Some kind → run (after_modulo b o) rest ≡ Err kind
 unfolding run
 after_modulo_stop b o [] kind h = cc
 after_modulo_stop b o (t ∷ ts) kind h = value_stopped (token_value t) _ (t ∷ ts) kind _ h
 
--- the fault of what follows is answered where an item is awaited
+-- if an item is expected, the fault of what follows is returned
 pub before_item_stop : (o : Opened) (xs : List RangeListItem) (rest : List Token) (kind : ParseError)
     → value_fault (first rest) ≡ Some kind → run (before_item o xs) rest ≡ Err kind
 unfolding run
 before_item_stop o xs [] kind h = cc
 before_item_stop o xs (t ∷ ts) kind h = value_stopped (token_value t) _ (t ∷ ts) kind _ h
 
--- the fault of what follows is answered where the end of a range is awaited
+-- if the end of a range is expected, the fault of what follows is returned
 pub before_end_stop : (o : Opened) (xs : List RangeListItem) (v : Value) (rest : List Token) (kind : ParseError)
     → value_fault (first rest) ≡ Some kind → run (before_end o xs v) rest ≡ Err kind
 unfolding run
 before_end_stop o xs v [] kind h = cc
 before_end_stop o xs v (t ∷ ts) kind h = value_stopped (token_value t) _ (t ∷ ts) kind _ h
 
--- the end behind Or is the fault ExpectedAndCondition
+-- the end after Or is the fault ExpectedAndCondition
 no_operand_or : (groups : List AndCondition) (g : AndCondition) → no_operand (groups ++ g ∷ []) [] ≡ refuse ExpectedAndCondition
 no_operand_or [] g = refl
 no_operand_or (k ∷ ks) g = refl
 
--- the end behind And is the fault ExpectedRelation
+-- the end after And is the fault ExpectedRelation
 no_operand_and : (groups : List AndCondition) (relations : List Relation) (r : Relation)
     → no_operand groups (relations ++ r ∷ []) ≡ refuse ExpectedRelation
 no_operand_and [] [] r = refl
@@ -375,14 +375,14 @@ no_operand_and [] (x ∷ xs) r = refl
 no_operand_and (g ∷ gs) [] r = refl
 no_operand_and (g ∷ gs) (x ∷ xs) r = refl
 
--- an operator behind a modulus leads to the first item
+-- an operator after a modulus leads to the first item
 operator_next_run : (b : Before) (e : Expression) (op : operator.Operator) (rest : List Token)
     → run (after_modulus b e) (Operator op ∷ rest)
     ≡ run (before_item (record { before = b; expression = e; operator = op }) []) rest
 unfolding run
 operator_next_run b e op rest = refl
 
--- an operator right behind an operand leads to the first item
+-- an operator directly after an operand leads to the first item
 operand_operator_run : (b : Before) (o : operand.Operand) (op : operator.Operator) (rest : List Token)
     → run (after_operand b o) (Operator op ∷ rest)
     ≡ run
@@ -391,13 +391,13 @@ operand_operator_run : (b : Before) (o : operand.Operand) (op : operator.Operato
 unfolding run
 operand_operator_run b o op rest = refl
 
--- Comma behind an item leads to the next item
+-- Comma after an item leads to the next item
 comma_next_run : (o : Opened) (front : List RangeListItem) (item : RangeListItem) (rest : List Token)
     → run (after_item o front item) (Comma ∷ rest) ≡ run (before_item o (front ++ item ∷ [])) rest
 unfolding run
 comma_next_run o front item rest = refl
 
--- DotDot behind a single value leads to the end of the range
+-- DotDot after a single value leads to the end of the range
 dots_next_run : (o : Opened) (front : List RangeListItem) (v : Value) (rest : List Token)
     → run (after_item o front (items.Value v)) (DotDot ∷ rest) ≡ run (before_end o front v) rest
 unfolding run
@@ -408,7 +408,7 @@ data WantsValue : State → Type 0 where
   wants_item : (o : Opened) (xs : List RangeListItem) → WantsValue (before_item o xs)
   wants_end : (o : Opened) (xs : List RangeListItem) (v : Value) → WantsValue (before_end o xs v)
 
--- such a state answers the fault of what follows
+-- such a state returns the fault of what follows
 wants_stop : (s : State) → WantsValue s → (rest : List Token) (kind : ParseError) → value_fault (first rest) ≡ Some kind
     → run s rest ≡ Err kind
 wants_stop _ (wants_item o xs) rest kind h = before_item_stop o xs rest kind h
@@ -443,7 +443,7 @@ arrives_before_value p (inr (inr (spelled, c, e, h, (v, is_value)))) =
           ∙ dots_next_run to.leads.opened to.leads.front v rest),
     )
 
--- tokens that wait at a place, and what is a fault there, are answered with the fault
+-- after tokens that wait at a place, the fault of the next token at that place is returned
 waits_run : (place : places.Place) (before rest : List Token) (kind : ParseError) → Waits place before
     → fault place (first rest) ≡ Some kind → run begin (before ++ rest) ≡ Err kind
 waits_run places.start before rest kind w h =
@@ -470,6 +470,6 @@ waits_run places.after_modulo before rest kind w h =
 waits_run places.after_modulus before rest kind w h = let a = arrives_after_modulus before w in a.2 rest ∙ operator_stop a.0 a.1 rest kind h
 waits_run places.before_value before rest kind w h = let a = arrives_before_value before w in a.2 rest ∙ wants_stop a.0 a.1 rest kind h
 
--- a fault of the tokens is answered
+-- a fault of the tokens is returned
 pub faulty_run : (tokens : List Token) (kind : ParseError) → Faulty tokens kind → run begin tokens ≡ Err kind
 faulty_run tokens kind h = ap (run begin) h.3 ∙ waits_run h.0 h.1 h.2 kind h.4 h.5

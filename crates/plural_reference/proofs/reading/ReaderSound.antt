@@ -1,6 +1,6 @@
--- What the reader of conditions answers is what the grammar says: the tokens so far spell what its state holds as complete, so
+-- What the reader of conditions returns is what the grammar says: the tokens so far spell what its state holds as complete, so
 -- the condition that it ends with is read, and a fault that it stops with is theirs. Readings, Answered, the worked rows and
--- RuleReadings cite the last lemma, SampleSound those on parts with separators behind them.
+-- RuleReadings cite the last lemma, SampleSound those on parts with separators after them.
 use Rattle.std.proofs.Common.{◌≡◌, List, [], ◌∷◌, ◌++◌, Option, Some, None, Ok, Err, refl, sym, ap, ◌∙◌, subst, append_assoc, inl, inr}
 use Rattle.std.proofs.lemmas.List.{append-nil}
 use Rattle.plural_reference.specs.declared.ast.RangeListItem.{RangeListItem}
@@ -26,14 +26,14 @@ use Rattle.plural_reference.specs.Inner.Reader.{ended_condition, Move, go, finis
 use Rattle.plural_reference.specs.Inner.Reader.{operator_move, operand_next, step, at_end, proceed, run, begin, Outcome, no_operand}
 use Rattle.plural_reference.proofs.reading.ReaderComplete.{last_item-complete}
 
--- parts, each with the separator behind it
+-- parts, each with the separator after it
 abbrev pub Terminated : {A : Type 0} → Token → (List Token → A → Type 0) → List Token → List A → Type 0
 Terminated separator Part tokens [] = tokens ≡ []
 Terminated separator Part tokens (x ∷ xs) =
     (part : List Token) × (rest : List Token) × (tokens ≡ part ++ separator ∷ rest) × Part part x
     × Terminated separator Part rest xs
 
--- parts with separators behind them, and a last part, are parts with separators between them
+-- parts with separators after them, and a last part, are parts with separators between them
 pub Separated-last : {A : Type 0} (separator : Token) (Part : List Token → A → Type 0) (a b : List Token) (xs : List A)
     (x : A)
     → Terminated separator Part a xs → Part b x → Separated separator Part (a ++ b) (xs ++ x ∷ [])
@@ -53,7 +53,7 @@ Separated-last separator Part a b (y ∷ z ∷ zs) x h k = (
   Separated-last separator Part h.1 b (z ∷ zs) x h.4 k,
 )
 
--- parts with separators behind them, and one more of these
+-- parts with separators after them, and one more of these
 pub Terminated-push : {A : Type 0} (separator : Token) (Part : List Token → A → Type 0) (a b : List Token) (xs : List A)
     (x : A)
     → Terminated separator Part a xs → Part b x → Terminated separator Part (a ++ (b ++ separator ∷ [])) (xs ++ x ∷ [])
@@ -68,7 +68,7 @@ Terminated-push separator Part a b (y ∷ ys) x h k = (
 
 -- ---- what the tokens so far spell, by the state that they lead to
 
--- whole groups, each with Or behind it, and relations of the next group, each with And behind it
+-- whole groups, each with Or after it, and relations of the next group, each with And after it
 pub record SpellsBefore (p : List Token) (b : Before) : Type 0 where
   pub group_tokens : List Token
   pub relation_tokens : List Token
@@ -84,7 +84,7 @@ pub record SpellsOpened (p : List Token) (o : Opened) : Type 0 where
   pub before : SpellsBefore before_tokens o.before
   pub expression : IsExpression expression_tokens o.expression
 
--- the same, and then items, each with Comma behind it
+-- the same, and then items, each with Comma after it
 pub record SpellsItems (p : List Token) (o : Opened) (xs : List RangeListItem) : Type 0 where
   pub opened_tokens : List Token
   pub item_tokens : List Token
@@ -191,7 +191,7 @@ SaidOf tokens rest (go next) = ⊥
 SaidOf tokens rest (finish c) = ReadsUpTo tokens c rest
 SaidOf tokens rest (refuse kind) = Faulty tokens kind
 
--- parts with separators behind them are separated parts and one more separator
+-- parts with separators after them are separated parts and one more separator
 pub Terminated-front : {A : Type 0} (separator : Token) (Part : List Token → A → Type 0) (tokens : List Token) (x : A)
     (xs : List A)
     → Terminated separator Part tokens (x ∷ xs)
@@ -206,7 +206,7 @@ Terminated-front separator Part tokens x (y ∷ ys) h =
 
 -- ---- waiting places
 
--- an operand is awaited at the start, or behind a condition with Or or And
+-- an operand is expected at the start, or after a condition with Or or And
 data OperandPlace (p : List Token) : List AndCondition → List Relation → Type 0 where
   at_start : p ≡ [] → OperandPlace p [] []
   behind_or : (g : AndCondition) (gs : List AndCondition) → ConditionThen Or p → OperandPlace p (g ∷ gs) []
@@ -228,13 +228,13 @@ operand_place p groups (r ∷ rs) h =
       Separated-last Or IsAndCondition h.group_tokens f.0 groups (record { 0 = r ∷ rs }) h.groups f.2,
     )
 
--- the end or At behind And is the fault ExpectedRelation
+-- the end or At after And is the fault ExpectedRelation
 and_place : (p : List Token) (rest : List Token) → ConditionThen And p → IsUnconditional rest → Faulty (p ++ rest) ExpectedRelation
 and_place p [] c u = (places.after_and, p, [], refl, c, refl)
 and_place p (At ∷ ts) c u = (places.after_and, p, At ∷ ts, refl, c, refl)
 and_place p (_ ∷ ts) c u = absurd u
 
--- the end or At, where an operand is awaited: no condition at the start, and a fault behind Or and And
+-- the end or At, if an operand is expected: no condition at the start, and a fault after Or and And
 said_no_operand : (p : List Token) (groups : List AndCondition) (relations : List Relation) (rest : List Token)
     → OperandPlace p groups relations → IsUnconditional rest → SaidOf (p ++ rest) rest (no_operand groups relations)
 said_no_operand p [] [] rest (at_start e) u = inl (refl, ap (λ l. l ++ rest) (sym e), subst (λ l. IsUnconditional (l ++ rest)) (sym e) u)
@@ -264,7 +264,7 @@ before_operand_is p groups relations (at_start e) = inl e
 before_operand_is p groups relations (behind_or g gs c) = inr (inl c)
 before_operand_is p groups relations (behind_and gs r rs c) = inr (inr c)
 
--- behind whole groups and relations, with their Or and And, an operand is awaited
+-- after whole groups and relations, with their Or and And, an operand is expected
 spells_operand_is : (p : List Token) (b : Before) → SpellsBefore p b → IsBeforeOperand p
 spells_operand_is p b h = before_operand_is p b.groups b.relations (operand_place p b.groups b.relations h)
 
@@ -277,7 +277,7 @@ said_operand p b At ts h =
     move_said p At ts _ (said_no_operand p b.groups b.relations (At ∷ ts) (operand_place p b.groups b.relations h) tt)
 said_operand p b _ ts h = bad_operand p b.groups b.relations _ ts (operand_place p b.groups b.relations h) (λ _. refl)
 
--- behind an operand, the next token is Modulo, an operator, or a fault
+-- after an operand, the next token is Modulo, an operator, or a fault
 said_operand_next : (p : List Token) (b : Before) (o : operand.Operand) (t : Token) (ts : List Token)
     → Spells p (after_operand b o) → SaidOfMove p t ts (operand_next t b o)
 said_operand_next p b o Modulo ts h = (h.0, h.1, ap (λ l. l ++ Modulo ∷ []) h.2 ∙ append_assoc h.0 (h.1 ∷ []) (Modulo ∷ []), h.3, h.4)
@@ -366,7 +366,7 @@ said_operator p b e (Operator op) ts h = record {
 }
 said_operator p b e _ ts h = (places.after_modulus, p, _ ∷ ts, refl, is_after_modulus p b e h, refl)
 
--- behind an operator a value is awaited, whether there is a modulus before it or not
+-- after an operator a value is expected, with or without a modulus before it
 operator_place : (p : List Token) (o : Opened) → SpellsOpened p o → (m : Option Value) → o.expression.modulus ≡ m → IsBeforeValue p
 operator_place p o h None e =
     let x = h.expression in
@@ -405,7 +405,7 @@ operator_place p o h (Some v) e =
           )),
     )
 
--- items with a comma behind the last one end in a condition and Comma
+-- items with a comma after the last one end in a condition and Comma
 comma_place : (p : List Token) (o : Opened) (x : RangeListItem) (xs : List RangeListItem) → SpellsItems p o (x ∷ xs) → ConditionThen Comma p
 comma_place p o x xs h =
     let f = Terminated-front Comma IsItem h.item_tokens x xs h.items in
@@ -428,7 +428,7 @@ comma_place p o x xs h =
           }),
     )
 
--- where an item is awaited, behind an operator or a comma, a value is
+-- if an item is expected, after an operator or a comma, a value is expected
 before_value_is : (p : List Token) (o : Opened) (xs : List RangeListItem) → SpellsItems p o xs → IsBeforeValue p
 before_value_is p o [] h =
     subst IsBeforeValue (sym (h.whole ∙ ap (λ l. h.opened_tokens ++ l) h.items ∙ append-nil h.opened_tokens))
@@ -452,7 +452,7 @@ item_done p o xs x h = condition_done p o.before _ (relation_done p o xs x h)
 range_is_no_value : (a b v : Value) → Some (items.Range a b) ≡ Some (items.Value v) → ⊥
 range_is_no_value a b v h = cc
 
--- behind an item, DotDot makes a range of a single value, and ends the condition behind a range
+-- after an item, DotDot makes a range of a single value, and ends the condition after a range
 said_dots : (p : List Token) (o : Opened) (xs : List RangeListItem) (x : RangeListItem) (ts : List Token)
     → SpellsItem p o xs x → SaidOfMove p DotDot ts (dots_move o xs x)
 said_dots p o xs (items.Value v) ts h = (
@@ -471,7 +471,7 @@ said_dots p o xs (items.Range a b) ts h =
       λ k. range_is_no_value a b k.0 (sym (last_item-complete o xs (items.Range a b)) ∙ k.1),
     )
 
--- behind an item, And, Or, Comma and perhaps DotDot go on, and any other token ends the condition
+-- after an item, And, Or, Comma and perhaps DotDot continue, and any other token ends the condition
 said_after_item : (p : List Token) (o : Opened) (xs : List RangeListItem) (x : RangeListItem) (t : Token)
     (ts : List Token)
     → SpellsItem p o xs x → SaidOfMove p t ts (item_move o xs x t)
@@ -487,7 +487,7 @@ said_after_item p o xs x Comma ts h = record {
 said_after_item p o xs x DotDot ts h = said_dots p o xs x ts h
 said_after_item p o xs x _ ts h = inr (p, refl, item_done p o xs x h, λ k. k)
 
--- behind a single value and DotDot a value is awaited
+-- after a single value and DotDot a value is expected
 dots_place : (p : List Token) (o : Opened) (xs : List RangeListItem) (v : Value) → Spells p (before_end o xs v) → IsBeforeValue p
 dots_place p o xs v h = inr (inr (
   h.0 ++ h.1 ∷ [],
@@ -539,13 +539,13 @@ said_end p (before_item o xs) h = (places.before_value, p, [], refl, before_valu
 said_end p (after_item o xs x) h = inr (p, refl, item_done p o xs x h, tt)
 said_end p (before_end o xs v) h = (places.before_value, p, [], refl, dots_place p o xs v h, refl)
 
--- what is said of the move at the end is said of the answer
+-- what is said of the move at the end is said of the result
 said_at_end : (tokens : List Token) (m : Move) → SaidOf tokens [] m → Said tokens (proceed m [] (λ _. Err ExpectedValue))
 said_at_end tokens (go s) h = absurd h
 said_at_end tokens (finish c) h = h
 said_at_end tokens (refuse kind) h = h
 
--- what is said of a move, and of the answer from the next state, is said of the answer from this one
+-- what is said of a move, and of the result from the next state, is said of the result from this one
 said_move : (p : List Token) (t : Token) (ts : List Token) (m : Move) → SaidOfMove p t ts m
     → ((next : State) → Spells (p ++ t ∷ []) next → Said ((p ++ t ∷ []) ++ ts) (run next ts))
     → Said (p ++ t ∷ ts) (proceed m (t ∷ ts) (λ next. run next ts))
@@ -553,12 +553,12 @@ said_move p t ts (go s) h k = subst (λ l. Said l (run s ts)) (append_assoc p (t
 said_move p t ts (finish c) h k = h
 said_move p t ts (refuse kind) h k = h
 
--- from every state on, what the reader answers is what the grammar says
+-- from every state on, what the reader returns is what the grammar says
 pub said_run : (p ts : List Token) (s : State) → Spells p s → Said (p ++ ts) (run s ts)
 unfolding run
 said_run p [] s h = said_at_end (p ++ []) (at_end s) (said_end p s h)
 said_run p (t ∷ ts) s h = said_move p t ts (step s t) (said_step p s t ts h) (λ next k. said_run (p ++ t ∷ []) ts next k)
 
--- what the reader answers is read, or is a fault of the tokens
+-- what the reader returns is read, or is a fault of the tokens
 pub said : (tokens : List Token) → Said tokens (run begin tokens)
 said tokens = said_run [] tokens begin (record { group_tokens = []; relation_tokens = []; whole = refl; groups = refl; relations = refl })

@@ -1,5 +1,5 @@
--- Of every list of tokens exactly one condition is read, or it has exactly one fault: each is what the reader answers, by
--- ReaderSound and ReaderComplete. The law of this name cites it, and Answered, which makes an answer of the parser exact.
+-- From every list of tokens exactly one condition is read, or it has exactly one fault: each is what the reader returns, by
+-- ReaderSound and ReaderComplete. The law of this name cites it, and so does Answered, which makes a result of the parser exact.
 use Rattle.std.proofs.Common.{◌≡◌, List, Result, Ok, Err, inl, inr}
 use Rattle.plural_reference.specs.declared.ast.Condition.{Condition}
 use Rattle.plural_reference.specs.declared.error.ParseError.{ParseError}
@@ -10,7 +10,7 @@ use Rattle.plural_reference.specs.Inner.Reader.{run, begin, Outcome}
 use Rattle.plural_reference.proofs.reading.ReaderComplete.{reads_run, faulty_run}
 use Rattle.plural_reference.proofs.reading.ReaderSound.{Said, said}
 
--- one answer has one value
+-- one result has one value
 same_ok : {A B : Type 0} (r : Result A B) (x y : A) → r ≡ Ok x → r ≡ Ok y → x ≡ y
 same_ok r x y h k = cc
 
@@ -28,7 +28,7 @@ one_fault tokens e f h k = let a = faulty_run tokens e h in let b = faulty_run t
 pub not_both : (tokens : List Token) (c : Condition) (e : ParseError) → Reads tokens c → Faulty tokens e → ⊥
 not_both tokens c e h k = let a = reads_run tokens c h.0 h.1 in let b = faulty_run tokens e k in cc
 
--- where a condition or a fault is answered, it is the only one
+-- a condition or a fault that is returned is the only one
 one_of : (tokens : List Token) (r : Outcome) → Said tokens r → HasOneReading Reads Faulty tokens
 one_of tokens (Ok (c, rest)) h =
     inl ((c, (rest, h), (λ d k. one_condition tokens d c k (rest, h))), (λ kind k. not_both tokens c kind (rest, h) k))

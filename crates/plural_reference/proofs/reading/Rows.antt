@@ -47,7 +47,7 @@ ax_is_junk : AreTokensOf (codes "ax") (Junk ∷ [])
 unfolding tokens_from
 ax_is_junk = has_tokens (codes "ax")
 
--- and a piece begins behind that byte
+-- and a piece begins after that byte
 a123_is_junk_and_number : AreTokensOf (codes "a123") (Junk ∷ Number 23 ∷ [])
 unfolding tokens_from
 a123_is_junk_and_number = has_tokens (codes "a123")
@@ -106,7 +106,7 @@ ax_by_hand = (
 
 -- ---- conditions
 
--- a text is read, or has a fault, as the reader answers
+-- a text is read, or has a fault, as the reader returns
 text_reads : (text : List ℕ) (c : Condition) (rest : List Token) → run begin (tokens_of text) ≡ Ok (c, rest) → TextReads Reads text c
 text_reads text c rest h = (tokens_of text, has_tokens text, (rest, subst (Said (tokens_of text)) h (said (tokens_of text))))
 
@@ -142,7 +142,7 @@ too_large : TextFaulty Faulty (codes "i = 4294967296") ExpectedValue
 unfolding tokens_from run
 too_large = text_faulty (codes "i = 4294967296") ExpectedValue refl
 
--- nothing behind And
+-- nothing after And
 and_alone : TextFaulty Faulty (codes "i = 1 and") ExpectedRelation
 unfolding tokens_from run
 and_alone = text_faulty (codes "i = 1 and") ExpectedRelation refl
@@ -151,12 +151,12 @@ and_alone = text_faulty (codes "i = 1 and") ExpectedRelation refl
 and_alone_not_read : (c : Condition) → TextReads Reads (codes "i = 1 and") c → ⊥
 and_alone_not_read = not_read (codes "i = 1 and") ExpectedRelation and_alone
 
--- nothing behind Or
+-- nothing after Or
 or_alone : TextFaulty Faulty (codes "i = 1 or") ExpectedAndCondition
 unfolding tokens_from run
 or_alone = text_faulty (codes "i = 1 or") ExpectedAndCondition refl
 
--- no operator behind an operand
+-- no operator after an operand
 no_operator : TextFaulty Faulty (codes "i 1") ExpectedOperator
 unfolding tokens_from run
 no_operator = text_faulty (codes "i 1") ExpectedOperator refl
@@ -166,7 +166,7 @@ no_operand : TextFaulty Faulty (codes "= 1") ExpectedOperand
 unfolding tokens_from run
 no_operand = text_faulty (codes "= 1") ExpectedOperand refl
 
--- no value behind an operator
+-- no value after an operator
 no_value : TextFaulty Faulty (codes "i = ") ExpectedValue
 unfolding tokens_from run
 no_value = text_faulty (codes "i = ") ExpectedValue refl
@@ -186,17 +186,17 @@ falling_range : TextReads Reads (codes "i = 3..1") (i_is (items.Range (value 3) 
 unfolding tokens_from run
 falling_range = text_reads (codes "i = 3..1") _ [] refl
 
--- an operand behind And that another token follows
+-- another token in place of an operand after And
 and_then_dot : TextFaulty Faulty (codes "i = 1 and ,") ExpectedOperand
 unfolding tokens_from run
 and_then_dot = text_faulty (codes "i = 1 and ,") ExpectedOperand refl
 
--- At behind Or
+-- At after Or
 or_at : TextFaulty Faulty (codes "i = 1 or @integer 1") ExpectedAndCondition
 unfolding tokens_from run
 or_at = text_faulty (codes "i = 1 or @integer 1") ExpectedAndCondition refl
 
--- no value behind Modulo
+-- no value after Modulo
 no_modulus : TextFaulty Faulty (codes "i % = 1") ExpectedValue
 unfolding tokens_from run
 no_modulus = text_faulty (codes "i % = 1") ExpectedValue refl
@@ -206,12 +206,12 @@ modulus_then_modulo : TextFaulty Faulty (codes "i % 5 % 1") ExpectedOperator
 unfolding tokens_from run
 modulus_then_modulo = text_faulty (codes "i % 5 % 1") ExpectedOperator refl
 
--- nothing behind Comma
+-- nothing after Comma
 comma_alone : TextFaulty Faulty (codes "i = 1,") ExpectedValue
 unfolding tokens_from run
 comma_alone = text_faulty (codes "i = 1,") ExpectedValue refl
 
--- nothing behind dots
+-- nothing after dots
 dots_alone : TextFaulty Faulty (codes "i = 1..") ExpectedValue
 unfolding tokens_from run
 dots_alone = text_faulty (codes "i = 1..") ExpectedValue refl

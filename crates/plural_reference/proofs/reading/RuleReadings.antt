@@ -36,12 +36,12 @@ faulty_rule tokens kind (inl h) = ap of_condition (faulty_run tokens kind h)
 faulty_rule tokens kind (inr (c, rest, h, k)) =
     ap of_condition (reads_run tokens c rest h) ∙ ap (with_samples c) (faulty_samples_run rest kind k)
 
--- one of the two, as the readers answer
+-- one of the two, as the readers return
 unfoldable pub Given : List Token → RuleOutcome → Type 0
 Given tokens (Ok r) = ReadsRule tokens r
 Given tokens (Err kind) = FaultyRule tokens kind
 
--- what it gives behind a condition is read, or is a fault there
+-- what the reader of samples returns after a condition is read, or is a fault
 given_samples : (tokens : List Token) (c : Condition) (rest : List Token) (o : SampleOutcome)
     → ReadsUpTo tokens c rest → SaidSamples rest o → Given tokens (with_samples c o)
 unfolding Given
@@ -84,6 +84,6 @@ one_of tokens (Err kind) e h =
 pub one_rule : HaveOneRule
 one_rule tokens = one_of tokens (rule_of tokens) refl (given_condition tokens (run begin tokens) (said tokens))
 
--- what the readers answer
+-- what the readers return
 pub given : (tokens : List Token) → Given tokens (rule_of tokens)
 given tokens = given_condition tokens (run begin tokens) (said tokens)

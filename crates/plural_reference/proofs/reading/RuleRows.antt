@@ -44,7 +44,7 @@ range lower upper = record { lower_val = lower; upper_val = Some upper }
 abbrev list_of : List SampleRange → Bool → Option SampleList
 list_of rs more = Some (record { sample_ranges = rs; ellipsis = more })
 
--- samples behind the empty condition
+-- samples after the empty condition
 abbrev only_samples : Option SampleList → Option SampleList → Rule
 only_samples i d = record { condition = record { 0 = [] }; samples = Some (record { integer = i; decimal = d }) }
 
@@ -73,7 +73,7 @@ replaced : TextReads ReadsRule (codes "@integer 1, " ++ ellipsis ++ codes " @int
 unfolding tokens_from run run_samples digits
 replaced = reads (codes "@integer 1, " ++ ellipsis ++ codes " @integer 2") _ refl
 
--- nothing continues a list behind its ellipsis
+-- nothing continues a list after its ellipsis
 tilde_unread : TextReads ReadsRule (codes "@integer 1, " ++ ellipsis ++ codes "~2")
     (only_samples (list_of (one (codes "1") ∷ []) true) None)
 unfolding tokens_from run run_samples digits

@@ -1,4 +1,4 @@
--- What the grammar of samples spells is read, and a fault is answered: the tokens of sections lead the reader of samples behind
+-- What the grammar of samples spells is read, and a fault is returned: the tokens of sections lead the reader of samples past
 -- them, and those of a waiting place lead it to a state that refuses what follows. From the grammar to the reader;
 -- RuleReadings cites the two last facts, the steps of the parser in samples the step that each kind of token makes.
 use Rattle.std.proofs.Common.{◌≡◌, ◌≢◌, ◌<◌, ◌+◌, ◌/◌, ◌%◌, ℕ, zero, suc, Bool, true, false, List, [], ◌∷◌, ◌++◌, Option}
@@ -137,7 +137,7 @@ fraction_run p text (Dot ∷ ts) rest f h k =
     ∙ ap (λ x. run_samples (in_sample p x) rest) (append_assoc text (token_text Dot) (flat_map token_text ts))
 fraction_run p text (_ ∷ ts) rest f h k = absurd f
 
--- a mark behind a sample without an exponent leads to where its digits are awaited
+-- a mark after a sample without an exponent leads to the state that expects its digits
 pub mark_run : (p : Partial) (text : DecimalValue) (m : Token) (rest : List Token) → IsExponentMark m
     → has_exponent text ≡ false
     → run_samples (in_sample p text) (m ∷ rest) ≡ run_samples (behind_mark p (text ++ token_text m)) rest
@@ -146,7 +146,7 @@ mark_run p text E rest m h = rw h refl
 mark_run p text (Operand C) rest m h = rw h refl
 mark_run p text _ rest m h = absurd m
 
--- digits behind a mark end the sample with its exponent
+-- digits after a mark end the sample with its exponent
 pub after_mark_run : (p : Partial) (text : DecimalValue) (t : Token) (rest : List Token) → IsDigits t
     → run_samples (behind_mark p text) (t ∷ rest) ≡ run_samples (in_sample p (text ++ token_text t)) rest
 unfolding run_samples
@@ -263,13 +263,13 @@ sample_run s p y text rest st h =
 
 -- ---- ranges
 
--- Tilde behind a single sample leads to the upper one
+-- Tilde after a single sample leads to the upper one
 pub tilde_run : (p : Partial) (text : DecimalValue) (rest : List Token) → p.lower ≡ None
     → run_samples (in_sample p text) (Tilde ∷ rest) ≡ run_samples (awaits_sample (record p { lower = Some text })) rest
 unfolding run_samples
 tilde_run p text rest h = rw h refl
 
--- a comma completes the range, and leads behind itself
+-- a comma completes the range, and leads to the state after the comma
 pub comma_run : (p : Partial) (text : DecimalValue) (rest : List Token)
     → run_samples (in_sample p text) (Comma ∷ rest)
     ≡ run_samples (behind_comma (record p { ranges = ranges_with p text; lower = None })) rest
@@ -346,30 +346,30 @@ ranges_lead s p tokens (r ∷ x ∷ xs) st n h =
 
 -- ---- lists and sections
 
--- the state behind whole sections
+-- the state after whole sections
 data Closes : SampleState → List Section → Type 0 where
   closed : (ss : List Section) → open_range ss ≡ None → Closes (after_sections ss) ss
   in_last : (p : Partial) (text : DecimalValue) (ss : List Section) → with_sections p (ranges_with p text) false ≡ ss
       → Closes (in_sample p text) ss
 
--- tokens lead from a state to one behind the sections
+-- tokens lead from a state to one after the sections
 record LeadsToEnd (from : SampleState) (tokens : List Token) (ss : List Section) : Type 0 where
   state : SampleState
   run_is : (rest : List Token) → run_samples from (tokens ++ rest) ≡ run_samples state rest
   closes : Closes state ss
 
--- an ellipsis behind a comma completes the list
+-- an ellipsis after a comma completes the list
 pub ellipsis_run : (p : Partial) (rest : List Token)
     → run_samples (behind_comma p) (Ellipsis ∷ rest) ≡ run_samples (after_sections (with_sections p p.ranges true)) rest
 unfolding run_samples
 ellipsis_run p rest = refl
 
--- behind a list with an ellipsis no range is open
+-- after a list with an ellipsis no range is open
 open-ellipsis : (ss : List Section) (t : Token) (rs : List SampleRange)
     → open_range (ss ++ (record { type = t; list = record { sample_ranges = rs; ellipsis = true } }) ∷ []) ≡ None
 open-ellipsis ss t rs = rw last-push refl
 
--- the tokens of a list lead behind its section
+-- the tokens of a list lead to the state after its section
 list_leads : (sections : List Section) (type : Token) (tokens : List Token) (ranges : List SampleRange) (more : Bool)
     → IsSampleList tokens (record { sample_ranges = ranges; ellipsis = more })
     → LeadsToEnd (awaits_sample (begin_list sections type)) tokens
@@ -407,7 +407,7 @@ list_leads sections type tokens ranges true h =
       closes = closed _ (open-ellipsis sections type ranges);
     }
 
--- At behind whole sections leads to where a type is awaited
+-- At after whole sections leads to the state that expects a type
 at_run : (s : SampleState) (ss : List Section) (rest : List Token) → Closes s ss
     → run_samples s (At ∷ rest) ≡ run_samples (behind_at ss) rest
 unfolding run_samples
@@ -422,7 +422,7 @@ type_run ss Integer rest h = refl
 type_run ss Decimal rest h = refl
 type_run ss _ rest h = absurd h
 
--- the tokens of sections lead behind them, from a state behind others
+-- the tokens of sections lead to the state after them, from a state after others
 sections_lead : (s : SampleState) (done : List Section) (tokens : List Token) (ss : List Section) → Closes s done
     → AreSections tokens ss → LeadsToEnd s tokens (done ++ ss)
 sections_lead s done tokens [] c h =
@@ -446,7 +446,7 @@ sections_lead s done tokens (x ∷ xs) c h =
       closes = subst (Closes more.state) (append_assoc done (x ∷ []) xs) more.closes;
     }
 
--- the tokens of sections lead behind them from the beginning
+-- the tokens of sections lead from the beginning to the state after them
 all_lead : (tokens : List Token) (ss : List Section) → AreSections tokens ss → LeadsToEnd (after_sections []) tokens ss
 all_lead tokens ss h = sections_lead (after_sections []) [] tokens ss (closed [] refl) h
 
@@ -465,7 +465,7 @@ pub joins_ends : (full : Bool) (next : SampleState) (p : Partial) (text : Decima
 joins_ends true next p text ts k h = refl
 joins_ends false next p text ts k h = absurd (h refl)
 
--- Tilde behind an upper sample ends the samples
+-- Tilde after an upper sample ends the samples
 pub tilde_ends : (lower : Option DecimalValue) (p : Partial) (text : DecimalValue) (ts : List Token)
     (k : SampleState → SampleOutcome)
     → (lower ≡ None → ⊥)
@@ -498,7 +498,7 @@ last_ends p text (Operand C ∷ ts) h =
     (λ e. h (takes_on p text (λ x. Takes x (Operand C)) (e, inr tt)))
 last_ends p text (_ ∷ ts) h = refl
 
--- what doesn't continue the samples ends them behind an ellipsis, or behind no section
+-- what doesn't continue the samples ends them after an ellipsis, or after no section
 closed_ends : (ss : List Section) (rest : List Token) → IfSome (first rest) (λ t. ¬ (ContinuesSamples ss t))
     → run_samples (after_sections ss) rest ≡ Ok (ss, rest)
 unfolding run_samples
@@ -506,7 +506,7 @@ closed_ends ss [] h = refl
 closed_ends ss (At ∷ ts) h = absurd (h tt)
 closed_ends ss (_ ∷ ts) h = refl
 
--- what doesn't continue the samples ends them behind whole sections
+-- what doesn't continue the samples ends them after whole sections
 state_ends : (s : SampleState) (ss : List Section) (rest : List Token) → Closes s ss
     → IfSome (first rest) (λ t. ¬ (ContinuesSamples ss t)) → run_samples s rest ≡ Ok (ss, rest)
 state_ends _ _ rest (closed ss h) n = closed_ends ss rest n
@@ -514,7 +514,7 @@ state_ends _ _ rest (in_last p text ss h) n =
     last_ends p text rest (subst (λ x. IfSome (first rest) (λ t. ¬ (ContinuesSamples x t))) (sym h) n)
     ∙ ap (λ x. Ok (x, rest)) h
 
--- what the grammar of samples reads is answered
+-- what the grammar of samples reads is returned
 pub reads_samples_run : (tokens : List Token) (ss : List Section) (rest : List Token) → ReadsSections tokens ss rest
     → run_samples (after_sections []) tokens ≡ Ok (ss, rest)
 reads_samples_run tokens ss rest h =
@@ -523,7 +523,7 @@ reads_samples_run tokens ss rest h =
 
 -- ---- faults
 
--- the fault of what follows is answered where a type is awaited
+-- if a type is expected, the fault of what follows is returned
 pub type_stop : (ss : List Section) (rest : List Token) (kind : ParseError) → type_fault (first rest) ≡ Some kind
     → run_samples (behind_at ss) rest ≡ Err kind
 unfolding run_samples
@@ -532,7 +532,7 @@ type_stop ss (Integer ∷ ts) kind h = cc
 type_stop ss (Decimal ∷ ts) kind h = cc
 type_stop ss (_ ∷ ts) kind h = cc
 
--- the fault of what follows is answered where a sample is awaited
+-- if a sample is expected, the fault of what follows is returned
 pub sample_stop : (p : Partial) (rest : List Token) (kind : ParseError) → sample_fault (first rest) ≡ Some kind
     → run_samples (awaits_sample p) rest ≡ Err kind
 unfolding run_samples
@@ -544,7 +544,7 @@ sample_stop p (E ∷ ts) kind h = cc
 sample_stop p (Operand C ∷ ts) kind h = cc
 sample_stop p (_ ∷ ts) kind h = cc
 
--- the fault of what follows is answered behind a comma
+-- after a comma, the fault of what follows is returned
 comma_stop : (p : Partial) (rest : List Token) (kind : ParseError)
     → fault_in_samples places.after_comma (first rest) ≡ Some kind → run_samples (behind_comma p) rest ≡ Err kind
 unfolding run_samples
@@ -557,7 +557,7 @@ comma_stop p (E ∷ ts) kind h = cc
 comma_stop p (Operand C ∷ ts) kind h = cc
 comma_stop p (_ ∷ ts) kind h = cc
 
--- the fault of what follows is answered behind a mark
+-- after a mark, the fault of what follows is returned
 pub mark_stop : (p : Partial) (text : DecimalValue) (rest : List Token) (kind : ParseError)
     → value_fault (first rest) ≡ Some kind → run_samples (behind_mark p text) rest ≡ Err kind
 unfolding run_samples
@@ -630,7 +630,7 @@ arrives_sample q (inr (spelled, ss, e, h, k)) =
           (lower_is_none o.partial.lower o.text (at_open ss _ (λ r. r.upper_val ≡ None) o.open_is k))),
     )
 
--- a list and a comma lead behind the comma
+-- a list and a comma lead to the state after the comma
 arrives_comma : (q : List Token) → IsAfterComma q → (p : Partial) × Arrives q (behind_comma p)
 arrives_comma q (spelled, ss, e, h, k) =
     let to = all_lead spelled ss h in
@@ -652,7 +652,7 @@ mark_taken ss E h k = weaker (open_range ss) _ _ (λ r x. x.0) k
 mark_taken ss (Operand C) h k = weaker (open_range ss) _ _ (λ r x. x.0) k
 mark_taken ss _ h k = absurd h
 
--- tokens that end in a mark lead behind it
+-- tokens that end in a mark lead to the state after it
 arrives_mark : (q : List Token) → IsAfterMark q → (p : Partial) × (text : DecimalValue) × Arrives q (behind_mark p text)
 arrives_mark q (m, h, inl (before, e, inl w)) =
     let a = arrives_sample before w in
@@ -673,7 +673,7 @@ arrives_mark q (m, h, inr (spelled, ss, e, k, c)) =
           (λ rest. ap (λ s. run_samples s (m ∷ rest)) o.state_is ∙ mark_run o.partial o.text m rest h free),
     )
 
--- tokens that wait at a place, and what is a fault there, are answered with the fault
+-- after tokens that wait at a place, the fault of the next token at that place is returned
 sample_waits_run : (place : places.SamplePlace) (before rest : List Token) (kind : ParseError)
     → places.WaitsInSamples place before → fault_in_samples place (first rest) ≡ Some kind
     → run_samples (after_sections []) (before ++ rest) ≡ Err kind
@@ -682,7 +682,7 @@ sample_waits_run places.before_sample before rest kind w h = let a = arrives_sam
 sample_waits_run places.after_comma before rest kind w h = let a = arrives_comma before w in a.1 rest ∙ comma_stop a.0 rest kind h
 sample_waits_run places.after_mark before rest kind w h = let a = arrives_mark before w in a.2 rest ∙ mark_stop a.0 a.1 rest kind h
 
--- a fault of the tokens is answered
+-- a fault of the tokens is returned
 pub faulty_samples_run : (tokens : List Token) (kind : ParseError) → FaultyInSamples tokens kind
     → run_samples (after_sections []) tokens ≡ Err kind
 faulty_samples_run tokens kind h = ap (run_samples (after_sections [])) h.3 ∙ sample_waits_run h.0 h.1 h.2 kind h.4 h.5

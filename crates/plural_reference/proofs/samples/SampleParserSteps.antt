@@ -179,7 +179,7 @@ number_with_point first_text text old middle after new h e k d = record {
 
 -- ---- exponents
 
--- a mark and digits behind it are an exponent
+-- a mark and digits after it are an exponent
 pub exponent_joins : (before mark : List ℕ) (n : ℕ) (old middle new : List Token)
     → has_exponent before ≡ false → TakesText IsExponentMark old mark middle → TakesText IsDigits middle (decimal n) new
     → JoinsExponent before old (before ++ mark ++ decimal n) new
@@ -288,7 +288,7 @@ range_to lower upper old middle after new h e k = record {
   no_tilde = λ n. cc;
 }
 
--- a fault of the sample behind Tilde is one of the range
+-- a fault of the sample after Tilde is a fault of the range
 pub no_upper : (lower : List ℕ) (old middle after : List Token) (kind : ParseError)
     → ReadsSample old lower middle → middle ≡ Tilde ∷ after → ((p : Partial) → run_samples (awaits_sample p) after ≡ Err kind)
     → (p : Partial) → p.lower ≡ None → run_samples (awaits_sample p) old ≡ Err kind
@@ -309,11 +309,11 @@ one_range old new r h = record {
   no_tilde = h.no_tilde;
 }
 
--- a list with these ranges, behind its last comma
+-- a list with these ranges, after its last comma
 abbrev with_ranges : List Section → Token → List SampleRange → Partial
 with_ranges sections type rs = record { sections = sections; type = type; ranges = rs; lower = None }
 
--- Comma behind ranges leads to the place of a range or of an ellipsis
+-- Comma after ranges leads to the place of a range or of an ellipsis
 to_comma : (old middle after : List Token) (rs : List SampleRange)
     → ReadsRanges old rs middle → middle ≡ Comma ∷ after → (sections : List Section) (type : Token)
     → run_samples (awaits_sample (begin_list sections type)) old ≡ run_samples (behind_comma (with_ranges sections type rs)) after
@@ -330,7 +330,7 @@ not_ellipsis p [] n = refl
 not_ellipsis p (Ellipsis ∷ ts) n = absurd (n refl)
 not_ellipsis p (_ ∷ ts) n = refl
 
--- so Comma behind ranges leads to a sample
+-- so Comma after ranges leads to a sample
 to_sample : (old middle after behind : List Token) (rs : List SampleRange)
     → ReadsRanges old rs middle → middle ≡ Comma ∷ after → first after ≢ Some Ellipsis → behind ≡ after
     → (sections : List Section) (type : Token)
@@ -339,7 +339,7 @@ to_sample old middle after behind rs h e n f sections type =
     to_comma old middle after rs h e sections type ∙ not_ellipsis (with_ranges sections type rs) after n
     ∙ ap (run_samples (awaits_sample (with_ranges sections type rs))) (sym f)
 
--- a range behind Comma joins the list
+-- a range after Comma joins the list
 pub more_ranges : (old middle after behind new : List Token) (rs : List SampleRange) (r : SampleRange)
     → ReadsRanges old rs middle → middle ≡ Comma ∷ after → first after ≢ Some Ellipsis → behind ≡ after → ReadsRange behind r new
     → ReadsRanges old (rs ++ r ∷ []) new
@@ -369,7 +369,7 @@ list_with_ellipsis old middle after new rs h e f sections type =
     to_comma old middle after rs h e sections type ∙ ap (run_samples (behind_comma (with_ranges sections type rs))) f
     ∙ ellipsis_run (with_ranges sections type rs) new
 
--- where nothing continues a list, its sections are behind it
+-- if nothing continues a list, the reader is after its sections
 list_ends : (p : Partial) (text : DecimalValue) (rest : List Token)
     → IfSome (first rest) (λ t. ¬ (Takes text t)) → (p.lower ≡ None → first rest ≢ Some Tilde) → first rest ≢ Some Comma
     → run_samples (in_sample p text) rest ≡ run_samples (after_sections (with_sections p (ranges_with p text) false)) rest
@@ -415,7 +415,7 @@ joined_section : (ss : List Section) (s : Section) → joined_list (samples_of s
 joined_section [] s = refl
 joined_section (x ∷ ss) s = ap Some (sym (fold-push (add_list (record { integer = None; decimal = None }) x) ss s))
 
--- At behind lists leads to the place of a type
+-- At after lists leads to the place of a type
 at_step : (ss : List Section) (rest : List Token) → run_samples (after_sections ss) (At ∷ rest) ≡ run_samples (behind_at ss) rest
 unfolding run_samples
 at_step ss rest = refl
@@ -425,7 +425,7 @@ is_type : (kind : SampleType) → IsSampleType (type_token kind)
 is_type types.Integer = tt
 is_type types.Decimal = tt
 
--- At and a type behind lists lead to the list's first sample
+-- At and a type after lists lead to the list's first sample
 to_list : (old middle after behind : List Token) (given : Option samples.Samples) (kind : SampleType) (h : ReadsLists old given middle)
     → middle ≡ At ∷ after → after ≡ type_token kind ∷ behind
     → run_samples (after_sections []) old ≡ run_samples (awaits_sample (begin_list h.sections (type_token kind))) behind
@@ -446,7 +446,7 @@ more_lists old middle after behind new given kind list joined h e f k j =
       samples_are = j ∙ ap (λ x. joined_list x section) h.samples_are ∙ joined_section h.sections section;
     }
 
--- where no type stands behind At, that is the fault
+-- if no type follows At, that is the fault
 pub no_type : (old middle after : List Token) (given : Option samples.Samples)
     → ReadsLists old given middle → middle ≡ At ∷ after → type_fault (first after) ≡ Some ExpectedSampleType
     → run_samples (after_sections []) old ≡ Err ExpectedSampleType

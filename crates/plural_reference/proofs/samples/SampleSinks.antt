@@ -88,7 +88,7 @@ pub keeps_number_alone : (keeps : Bool) (stored : List ℕ) (old middle new : Li
     → ReadsStored keeps ReadsNumber old stored new
 keeps_number_alone keeps stored old middle new (read, k, h) d n e = (read, k, number_alone read old middle new h d n e)
 
--- what digits behind a point give
+-- what digits after a point give
 abbrev pub DigitsBehind : Bool → List ℕ → List Token → List ℕ → List Token → Type 0
 DigitsBehind keeps pointed after stored new =
     (before : List ℕ) → has_exponent before ≡ false → IsStored keeps pointed before
@@ -122,7 +122,7 @@ keeps_exponent keeps before stored marked after mark n old middle new h k m j t 
 
 -- ---- samples
 
--- what an exponent behind a text gives
+-- what an exponent after a text gives
 abbrev pub ExponentBehind : Bool → List ℕ → List Token → List ℕ → List Token → Type 0
 ExponentBehind keeps number middle stored new =
     (before : List ℕ) → has_exponent before ≡ false → IsStored keeps number before
@@ -166,7 +166,7 @@ keeps_range_to keeps lower upper old middle after new (a, k, h) e (b, j, g) = (
   range_to a b old middle after new h e g,
 )
 
--- a fault behind a tilde is one of the range
+-- a fault after a tilde is a fault of the range
 pub upper_fault : (keeps : Bool) (lower : DecimalValue) (old middle after : List Token) (kind : ParseError)
     → ReadsStored keeps ReadsSample old lower middle → middle ≡ Tilde ∷ after → FailsAtSample after kind → FailsAtRange old kind
 upper_fault keeps lower old middle after kind (read, k, h) e q = no_upper read old middle after kind h e q
@@ -184,7 +184,7 @@ keeps_one_range keeps stored front list old new e (read, k, h) j = (
   one_range old new read h,
 )
 
--- one range more behind a comma
+-- one range more after a comma
 pub keeps_more_ranges : (keeps : Bool) (old middle after behind new : List Token) (front list : List SampleRange) (stored : SampleRange)
     → ReadsStored keeps ReadsRanges old front middle → middle ≡ Comma ∷ after → first after ≢ Some Ellipsis → behind ≡ after
     → ReadsStored keeps ReadsRange behind stored new → IsStored keeps list (front ++ stored ∷ [])
@@ -232,7 +232,7 @@ keeps_no_lists keeps old = (None, kept_whole keeps None, no_lists_yet old)
 abbrev with_one : SampleType → Option samples.Samples → SampleList → samples.Samples
 with_one kind given list = with_list (type_token kind) list (unwrap_or given (record { integer = None; decimal = None }))
 
--- one list more behind its type
+-- one list more after its type
 pub keeps_more_lists : (keeps : Bool) (old middle after behind new : List Token) (given : Option samples.Samples) (kind : SampleType)
     (list : SampleList) (joined : samples.Samples)
     → ReadsStored keeps ReadsLists old given middle → middle ≡ At ∷ after → after ≡ type_token kind ∷ behind
@@ -245,7 +245,7 @@ keeps_more_lists keeps old middle after behind new given kind list joined (ss, k
   more_lists old middle after behind new ss kind l (with_one kind ss l) h e f g refl,
 )
 
--- no type stands behind At
+-- no type follows At
 pub lists_type_fault : (keeps : Bool) (old middle after : List Token) (given : Option samples.Samples)
     → ReadsStored keeps ReadsLists old given middle → middle ≡ At ∷ after → type_fault (first after) ≡ Some ExpectedSampleType
     → run_samples (after_sections []) old ≡ Err ExpectedSampleType

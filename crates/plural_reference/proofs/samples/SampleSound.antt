@@ -1,4 +1,4 @@
--- What the reader of samples answers is what the grammar says: the tokens so far spell the sections, the ranges and the part of
+-- What the reader of samples returns is what the grammar says: the tokens so far spell the sections, the ranges and the part of
 -- a sample that its state holds, so the sections that it ends with are read, and a fault that it stops with is theirs.
 -- RuleReadings cites the last lemma, SampleComplete and the steps of the parser in samples some of the others.
 use Rattle.std.proofs.Common.{◌≡◌, ◌≢◌, ℕ, Bool, true, false, List, [], ◌∷◌, ◌++◌, Option, Some, None}
@@ -33,7 +33,7 @@ use Rattle.plural_reference.proofs.reading.ReaderComplete.{last-push}
 
 -- ---- sections
 
--- sections, and behind them At, a type and a list, are sections
+-- sections, and after them At, a type and a list, are sections
 AreSections-push : (a : List Token) (ss : List Section) (t : Token) (l : List Token) (list : SampleList)
     → AreSections a ss → IsSampleType t → IsSampleList l list
     → AreSections (a ++ At ∷ t ∷ l) (ss ++ (record { type = t; list = list }) ∷ [])
@@ -49,12 +49,12 @@ AreSections-push a (s ∷ ss) t l list h k m = (
 
 -- ---- what the tokens so far spell
 
--- the lower sample of a range with Tilde behind it, or no tokens where there is none
+-- the lower sample of a range with Tilde after it, or no tokens if there is none
 LowerIs : List Token → Option DecimalValue → Type 0
 LowerIs tokens None = tokens ≡ []
 LowerIs tokens (Some lower) = (x : List Token) × (tokens ≡ x ++ Tilde ∷ []) × IsSample x lower
 
--- whole sections, At and a type, ranges with Comma behind each, and perhaps a lower sample with its Tilde
+-- whole sections, At and a type, ranges with Comma after each, and perhaps a lower sample with its Tilde
 record SpellsPartial (q : List Token) (p : Partial) : Type 0 where
   section_tokens : List Token
   range_tokens : List Token
@@ -72,7 +72,7 @@ unfolding LowerIs
 range_is None l y text h k = (y, [], ap (λ x. x ++ y) h ∙ sym (append-nil y), k, refl)
 range_is (Some lower) l y text h k = (h.0, Tilde ∷ y, ap (λ x. x ++ y) h.1 ∙ append_assoc h.0 (Tilde ∷ []) y, h.2, (y, refl, k))
 
--- the parts of an open list and what is put behind them, one list of tokens
+-- the parts of an open list and what follows them, as one list of tokens
 regroup : (a : List Token) (t : Token) (b c d : List Token) → (a ++ At ∷ t ∷ (b ++ c)) ++ d ≡ a ++ At ∷ t ∷ (b ++ (c ++ d))
 regroup a t b c d = simp append_assoc
 
@@ -192,7 +192,7 @@ open_sample y text h k =
 empty_open : Open [] []
 empty_open = record { integer = []; fraction = []; whole = refl; digits = tt; is_fraction = tt; text_is = refl }
 
--- digits behind an integer and perhaps a fraction belong to the last of both
+-- digits after an integer, and perhaps a fraction, belong to the last of these
 digit_on : (i f y : List Token) (text : DecimalValue) (t : Token) → y ≡ i ++ f → AllByRecursion IsDigits i
     → IsFraction f → IsDigits t → text ≡ flat_map token_text y → IsSample (y ++ t ∷ []) (text ++ token_text t)
 digit_on i [] y text t w d f g k = (
@@ -219,7 +219,7 @@ digit_on i (Dot ∷ ds) y text t w d f g k = (
 )
 digit_on i (_ ∷ ds) y text t w d f g k = absurd f
 
--- digits behind a sample without an exponent make a longer sample
+-- digits after a sample without an exponent make a longer sample
 digit_joins : (y : List Token) (text : DecimalValue) (t : Token) → Open y text → IsDigits t → IsSample (y ++ t ∷ []) (text ++ token_text t)
 digit_joins y text t o d = digit_on o.integer o.fraction y text t o.whole o.digits o.is_fraction d o.text_is
 
@@ -254,7 +254,7 @@ exponent_joins y text m d o g h = (
 
 -- ---- the states
 
--- a sample is awaited at the start of a range, or behind a comma
+-- a sample is expected at the start of a range, or after a comma
 Awaits : List Token → Type 0
 Awaits x = IsBeforeSample x ⊎ IsAfterComma x
 
@@ -294,7 +294,7 @@ ReadsSections tokens ss rest =
     (spelled : List Token) × (tokens ≡ spelled ++ rest) × AreSections spelled ss
     × IfSome (first rest) (λ t. ¬ (ContinuesSamples ss t))
 
--- what is said of tokens by an answer
+-- what is said of tokens by a result
 abbrev pub SaidSamples : List Token → SampleOutcome → Type 0
 SaidSamples tokens (Ok (ss, rest)) = ReadsSections tokens ss rest
 SaidSamples tokens (Err kind) = FaultyInSamples tokens kind
@@ -325,7 +325,7 @@ nothing_open ss Comma h n k = absurd (true≢false (sym k ∙ ap is_some h))
 nothing_open ss Tilde h n k = rw h at k
 nothing_open ss _ h n k = rw h at k
 
--- behind whole sections, At leads on and any other token ends the samples
+-- after whole sections, At leads on and any other token ends the samples
 said_after_sections : (q : List Token) (ss : List Section) (t : Token) (ts : List Token)
     → SpellsState q (after_sections ss) → SaidMove q t ts (section_move ss t)
 said_after_sections q ss At ts h = (q, refl, h.0)
@@ -346,12 +346,12 @@ begun q ss t k h = record {
   lower = refl;
 }
 
--- behind At and a type a sample is awaited
+-- after At and a type a sample is expected
 begun_waits : (q : List Token) (ss : List Section) (t : Token) → IsSampleType t → SpellsState q (behind_at ss)
     → IsBeforeSample (q ++ t ∷ [])
 begun_waits q ss t k h = inl (t, k, (h.0, ss, ap (λ l. l ++ t ∷ []) h.1 ∙ append_assoc h.0 (At ∷ []) (t ∷ []), h.2, tt))
 
--- behind At, the next token is a type, or a fault
+-- after At, the next token is a type, or a fault
 said_behind_at : (q : List Token) (ss : List Section) (t : Token) (ts : List Token) → SpellsState q (behind_at ss)
     → SaidMove q t ts (at_move ss t)
 said_behind_at q ss Integer ts h = (begun q ss Integer tt h, begun_waits q ss Integer tt h)
@@ -404,7 +404,7 @@ said_awaits : (q : List Token) (p : Partial) (t : Token) (ts : List Token) → S
 unfolding Awaits
 said_awaits q p t ts h = said_start q p t ts h.0 (inl h.1) (λ e. (places.before_sample, q, t ∷ ts, refl, h.1, e))
 
--- an ellipsis behind ranges, each with its comma, completes the sections
+-- an ellipsis after ranges, each with its comma, completes the sections
 ellipsis_done : (q : List Token) (p : Partial) (x : SampleRange) (xs : List SampleRange) → p.ranges ≡ x ∷ xs
     → SpellsPartial q p → p.lower ≡ None → AreSections (q ++ Ellipsis ∷ []) (with_sections p p.ranges true)
 unfolding LowerIs
@@ -424,17 +424,17 @@ ellipsis_done q p x xs e h n =
       refl,
     ))
 
--- behind an ellipsis no range is open
+-- after an ellipsis no range is open
 open-ellipsis : (p : Partial) → open_range (with_sections p p.ranges true) ≡ None
 open-ellipsis p = rw last-push refl
 
--- behind ranges and a comma, an ellipsis completes the list
+-- after ranges and a comma, an ellipsis completes the list
 said_ellipsis : (q : List Token) (p : Partial) (rs : List SampleRange) → p.ranges ≡ rs → (rs ≢ []) → SpellsPartial q p
     → p.lower ≡ None → SpellsState (q ++ Ellipsis ∷ []) (after_sections (with_sections p p.ranges true))
 said_ellipsis q p [] e n h l = absurd (n refl)
 said_ellipsis q p (x ∷ xs) e n h l = (ellipsis_done q p x xs e h l, open-ellipsis p)
 
--- behind a comma, the next token is an ellipsis, begins a sample, or is a fault
+-- after a comma, the next token is an ellipsis, begins a sample, or is a fault
 said_behind_comma : (q : List Token) (p : Partial) (t : Token) (ts : List Token) → SpellsState q (behind_comma p)
     → SaidMove q t ts (comma_move p t)
 unfolding Awaits
@@ -475,7 +475,7 @@ tilde_regroup : (a : List Token) (t : Token) (b d : List Token)
     → ((a ++ At ∷ t ∷ (b ++ [])) ++ d) ++ Tilde ∷ [] ≡ a ++ At ∷ t ∷ (b ++ (d ++ Tilde ∷ []))
 tilde_regroup a t b d = simp (append_assoc, append-nil)
 
--- digits behind a mark end the sample with its exponent
+-- digits after a mark end the sample with its exponent
 exponent_grown : (q : List Token) (p : Partial) (text : DecimalValue) (t : Token) → IsDigits t → BehindMark q p text
     → InSample (q ++ t ∷ []) p (text ++ token_text t)
 exponent_grown q p text t d h = record {
@@ -546,7 +546,7 @@ module _ (q : List Token) (p : Partial) (text : DecimalValue) (h : InSample q p 
   grown_by_point : has_exponent text ≡ false → has_point text ≡ false → InSample (q ++ Dot ∷ []) p (text ++ token_text Dot)
   grown_by_point e f = grown Dot (text ++ token_text Dot) (point_joins h.sample_tokens text (open_sample h.sample_tokens text h.sample e) f)
 
-  -- a mark is put behind a sample without an exponent
+  -- a mark follows a sample without an exponent
   marked : (t : Token) → IsExponentMark t → has_exponent text ≡ false
       → ContinuesSamples (with_sections p (ranges_with p text) false) t
       → BehindMark (q ++ t ∷ []) p (text ++ token_text t)
@@ -629,7 +629,7 @@ module _ (q : List Token) (p : Partial) (text : DecimalValue) (h : InSample q p 
       → has_exponent text ≡ true → ⊥
   full_stops t f k e = true≢false (sym e ∙ f (takes_here (λ x. Takes x t) k))
 
-  -- in a sample, the next token joins it, leads on behind it, or ends the samples
+  -- in a sample, the next token joins it, leads past it, or ends the samples
   said_in_sample : (t : Token) (ts : List Token) → SaidMove q t ts (in_move p text t)
   said_in_sample Zero ts = said_joins (has_exponent text) _ Zero ts (λ e k. full_stops Zero (λ x. x.0) k e) (λ e. grown_by_digit Zero tt e)
   said_in_sample (Number n) ts =
@@ -655,9 +655,9 @@ module _ (q : List Token) (p : Partial) (text : DecimalValue) (h : InSample q p 
   said_in_sample At ts = (q, refl, done)
   said_in_sample t ts = ended t ts (λ k. let x = takes_here (λ x. Takes x t) k in ⊎_elim (λ a. a) (λ a. a) x.1)
 
--- ---- behind a mark
+-- ---- after a mark
 
--- behind a mark, the next token is digits, or a fault
+-- after a mark, the next token is digits, or a fault
 said_behind_mark : (q : List Token) (p : Partial) (text : DecimalValue) (t : Token) (ts : List Token)
     → SpellsState q (behind_mark p text) → SaidMove q t ts (mark_move p text t)
 said_behind_mark q p text Zero ts h = exponent_grown q p text Zero tt h
@@ -684,13 +684,13 @@ said_sample_end q (behind_comma p) h = (places.after_comma, q, [], refl, h.1, re
 said_sample_end q (in_sample p text) h = (q, refl, done q p text h, tt)
 said_sample_end q (behind_mark p text) h = (places.after_mark, q, [], refl, h.waits, refl)
 
--- what is said of the move at the end is said of the answer
+-- what is said of the move at the end is said of the result
 end_said : (q : List Token) (m : SampleMove) → SaidEnd q m → SaidSamples (q ++ []) (sample_proceed m [] (λ _. Err ExpectedValue))
 end_said q (goes s) h = absurd h
 end_said q (ends ss) h = h
 end_said q (refuses kind) h = h
 
--- what is said of a move, and of the answer from the next state, is said of the answer from this one
+-- what is said of a move, and of the result from the next state, is said of the result from this one
 move_said : (q : List Token) (t : Token) (ts : List Token) (m : SampleMove) → SaidMove q t ts m
     → ((next : SampleState) → SpellsState (q ++ t ∷ []) next → SaidSamples ((q ++ t ∷ []) ++ ts) (run_samples next ts))
     → SaidSamples (q ++ t ∷ ts) (sample_proceed m (t ∷ ts) (λ next. run_samples next ts))
@@ -698,7 +698,7 @@ move_said q t ts (goes s) h k = subst (λ l. SaidSamples l (run_samples s ts)) (
 move_said q t ts (ends ss) h k = h
 move_said q t ts (refuses kind) h k = h
 
--- from every state on, what the reader answers is what the grammar says
+-- from every state on, what the reader returns is what the grammar says
 said_run_samples : (q ts : List Token) (s : SampleState) → SpellsState q s → SaidSamples (q ++ ts) (run_samples s ts)
 unfolding run_samples
 said_run_samples q [] s h = end_said q (samples_at_end s) (said_sample_end q s h)
@@ -706,6 +706,6 @@ said_run_samples q (t ∷ ts) s h =
     move_said q t ts (sample_step s t) (said_sample_step q s t ts h)
     (λ next k. said_run_samples (q ++ t ∷ []) ts next k)
 
--- what the reader of samples answers is read, or is a fault of the tokens
+-- what the reader of samples returns is read, or is a fault of the tokens
 pub said_samples : (tokens : List Token) → SaidSamples tokens (run_samples (after_sections []) tokens)
 said_samples tokens = said_run_samples [] tokens (after_sections []) (refl, refl)

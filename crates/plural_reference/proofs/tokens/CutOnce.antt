@@ -20,7 +20,7 @@ use Rattle.plural_reference.specs.Inner.Scan.{tokens_of}
 use Rattle.plural_reference.proofs.tokens.ScanComplete.{no_more, no_eq, digit_yes, digit_no, begin_digit, begin_unknown, piece_scans}
 use Rattle.plural_reference.proofs.tokens.ScanSound.{has_tokens}
 
--- what a byte is to the piece that is open: behind it, its last, or one of it
+-- what a byte is to the open piece: the first after it, its last, or one in it
 data Bite : Type 0 where
   stops : Bite
   ends : Bite
@@ -215,7 +215,7 @@ piece_bitten piece rest token (cut_off next g e k) = rw e (cut_off_bitten piece 
 not_empty : (b : ℕ) (bs : List ℕ) → b ∷ bs ≢ []
 not_empty b bs e = cc
 
--- a text with a byte behind it is not empty
+-- a text with a byte at its end isn't empty
 pushed_not_empty : (bs : List ℕ) (b : ℕ) → bs ++ b ∷ [] ≢ []
 pushed_not_empty [] b e = cc
 pushed_not_empty (x ∷ xs) b e = cc

@@ -18,7 +18,7 @@ use Rattle.plural_reference.specs.Lexer.{space, mark, keyword, number, unknown, 
 use Rattle.plural_reference.specs.Inner.Scan.{Start, between, in_keyword, in_number, piece_starts, look_up}
 use Rattle.plural_reference.specs.Inner.Scan.{begin_piece, number_token, tokens_from, tokens_of}
 
--- a list of one byte has no other byte behind its first
+-- a list of one byte has no other byte after its first
 pub no_more : (b : ℕ) (bs : List ℕ) (next : ℕ) (more : List ℕ) (k : ℕ) → k ∷ [] ≡ (b ∷ bs) ++ next ∷ more → ⊥
 no_more b [] next more k h = cc
 no_more b (c ∷ cs) next more k h = cc
@@ -156,7 +156,7 @@ digit_no b h =
     (λ low. rw low.0 refl)
     (leb_tells 48 b)
 
--- digits that no digit follows end an open number: one token, of the number with these digits behind it
+-- digits that no digit follows end an open number: one token, of the number followed by these digits
 number_scans : (n : ℕ) (digits rest : List ℕ) → AllByRecursion IsAsciiDigit digits
     → IfSome (first rest) (λ d. ¬ (IsAsciiDigit d))
     → tokens_from (in_number n) (digits ++ rest) ≡ number_token (digits_value_after 10 n digits) ∷ tokens_of rest

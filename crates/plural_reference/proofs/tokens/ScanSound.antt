@@ -66,7 +66,7 @@ Opened w (in_number n) = AllByRecursion IsAsciiDigit w × IfSome (first w) (λ d
 Opened w after_i = w ≡ codes "i"
 Opened w after_point = w ≡ codes "."
 
--- behind the bytes of any open piece, these bytes are cut with the tokens of the scan
+-- after the bytes of any open piece, these bytes are cut into the tokens of the scan
 abbrev Cuts : List ℕ → Type 0
 Cuts bs = (s : Scan) (w : List ℕ) → Opened w s → AreTokensOf (w ++ bs) (tokens_from s bs)
 
@@ -192,12 +192,12 @@ begins_none b no_space no_digit h =
 
 -- ---- one byte more
 
--- a text with a byte behind it is not empty
+-- a text with a byte at its end isn't empty
 pushed_not_empty : (w : List ℕ) (k : ℕ) → w ++ k ∷ [] ≢ []
 pushed_not_empty [] k e = cc
 pushed_not_empty (x ∷ xs) k e = cc
 
--- a byte behind some bytes makes another text than `i`
+-- a byte after some bytes makes another text than `i`
 two_not_i : (w : List ℕ) (k : ℕ) → w ≢ [] → w ++ k ∷ [] ≢ codes "i"
 two_not_i [] k h e = absurd (h refl)
 two_not_i (x ∷ []) k h e = absurd (two_not_one x k 105 e)
@@ -278,12 +278,12 @@ digit_tells b =
     (λ low. inr (rw low.0 refl, λ d. let le : 48 ≤ b = d.0 in omega arith))
     (leb_tells 48 b)
 
--- digits with a digit behind them are digits
+-- digits with a digit at the end are digits
 all_pushed : (w : List ℕ) (b : ℕ) → AllByRecursion IsAsciiDigit w → IsAsciiDigit b → AllByRecursion IsAsciiDigit (w ++ b ∷ [])
 all_pushed [] b h k = (k, tt)
 all_pushed (x ∷ xs) b h k = (h.0, all_pushed xs b h.1 k)
 
--- a digit behind a number leaves its first digit, which isn't `0`
+-- a digit after a number keeps its first digit, which isn't `0`
 first_pushed : (w : List ℕ) (b : ℕ) → w ≢ [] → IfSome (first w) (λ d. d ≢ 48) → IfSome (first (w ++ b ∷ [])) (λ d. d ≢ 48)
 first_pushed [] b h k = absurd (h refl)
 first_pushed (x ∷ xs) b h k = k
@@ -308,7 +308,7 @@ by_test : (b : ℕ) (w bs : List ℕ) (test : Bool) (m n : ScanMove) → test �
 by_test b w bs true m n e h = absurd (true≢false e)
 by_test b w bs false m n e h = h
 
--- so is any open piece with any byte behind it, and such a rest
+-- so is any open piece with any byte after it, and such a rest
 said_step : (w : List ℕ) (s : Scan) (b : ℕ) (bs : List ℕ) → Opened w s → Cuts bs
     → AreTokensOf (w ++ b ∷ bs) ((scan_step s b).0 ++ tokens_from (scan_step s b).1 bs)
 said_step w between b bs h cuts =
