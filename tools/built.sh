@@ -1,11 +1,11 @@
 # shellcheck shell=bash
-# For `plurals` and `tools/build`, which set `top`: where the built program lies, and whether it is that of the present sources.
+# For `plurals` and `tools/build`, which set `top`: where the built program is, and whether it is from the present sources.
 crate=${top:?}/crates/plurals_cli
 program=$crate/out/plurals_cli
-# What `state` gave before the program was built.
+# The output of `state` before the program was built.
 built=$crate/out/sources
 
-# The kit that `rt` belongs to. Where there is none, that of the build, since what is built runs without a kit.
+# Prints the kit that `rt` belongs to; without `rt`, the kit of the build, since the built program runs without a kit.
 kit() {
     local rt
     if rt=$(command -v rt); then
@@ -16,7 +16,7 @@ kit() {
     fi
 }
 
-# What the program is made of: the kit, and each source by its path below the top, with its time and size.
+# Prints what the program is made of: the kit, and each source by its path below the top, with its time and size.
 state() {
     kit
     cd "$top" || return
