@@ -7,7 +7,7 @@ use crate::list::PackedList;
 use crate::starts::part;
 use std::marker::Model;
 
-/// The items of a list that are left, each borrowed from the bytes of the list.
+/// The remaining items of a list, each borrowed from the bytes of the list.
 #[derive(Debug, Drop)]
 pub struct Items<'a> {
     list: PackedList<'a>,
@@ -70,7 +70,7 @@ impl<'a> Iterator for Items<'a> {
         Some(item)
     }
 
-    // Exact: the count of the items that are left.
+    // Exact: the count of the remaining items.
     #[inline]
     fn size_hint(&self) -> (usize, Option<usize>)
         ensures exact { result ≡ (length self.now, Some (length self.now)) }

@@ -28,10 +28,10 @@ pub trait ByteItems: Copy {
 
     type Item: ByteItem;
 
-    /// The items that are left.
+    /// The remaining items.
     ghost items: { Self → List (List ℕ) };
 
-    /// Takes the first item that is left.
+    /// Takes the first remaining item.
     fn next_item(&mut self) -> Option<Self::Item>
         ensures { MatchOption result (items self.old ≡ []) (λ item. items self.old ≡ Self.Item.item_bytes item ∷ items self.new) };
 }

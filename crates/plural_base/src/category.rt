@@ -106,7 +106,7 @@ impl PluralCategory {
     }
 }
 
-/// The categories of [`PluralCategory::all`] that are left.
+/// The remaining categories of [`PluralCategory::all`].
 #[derive(Debug, Drop)]
 pub struct AllCategories {
     left: &'static [PluralCategory],

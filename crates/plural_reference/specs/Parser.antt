@@ -120,7 +120,7 @@ pub data Place : Type 0 where
 abbrev pub ConditionThen : Token → List Token → Type 0
 ConditionThen t tokens = (spelled : List Token) × (c : Condition) × (tokens ≡ spelled ++ t ∷ []) × IsCondition spelled c
 
--- an operand is awaited: at the start, after Or, or after And
+-- an operand is expected: at the start, after Or, or after And
 abbrev pub IsBeforeOperand : List Token → Type 0
 IsBeforeOperand tokens = (tokens ≡ []) ⊎ (ConditionThen Or tokens ⊎ ConditionThen And tokens)
 

@@ -186,7 +186,7 @@ SectionsThen Here more tokens =
 abbrev pub IsAfterAt : List Token → Type 0
 IsAfterAt tokens = SectionsThen (λ _. Unit {0}) (At ∷ []) tokens
 
--- a sample is awaited: after a type, or after Tilde that follows a single sample
+-- a sample is expected: after a type, or after Tilde that follows a single sample
 abbrev pub IsBeforeSample : List Token → Type 0
 IsBeforeSample tokens =
     ((type : Token) × IsSampleType type × SectionsThen (λ _. Unit {0}) (At ∷ type ∷ []) tokens)

@@ -11,7 +11,7 @@ use std::marker::Model;
 
 /// The tokens of a text, one at a time: at most one for each byte, and after the last always `None`.
 /// It allocates nothing, and refuses nothing: what is no piece of a rule is [`Token::Junk`]. Contracts
-/// see the list of the tokens that are left.
+/// see the list of the remaining tokens.
 ///
 /// <!-- snippet crates/plural_reference_tests/src/tests/tokens.rt:
 /// example "let mut lexer" to "holds!(rt; lexer.next() == None" of fn gives_no_token_behind_the_last -->
@@ -132,7 +132,7 @@ fn strip_byte(text: &[u8], byte: u8) -> Option<&[u8]>
     }
 }
 
-// The token of a keyword, if these bytes of it are still awaited, and the bytes after it.
+// The token of a keyword, if these bytes of it are still expected, and the bytes after it.
 #[tactic(auto, unfolding(crate::specs::Inner::Scan::tokens_from))]
 fn keyword<'a>(expected: &[u8], token: Token, text: &'a [u8]) -> (Token, &'a [u8])
     ensures { keyword_tokens expected.now token text.now ≡ result.0 ∷ tokens_of result.1.now }

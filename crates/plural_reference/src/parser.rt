@@ -84,7 +84,7 @@ pub fn parse_without_samples(alloc: Global, text: &[u8]) -> Result<Condition, Re
     Ok(condition)
 }
 
-// The tokens that are left, the first of them read already.
+// The remaining tokens, the first of them already read.
 #[derive(Drop)]
 struct Parser<'p> {
     ahead: Option<Token>,

@@ -154,7 +154,7 @@ all_of_group : (skipped : List (List ℕ)) (item : List ℕ) → AreOfGroup skip
 all_of_group [] item marked mark = (mark, tt)
 all_of_group (first ∷ skipped) item marked mark = (marked.0, all_of_group skipped item marked.1 mark)
 
--- the items that were skipped so far, and those that are left
+-- the items that were skipped so far, and the remaining items
 pub record HasSkipped (items left : List (List ℕ)) : Type 0 where
   pub skipped : List (List ℕ)
   pub of_group : AreOfGroup skipped

@@ -10,7 +10,7 @@ use crate::item::RANGE_LENGTH;
 use crate::range::{RangeOrValue, first_range};
 use std::marker::Model;
 
-// The ranges of a relation that are left.
+// The remaining ranges of a relation.
 #[derive(Drop)]
 pub(crate) struct Ranges<'a> {
     bytes: &'a [u8],

@@ -11,7 +11,7 @@ use crate::relation::RelationULE;
 use packed_list::Items;
 use std::marker::Model;
 
-/// The relations of a rule that are left.
+/// The remaining relations of a rule.
 #[derive(Debug, Drop)]
 pub struct Relations<'a> {
     items: Items<'a>,
@@ -56,7 +56,7 @@ impl<'a> Iterator for Relations<'a> {
         Some(RelationULE::from_checked(item))
     }
 
-    // Exact: the count of the relations that are left.
+    // Exact: the count of the remaining relations.
     #[inline]
     fn size_hint(&self) -> (usize, Option<usize>)
         ensures exact { result ≡ (length self.now, Some (length self.now)) }

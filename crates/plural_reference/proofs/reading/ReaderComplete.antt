@@ -66,7 +66,7 @@ pub record Leads (from : State) (tokens : List Token) (b : Before) : Type 0 wher
   pub run_is : (rest : List Token) → run from (tokens ++ rest) ≡ run (after_item opened front item) rest
   pub complete : with_relation opened.before (relation_of opened (front ++ item ∷ [])) ≡ b
 
--- an operand, a modulus or none, and an operator lead to where the first item is awaited
+-- an operand, a modulus or none, and an operator lead to the state that expects the first item
 run_left_by : (b : Before) (tokens : List Token) (o : operand.Operand) (m : Option Value) (op : operator.Operator)
     (rest : List Token)
     → IsExpression tokens (record { operand = o; modulus = m })
@@ -77,7 +77,7 @@ unfolding run
 run_left_by b tokens o None op rest h = rw (h.2, h.3, h.4) refl
 run_left_by b tokens o (Some v) op rest h = rw (h.2, h.3, h.4.1, h.4.2) refl
 
--- the left side of a relation with its operator leads to where the first item is awaited
+-- the left side of a relation with its operator leads to the state that expects the first item
 pub run_left : (b : Before) (tokens : List Token) (e : Expression) (op : operator.Operator) (rest : List Token)
     → IsExpression tokens e
     → run (before_operand b) (tokens ++ Operator op ∷ rest)
@@ -242,7 +242,7 @@ arrives_more : (p before : List Token) (t : Token) (s next : State) → p ≡ be
 arrives_more p before t s next e h k rest =
     ap (run begin) (ap (λ l. l ++ rest) e ∙ append_assoc before (t ∷ []) rest) ∙ h (t ∷ rest) ∙ k rest
 
--- a condition and Or lead to where the operand of a new group is awaited
+-- a condition and Or lead to the state that expects the operand of a new group
 arrives_or : (p : List Token) → ConditionThen Or p → (b : Before) × Arrives p (before_operand (with_group b))
 arrives_or p h =
     let to : LeadsToCondition begin h.0 h.1 = run_condition h.0 h.1 h.3 in (
@@ -251,7 +251,7 @@ arrives_or p h =
           ∙ leads_or begin h.0 to.before rest to.leads,
     )
 
--- a condition and And lead to where the operand of a further relation is awaited
+-- a condition and And lead to the state that expects the operand of a further relation
 arrives_and : (p : List Token) → ConditionThen And p → (b : Before) × (r : Relation) × Arrives p (before_operand (with_relation b r))
 arrives_and p h =
     let to : LeadsToCondition begin h.0 h.1 = run_condition h.0 h.1 h.3 in (

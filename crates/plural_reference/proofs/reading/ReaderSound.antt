@@ -212,7 +212,7 @@ data OperandPlace (p : List Token) : List AndCondition → List Relation → Typ
   behind_or : (g : AndCondition) (gs : List AndCondition) → ConditionThen Or p → OperandPlace p (g ∷ gs) []
   behind_and : (gs : List AndCondition) (r : Relation) (rs : List Relation) → ConditionThen And p → OperandPlace p gs (r ∷ rs)
 
--- where an operand is awaited, what is complete tells which of these places the tokens are at
+-- if an operand is expected, what is complete decides at which of these places the tokens are
 operand_place : (p : List Token) (groups : List AndCondition) (relations : List Relation)
     → SpellsBefore p (record { groups = groups; relations = relations }) → OperandPlace p groups relations
 operand_place p [] [] h = at_start (h.whole ∙ (λ i. h.groups i ++ h.relations i))
@@ -249,7 +249,7 @@ move_said p t ts (go s) h = absurd h
 move_said p t ts (finish c) h = h
 move_said p t ts (refuse kind) h = h
 
--- any other token than an operand or At is the fault ExpectedOperand, where an operand is awaited
+-- if an operand is expected, any other token than an operand or At is the fault ExpectedOperand
 bad_operand : (p : List Token) (groups : List AndCondition) (relations : List Relation) (t : Token) (ts : List Token)
     → OperandPlace p groups relations → ((e : Option ParseError) → operand_fault e (Some t) ≡ Some ExpectedOperand)
     → Faulty (p ++ t ∷ ts) ExpectedOperand
@@ -268,7 +268,7 @@ before_operand_is p groups relations (behind_and gs r rs c) = inr (inr c)
 spells_operand_is : (p : List Token) (b : Before) → SpellsBefore p b → IsBeforeOperand p
 spells_operand_is p b h = before_operand_is p b.groups b.relations (operand_place p b.groups b.relations h)
 
--- where an operand is awaited, the next token is one, ends the condition, or is a fault
+-- if an operand is expected, the next token is one, ends the condition, or is a fault
 said_operand : (p : List Token) (b : Before) (t : Token) (ts : List Token) → SpellsBefore p b
     → SaidOfMove p t ts (operand_move (operand_of t) t b)
 said_operand p b (Operand o) ts h = (p, Operand o, refl, h, refl)
@@ -303,7 +303,7 @@ is_after_modulo : (p q : List Token) (t : Token) (o : operand.Operand) (b : Befo
 is_after_modulo p q t o b e h k =
     (q ++ t ∷ [], e ∙ sym (append_assoc q (t ∷ []) (Modulo ∷ [])), (q, t, o, refl, spells_operand_is q b h, k))
 
--- where a modulus is awaited, the next token is one, or a fault
+-- if a modulus is expected, the next token is one, or a fault
 said_modulus : (p : List Token) (b : Before) (o : operand.Operand) (t : Token) (ts : List Token)
     → Spells p (after_modulo b o) → SaidOfMove p t ts (step (after_modulo b o) t)
 said_modulus p b o (Number n) ts h = (
@@ -341,7 +341,7 @@ is_after_modulus p b e h = (
   h.7,
 )
 
--- where an operator is awaited, the next token is one, or a fault
+-- if an operator is expected, the next token is one, or a fault
 said_operator : (p : List Token) (b : Before) (e : Expression) (t : Token) (ts : List Token)
     → Spells p (after_modulus b e) → SaidOfMove p t ts (operator_move t b e)
 said_operator p b e (Operator op) ts h = record {
@@ -435,7 +435,7 @@ before_value_is p o [] h =
     (operator_place h.opened_tokens o h.opened o.expression.modulus refl)
 before_value_is p o (x ∷ xs) h = inr (inl (comma_place p o x xs h))
 
--- where an item is awaited, the next token is its first value, or a fault
+-- if an item is expected, the next token is its first value, or a fault
 said_item : (p : List Token) (o : Opened) (xs : List RangeListItem) (t : Token) (ts : List Token) → SpellsItems p o xs
     → SaidOfMove p t ts (step (before_item o xs) t)
 said_item p o xs (Number n) ts h =
@@ -498,7 +498,7 @@ dots_place p o xs v h = inr (inr (
   (v, last_item-complete o xs (items.Value v)),
 ))
 
--- where the end of a range is awaited, the next token is one, or a fault
+-- if the end of a range is expected, the next token is one, or a fault
 said_range_end : (p : List Token) (o : Opened) (xs : List RangeListItem) (v : Value) (t : Token) (ts : List Token)
     → Spells p (before_end o xs v) → SaidOfMove p t ts (step (before_end o xs v) t)
 said_range_end p o xs v (Number n) ts h =

@@ -578,7 +578,7 @@ then_one spelled q t s next e h k rest =
     ∙ h (t ∷ rest)
     ∙ k rest
 
--- sections and At lead to where a type is awaited
+-- sections and At lead to the state that expects a type
 arrives_at : (q : List Token) → IsAfterAt q → (ss : List Section) × Arrives q (behind_at ss)
 arrives_at q (spelled, ss, e, h, u) =
     let to = all_lead spelled ss h in

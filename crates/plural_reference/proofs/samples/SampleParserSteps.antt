@@ -119,7 +119,7 @@ point_joins : (p : Partial) (before : List ℕ) (rest : List Token)
 point_joins p [] rest h k = first_point_run (awaits_sample p) p rest (at_start p)
 point_joins p (b ∷ bs) rest h k = point_run p (b ∷ bs) rest h k
 
--- a mark joins a sample that has no exponent, and digits are awaited
+-- a mark joins a sample that has no exponent, and digits are expected
 mark_joins : (p : Partial) (before : List ℕ) (t : Token) (rest : List Token)
     → IsExponentMark t → has_exponent before ≡ false
     → run_samples (sample_at p before) (t ∷ rest) ≡ run_samples (behind_mark p (before ++ token_text t)) rest
@@ -322,7 +322,7 @@ to_comma old middle after rs h e sections type =
     h.run_is sections type ∙ ap (run_samples (in_sample last h.text)) e ∙ comma_run last h.text after
     ∙ ap (λ x. run_samples (behind_comma (with_ranges sections type x)) after) (sym h.ranges_are)
 
--- where no ellipsis comes next, a sample is awaited there
+-- if no ellipsis comes next, a sample is expected there
 not_ellipsis : (p : Partial) (rest : List Token)
     → first rest ≢ Some Ellipsis → run_samples (behind_comma p) rest ≡ run_samples (awaits_sample p) rest
 unfolding run_samples

@@ -358,11 +358,11 @@ said_behind_at q ss Integer ts h = (begun q ss Integer tt h, begun_waits q ss In
 said_behind_at q ss Decimal ts h = (begun q ss Decimal tt h, begun_waits q ss Decimal tt h)
 said_behind_at q ss _ ts h = (places.after_at, q, _ ∷ ts, refl, (h.0, ss, h.1, h.2, tt), refl)
 
--- digits begin a sample, where one is awaited
+-- digits begin a sample, if one is expected
 first_digit : (q : List Token) (p : Partial) (t : Token) → IsDigits t → SpellsPartial q p → InSample (q ++ t ∷ []) p (token_text t)
 first_digit q p t d h = record { before = q; sample_tokens = t ∷ []; whole = refl; partial = h; sample = digit_joins [] [] t empty_open d }
 
--- a mark begins a sample, where one is awaited, and waits for digits
+-- a mark begins a sample, if one is expected, and waits for digits
 first_mark : (q : List Token) (p : Partial) (t : Token) → IsExponentMark t → SpellsPartial q p → Awaits q
     → BehindMark (q ++ t ∷ []) p (token_text t)
 unfolding Awaits
@@ -380,7 +380,7 @@ first_mark q p t m h w =
       waits = (t, m, inl (q, refl, w));
     }
 
--- where a sample is awaited, the next token begins one, or has the fault that is given
+-- if a sample is expected, the next token begins one, or has the given fault
 said_start : (q : List Token) (p : Partial) (t : Token) (ts : List Token) → SpellsPartial q p → Awaits q
     → (sample_fault (Some t) ≡ Some ExpectedValue → FaultyInSamples (q ++ t ∷ ts) ExpectedValue)
     → SaidMove q t ts (sample_move p t)
@@ -563,7 +563,7 @@ module _ (q : List Token) (p : Partial) (text : DecimalValue) (h : InSample q p 
     waits = (t, m, inr (q, with_sections p (ranges_with p text) false, refl, done, k));
   }
 
-  -- a comma completes the range, and another is awaited
+  -- a comma completes the range, and another is expected
   comma_partial : SpellsPartial (q ++ Comma ∷ []) (record p { ranges = ranges_with p text; lower = None })
   unfolding LowerIs
   comma_partial = record {

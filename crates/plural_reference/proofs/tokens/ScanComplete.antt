@@ -62,7 +62,7 @@ keywords_scan = (λ rest. refl, (λ rest. refl, (λ rest. refl, (λ rest. refl, 
 
 -- ---- broken keywords
 
--- the part of a keyword that stands there leads to the bytes that are awaited
+-- the bytes of a keyword so far lead to the bytes that are expected next
 keyword_tail : (k : ℕ) (ks : List ℕ) (t : Token) (begun : List ℕ) (next : ℕ) (more rest : List ℕ)
     → k ∷ ks ≡ begun ++ next ∷ more
     → tokens_from (in_keyword k ks t) (begun ++ rest) ≡ tokens_from (in_keyword next more t) rest
@@ -74,7 +74,7 @@ keyword_tail k (l ∷ ls) t (b ∷ bs) next more rest h =
     let tail : l ∷ ls ≡ bs ++ next ∷ more = cc in
     rw (← same_k, eq-eqb k k refl) (keyword_tail l ls t bs next more rest tail)
 
--- at each byte of a keyword but the last, what is there of it leads the scan to the bytes that are awaited
+-- at each byte of a keyword but the last, the part so far leads the scan to the bytes that are expected
 abbrev BegunScans : Word → Type 0
 BegunScans w =
     (begun : List ℕ) (next : ℕ) (more rest : List ℕ) → w.0 ≡ begun ++ next ∷ more → begun ≢ [] → begun ≢ codes "i"
@@ -121,7 +121,7 @@ begun_scan = (
   ),
 )
 
--- the bytes of a begun keyword lead the scan to the bytes that are awaited
+-- the bytes of a begun keyword lead the scan to the bytes that are expected
 begun_leads : (begun : List ℕ) (next : ℕ) (rest : List ℕ) (h : IsBegun begun next)
     → tokens_of (begun ++ rest) ≡ tokens_from (in_keyword next h.more h.word.1) rest
 begun_leads begun next rest h =

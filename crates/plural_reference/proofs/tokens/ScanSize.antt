@@ -71,7 +71,7 @@ size_step (in_number n) b =
 size_step after_i b = size-cond (nat_eq b 110) _ (then_begin (Operand I) (begin_piece b)) 2 (omega arith) (size_then (Operand I) b)
 size_step after_point b = size-cond (nat_eq b 46) (DotDot ∷ [], between) (then_begin Dot (begin_piece b)) 2 (omega arith) (size_then Dot b)
 
--- from any state on, the bytes that are left and the open piece bound the count of tokens
+-- from any state on, the remaining bytes and the open piece bound the count of tokens
 length-tokens_from : (s : Scan) (bs : List ℕ) → length (tokens_from s bs) ≤ length bs + pending s
 unfolding tokens_from
 length-tokens_from between [] = omega arith

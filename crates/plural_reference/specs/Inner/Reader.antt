@@ -30,7 +30,7 @@ pub record Opened : Type 0 where
   pub expression : Expression
   pub operator : operator.Operator
 
--- what is awaited, and what is complete
+-- what is expected, and what is complete
 pub data State : Type 0 where
   before_operand : Before → State
   after_operand : Before → operand.Operand → State
@@ -68,18 +68,18 @@ no_operand [] [] = finish (record { 0 = [] })
 no_operand (g ∷ gs) [] = refuse ExpectedAndCondition
 no_operand gs (r ∷ rs) = refuse ExpectedRelation
 
--- the token at which an operand is awaited
+-- the token at which an operand is expected
 abbrev pub operand_move : Option operand.Operand → Token → Before → Move
 operand_move (Some o) t b = go (after_operand b o)
 operand_move None At b = no_operand b.groups b.relations
 operand_move None _ b = refuse ExpectedOperand
 
--- the token at which a value is awaited
+-- the token at which a value is expected
 abbrev pub value_move : Option Value → (Value → State) → Move
 value_move None next = refuse ExpectedValue
 value_move (Some v) next = go (next v)
 
--- the token at which an operator is awaited
+-- the token at which an operator is expected
 abbrev pub operator_move : Token → Before → Expression → Move
 operator_move (Operator op) b e = go (before_item (record { before = b; expression = e; operator = op }) [])
 operator_move _ b e = refuse ExpectedOperator
@@ -122,7 +122,7 @@ at_end (before_item o xs) = refuse ExpectedValue
 at_end (after_item o xs x) = finish (ended_condition (with_relation o.before (relation_of o (xs ++ x ∷ []))))
 at_end (before_end o xs v) = refuse ExpectedValue
 
--- the condition, and the tokens that are left
+-- the condition, and the remaining tokens
 abbrev pub Outcome : Type 0
 Outcome = Result (Condition × List Token) ParseError
 
@@ -149,12 +149,12 @@ abbrev pub NoDots : RangeListItem → List Token → Type 0
 NoDots (items.Value v) rest = first rest ≢ Some DotDot
 NoDots (items.Range a b) rest = Unit {0}
 
--- an item is read wherever one is awaited
+-- an item is read wherever one is expected
 pub record ReadsItem (old : List Token) (x : RangeListItem) (new : List Token) : Type 0 where
   pub run_is : (o : Opened) (xs : List RangeListItem) → run (before_item o xs) old ≡ run (after_item o xs x) new
   pub no_dots : NoDots x new
 
--- a list with these items is read wherever one is awaited; a comma may follow
+-- a list with these items is read wherever one is expected; a comma may follow
 pub record ReadsItems (old : List Token) (ys : List RangeListItem) (new : List Token) : Type 0 where
   pub front : List RangeListItem
   pub item : RangeListItem
@@ -177,7 +177,7 @@ abbrev pub ReadsOption : {A : Type 0} → (List Token → A → List Token → T
 ReadsOption Read old None new = IsUnconditional old × (new ≡ old)
 ReadsOption Read old (Some x) new = Read old x new
 
--- an expression is read wherever an operand is awaited: an operator after it leads to the items, and any other token is a fault
+-- an expression is read wherever an operand is expected: an operator after it leads to the items, and any other token is a fault
 pub record ReadsExpression (old : List Token) (e : Expression) (new : List Token) : Type 0 where
   pub goes_on : (b : Before) (op : operator.Operator) (rest : List Token) → new ≡ token.Operator op ∷ rest
       → run (before_operand b) old ≡ run (before_item (record { before = b; expression = e; operator = op }) []) rest
@@ -199,7 +199,7 @@ NoOperator old e = (e ≡ ExpectedOperator) × (operator_fault (first old) ≡ S
 abbrev pub TakesOperand : List Token → operand.Operand → List Token → Type 0
 TakesOperand old o new = (t : Token) × (old ≡ t ∷ new) × (operand_of t ≡ Some o)
 
--- a token that is no operand comes next: a fault wherever one is awaited
+-- a token that is no operand comes next: a fault wherever one is expected
 abbrev pub NoOperand : List Token → ParseError → Type 0
 NoOperand old e = (e ≡ ExpectedOperand) × ((at_end : Option ParseError) → operand_fault at_end (first old) ≡ Some ExpectedOperand)
 
@@ -221,22 +221,22 @@ ReadsGroup old c new = (groups : List AndCondition) → Completes (before_group 
 abbrev pub ReadsWholeGroup : List Token → AndCondition → List Token → Type 0
 ReadsWholeGroup old c new = ReadsGroup old c new × (first new ≢ Some And)
 
--- a relation is read wherever one is awaited
+-- a relation is read wherever one is expected
 abbrev pub ReadsRelation : List Token → Relation → List Token → Type 0
 ReadsRelation old r new = (b : Before) → Completes (before_operand b) old (with_relation b r) new
 
--- the reader stops with this fault wherever an item is awaited
+-- the reader stops with this fault wherever an item is expected
 abbrev pub FailsAtItem : List Token → ParseError → Type 0
 FailsAtItem old e = (o : Opened) (xs : List RangeListItem) → run (before_item o xs) old ≡ Err e
 
--- the reader stops with this fault wherever a list of items is awaited
+-- the reader stops with this fault wherever a list of items is expected
 abbrev pub FailsAtItems : List Token → ParseError → Type 0
 FailsAtItems old e = (o : Opened) → run (before_item o []) old ≡ Err e
 
--- the reader stops with this fault wherever an operand is awaited
+-- the reader stops with this fault wherever an operand is expected
 abbrev pub FailsAtOperand : List Token → ParseError → Type 0
 FailsAtOperand old e = (b : Before) → run (before_operand b) old ≡ Err e
 
--- the reader stops with this fault wherever a group is awaited
+-- the reader stops with this fault wherever a group is expected
 abbrev pub FailsAtGroup : List Token → ParseError → Type 0
 FailsAtGroup old e = (groups : List AndCondition) → run (before_group groups) old ≡ Err e

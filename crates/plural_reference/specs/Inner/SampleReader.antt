@@ -26,7 +26,7 @@ pub record Partial : Type 0 where
   pub ranges : List SampleRange
   pub lower : Option DecimalValue
 
--- what is awaited, and what is complete
+-- what is expected, and what is complete
 pub data SampleState : Type 0 where
   after_sections : List Section → SampleState
   behind_at : List Section → SampleState
@@ -58,7 +58,7 @@ pub data SampleMove : Type 0 where
   ends : List Section → SampleMove
   refuses : ParseError → SampleMove
 
--- the token at which a sample is awaited
+-- the token at which a sample is expected
 abbrev pub sample_move : Partial → Token → SampleMove
 sample_move p Zero = goes (in_sample p (token_text Zero))
 sample_move p (Number n) = goes (in_sample p (token_text (Number n)))
@@ -128,7 +128,7 @@ samples_at_end (behind_comma p) = refuses ExpectedValue
 samples_at_end (in_sample p text) = ends (with_sections p (ranges_with p text) false)
 samples_at_end (behind_mark p text) = refuses ExpectedValue
 
--- the sections, and the tokens that are left
+-- the sections, and the remaining tokens
 abbrev pub SampleOutcome : Type 0
 SampleOutcome = Result (List Section × List Token) ParseError
 
@@ -210,7 +210,7 @@ pub record ReadsSample (old : List Token) (text : DecimalValue) (new : List Toke
   pub run_is : (p : Partial) → run_samples (awaits_sample p) old ≡ run_samples (in_sample p text) new
   pub whole : IfSome (first new) (λ t. ¬ (Takes text t))
 
--- a range is read wherever one is awaited; a comma may follow
+-- a range is read wherever one is expected; a comma may follow
 pub record ReadsRange (old : List Token) (range : SampleRange) (new : List Token) : Type 0 where
   pub lower : Option DecimalValue
   pub text : DecimalValue
@@ -258,15 +258,15 @@ pub record ReadsAllSamples (old : List Token) (samples : Option samples.Samples)
 abbrev pub FailsInSample : DecimalValue → List Token → ParseError → Type 0
 FailsInSample before old e = (p : Partial) → run_samples (sample_at p before) old ≡ Err e
 
--- the reader stops with this fault wherever a sample is awaited
+-- the reader stops with this fault wherever a sample is expected
 abbrev pub FailsAtSample : List Token → ParseError → Type 0
 FailsAtSample old e = (p : Partial) → run_samples (awaits_sample p) old ≡ Err e
 
--- the reader stops with this fault wherever a range is awaited
+-- the reader stops with this fault wherever a range is expected
 abbrev pub FailsAtRange : List Token → ParseError → Type 0
 FailsAtRange old e = (p : Partial) → p.lower ≡ None → run_samples (awaits_sample p) old ≡ Err e
 
--- the reader stops with this fault wherever a list is awaited
+-- the reader stops with this fault wherever a list is expected
 abbrev pub FailsAtList : List Token → ParseError → Type 0
 FailsAtList old e = (sections : List Section) (type : Token) → run_samples (awaits_sample (begin_list sections type)) old ≡ Err e
 

@@ -23,7 +23,7 @@ pub data Start : Type 0 where
   gives : Token → Start
   opens : Scan → Start
 
--- a keyword of which these bytes are awaited
+-- a keyword of which these bytes are expected
 abbrev pub awaits : List ℕ → Token → Scan
 awaits [] t = between
 awaits (k ∷ ks) t = in_keyword k ks t
@@ -88,7 +88,7 @@ scan_end (in_number n) = number_token n ∷ []
 scan_end after_i = Operand I ∷ []
 scan_end after_point = Dot ∷ []
 
--- the tokens of the bytes that are left
+-- the tokens of the remaining bytes
 unfoldable pub tokens_from : Scan → List ℕ → List Token
 tokens_from s [] = scan_end s
 tokens_from s (b ∷ bs) = let m = scan_step s b in m.0 ++ tokens_from m.1 bs
@@ -97,7 +97,7 @@ tokens_from s (b ∷ bs) = let m = scan_step s b in m.0 ++ tokens_from m.1 bs
 abbrev pub tokens_of : List ℕ → List Token
 tokens_of text = tokens_from between text
 
--- the tokens while these bytes of a keyword are still awaited
+-- the tokens while these bytes of a keyword are still expected
 abbrev pub keyword_tokens : List ℕ → Token → List ℕ → List Token
 keyword_tokens [] t rest = t ∷ tokens_of rest
 keyword_tokens (k ∷ ks) t rest = tokens_from (in_keyword k ks t) rest

@@ -17,7 +17,7 @@ abbrev pub open_before : AndOr → List Relation → List Relation
 open_before And group = group
 open_before Or group = []
 
--- ---- Not a definition of the subject: the relations of a tree that are left while it is packed, for private contracts.
+-- ---- Not a definition of the subject: the remaining relations of a tree while it is packed, for private contracts.
 
 -- those of the and-condition that is open, and those of the others
 abbrev pub relations_left : TreeRelations → List PackedRelation

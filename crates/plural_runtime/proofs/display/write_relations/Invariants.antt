@@ -4,7 +4,7 @@ use Rattle.plural_runtime.specs.RuleText.{relations_shown}
 use Rattle.plural_runtime.proofs.RuleTexts.{shown_from}
 use Rattle.plural_runtime.proofs.display.write_relations.Given as goal
 
--- What is printed and the text of the relations that are left are the whole text.
+-- What is printed and the text of the remaining relations are the whole text.
 abbrev pub invariant-loop-item : goal.invariant-loop-item
 invariant-loop-item g l =
     (so_far : List ℕ) × (so_far ++ shown_from l.is_first l.item-iterator ≡ relations_shown l.rule)

@@ -2,7 +2,7 @@ use Rattle.std.proofs.Common.{◌≡◌, ◌+◌, length}
 use Rattle.plural_runtime.specs.PackedRelations.{first_relation_fault}
 use Rattle.plural_runtime.proofs.from_bytes.first_fault_of.Given as goal
 
--- The first bad item of those that are left is the first of all.
+-- The first bad item of the remaining items is the first of all.
 abbrev pub invariant-loop-place : goal.invariant-loop-place
 invariant-loop-place l = record {
   count : l.place + length l.item-iterator ≡ length l.list;

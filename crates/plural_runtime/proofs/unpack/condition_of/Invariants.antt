@@ -4,6 +4,6 @@ use Rattle.plural_runtime.specs.PackedTree.{unpacked_groups}
 use Rattle.plural_runtime.proofs.TreeGroups.{glued}
 use Rattle.plural_runtime.proofs.unpack.condition_of.Given as goal
 
--- The groups that are done, the open one and the relations that are left make the tree.
+-- The groups that are done, the open group and the remaining relations make the tree.
 abbrev pub invariant-loop-item : goal.invariant-loop-item
 invariant-loop-item l = glued (map (λ (c : AndCondition). c.0) l.groups.items) l.group.items l.item-iterator ≡ unpacked_groups l.rule

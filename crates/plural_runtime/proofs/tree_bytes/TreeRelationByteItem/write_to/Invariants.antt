@@ -5,7 +5,7 @@ use Rattle.plural_runtime.specs.PackedTree.{packed_relation}
 use Rattle.plural_runtime.specs.PackedRelations.{relation_bytes, range_bytes}
 use Rattle.plural_runtime.proofs.tree_bytes.TreeRelationByteItem.write_to.Given as goal
 
--- What is written and the ranges that are left are the bytes of the relation.
+-- What is written and the remaining ranges are the bytes of the relation.
 abbrev pub invariant-loop-item : goal.invariant-loop-item
 invariant-loop-item l =
     l.bytes.items ++ flat_map range_bytes (map ends_of (drop l.item-index l.self.relation.now.range_list.0))
