@@ -61,7 +61,7 @@ items_spelled (item ∷ items) h =
           (second_so (is_item item) (list_all is_item items) h),
     ) refl
 
--- in good bytes stands an item: its key is one of the seven, and its text UTF-8
+-- good bytes are those of an item: its key is one of the seven, and its text UTF-8
 pub item-fits : (item : List ℕ) → is_item item ≡ true → IsPackedItem (read_item item)
 item-fits [] h = cc
 item-fits (byte ∷ text) h = record {
@@ -69,7 +69,7 @@ item-fits (byte ∷ text) h = record {
   value = record { metadata = omega arith; text = second_so (nat_le (byte / 16) 6) (is_utf8 text) h };
 }
 
--- in each good item of a list stands one
+-- each good item of a list is the bytes of an item
 pub items-fit : (items : List (List ℕ)) → list_all is_item items ≡ true → AllByRecursion IsPackedItem (map read_item items)
 items-fit [] h = tt
 items-fit (item ∷ items) h = (
@@ -95,7 +95,7 @@ parts_with default items = record {
 abbrev pub parts_of_elements : PackedElements → ElementsParts
 parts_of_elements packed = parts_with packed.default packed.items
 
--- the bytes of a default and of what stands beside it are made of these parts
+-- the bytes of a default and of the items beside it are made of these parts
 pub spelled_parts : (default : PackedValue) (items : Option (List PackedItem)) → default.metadata < 16
     → ArePartsOf (parts_with default items) (bytes_with default items)
 spelled_parts default None h = (omega (arith, h), refl)

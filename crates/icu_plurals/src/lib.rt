@@ -61,7 +61,7 @@
 //! ```
 //!
 //! A number with zeros, with an exponent or of any length is a [`CompactDecimal`].
-//! [`PluralRules::is_exact_for`] tells whether its category is that of the number itself, and not only
+//! [`PluralRules::is_exact_for`] returns whether its category is that of the number itself, and not only
 //! of what is kept of it: with the rules of French
 //!
 //! <!-- snippet crates/using/src/numbers.rt: body of fn print_exactness -->

@@ -1,4 +1,4 @@
-//! Tests of `icu_plurals`, of what no clause says. They are apart so that the crate isn't proved again for them.
+//! Tests of what the contracts of `icu_plurals` don't say. They are apart so that the crate isn't proved again for them.
 #![tactic(auto)]
 
 #[cfg(test)]

@@ -1,4 +1,4 @@
--- Where the items of a list lie in its bytes.
+-- The places of the items of a list in its bytes.
 use Rattle.std.proofs.Common.{◌≡◌, ℕ, zero, suc, ◌+◌, ◌-◌, ◌*◌, ◌/◌, ◌%◌, ◌<◌, ◌≤◌, List, [], ◌∷◌, ◌++◌, length, drop, take, get_or}
 use Rattle.std.proofs.Common.{refl, sym, ap, ◌∙◌, arith, Some, None, length-append, length-drop, append-nil, inl, inr}
 use Rattle.std.specs.Prelude.{Option, option_map, flat_map, unwrap_or}
@@ -81,7 +81,7 @@ pub record LiesBetween (items : List (List ℕ)) (place k s t : ℕ) : Type 0 wh
   pub within : t ≤ place + length (concat items)
   pub item : slice_get items k ≡ Some (take (t - s) (drop (s - place) (concat items)))
 
--- an item lies between its start and that of the next one
+-- an item is between its start and that of the next one
 pub lies_between : (place : ℕ) (items : List (List ℕ)) (k s t : ℕ) → slice_get (starts_from place items) k ≡ Some s
     → slice_get (starts_from place items) (suc k) ≡ Some t → LiesBetween items place k s t
 lies_between place [] k s t h g = cc
@@ -117,7 +117,7 @@ pub record LiesBehind (items : List (List ℕ)) (place k s : ℕ) : Type 0 where
   pub within : s ≤ place + length (concat items)
   pub item : slice_get items k ≡ Some (drop (s - place) (concat items))
 
--- the last item lies between its start and the end of the data
+-- the last item is between its start and the end of the data
 pub lies_behind : (place : ℕ) (items : List (List ℕ)) (k s : ℕ) → slice_get (starts_from place items) k ≡ Some s
     → slice_get (starts_from place items) (suc k) ≡ None → LiesBehind items place k s
 lies_behind place [] k s h g = cc
@@ -193,14 +193,14 @@ item_is items k s t inside h e =
           }
     ]
 
--- the bytes of a list, as they lie
+-- the bytes of a list, with their places
 pub record LiesIn (items : List (List ℕ)) (bytes : List ℕ) : Type 0 where
   pub count : two_byte_number bytes 0 ≡ length items
   pub all : length bytes ≡ 2 * length items + length (concat items)
   pub content : drop (2 * length items) bytes ≡ concat items
   pub start : (k : ℕ) → k < length items → slice_get (item_starts items) k ≡ Some (start_at bytes k)
 
--- so the bytes of a list lie as its items say
+-- so the bytes of a list are where its items say
 pub lies_in : (items : List (List ℕ)) (bytes : List ℕ) → items_in bytes ≡ items → IsList bytes → LiesIn items bytes
 lies_in items bytes e h =
     let s : bytes ≡ list_bytes items = h.spelled ∙ ap list_bytes e in

@@ -12,7 +12,7 @@ use std::marker::Model;
 
 /// A list of byte items, borrowed from the bytes that it is packed in.
 ///
-/// The empty list is no byte. Otherwise the bytes are the count of items (at most 65535), where each item
+/// The empty list has no bytes. Otherwise the bytes are the count of items (at most 65535), where each item
 /// but the first starts (at most 65535, counted from the first byte of the data), each number in two bytes
 /// with the low byte first, and then the items without gaps.
 ///

@@ -1,4 +1,4 @@
--- The test of moduli tells whether all divide 10 ^ 18.
+-- The test of moduli decides whether all divide 10 ^ 18.
 use Rattle.std.proofs.Common.{◌≡◌, ℕ, ◌<◌, ◌%◌, ◌^◌, List, [], ◌∷◌, ◌++◌, Bool, true, false, refl, subst, arith, inl, inr}
 use Rattle.std.specs.Prelude.{◌&&◌, ◌||◌, ◌==◌, ◌↔◌, IsTrue}
 use Rattle.std.specs.Int.{◌∣◌}
@@ -13,7 +13,7 @@ use Rattle.plural_base.specs.Inner.ModulusTests.{divides_ten_to_18}
 
 -- ---- One modulus
 
--- numbers that the test tells apart differ
+-- numbers on which the test differs are different
 false_ne : (a b : ℕ) → (a == b) ≡ false → a ≡ b → ⊥
 false_ne a b e same = let t : (a == b) ≡ true = eq-eqb a b same in cc
 

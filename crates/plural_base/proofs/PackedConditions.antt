@@ -1,4 +1,4 @@
--- A condition and the relations that it is packed to are true alike.
+-- A condition and the relations that it is packed to have the same truth.
 use Rattle.std.proofs.Common.{◌≡◌, List, [], ◌∷◌, ◌++◌, map, flat_map, Bool, refl, sym, ap, ◌∙◌, subst, inl, inr}
 use Rattle.std.proofs.lemmas.List.{append-nil}
 use Rattle.std.specs.Prelude.{◌&&◌, ◌||◌}
@@ -24,7 +24,7 @@ IsFilled (x ∷ xs) = Unit {0}
 
 -- ---- The groups of what is packed
 
--- relations marked And before others stand in the first group of these
+-- relations marked And before others are in the first group of these
 and_before : (relations : List Relation) (others : List PackedRelation) (first : List PackedRelation) (more : List (List PackedRelation))
     → groups others ≡ first ∷ more
     → groups (map (packed_relation And) relations ++ others) ≡ (map (packed_relation And) relations ++ first) ∷ more
@@ -58,7 +58,7 @@ packed_groups_are group gs filled =
 
 -- ---- Their truth
 
--- what is asked of a relation of a tree
+-- the test of a relation of a tree
 abbrev pub test_of : Operands → Relation → Bool
 test_of number relation = relation_truth number (meaning_of relation)
 

@@ -28,7 +28,7 @@ pub fold_keeps : {A B : Type 0} (Q : B → Type 0) (f : B → A → B) → ((b :
 fold_keeps Q f keeps [] b q = q
 fold_keeps Q f keeps (x ∷ xs) b q = fold_keeps Q f keeps xs (f b x) (keeps b x q)
 
--- it stands in the list
+-- the list contains it
 abbrev pub In : {A : Type 0} → A → List A → Type 0
 In x [] = ⊥
 In x (y ∷ ys) = (y ≡ x) ⊎ In x ys
@@ -94,7 +94,7 @@ module _ (k : List ℕ) (d : Data) where
   order_put no_members h = (tt, tt)
   order_put (member l e ms) h = order_put_at (slice_cmp nat_cmp k l) l e ms refl h (order_put ms h.1)
 
--- ---- What stands under a text
+-- ---- What is found under a text
 
 -- what is found under a text after a member is put: the new one or what was there
 put_either : (text k : List ℕ) (d : Data) (ms : Members) (P : Option Data → Type 0) → (text ≡ k → P (Some d)) → P (get_member text ms)
@@ -109,7 +109,7 @@ put_either text k d ms P same other = at (bytes_eq text k) refl
         subst P (sym (get_member-put_other text k d ms (λ equal. true≢false (sym ((bytes_eq-Decides text k).1 equal) ∙ is)))) other
 
 module _ (ranges : PluralRanges) where
-  -- what has to stand under a text: the category of the pair whose text it is
+  -- what has to be under a text: the category of the pair whose text it is
   abbrev pub wanted : List ℕ → Option Data
   wanted text = option_map name_json (category_under text ranges)
 
@@ -133,7 +133,7 @@ module _ (ranges : PluralRanges) where
           put_either text (range_text start end) (name_json category) ms P
           (λ same. subst P (ap wanted same ∙ wanted_at start end ∙ ap (option_map name_json) is) good) before
 
-  -- nothing wrong is there
+  -- nothing wrong is found there
   abbrev pub Right : List ℕ → Members → Type 0
   Right text ms = (get_member text ms ≡ None) ⊎ (get_member text ms ≡ wanted text)
 
@@ -180,13 +180,13 @@ module _ (ranges : PluralRanges) where
       (λ m r. row_gives start end m r)
       all_raw_categories (every start) no_members (inl refl)
 
-  -- after all rows nothing wrong stands under any text
+  -- after all rows nothing wrong is found under any text
   all_right : (text : List ℕ) → Right text (range_members ranges)
   all_right text =
       fold_keeps (λ m. Right text m) (put_row ranges) (λ m s r. row_any (λ o. (o ≡ None) ⊎ (o ≡ wanted text)) text (inr refl) m s r)
       all_raw_categories no_members (inl refl)
 
-  -- under each text stands what is wanted
+  -- under each text is what is wanted
   under_all : (text : List ℕ) → get_member text (range_members ranges) ≡ wanted text
   under_all text = at (range_named text) refl
     where

@@ -58,7 +58,7 @@ record IsEntry (ranges : PluralRanges) (key : List ℕ) (d : Data) : Type 0 wher
   pub data_is : d ≡ name_json category
   pub category_is : category_at ranges start end ≡ Some category
 
--- what stands under a text is one value
+-- one value is found under a text
 same_data : (x : Option Data) (d e : Data) → x ≡ Some d → x ≡ Some e → d ≡ e
 same_data x d e first second = cc
 
@@ -79,7 +79,7 @@ module _ (ranges : PluralRanges) where
         category_is = some;
       }
 
-  -- a member that stands where a category is wanted is a pair's
+  -- a member that has the wanted category is a pair's
   entry : (key : List ℕ) (d : Data) (o : Option Range) → range_named key ≡ o → wanted ranges key ≡ Some d → IsEntry ranges key d
   entry key d None is h = absurd (let gone : wanted ranges key ≡ None = ap (wanted_of ranges) is in cc)
   entry key d (Some range) is h = entry_at key d range is (category_at ranges range.0 range.1) refl h

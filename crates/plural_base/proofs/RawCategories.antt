@@ -1,4 +1,4 @@
--- Categories by their numbers, and what stands at each.
+-- Categories by their numbers, and the values by category.
 use Rattle.std.proofs.Common.{◌≡◌, ℕ, zero, suc, ◌==◌, ◌≢◌, ◌⊎◌, Bool, true, false, if◌then◌else◌, refl, sym, ap, inl, inr, ◌∙◌, ◌<◌}
 use Rattle.std.proofs.Common.{arith, lit<}
 use Rattle.std.proofs.lemmas.Bool.{eqb-true, ne_eqb}
@@ -46,19 +46,19 @@ same_byte start end start' end' same = (
   same_number end end' (omega (arith, number_below end, number_below end')),
 )
 
--- ---- What stands at each
+-- ---- Values by category
 
 -- things that are the same at each category are the same
 pub same_things : {A : Type 0} (x y : ByCategory A) → ((c : RawPluralCategory) → at x c ≡ at y c) → x ≡ y
 same_things x y same =
     λ i. record { other = same Other i; zero = same Zero i; one = same One i; two = same Two i; few = same Few i; many = same Many i }
 
--- at a category stands what the function gives of it
+-- the value of a category is what the function gives for it
 pub at-each : {A : Type 0} (f : RawPluralCategory → A) (c : RawPluralCategory) → at (each f) c ≡ f c
 at-each f = by_category (λ c. at (each f) c ≡ f c) refl refl refl refl refl refl
 
 module _ {A : Type 0} (things : ByCategory A) (c : RawPluralCategory) (thing : A) (d : RawPluralCategory) where
-  -- at a category stands the new thing, if it is the one that was put, else what was there
+  -- the value of a category is the new one, if the category is the changed one, else the old one
   pub at-put_at : at (put_at things c thing) d ≡ if category_number d == category_number c then thing else at things d
   at-put_at = at-each (λ d. if category_number d == category_number c then thing else at things d) d
 
@@ -66,7 +66,7 @@ module _ {A : Type 0} (things : ByCategory A) (c : RawPluralCategory) (thing : A
   pub at-put_at_other : d ≢ c → at (put_at things c thing) d ≡ at things d
   at-put_at_other other = at-put_at ∙ (rw (ne_eqb (category_number d) (category_number c) (λ same. other (same_number d c same))) refl)
 
--- what stands at another pair stays
+-- the value of another pair stays
 module _ {A : Type 0} (rows : ByCategory (ByCategory A)) (start end : RawPluralCategory) (thing : A) (s e : RawPluralCategory) where
   -- in the row of the pair another end keeps what it has
   in_row : e ≢ end → (b : Bool) → (category_number s == category_number start) ≡ b

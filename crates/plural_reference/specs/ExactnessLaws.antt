@@ -74,7 +74,7 @@ IsTwice x = IsNumeral x.whole (2 * kept_limit) × (x.fraction ≡ [])
 abbrev pub left_of_twice : ℕ → RelationMeaning
 left_of_twice m = let r = 2 * kept_limit % m in record { operand = I; modulus = m; operator = Eq; ranges = (r, r) ∷ [] }
 
--- a modulus that doesn't divide 10 ^ 18 tells the exact 2 * 10 ^ 18 from its kept part
+-- for a modulus that doesn't divide 10 ^ 18, a relation is true of the exact 2 * 10 ^ 18 and false of its kept part
 abbrev pub BoundIsWidest : Type 0
 BoundIsWidest =
     (m : ℕ) (x : Places) (kept exact : Operands) → 0 < m → ¬ (m ∣ kept_limit)

@@ -150,7 +150,7 @@ fn keyword<'a>(expected: &[u8], token: Token, text: &'a [u8]) -> (Token, &'a [u8
     (token, rest)
 }
 
-// The least number that no token holds: numbers from there on aren't told apart.
+// The least number that no token can hold: all numbers from it on give the same token.
 const TOO_LARGE: u64 = 4_294_967_296;
 
 // The token of the number that begins with the digit, and the bytes after it.

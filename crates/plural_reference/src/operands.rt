@@ -19,7 +19,7 @@ use std::marker::Model;
 /// digits as a number, with and without the trailing zeros; and `c`, the compact exponent.
 ///
 /// They come from integers, from decimals, from texts and from [`RawPluralOperands`]. No conversion
-/// allocates. Of a decimal at most 18 places on each side of the point are kept, as told at
+/// allocates. Of a decimal at most 18 places on each side of the point are kept, as described at
 /// [`PluralOperands::from_significand_and_exponent`]. `==` compares all six; the default is 0 for each,
 /// the operands of the number 0.
 ///

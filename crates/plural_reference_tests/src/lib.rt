@@ -1,4 +1,4 @@
-//! Tests of `plural_reference`, of what no clause says. They are apart so that the crate isn't proved again for them.
+//! Tests of what the contracts of `plural_reference` don't say. They are apart so that the crate isn't proved again for them.
 #![tactic(auto)]
 
 #[cfg(test)]

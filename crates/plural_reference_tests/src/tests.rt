@@ -1,4 +1,4 @@
-//! What no clause says: worked values, printed texts, writers that refuse, allocations that fail.
+//! What no contract says: worked values, printed texts, writers that refuse, allocations that fail.
 
 mod assertion;
 mod errors;

@@ -5,7 +5,7 @@ use Rattle.std.specs.Prelude.{◌==◌, if◌then◌else◌, slice_get, flat_map
 use Rattle.std.proofs.lemmas.Bool.{ne_eqb}
 use Rattle.plural_reference.specs.Serializer.{joined}
 
--- what stands between the parts so far and the next one
+-- what is between the parts so far and the next one
 abbrev pub between_after : {A : Type 0} → List ℕ → List A → List ℕ
 between_after separator [] = []
 between_after separator (x ∷ xs) = separator

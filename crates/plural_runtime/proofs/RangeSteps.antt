@@ -61,7 +61,7 @@ range_step value bytes range rest holds h e f g =
           ∙ ap (λ r. 1 + (if holds then 0 else needed_from value (ranges_in r))) (sym f);
     }
 
--- where there is no range, none is needed
+-- without a range, none is needed
 pub nothing_needed : (value : ℕ) (bytes : List ℕ) → length bytes < 8 → needed_from value (ranges_in bytes) ≡ 0
 nothing_needed value bytes h = ap (needed_from value) (ranges-short bytes h)
 
@@ -82,6 +82,6 @@ whole_rest bytes rest h l e =
       short = λ t. omega (arith, eqb-true _ _ t);
     }
 
--- where there is no range, none holds the value
+-- without a range, none contains the value
 pub none_holds : (value : ℕ) (bytes : List ℕ) → length bytes < 8 → list_any (range_holds value) (ranges_in bytes) ≡ false
 none_holds value bytes h = ap (list_any (range_holds value)) (ranges-short bytes h)

@@ -131,7 +131,7 @@ pub or_else_some : (fault other : Option RuleBytesError) → is_some fault ≡ t
 or_else_some None other h = cc
 or_else_some (Some fault) other h = refl
 
--- where none was found, the others decide
+-- if none was found, the others decide
 pub or_else_none : (fault other : Option RuleBytesError) → is_some fault ≡ false → or_else fault other ≡ other
 or_else_none None other h = refl
 or_else_none (Some fault) other h = cc

@@ -160,7 +160,7 @@ shown_more false so_far relation relations =
 
 -- ---- one range more is printed
 
--- what is printed of ranges, which may be the first ones: else a comma stands before each
+-- the printed text of ranges, which may be the first ones; otherwise a comma precedes each
 abbrev pub ranges_from : Bool → List RangeOrValue → List ℕ
 ranges_from true ranges = joined (codes ", ") range_shown ranges
 ranges_from false ranges = flat_map (λ range. codes ", " ++ range_shown range) ranges

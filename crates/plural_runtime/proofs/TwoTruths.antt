@@ -25,7 +25,7 @@ use Rattle.plural_runtime.proofs.Walks.{first_group}
 abbrev pub Agrees : Operands → PackedRelation → Type 0
 Agrees number relation = (number.w ≡ 0) ⊎ (is_negated_n relation.meaning.operator relation.meaning.operand ≡ false)
 
--- what the operator is where there is no value
+-- what the operator is if there is no value
 no_value : (number : Operands) (operator : Operator) (operand : Operand) → (number.w ≡ 0) ⊎ (is_negated_n operator operand ≡ false)
     → operand_value operand number ≡ None → operator ≡ Eq
 no_value number Eq operand ok h = refl
@@ -46,7 +46,7 @@ same_value : (number : Operands) (relation : RelationMeaning)
     ≡ option_map (remainder relation.modulus) (operand_value relation.operand number)
 same_value number relation = rw (modulus_not_zero relation.modulus, modulus_again relation.modulus) refl
 
--- at a value, or none, a relation and its tree hold alike, where the operator is `=` without a value
+-- at a value, or none, a relation and its tree have the same truth, if the operator is `=` without a value
 same_at : (relation : RelationMeaning) (value : Option ℕ) → (value ≡ None → relation.operator ≡ Eq) →
     holds_by (unpacked_meaning relation) value ≡ under relation.operator (holds_value relation.ranges value)
 same_at relation None h = sym (ap (λ operator. under operator false) (h refl))

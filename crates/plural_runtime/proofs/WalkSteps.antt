@@ -1,4 +1,4 @@
--- The walk that keeps no more than the relation that it reads next: what it tells, and what it still needs.
+-- The walk that keeps no more than the relation that it reads next: its result, and what it still needs.
 use Rattle.std.proofs.Common.{◌≡◌, ℕ, ◌+◌, List, [], ◌∷◌, ◌++◌, map, refl, sym, ap, subst, ◌∙◌, append_assoc, append-nil}
 use Rattle.std.proofs.Common.{Bool, true, false, IsTrue}
 use Rattle.std.specs.Cmp.{first_so, second_so}
@@ -13,7 +13,7 @@ use Rattle.plural_runtime.proofs.Counts.{steps_left}
 use Rattle.plural_runtime.proofs.Walks.{is_read, needed_left, needed_left-is, truth_left, truth_left-is}
 use Rattle.plural_runtime.proofs.Walks.{walk_ends, walk_reads, walk_skips}
 
--- what is left tells, if an item is read next
+-- the remaining walk decides the result, if an item is read next
 abbrev pub truth_at : Operands → List ℕ → List (List ℕ) → Bool
 truth_at number item items = truth_left number (is_true_at number (relation_in item)) (map relation_in items)
 
@@ -22,7 +22,7 @@ abbrev pub needed_at : Operands → List ℕ → List (List ℕ) → ℕ
 needed_at number item items =
     needed_of_relation number (relation_in item).meaning + needed_left number (is_true_at number (relation_in item)) (map relation_in items)
 
--- items of one group, but for its first
+-- items of one group, except its first
 abbrev pub AreOfGroup : List (List ℕ) → Type 0
 AreOfGroup items = AllByRecursion (λ item. (relation_in item).and_or ≡ And) items
 

@@ -1,4 +1,4 @@
--- The walk over the relations of a rule tells its truth, and counts the needed ranges.
+-- The walk over the relations of a rule gives its truth, and counts the needed ranges.
 use Rattle.std.proofs.Common.{◌≡◌, ℕ, ◌+◌, List, [], ◌∷◌, refl, sym, ap, ◌∙◌, arith, Bool, true, false}
 use Rattle.std.specs.Prelude.{◌&&◌, ◌||◌, not, if◌then◌else◌}
 use Rattle.std.specs.List.{list_any}
@@ -75,7 +75,7 @@ truth_step number Or true relation gs = refl
 truth_step number Or false relation [] = bool_one (is_true_at number relation)
 truth_step number Or false relation (g ∷ gs) = refl
 
--- what the walk tells of relations is what their groups tell
+-- the result of the walk over relations is that of their groups
 pub truth_left-groups : (number : Operands) (holds : Bool) (relations : List PackedRelation)
     → truth_left number holds relations ≡ groups_truth number holds (groups relations)
 truth_left-groups number true [] = refl
@@ -105,7 +105,7 @@ first_group (relation ∷ relations) =
     let f = front_group relation relation.and_or (groups relations) in
     record { first = f.0; others = f.1; is = f.2 }
 
--- the walk from the first relation on tells the truth
+-- the walk from the first relation on gives the truth
 pub truth_left-is : (number : Operands) (relations : List PackedRelation)
     → truth_left number true relations ≡ packed_truth number relations
 unfolding packed_truth

@@ -93,7 +93,7 @@ unpacked_groups (relation ∷ relations) = map (map unpacked_relation) (groups (
 unfoldable pub unpacked : List PackedRelation → Condition
 unpacked relations = condition_of_groups (unpacked_groups relations)
 
--- ---- When a rule and its tree are true alike
+-- ---- When a rule and its tree have the same truth
 
 -- a relation tests that n isn't in its list
 abbrev pub is_negated_n : Operator → Operand → Bool

@@ -105,7 +105,7 @@ fn next_of_group<'a>(items: &mut Items<'a>) -> Option<&'a [u8]>
     }
 }
 
-// The relation that begins the next group, and none where there is no further group.
+// Returns the relation that begins the next group, or `None` if there is no further group.
 #[inline]
 fn first_of_next_group<'a>(items: &mut Items<'a>) -> Option<&'a [u8]>
     requires { IsTrue (list_all is_relation items.old) }

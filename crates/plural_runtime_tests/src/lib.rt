@@ -1,4 +1,4 @@
-//! Tests of `plural_runtime`, of what no clause says. They are apart so that the crate isn't proved again for them.
+//! Tests of what the contracts of `plural_runtime` don't say. They are apart so that the crate isn't proved again for them.
 #![tactic(auto)]
 
 #[cfg(test)]

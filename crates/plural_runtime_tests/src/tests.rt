@@ -1,4 +1,4 @@
-//! Tests of what no clause says: worked rules with their bytes, their texts and their truth, and that each call
+//! What no contract says: worked rules with their bytes, their texts and their truth, and that each call
 //! succeeds if there is memory.
 
 mod assertion;

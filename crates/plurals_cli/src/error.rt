@@ -31,10 +31,10 @@ pub enum RunError {
     /// The input is no JSON text.
     #[error("input is not JSON")]
     Json,
-    /// The input is no document, or has no elements that are asked for.
+    /// The input is no document, or lacks the elements that the command needs.
     #[error("bad document: {0}")]
     Document(JsonError),
-    /// The document has no rules of the type for the locale, or no ranges that are asked for.
+    /// The document lacks the rules of the type for the locale, or the ranges that the command needs.
     #[error("locale not found")]
     Locale,
     /// The writer failed; part of the answer may have been written.

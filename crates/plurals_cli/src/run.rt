@@ -34,8 +34,8 @@ use std::io::{Read, Write};
 /// command; [`RunError::Condition`] if the condition can't be read; [`RunError::Number`] if the integer
 /// or the number is out of form, or above its limit; of the input [`RunError::Read`] if the reader
 /// failed, [`RunError::TooLong`] above 4194304 bytes, [`RunError::Json`] if it is no JSON text,
-/// [`RunError::Document`] if it is no document, or has no elements that are asked for, and
-/// [`RunError::Locale`] if the locale has no rules of the type, or no ranges that are asked for;
+/// [`RunError::Document`] if it is no document, or lacks the elements that are needed, and
+/// [`RunError::Locale`] if the locale lacks the rules of the type, or the ranges that are needed;
 /// [`RunError::Write`] if the writer failed; [`RunError::Memory`] if memory ran out. After an error
 /// nothing was written, except by a failed write.
 pub fn run<R: Read, W: Write>(

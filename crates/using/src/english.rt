@@ -1,4 +1,4 @@
-//! A provider of English alone.
+//! A provider of rules for English only.
 
 use icu_plurals::provider::{PluralRanges, PluralRulesData};
 use icu_plurals::{DataError, PluralOperands, PluralRules, PluralsProvider};

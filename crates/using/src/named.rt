@@ -1,4 +1,4 @@
-//! Rules with a name, which serve wherever rules are asked for.
+//! Rules with a name, which work wherever rules are expected.
 
 use icu_plurals::{
     AsPluralRules, JsonProvider, PluralCategory, PluralRules, PluralRulesWithRanges,

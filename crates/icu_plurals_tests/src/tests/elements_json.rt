@@ -119,7 +119,7 @@ fn form_is_told_before_what_is_too_long(rt: HostRuntime) -> Result<(), Fail> {
     Ok(())
 }
 
-// If a growth is refused, reading returns out of memory; asked again with memory, it succeeds.
+// If a growth is refused, reading returns out of memory; called again with memory, it succeeds.
 #[test]
 fn growth_may_be_refused_in_reading_elements(rt: HostRuntime) {
     let mut refused = 0u8;
@@ -139,7 +139,7 @@ fn growth_may_be_refused_in_reading_elements(rt: HostRuntime) {
     holds!(rt; refused <= 1);
 }
 
-// If a growth is refused, writing returns out of memory; asked again with memory, it succeeds.
+// If a growth is refused, writing returns out of memory; called again with memory, it succeeds.
 #[test]
 fn growth_may_be_refused_in_writing_elements(rt: HostRuntime) -> Result<(), Fail> {
     let elements = PluralElementsPackedCow::from_bytes(EIGHT)?;

@@ -272,7 +272,7 @@ fn lent_bytes_keep_their_metadata(rt: HostRuntime) -> Result<(), Fail> {
     Ok(())
 }
 
-// If the growth is refused, the call returns out of memory; asked again with memory, it succeeds.
+// If the growth is refused, the call returns out of memory; called again with memory, it succeeds.
 #[test]
 fn growth_of_bytes_may_be_refused(rt: HostRuntime) {
     let mut refused = 0u8;
@@ -290,7 +290,7 @@ fn growth_of_bytes_may_be_refused(rt: HostRuntime) {
     holds!(rt; refused <= 1);
 }
 
-// If a growth is refused, packing and copying return out of memory; asked again with memory, they succeed.
+// If a growth is refused, packing and copying return out of memory; called again with memory, they succeed.
 #[test]
 fn growth_of_owned_elements_may_be_refused(rt: HostRuntime) -> Result<(), Fail> {
     let texts = welsh();

@@ -13,7 +13,7 @@ use std::fmt;
 pub enum JsonError {
     /// The value holds a number that is no integer of 64 bits.
     Float,
-    /// A part of the value is of another kind than its form asks for.
+    /// A part of the value is of another kind than its form requires.
     Shape,
     /// A text gives no rule, for this reason; with the category, if the text is under one. The
     /// reason is never out of memory.

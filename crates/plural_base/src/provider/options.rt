@@ -12,7 +12,7 @@ pub enum PluralRuleType {
     Ordinal,
 }
 
-/// Which rules are asked for. By default no type is set.
+/// Which rules are requested. By default no type is set.
 ///
 /// <!-- snippet crates/plural_base_tests/src/tests/categories.rt: example body of fn options_name_a_type_or_none -->
 /// ```

@@ -160,7 +160,7 @@ fn errors_print_their_texts(rt: HostRuntime) -> Result<(), Fail> {
     Ok(())
 }
 
-// If a growth is refused, reading returns out of memory; asked again with memory, it succeeds.
+// If a growth is refused, reading returns out of memory; called again with memory, it succeeds.
 #[test]
 fn growth_may_be_refused_in_reading_rules(rt: HostRuntime) {
     let mut refused = 0u8;
@@ -181,7 +181,7 @@ fn growth_may_be_refused_in_reading_rules(rt: HostRuntime) {
     holds!(rt; refused <= 1);
 }
 
-// If a growth is refused, writing returns out of memory; asked again with memory, it succeeds.
+// If a growth is refused, writing returns out of memory; called again with memory, it succeeds.
 #[test]
 fn growth_may_be_refused_in_writing_rules(rt: HostRuntime) {
     let mut refused = 0u8;

@@ -111,7 +111,7 @@ fn a_rule_that_is_too_long_is_no_want_of_memory(rt: HostRuntime) -> Result<(), F
     Ok(())
 }
 
-// If a growth is refused, reading and cloning return out of memory; asked again with memory, they succeed.
+// If a growth is refused, reading and cloning return out of memory; called again with memory, they succeed.
 #[test]
 fn growth_may_be_refused_in_whole_rules(rt: HostRuntime) {
     let mut refused = 0u8;
@@ -130,7 +130,7 @@ fn growth_may_be_refused_in_whole_rules(rt: HostRuntime) {
     holds!(rt; refused <= 1);
 }
 
-// If a growth is refused, reading a document returns out of memory; asked again with memory, it succeeds.
+// If a growth is refused, reading a document returns out of memory; called again with memory, it succeeds.
 #[test]
 fn growth_may_be_refused_in_a_document_of_whole_rules(rt: HostRuntime) {
     let mut refused = 0u8;

@@ -213,7 +213,7 @@ fn the_first_place_of_ranges_is_refused(rt: HostRuntime) -> Result<(), Fail> {
     Ok(())
 }
 
-// If a growth is refused, reading returns out of memory; asked again with memory, it succeeds.
+// If a growth is refused, reading returns out of memory; called again with memory, it succeeds.
 #[test]
 fn growth_may_be_refused_in_reading_a_document(rt: HostRuntime) {
     let mut refused = 0u8;

@@ -316,7 +316,7 @@ fn given_rules_need_ranges(rt: HostRuntime) -> Result<(), Fail> {
     Ok(())
 }
 
-// If a growth is refused, writing returns out of memory; asked again with memory, it succeeds.
+// If a growth is refused, writing returns out of memory; called again with memory, it succeeds.
 #[test]
 fn growth_may_be_refused_in_writing_ranges(rt: HostRuntime) {
     let mut ranges = PluralRanges::new();
@@ -335,7 +335,7 @@ fn growth_may_be_refused_in_writing_ranges(rt: HostRuntime) {
     holds!(rt; refused <= 1);
 }
 
-// If a growth is refused, writing a range returns out of memory; asked again with memory, it succeeds.
+// If a growth is refused, writing a range returns out of memory; called again with memory, it succeeds.
 #[test]
 fn growth_may_be_refused_in_writing_a_range(rt: HostRuntime) {
     let range = UnvalidatedPluralRange::from_range(ONE, OTHER);

@@ -147,7 +147,7 @@ fn lent_and_cloned_data_are_equal(rt: HostRuntime) -> Result<(), Fail> {
     Ok(())
 }
 
-// If a growth is refused, the call returns out of memory; asked again with memory, it succeeds.
+// If a growth is refused, the call returns out of memory; called again with memory, it succeeds.
 #[test]
 fn refused_growth_is_want_of_memory(rt: HostRuntime) {
     let (one, many) = (Some("n = 1"), Some("n % 100 = 11..99 or n = 1000000"));

@@ -52,7 +52,7 @@ pub kept_whole-short : (ds : List ℕ) → length ds ≤ 18 → kept_whole ds �
 kept_whole-short ds h
     = cond-true (leb (length ds) 18) (value_of ds) (value_of (drop (length ds - 18) ds) + 10 ^ 18) (le-leb (length ds) 18 h)
 
--- Of more the remainder by 10 ^ 18 is kept, and 10 ^ 18 besides.
+-- Of a longer number, the remainder by 10 ^ 18 is kept, plus 10 ^ 18.
 pub kept_whole-long : (ds : List ℕ) → AreDigits ds → 18 < length ds → kept_whole ds ≡ value_of ds % 10 ^ 18 + 10 ^ 18
 kept_whole-long ds h long =
     cond-false (leb (length ds) 18) (value_of ds) (value_of (drop (length ds - 18) ds) + 10 ^ 18) (lt-leb (length ds) 18 long)
@@ -122,7 +122,7 @@ whole_of-parts a f part below =
     ap (λ n. cond (eqb n 0) (Some ((a * part + f) / part)) None) (mod-mul-add a part f below)
     ∙ ap (λ n. cond (eqb f 0) (Some n) None) (div-mul-add a part f below)
 
--- the exact value of n, by the operands: there is none where f isn't 0
+-- the exact value of n, by the operands: absent unless f is 0
 pub exact_value-n : (modulus : ℕ) (o : Operands) → o.f < 10 ^ o.v
     → exact_value N modulus o ≡ cond (eqb o.f 0) (Some (remainder modulus o.i)) None
 exact_value-n modulus o below =

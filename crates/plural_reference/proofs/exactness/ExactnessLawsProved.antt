@@ -102,7 +102,7 @@ digit_index x (pos k) h =
     ]
 digit_index x (negsuc k) h = (length x.whole + k, omega (arith, ints))
 
--- after the shift the integer digits write 10 ^ n or more exactly if some digit but 0 stands high enough before it
+-- after the shift the integer digits write 10 ^ n or more exactly if some digit but 0 is at a high enough place before it
 pub long_value : LongValue
 long_value x e n h =
     let y : Places = shift_right e x in
@@ -182,7 +182,7 @@ only_it a k h =
       | inr none ↦ absurd (false≢true none)
     ]
 
--- a modulus that doesn't divide 10 ^ 18 tells the exact 2 * 10 ^ 18 from what is kept of it
+-- for a modulus that doesn't divide 10 ^ 18, a relation is true of the exact 2 * 10 ^ 18 and false of what is kept of it
 pub bound_is_widest : BoundIsWidest
 bound_is_widest m x kept exact some other twice c y =
     let r : ℕ = 2 * 10 ^ 18 % m in

@@ -162,7 +162,7 @@ short_whole e x m i k h v =
     v ∙ ap value_of (last_from e x m (omega arith) ∙ ap (λ j. drop j w) z)
     ∙ sym (ap (λ b. cond b (value_of w) (value_of (drop (length w - 18) w) + 10 ^ 18)) (le-leb (length w) 18 (omega arith)))
 
--- Of more the last 18 are, with 10 ^ 18 besides.
+-- Of more digits, the last 18 are kept, plus 10 ^ 18.
 pub long_whole : (e : ℕ) (x : Places) (m i : ℕ) → m ≡ 18 → 18 < length (shift_right e x).whole
     → i ≡ value_of (digits_from x (length (shift_right e x).whole - m) m) + 10 ^ 18 → i ≡ kept_whole (shift_right e x).whole
 long_whole e x m i k h v =
@@ -170,7 +170,7 @@ long_whole e x m i k h v =
     v ∙ ap (λ ds. value_of ds + 10 ^ 18) (last_from e x m (omega arith) ∙ ap (λ j. drop (length w - j) w) k)
     ∙ sym (ap (λ b. cond b (value_of w) (value_of (drop (length w - 18) w) + 10 ^ 18)) (lt-leb (length w) 18 h))
 
--- Of the fraction the first 18 digits are kept, or all where there are fewer.
+-- Of the fraction the first 18 digits are kept, or all if there are fewer.
 pub kept_fraction_of : (e : ℕ) (x : Places) (n f : ℕ) → n ≡ min (length (shift_right e x).fraction) 18
     → f ≡ value_of (digits_from x (length (shift_right e x).whole) n)
     → (n ≡ length (take 18 (shift_right e x).fraction)) × (f ≡ value_of (take 18 (shift_right e x).fraction))

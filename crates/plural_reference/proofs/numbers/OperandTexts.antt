@@ -1,4 +1,4 @@
--- How the parts of an operand text are told apart.
+-- How an operand text is divided into its parts.
 use Rattle.std.proofs.Common.{◌≡◌, ◌≢◌, ◌⊎◌, ℕ, zero, suc, ◌+◌, ◌-◌, ◌*◌, ◌^◌, ◌<◌, ◌≤◌, inl, inr, true, false, Option, Some, None}
 use Rattle.std.proofs.Common.{List, [], ◌∷◌, ◌++◌, refl, sym, ◌∙◌, ap, subst, length, map, arith, rules, lit<, Result, Ok, Err}
 use Rattle.std.proofs.Common.{cond, ltb, nat_eq, get_or, drop, length-append}
@@ -200,7 +200,7 @@ word_found text m count rest e size some =
       omega arith,
     )
 
--- no word stands where no digit does
+-- a text that doesn't begin with a digit has no word
 pub no_word : (text : List ℕ) (m : ℕ) (rest : List ℕ) → scanned 0 text ≡ Some (m, rest) → length text - length rest ≡ 0
     → (ds other : List ℕ) → ¬ (HasWord text ds other)
 no_word text m rest e size ds other h =

@@ -83,7 +83,7 @@ operand_spells operands.T = (Operand operands.T, refl, record { gives = λ rest 
 operand_spells operands.C = (Operand operands.C, refl, record { gives = λ rest f. refl })
 operand_spells operands.E = (E, refl, record { gives = λ rest f. refl })
 
--- the printed text of a modulus spells it; there is none where there is no modulus
+-- the printed text of a modulus spells it; it is empty if the modulus is absent
 modulus_spells : (m : Option Value) → IfSome m FitsToken → Spells BeginsWithSpace IsModulus (prefixed (codes " % ") value_text m) m
 unfolding tokens_from
 modulus_spells None h = record { tokens = []; part = refl; scans = record { gives = λ rest f. refl } }
@@ -95,7 +95,7 @@ modulus_spells (Some v) h =
       scans = record { gives = λ rest f. ap (λ ts. Modulo ∷ ts) (value.scans.gives rest (space_ends rest f)) };
     }
 
--- a space follows an operand, whether its modulus is there or not
+-- a space follows an operand, with or without a modulus
 modulus_follows : (m : Option Value) (rest : List ℕ) → BeginsWithSpace rest → BeginsWithSpace (prefixed (codes " % ") value_text m ++ rest)
 modulus_follows None rest h = h
 modulus_follows (Some v) rest h = refl

@@ -20,7 +20,7 @@ use Rattle.plural_reference.proofs.tokens.TokensFit.{AllFit, fit_left, fit_right
 
 -- ---- what is read
 
--- one of two lists is there
+-- one of two lists is present
 abbrev HasList : Option SampleList → Option SampleList → Type 0
 HasList None None = ⊥
 HasList _ _ = Unit {0}
@@ -31,7 +31,7 @@ pub record AreReadSamples (s : samples.Samples) : Type 0 where
   pub decimal : IfSome s.decimal (λ l. IsSpelled IsSampleList l)
   pub some : HasList s.integer s.decimal
 
--- where the second list is there, there is one
+-- if the second list is present, one of the two is
 has_second : (first : Option SampleList) (l : SampleList) → HasList first (Some l)
 has_second None l = tt
 has_second (Some k) l = tt
@@ -76,7 +76,7 @@ samples_are_read tokens s f h =
 
 -- ---- what is printed
 
--- the section of a list that is there, or none
+-- the section of a list, if the list is present
 abbrev section_of : Token → Option SampleList → List Section
 section_of type None = []
 section_of type (Some l) = (record { type = type; list = l }) ∷ []

@@ -161,7 +161,7 @@ sample_spells tokens text a h small =
 
 -- ---- ranges and lists
 
--- the printed text of an upper sample spells it; there is none where there is no sample
+-- the printed text of an upper sample spells it; it is empty if the sample is absent
 upper_spells : (tokens : List Token) (upper : Option DecimalValue) → AllFit tokens → IsUpper tokens upper
     → IfSome upper HasSmallRuns → Spells EndsSample IsUpper (prefixed (codes "~") sample_text upper) upper
 unfolding tokens_from
@@ -211,7 +211,7 @@ both_give : {A : Type 0} (P Q R : A → Type 0) → ((x : A) → P x → Q x →
 both_give P Q R f [] h k = tt
 both_give P Q R f (x ∷ xs) h k = (f x h.0 k.0, both_give P Q R f xs h.1 k.1)
 
--- the printed text of an ellipsis spells it; there is none where there is no ellipsis
+-- the printed text of an ellipsis spells it; it is empty if the ellipsis is absent
 ellipsis_spells : (more : Bool) → Spells EndsSample IsEllipsis (ellipsis_text more) more
 unfolding tokens_from
 ellipsis_spells false = record { tokens = []; part = refl; scans = record { gives = λ rest s. refl } }

@@ -36,7 +36,7 @@ module _ {W : Type 0} (took : W → List ℕ → W → Type 0) where
     whole = concat_append p.parts q.parts ∙ (λ i. p.whole i ++ q.whole i);
   }
 
--- what stands between the parts so far and the next one
+-- what is between the parts so far and the next one
 abbrev between : {A : Type 0} → List ℕ → List A → List ℕ
 between separator [] = []
 between separator (x ∷ xs) = separator
@@ -50,7 +50,7 @@ joined-push separator text (x ∷ z ∷ zs) y =
     ap (λ l. (text x ++ separator) ++ l) (joined-push separator text (z ∷ zs) y)
     ∙ sym (append_assoc (text x ++ separator) (joined separator text (z ∷ zs)) (separator ++ text y))
 
--- before the part at an index stands the separator, but nothing before the first one
+-- before the part at an index is the separator, but before the first one nothing
 before_part : {A : Type 0} (separator : List ℕ) (xs : List A) (i : ℕ) → i < length xs
     → (if i == 0 then [] else separator) ≡ between separator (take i xs)
 before_part separator xs zero lt = refl

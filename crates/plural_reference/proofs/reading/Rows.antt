@@ -28,7 +28,7 @@ use Rattle.plural_reference.proofs.reading.Readings.{not_both}
 abbrev value : ℕ → Value
 value n = record { 0 = n }
 
--- equal lists begin alike
+-- equal lists begin with the same element
 heads : (a b : ℕ) (xs ys : List ℕ) → a ∷ xs ≡ b ∷ ys → a ≡ b
 heads a b xs ys e = cc
 

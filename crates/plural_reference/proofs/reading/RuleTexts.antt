@@ -33,7 +33,7 @@ unfolding Given
 condition_read tokens (Ok rule) c h e = (rule, h, cc)
 condition_read tokens (Err kind) c h e = cc
 
--- the fault that it gives is there
+-- the fault that it gives is present
 fault_read : (tokens : List Token) (o : RuleOutcome) (kind : ParseError)
     → Given tokens o → without_samples o ≡ Err kind → FaultyRule tokens kind
 unfolding Given

@@ -227,7 +227,7 @@ open_run s p [] (Dot ∷ ts) rest st d k n = first_point_run s p (ts ++ rest) st
 open_run s p [] [] rest st d k n = absurd (n refl)
 open_run s p [] (_ ∷ ts) rest st d k n = absurd k
 
--- so do these and an exponent, where there are some
+-- so do these and an exponent, if there is one
 with_exponent : (s : SampleState) (p : Partial) (i f e rest : List Token) → Starts s p → AllByRecursion IsDigits i
     → IsFraction f → IsExponent e → (i ++ f ≢ [])
     → run_samples s ((i ++ f ++ e) ++ rest) ≡ run_samples (in_sample p (flat_map token_text (i ++ f ++ e))) rest
@@ -239,7 +239,7 @@ with_exponent s p i f e rest st d k g n =
     ∙ any-append _ (flat_map token_text i) (flat_map token_text f) (all_no_mark i d) (fraction_no_mark f k))
     ∙ ap (λ x. run_samples (in_sample p x) rest) (sym (flat_map-append (i ++ f) e))
 
--- so do the three parts of a sample, where one of them isn't empty
+-- so do the three parts of a sample, if one of them isn't empty
 parts_run : (s : SampleState) (p : Partial) (i f e rest : List Token) → Starts s p → AllByRecursion IsDigits i
     → IsFraction f → IsExponent e → (i ++ f ++ e ≢ [])
     → run_samples s ((i ++ f ++ e) ++ rest) ≡ run_samples (in_sample p (flat_map token_text (i ++ f ++ e))) rest
@@ -597,7 +597,7 @@ open_end _ _ (closed ss h) k = absurd (true≢false (sym k ∙ ap is_some h))
 open_end _ _ (in_last p text ss h) k =
     record { partial = p; text = text; state_is = refl; open_is = ap open_range (sym h) ∙ open-done p text }
 
--- where something is said of the open range, there is one
+-- if something is said of the open range, there is one
 some_open : (o : Option SampleRange) (P : SampleRange → Type 0) → IsSomeAnd o P → IsSome o
 some_open None P h = absurd h
 some_open (Some r) P h = refl

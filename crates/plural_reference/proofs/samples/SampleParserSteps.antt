@@ -55,7 +55,7 @@ either : (c : Bool) (x y : List ℕ) → IsNotEmpty x → IsNotEmpty y → IsNot
 either true x y h k = h
 either false x y h k = k
 
--- the digits of a number stand before a text
+-- the digits of a number come before a text
 onto_not_empty : (k n : ℕ) (acc : List ℕ) → IsNotEmpty acc → IsNotEmpty (digits_onto k 10 false n acc)
 onto_not_empty zero n acc h = h
 onto_not_empty (suc k) n acc h = either (nat_eq (n / 10) 0) _ _ tt (onto_not_empty k (n / 10) (digit_glyph false (n % 10) ∷ acc) tt)

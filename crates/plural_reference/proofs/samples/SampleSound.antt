@@ -65,7 +65,7 @@ record SpellsPartial (q : List Token) (p : Partial) : Type 0 where
   ranges : Terminated Comma IsSampleRange range_tokens p.ranges
   lower : LowerIs lower_tokens p.lower
 
--- a sample ends a range, whose lower sample stands before it or which it is alone
+-- a sample ends a range, either after its lower sample or as the only one
 range_is : (lower : Option DecimalValue) (l y : List Token) (text : DecimalValue) → LowerIs l lower → IsSample y text
     → IsSampleRange (l ++ y) (range_of lower text)
 unfolding LowerIs
@@ -223,7 +223,7 @@ digit_on i (_ ∷ ds) y text t w d f g k = absurd f
 digit_joins : (y : List Token) (text : DecimalValue) (t : Token) → Open y text → IsDigits t → IsSample (y ++ t ∷ []) (text ++ token_text t)
 digit_joins y text t o d = digit_on o.integer o.fraction y text t o.whole o.digits o.is_fraction d o.text_is
 
--- so does a point, where there is none
+-- so does a point, if there is none yet
 point_joins : (y : List Token) (text : DecimalValue) → Open y text → has_point text ≡ false
     → IsSample (y ++ Dot ∷ []) (text ++ token_text Dot)
 point_joins y text o h =
@@ -456,7 +456,7 @@ pub right_false : (a b : Bool) → a || b ≡ false → b ≡ false
 right_false true b h = absurd (true≢false h)
 right_false false b h = h
 
--- what is there is not absent
+-- what is present isn't absent
 some_is_not_none : {A : Type 0} {x : A} → Some x ≡ None → ⊥
 some_is_not_none e = cc
 
@@ -583,7 +583,7 @@ module _ (q : List Token) (p : Partial) (text : DecimalValue) (h : InSample q p 
     lower = refl;
   }
 
-  -- Tilde makes the sample a lower one, where there is none yet
+  -- Tilde makes the sample a lower one, if there is none yet
   tilde_partial : p.lower ≡ None → SpellsPartial (q ++ Tilde ∷ []) (record p { lower = Some text })
   unfolding LowerIs
   tilde_partial e =

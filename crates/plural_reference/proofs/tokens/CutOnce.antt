@@ -1,4 +1,4 @@
--- A text is cut in one way only: the scan, asked for the bytes of the first piece in place of its token, finds the first piece
+-- A text is cut in one way only: the scan, used for the bytes of the first piece in place of its token, finds the first piece
 -- of any cut. From ScanSound and ScanComplete to the law that every text has exactly one cut.
 use Rattle.std.proofs.Common.{◌≡◌, ◌≢◌, ◌*◌, ◌+◌, ℕ, List, [], ◌∷◌, ◌++◌, Option, Some, None, refl}
 use Rattle.std.proofs.Common.{sym, ap, ◌∙◌, append_assoc, cond, drop, is_some, nat_eq, length, subst, true, arith}
@@ -106,7 +106,7 @@ tail_bitten k (l ∷ ls) t (b ∷ bs) next more rest h =
     let tail : l ∷ ls ≡ bs ++ next ∷ more = cc in
     rw (← same_k, eq-eqb k k refl) (ap (λ x. k ∷ x) (tail_bitten l ls t bs next more rest tail))
 
--- at each byte of a keyword but the last, what is there of it belongs to the first piece
+-- at each byte of a keyword but the last, the part so far belongs to the first piece
 abbrev BegunBitten : Word → Type 0
 BegunBitten w =
     (begun : List ℕ) (next : ℕ) (more rest : List ℕ) → w.0 ≡ begun ++ next ∷ more → begun ≢ [] → begun ≢ codes "i"
@@ -241,7 +241,7 @@ piece_not_empty piece rest token (too_large r large k) = r.nonempty
 piece_not_empty piece rest token (broken begun next b e g d k) = rw e (pushed_not_empty begun b)
 piece_not_empty piece rest token (cut_off next g e k) = g.nonempty
 
--- no piece stands in the empty text
+-- the empty text has no piece
 no_piece_of_none : (piece rest : List ℕ) (token : Option Token) → IsPiece piece rest token → [] ≡ piece ++ rest → ⊥
 no_piece_of_none [] rest token h e = piece_not_empty [] rest token h refl
 no_piece_of_none (b ∷ bs) rest token h e = cc
@@ -250,7 +250,7 @@ no_piece_of_none (b ∷ bs) rest token h e = cc
 longer : (t : Token) (ts : List Token) → ts ≡ t ∷ ts → ⊥
 longer t ts e = let l = ap length e in omega arith
 
--- the list that a token, or none, makes in front of another tells which token it was
+-- the list that a token, or none, makes in front of another determines the token
 same_token : (a b : Option Token) (ts : List Token) → cons_option a ts ≡ cons_option b ts → a ≡ b
 same_token None None ts e = refl
 same_token None (Some y) ts e = absurd (longer y ts e)

@@ -25,11 +25,11 @@ use Rattle.plural_reference.specs.Inner.Scan.{keyword_move, then_begin, scan_ste
 heads : (a b : ℕ) (xs ys : List ℕ) → a ∷ xs ≡ b ∷ ys → a ≡ b
 heads a b xs ys e = cc
 
--- two numbers that a test tells apart differ
+-- two numbers on which a test differs are different
 apart : (a b : ℕ) → nat_eq a b ≡ false → a ≢ b
 apart a b h = eqb-false a b h
 
--- so texts differ whose first bytes a test tells apart
+-- so texts differ if a test differs on their first bytes
 texts_apart : (a b : ℕ) (xs ys : List ℕ) → nat_eq a b ≡ false → a ∷ xs ≢ b ∷ ys
 texts_apart a b xs ys h e = apart a b h (heads a b xs ys e)
 
@@ -45,7 +45,7 @@ many_not_one x y ys z e = cc
 not_empty : (a : ℕ) (xs : List ℕ) → a ∷ xs ≢ []
 not_empty a xs e = cc
 
--- two values that are there and equal are the same value
+-- two values that are present and equal are the same value
 some_inj : {A : Type 0} {x y : A} → Some x ≡ Some y → x ≡ y
 some_inj e = cc
 
@@ -267,7 +267,7 @@ keyword_cuts w k (l ∷ ls) t bs h cuts = subst (λ x. AreTokensOf x (tokens_fro
       two_not_i w k h.1,
     ))
 
--- the test of digits tells an ASCII digit from any other byte
+-- the test of digits distinguishes ASCII digits from other bytes
 digit_tells : (b : ℕ) → ((is_ascii_digit b ≡ true) × IsAsciiDigit b) ⊎ ((is_ascii_digit b ≡ false) × (IsAsciiDigit b → ⊥))
 digit_tells b =
     ⊎_elim

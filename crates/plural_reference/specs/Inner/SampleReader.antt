@@ -254,7 +254,7 @@ pub record ReadsAllSamples (old : List Token) (samples : Option samples.Samples)
   pub run_is : run_samples (after_sections []) old ≡ Ok (sections, new)
   pub samples_are : samples ≡ samples_of sections
 
--- the reader stops with this fault wherever a sample with this text so far goes on
+-- the reader stops with this fault wherever a sample with this text so far continues
 abbrev pub FailsInSample : DecimalValue → List Token → ParseError → Type 0
 FailsInSample before old e = (p : Partial) → run_samples (sample_at p before) old ≡ Err e
 

@@ -2,7 +2,7 @@
 
 ghost use Rattle.plural_reference.specs.ExactnessLaws.{RelationsAgree, GroupsAgree, ConditionsAgree, HoldsWholeNumbers, ShiftedPlaces, LongValue, BoundIsWidest};
 
-/// Within the bound a relation is true of the kept operands of a number, as packed rules are asked
+/// Within the bound a relation is true of the kept operands of a number, as packed rules test it
 /// (`test_rule`, `category_for`), if and only if it is true of the exact number; so are groups of
 /// relations and conditions. The moduli on n and i are those of the bound, 0 aside, and ranges
 /// end below `10^18`. [`test_condition`] differs: n at a fraction and a modulus 0 are false under
@@ -27,8 +27,8 @@ pub fn bound_before_the_shift()
     ensures value { LongValue }
 {}
 
-/// The bound on moduli is the widest: each modulus that doesn't divide `10^18` tells `2 * 10^18` from
-/// its kept part.
+/// The bound on moduli is the widest: for each modulus that doesn't divide `10^18`, a relation is true
+/// of `2 * 10^18` and false of its kept part.
 pub fn bound_is_widest()
     ensures { BoundIsWidest }
 {}

@@ -206,7 +206,7 @@ fn mark_of(token: &Token) -> Option<&'static str>
     }
 }
 
-// The samples with this list: an earlier one of its type goes.
+// Returns the samples with this list, which replaces an earlier list of its type.
 fn with_list(samples: Option<Samples>, kind: SampleType, list: SampleList) -> Samples
     ensures { Some result ≡ joined_list samples (record { type = type_token kind; list = list }) }
 {
