@@ -64,7 +64,7 @@ or_first-nil e = λ k. record {
   explicit_one = option_or-none e.explicit_one k;
 }
 
--- the walk puts the first item of each key where the value is absent
+-- the walk puts the first item of each key whose value is absent
 with_items-first : (e : Elements PackedValue) (items : List PackedItem) → with_items e items ≡ or_first e items
 with_items-first e [] = sym (or_first-nil e)
 with_items-first e (item ∷ items) = with_items-first (with_item e item) items ∙ or_first-cons e item items

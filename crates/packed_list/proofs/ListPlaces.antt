@@ -200,7 +200,7 @@ pub record LiesIn (items : List (List ℕ)) (bytes : List ℕ) : Type 0 where
   pub content : drop (2 * length items) bytes ≡ concat items
   pub start : (k : ℕ) → k < length items → slice_get (item_starts items) k ≡ Some (start_at bytes k)
 
--- so the bytes of a list are where its items say
+-- so the places in the bytes of a list are those of its items
 pub lies_in : (items : List (List ℕ)) (bytes : List ℕ) → items_in bytes ≡ items → IsList bytes → LiesIn items bytes
 lies_in items bytes e h =
     let s : bytes ≡ list_bytes items = h.spelled ∙ ap list_bytes e in

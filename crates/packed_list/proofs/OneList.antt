@@ -9,7 +9,7 @@ use Rattle.packed_list.specs.Inner.ListReading.{numbers, pieces_from, items_in, 
 use Rattle.packed_list.proofs.TwoBytes.{numbers-flat_map}
 use Rattle.packed_list.proofs.ListPlaces.{count_is, data_is, length-starts_from}
 
--- items that are joined and cut where each starts come back
+-- items that are joined, and cut at the start of each, come back
 pub pieces-concat : (from : ℕ) (item : List ℕ) (items : List (List ℕ)) (bytes : List ℕ) → drop from bytes ≡ concat (item ∷ items)
     → pieces_from from (starts_from (from + length item) items) bytes ≡ item ∷ items
 pieces-concat from item [] bytes h = ap (λ p. p ∷ []) (h ∙ append-nil item)

@@ -62,19 +62,19 @@ packed_groups_are group gs filled =
 abbrev pub test_of : Operands → Relation → Bool
 test_of number relation = relation_truth number (meaning_of relation)
 
--- relations marked And are true as those of the tree
+-- relations marked And have the same truth as those of the tree
 marked_alike : (number : Operands) (relations : List Relation)
     → list_all (is_true_at number) (map (packed_relation And) relations) ≡ list_all (test_of number) relations
 marked_alike number [] = refl
 marked_alike number (relation ∷ relations) = ap (λ b. test_of number relation && b) (marked_alike number relations)
 
--- so is an and-condition, however it is marked
+-- so has an and-condition, however it is marked
 group_alike : (number : Operands) (mark : AndOr) (group : List Relation)
     → list_all (is_true_at number) (packed_and_condition mark group) ≡ list_all (test_of number) group
 group_alike number mark [] = refl
 group_alike number mark (relation ∷ relations) = ap (λ b. test_of number relation && b) (marked_alike number relations)
 
--- so is one of several and-conditions
+-- so has one of several and-conditions
 groups_alike : (number : Operands) (gs : List (List Relation))
     → list_any (list_all (is_true_at number)) (map (packed_and_condition Or) gs) ≡ list_any (list_all (test_of number)) gs
 groups_alike number [] = refl
@@ -87,7 +87,7 @@ abbrev pub AreLaterFilled : {A : Type 0} → List (List A) → Type 0
 AreLaterFilled [] = Unit {0}
 AreLaterFilled (group ∷ gs) = AllByRecursion IsFilled gs
 
--- all groups together are true as the condition is
+-- all groups together have the same truth as the condition
 truth_of_groups : (number : Operands) (gs : List (List Relation)) → AreLaterFilled gs
     → some_group (is_true_at number) (groups (packed_groups gs)) ≡ is_true_of (test_of number) gs
 truth_of_groups number [] filled = refl
@@ -96,7 +96,7 @@ truth_of_groups number (group ∷ gs) filled =
     ∙ ap (λ b. b || list_any (list_all (is_true_at number)) (map (packed_and_condition Or) gs)) (group_alike number And group)
     ∙ ap (λ b. list_all (test_of number) group || b) (groups_alike number gs)
 
--- a condition whose groups but the first have relations is true as its packing is
+-- a condition whose groups but the first have relations has the same truth as its packing
 pub packed_truth-packed : (number : Operands) (condition : Condition) → AreLaterFilled (groups_of condition)
     → packed_truth number (packed condition) ≡ is_true_of (test_of number) (groups_of condition)
 unfolding packed_truth packed
@@ -108,7 +108,7 @@ packed_truth-packed number condition filled = truth_of_groups number (groups_of 
 filled_group : (ts : List Token) (group : AndCondition) → IsAndCondition ts group → IsFilled group.0
 filled_group ts group h = filled ts group.0 h
   where
-    -- relations that are read one after the other are some
+    -- there is a relation among those that are read one after the other
     filled : (us : List Token) (relations : List Relation) → Separated tokens.And IsRelation us relations → IsFilled relations
     filled us [] h = absurd h
     filled us (relation ∷ relations) h = tt
@@ -120,7 +120,7 @@ filled_groups ts [] h = tt
 filled_groups ts (group ∷ []) h = (filled_group ts group h, tt)
 filled_groups ts (group ∷ next ∷ gs) h = (filled_group h.0 group h.3, filled_groups h.1 (next ∷ gs) h.4)
 
--- where all groups have a relation, all but the first have
+-- if all groups have a relation, all but the first have
 later_filled : (gs : List (List Relation)) → AllByRecursion IsFilled gs → AreLaterFilled gs
 later_filled [] filled = tt
 later_filled (group ∷ gs) filled = filled.1

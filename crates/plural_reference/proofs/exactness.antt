@@ -1,4 +1,4 @@
--- When conditions are true of the kept operands just where they are of the exact number.
+-- When conditions are true of the kept operands exactly if they are of the exact number.
 pub mod Folds
 pub mod Agreement
 pub mod GroupsAgree

@@ -8,7 +8,7 @@ iterate-add : {A : Type 0} (f : A → A) (m n : ℕ) (x : A) → iterate f (m + 
 iterate-add f zero n x = let e : zero + n ≡ n = omega arith in ap (λ k. iterate f k x) e
 iterate-add f (suc m) n x = let e : suc m + n ≡ suc (m + n) = omega arith in ap (λ k. iterate f k x) e ∙ iterate-add f m n (f x)
 
--- some steps are done, and others are left
+-- some steps are done, and the others remain
 pub steps_left : {A : Type 0} (f : A → A) (here left all : ℕ) (x y : A) → all ≡ here + left → y ≡ iterate f here x
     → iterate f left y ≡ iterate f all x
 steps_left f here left all x y e h = ap (iterate f left) h ∙ sym (iterate-add f here left x) ∙ ap (λ k. iterate f k x) (sym e)

@@ -24,19 +24,19 @@ one_fault : (found : Bool) (kind : ParseError) → kind ≢ ValueTooLarge → (i
 one_fault true kind n h = cc
 one_fault false kind n h = n cc
 
--- nor does a place where an operand is wanted
+-- nor does a place that expects an operand
 of_operand : (at_end : Option ParseError) (t : Option Token) → at_end ≢ Some ValueTooLarge
     → operand_fault at_end t ≡ Some ValueTooLarge → ⊥
 of_operand at_end None n h = n h
 of_operand at_end (Some At) n h = n h
 of_operand at_end (Some t) n h = one_fault (is_some (operand_of t)) ExpectedOperand (λ e. cc) h
 
--- nor one where an operator is wanted
+-- nor one that expects an operator
 of_operator : (t : Option Token) → operator_fault t ≡ Some ValueTooLarge → ⊥
 of_operator (Some (Operator o)) h = cc
 of_operator _ h = cc
 
--- nor one where a value is wanted
+-- nor one that expects a value
 of_value : (t : Option Token) → value_fault t ≡ Some ValueTooLarge → ⊥
 of_value None h = cc
 of_value (Some t) h = one_fault (is_some (token_value t)) ExpectedValue (λ e. cc) h
@@ -52,13 +52,13 @@ of_condition after_modulo t h = of_value t h
 of_condition after_modulus t h = of_operator t h
 of_condition before_value t h = of_value t h
 
--- nor does the place where the type of samples is wanted
+-- nor does the place that expects the type of samples
 of_type : (t : Option Token) → type_fault t ≡ Some ValueTooLarge → ⊥
 of_type (Some Integer) h = cc
 of_type (Some Decimal) h = cc
 of_type _ h = cc
 
--- nor one where a sample is wanted
+-- nor one that expects a sample
 of_sample : (t : Option Token) → sample_fault t ≡ Some ValueTooLarge → ⊥
 of_sample (Some Dot) h = cc
 of_sample (Some E) h = cc
@@ -78,7 +78,7 @@ pub never_too_large : (tokens : List Token) → FaultyRule tokens ValueTooLarge 
 never_too_large tokens (inl h) = of_condition h.0 (first h.2) h.5
 never_too_large tokens (inr h) = let f = h.3 in of_samples f.0 (first f.2) f.5
 
--- nor what packs without a large value
+-- nor does packing give it for a tree without a large value
 pub packing_not_large : (condition : Condition) → has_large_value condition ≡ false → packing condition ≡ Err (Parse ValueTooLarge) → ⊥
 packing_not_large condition small h = by (has_high_start (map relation_bytes (packed condition))) refl
   where

@@ -18,7 +18,7 @@ use Rattle.plural_runtime.specs.PackedRelations.{range_bytes, relation_bytes, is
 use Rattle.plural_runtime.specs.Inner.RuleReading.{and_or_in, operator_in, operand_in, operand_numbered, operand_or_n}
 use Rattle.plural_runtime.specs.Inner.RuleReading.{four_byte_number, range_in, ranges_in, relation_in}
 
--- the mark, the operator and the operand of a first byte are read of it again
+-- the mark, the operator and the operand of a first byte are read from it again
 pub record KindAgain (and_or : AndOr) (operator : Operator) (operand : Operand) : Type 0 where
   pub mark : and_or_in (first_byte and_or operator operand) ≡ and_or
   pub sign : operator_in (first_byte and_or operator operand) ≡ operator
@@ -200,7 +200,7 @@ pub record Passed (item : List ℕ) : Type 0 where
   pub eights : (length item - 5) % 8 ≡ 0
   pub operand : get_or item 0 0 % 64 ≤ 7
 
--- an item that passes the test is so long and names an operand
+-- an item that passes the test is long enough and names an operand
 pub passed_item : (item : List ℕ) → is_relation item ≡ true → Passed item
 passed_item item h =
     let long = first_so (nat_le 5 (length item)) ((length item - 5) % 8 == 0)

@@ -27,13 +27,13 @@ pub packing-large : (condition : Condition) → has_large_value condition ≡ tr
 unfolding packing
 packing-large condition h = rw h refl
 
--- else a high start is refused
+-- otherwise a high start is refused
 pub packing-high : (condition : Condition) → has_large_value condition ≡ false
     → has_high_start (map relation_bytes (packed condition)) ≡ true → packing condition ≡ Err StartLimit
 unfolding packing
 packing-high condition h high = rw (h, high) refl
 
--- else the relations of the tree are packed
+-- otherwise the relations of the tree are packed
 pub packing-ok : (condition : Condition) → has_large_value condition ≡ false
     → has_high_start (map relation_bytes (packed condition)) ≡ false → packing condition ≡ Ok (packed condition)
 unfolding packing
@@ -41,7 +41,7 @@ packing-ok condition h low = rw (h, low) refl
 
 -- ---- small values fit their bytes
 
--- where neither of two tests passes, each fails
+-- if neither of two tests passes, each fails
 neither_true : (a b : Bool) → (a || b) ≡ false → (a ≡ false) × (b ≡ false)
 neither_true true b h = cc
 neither_true false b h = (refl, h)

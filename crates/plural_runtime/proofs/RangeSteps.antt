@@ -20,7 +20,7 @@ ranges-short (a ∷ b ∷ c ∷ d ∷ e ∷ f ∷ []) h = refl
 ranges-short (a ∷ b ∷ c ∷ d ∷ e ∷ f ∷ g ∷ []) h = refl
 ranges-short (a ∷ b ∷ c ∷ d ∷ e ∷ f ∷ g ∷ i ∷ bytes) h = absurd (omega arith)
 
--- else the first eight hold the first range, and the others the others
+-- otherwise the first eight hold the first range, and the other bytes hold the other ranges
 pub ranges-long : (bytes : List ℕ) → 8 ≤ length bytes → ranges_in bytes ≡ range_in (take 8 bytes) ∷ ranges_in (drop 8 bytes)
 ranges-long [] h = absurd (omega arith)
 ranges-long (a ∷ []) h = absurd (omega arith)
@@ -38,7 +38,7 @@ pub any_more : (value : ℕ) (bytes : List ℕ) → 8 ≤ length bytes
     ≡ (range_holds value (range_in (take 8 bytes)) || list_any (range_holds value) (ranges_in (drop 8 bytes)))
 any_more value bytes h = ap (list_any (range_holds value)) (ranges-long bytes h)
 
--- the first range is needed, and the others where it doesn't hold the value
+-- the first range is needed, and the others if it doesn't contain the value
 pub needed_more : (value : ℕ) (bytes : List ℕ) → 8 ≤ length bytes
     → needed_from value (ranges_in bytes)
     ≡ 1 + (if range_holds value (range_in (take 8 bytes)) then 0 else needed_from value (ranges_in (drop 8 bytes)))
@@ -49,7 +49,7 @@ pub record RangeStep (value : ℕ) (bytes rest : List ℕ) (holds : Bool) : Type
   pub any : list_any (range_holds value) (ranges_in bytes) ≡ (holds || list_any (range_holds value) (ranges_in rest))
   pub needed : needed_from value (ranges_in bytes) ≡ 1 + (if holds then 0 else needed_from value (ranges_in rest))
 
--- so it is where the first range and the others were split off
+-- so it is if the first range and the others were split off
 pub range_step : (value : ℕ) (bytes range rest : List ℕ) (holds : Bool) → 8 ≤ length bytes → range ≡ take 8 bytes
     → rest ≡ drop 8 bytes → holds ≡ range_holds value (range_in range) → RangeStep value bytes rest holds
 range_step value bytes range rest holds h e f g =

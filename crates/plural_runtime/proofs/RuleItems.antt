@@ -111,7 +111,7 @@ items_pass place (item ∷ items) h =
 pub no_fault : (place : ℕ) (relations : List PackedRelation) → first_relation_fault place (map relation_bytes relations) ≡ None
 no_fault place relations = first_relation_fault-none place (map relation_bytes relations) (packed_are_relations relations)
 
--- one item more was looked at
+-- one item more was checked
 pub first_fault_more : (items : List (List ℕ)) (k : ℕ) → k < length items
     → first_relation_fault k (drop k items)
     ≡ or_else (relation_fault k (get_or items k [])) (first_relation_fault (k + 1) (drop (k + 1) items))
@@ -163,7 +163,7 @@ first_relation_fault-list place (item ∷ items) fault h =
       | inr later ↦ first_relation_fault-list (place + 1) items fault later
     ]
 
--- where all items pass, the one at a place does
+-- if all items pass, the one at a place does
 pub item_at_passes : (items : List (List ℕ)) (k : ℕ) (item : List ℕ) → list_all is_relation items ≡ true
     → Some item ≡ slice_get items k → is_relation item ≡ true
 item_at_passes [] k item h e = cc

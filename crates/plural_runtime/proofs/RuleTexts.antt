@@ -57,7 +57,7 @@ relation_text-is relation =
 abbrev group_shown : List PackedRelation → List ℕ
 group_shown group = joined (codes " and ") (λ (relation : PackedRelation). relation_shown relation.meaning) group
 
--- relations that go on in a group, and groups that go on
+-- relations that continue a group, and groups that follow
 abbrev ands : List PackedRelation → List ℕ
 ands group = flat_map (λ (relation : PackedRelation). codes " and " ++ relation_shown relation.meaning) group
 
@@ -139,7 +139,7 @@ condition_text-is (relation ∷ relations) =
 
 -- ---- one relation more is printed
 
--- what is printed of relations, which may be the first ones
+-- the printed text of relations, which may be the first ones
 abbrev pub shown_from : Bool → List PackedRelation → List ℕ
 shown_from true relations = relations_shown relations
 shown_from false relations = others_shown relations

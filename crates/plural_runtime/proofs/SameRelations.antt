@@ -23,7 +23,7 @@ abbrev pairs : List ℕ → List (ℕ × ℕ)
 pairs (a ∷ b ∷ ns) = (a, b) ∷ pairs ns
 pairs _ = []
 
--- the relation that is made of numbers; another one where they are too few
+-- the relation that is made of numbers; another one if they are too few
 abbrev of_numbers : List ℕ → PackedRelation → PackedRelation
 of_numbers (mark ∷ operator ∷ operand ∷ modulus ∷ ends) other = record {
   and_or = and_or_in mark;

@@ -24,7 +24,7 @@ use Rattle.plural_runtime.proofs.Walks.{first_group}
 
 -- ---- no value is large
 
--- where both tests fail, neither passes
+-- if both tests fail, neither passes
 both_false : (a b : Bool) → a ≡ false → b ≡ false → (a || b) ≡ false
 both_false a b e f = rw (e, f) refl
 

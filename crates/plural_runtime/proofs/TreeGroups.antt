@@ -83,7 +83,7 @@ unfolding unpacked
 no_relations conditions [] h e = ap (λ (cs : List AndCondition). record { 0 = cs }) e
 no_relations conditions (relation ∷ relations) h e = absurd (omega arith)
 
--- the groups of a tree, if some are done, one is open, and relations are left
+-- the groups of a tree, if some are done, one is open, and relations remain
 abbrev pub glued : List (List Relation) → List Relation → List PackedRelation → List (List Relation)
 glued done group [] = done ++ group ∷ []
 glued done group (relation ∷ relations) =
@@ -109,7 +109,7 @@ open_step Or done group relation (g ∷ gs) = append_assoc done (group ∷ []) _
     ∙ ap (λ p. done ++ p ∷ (unpacked_relation relation ∷ map unpacked_relation g) ∷ map (map unpacked_relation) gs)
     (sym (append-nil group))
 
--- gluing relations to groups that are done and to an open one is gluing the groups of the relations
+-- gluing relations to groups that are done and to an open one appends the groups of the relations to these
 glued-groups : (done : List (List Relation)) (group : List Relation) (relations : List PackedRelation)
     → glued done group relations ≡ done ++ with_open group (map (map unpacked_relation) (groups relations))
 glued-groups done group [] = ap (λ p. done ++ p ∷ []) (sym (append-nil group))

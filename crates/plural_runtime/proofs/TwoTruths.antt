@@ -40,7 +40,7 @@ no_value number NotEq T ok h = cc
 no_value number NotEq C ok h = cc
 no_value number NotEq E ok h = cc
 
--- the value that the tree of a relation looks at
+-- the value that the tree of a relation tests
 same_value : (number : Operands) (relation : RelationMeaning)
     → tree_value number (unpacked_meaning relation).expression
     ≡ option_map (remainder relation.modulus) (operand_value relation.operand number)
@@ -52,12 +52,12 @@ same_at : (relation : RelationMeaning) (value : Option ℕ) → (value ≡ None 
 same_at relation None h = sym (ap (λ operator. under operator false) (h refl))
 same_at relation (Some value) h = ap (λ ranges. under relation.operator (is_in_ranges ranges value)) (ranges_again relation.ranges)
 
--- where a remainder is absent, the value was
+-- if a remainder is absent, the value was
 mapped_none : (f : ℕ → ℕ) (value : Option ℕ) → option_map f value ≡ None → value ≡ None
 mapped_none f None h = refl
 mapped_none f (Some value) h = cc
 
--- a relation that agrees is true where its tree is
+-- a relation that agrees has the same truth as its tree
 same_relation : (number : Operands) (relation : PackedRelation) → Agrees number relation
     → tree_relation_truth number (unpacked_relation relation) ≡ is_true_at number relation
 same_relation number relation ok =
@@ -67,7 +67,7 @@ same_relation number relation ok =
     ∙ same_at m value (λ none. no_value number m.operator m.operand ok
     (mapped_none (remainder m.modulus) (operand_value m.operand number) none))
 
--- so is a group of such relations
+-- so has a group of such relations
 same_group : (number : Operands) (group : List PackedRelation) → AllByRecursion (Agrees number) group
     → list_all (tree_relation_truth number) (map unpacked_relation group) ≡ group_truth number group
 same_group number [] ok = refl
@@ -75,7 +75,7 @@ same_group number (relation ∷ group) ok =
     ap (λ b. b && list_all (tree_relation_truth number) (map unpacked_relation group)) (same_relation number relation ok.0)
     ∙ ap (λ b. is_true_at number relation && b) (same_group number group ok.1)
 
--- so are groups of such relations
+-- so have groups of such relations
 same_groups : (number : Operands) (gs : List (List PackedRelation)) → AllByRecursion (AllByRecursion (Agrees number)) gs
     → some_group (tree_relation_truth number) (map (map unpacked_relation) gs) ≡ some_group (is_true_at number) gs
 same_groups number [] ok = refl
@@ -83,7 +83,7 @@ same_groups number (group ∷ gs) ok =
     ap (λ b. b || some_group (tree_relation_truth number) (map (map unpacked_relation) gs)) (same_group number group ok.0)
     ∙ ap (λ b. group_truth number group || b) (same_groups number gs ok.1)
 
--- what holds of a relation and of all in groups holds where it is put before them
+-- what holds of a relation and of all relations of groups also holds with the relation put before the groups
 groups_ok : (P : PackedRelation → Type 0) (mark : AndOr) (relation : PackedRelation) (gs : List (List PackedRelation)) → P relation
     → AllByRecursion (AllByRecursion P) gs → AllByRecursion (AllByRecursion P) (cut_before mark (at_front relation gs))
 groups_ok P And relation [] h ok = ((h, tt), tt)
@@ -114,7 +114,7 @@ agree number (relation ∷ relations) (inr never) =
     not_true true h = cc
     not_true false h = refl
 
--- the groups of the tree are true where those of the relations are
+-- the groups of the tree have the same truth as those of the relations
 groups_alike : (number : Operands) (relations : List PackedRelation) → (number.w ≡ 0) ⊎ IsTrue (has_no_negated_n relations)
     → is_true_of (tree_relation_truth number) (unpacked_groups relations) ≡ some_group (is_true_at number) (groups relations)
 groups_alike number [] ok = refl
@@ -125,7 +125,7 @@ groups_alike number (relation ∷ relations) ok =
     ∙ ap (λ gs. some_group (tree_relation_truth number) (map (map unpacked_relation) gs)) (sym f.is)
     ∙ same_groups number (groups all) (all_groups_ok (Agrees number) all (agree number all ok))
 
--- the tree of relations is true exactly where they are, if the fraction is zero or no `!=` tests n
+-- the tree of relations has the same truth as the relations, if the fraction is zero or no `!=` tests n
 pub tree_truth-unpacked : (number : Operands) (relations : List PackedRelation)
     → (number.w ≡ 0) ⊎ IsTrue (has_no_negated_n relations) → tree_truth number (unpacked relations) ≡ packed_truth number relations
 unfolding unpacked packed_truth

@@ -87,13 +87,13 @@ none_is_left number (item ∷ items) marked =
 
 -- ---- A turn of the walk, with its count
 
--- what is left decides, and needs the rest of the count
+-- the remaining walk decides, and needs the rest of the count
 pub record WalksFrom {A : Type 0} (after_one : A → A) (number : Operands) (item : List ℕ) (items : List (List ℕ)) (count : A)
     (truth : Bool) (counted : A) : Type 0 where
   pub tells : truth_at number item items ≡ truth
   pub counts : iterate after_one (needed_at number item items) count ≡ counted
 
--- the item is read, and the walk goes on
+-- the item is read, and the walk continues
 pub walks_on : {A : Type 0} (after_one : A → A) (number : Operands) (item : List ℕ) (items : List (List ℕ)) (next : List ℕ)
     (rest : List (List ℕ)) (count later : A) (truth : Bool) (counted : A) (holds : Bool)
     → WalksFrom after_one number item items count truth counted

@@ -14,7 +14,7 @@ abbrev pub ends_true : AndOr → Bool → Bool
 ends_true And holds = false
 ends_true Or holds = holds
 
--- a relation is looked at where its group may still be true
+-- a relation is tested only if its group may still be true
 abbrev pub is_looked_at : AndOr → Bool → Bool
 is_looked_at And holds = holds
 is_looked_at Or holds = true
@@ -24,7 +24,7 @@ abbrev pub holds_after : AndOr → Bool → Bool → Bool
 holds_after And holds truth = holds && truth
 holds_after Or holds truth = truth
 
--- the truth of what is left, if no earlier group is true and this one is so far or not
+-- the truth of the remaining relations, if no earlier group is true and this one is so far or not
 abbrev pub truth_left : Operands → Bool → List PackedRelation → Bool
 truth_left number holds [] = holds
 truth_left number holds (relation ∷ relations) =
@@ -35,7 +35,7 @@ truth_left number holds (relation ∷ relations) =
 abbrev pub needed_here : Operands → Bool → PackedRelation → ℕ
 needed_here number holds relation = if is_looked_at relation.and_or holds then needed_of_relation number relation.meaning else 0
 
--- the ranges that what is left needs
+-- the ranges that the remaining relations need
 abbrev pub needed_left : Operands → Bool → List PackedRelation → ℕ
 needed_left number holds [] = 0
 needed_left number holds (relation ∷ relations) =
@@ -54,7 +54,7 @@ bool_nil true true = refl
 bool_nil true false = refl
 bool_nil false t = refl
 
--- a relation that goes on in a group
+-- a relation that continues a group
 pub bool_cons : (h t g a : Bool) → (((h && t) && g) || a) ≡ ((h && (t && g)) || a)
 bool_cons true t g a = refl
 bool_cons false t g a = refl
@@ -127,7 +127,7 @@ nat_nil true true n = omega arith
 nat_nil true false n = omega arith
 nat_nil false t n = refl
 
--- a relation that goes on in a group: what is needed
+-- a relation that continues a group: what is needed
 pub nat_cons : (h t g : Bool) (n m s : ℕ)
     → (if h then n else 0) + ((if (h && t) then m else 0) + (if ((h && t) && g) then 0 else s))
     ≡ (if h then (n + (if t then m else 0)) else 0) + (if (h && (t && g)) then 0 else s)
@@ -183,7 +183,7 @@ needed_left-is number relations =
     needed_left-groups number true relations ∙ ap (groups_need number true) f.is
     ∙ sym (groups-behind number [] (groups relations) false refl ∙ ap (needed_in_groups number) f.is)
 
--- a relation is read in a new group where the one before is false, and else where its group is true so far
+-- a relation is read in a new group if the group before it is false, and in the same group if that is true so far
 abbrev pub is_read : AndOr → Bool → Bool
 is_read And holds = holds
 is_read Or holds = not holds
@@ -194,7 +194,7 @@ pub record WalkReads (number : Operands) (holds : Bool) (relation : PackedRelati
   pub needed : needed_left number holds (relation ∷ others)
       ≡ needed_of_relation number relation.meaning + needed_left number (is_true_at number relation) others
 
--- so the walk goes on with the truth of the relation that it read
+-- so the walk continues with the truth of the relation that it read
 pub walk_reads : (number : Operands) (holds : Bool) (relation : PackedRelation) (others : List PackedRelation)
     → is_read relation.and_or holds ≡ true → WalkReads number holds relation others
 walk_reads number holds relation others h =
@@ -223,7 +223,7 @@ pub record WalkSkips (number : Operands) (relation : PackedRelation) (others : L
   pub truth : truth_left number false (relation ∷ others) ≡ truth_left number false others
   pub needed : needed_left number false (relation ∷ others) ≡ needed_left number false others
 
--- so the walk goes on without it
+-- so the walk continues without it
 pub walk_skips : (number : Operands) (relation : PackedRelation) (others : List PackedRelation) → relation.and_or ≡ And
     → WalkSkips number relation others
 walk_skips number relation others h = record {

@@ -41,7 +41,7 @@ one_or_whole_packed : packed_bytes one_or_whole ≡ one_or_whole_bytes
 unfolding relation_bytes
 one_or_whole_packed = refl
 
--- and read of them again
+-- and read from them again
 one_or_whole_read : relations_in one_or_whole_bytes ≡ one_or_whole
 unfolding relations_in relation_in items_in
 one_or_whole_read = refl
@@ -86,7 +86,7 @@ long_rule_packed : packed_bytes long_rule ≡ long_rule_bytes
 unfolding relation_bytes
 long_rule_packed = refl
 
--- and read of them again
+-- and read from them again
 long_rule_read : relations_in long_rule_bytes ≡ long_rule
 unfolding relations_in relation_in items_in
 long_rule_read = refl
@@ -151,7 +151,7 @@ truth_at_fraction : packed_truth (with_digit 3 5) long_rule ≡ false
 unfolding packed_truth
 truth_at_fraction = refl
 
--- and no range is looked at
+-- and no range is tested
 steps_at_fraction : needed_ranges (with_digit 3 5) long_rule ≡ 0
 unfolding needed_ranges
 steps_at_fraction = refl
@@ -164,7 +164,7 @@ marked_or_bytes = 1 ∷ 0 ∷ 65 ∷ 0 ∷ 0 ∷ 0 ∷ 0 ∷ []
 abbrev marked_or : List PackedRelation
 marked_or = record { and_or = Or; meaning = record { operand = I; modulus = 0; operator = Eq; ranges = [] } } ∷ []
 
--- it is read of the bytes
+-- it is read from the bytes
 marked_or_read : relations_in marked_or_bytes ≡ marked_or
 unfolding relations_in relation_in items_in
 marked_or_read = refl
@@ -174,7 +174,7 @@ marked_or_truth : packed_truth (whole 5) marked_or ≡ true
 unfolding packed_truth
 marked_or_truth = refl
 
--- without a look at the relation
+-- without a test of the relation
 marked_or_steps : needed_ranges (whole 5) marked_or ≡ 0
 unfolding needed_ranges
 marked_or_steps = refl
@@ -278,7 +278,7 @@ not_in_nothing_truth : packed_truth (whole 1) (relations_in not_in_nothing) ≡ 
 unfolding packed_truth relations_in relation_in items_in
 not_in_nothing_truth = refl
 
--- ---- where the tree is true otherwise
+-- ---- when the tree has another truth
 
 -- `n != 1`
 not_one_at_fraction : packed_truth (with_digit 1 5)

@@ -131,7 +131,7 @@ exact_value-n modulus o below =
 
 -- ---- each operand
 
--- n has a value just where the fraction's digits write 0
+-- n has a value exactly if the fraction's digits write 0
 value-n : (o : Operands) (shown : ℕ) → (o.w ≡ 0) ↔ (shown ≡ 0) → operand_value N o ≡ cond (eqb shown 0) (Some o.i) None
 value-n o shown h =
     elim (cases_eq shown 0) [

@@ -131,7 +131,7 @@ long_value x e n h =
 
 -- ---- the widest bound
 
--- where m leaves the same of a number and of its double, it divides the number
+-- if a number and its double have the same remainder by m, m divides the number
 double_leaves : (n m : ℕ) → n % m ≡ 2 * n % m → m ∣ n
 double_leaves n m e =
     let q : n / m * m + n % m ≡ n = div-add-mod' n m in

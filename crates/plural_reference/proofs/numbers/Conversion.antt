@@ -40,7 +40,7 @@ one_zero_less number shown left written p h e z =
 pub quotient : (number shown left written : ℕ) → written ≡ number * 10 ^ (shown - left) → number ≡ written / 10 ^ (shown - left)
 quotient number shown left written e = sym (ap (λ m. m / 10 ^ (shown - left)) e ∙ mul-div_cancel number (power_above (shown - left)))
 
--- Where the last digit isn't 0, no higher power divides the number.
+-- If the last digit isn't 0, no higher power divides the number.
 pub no_fewer : (number shown left written : ℕ) → left ≤ shown → written ≡ number * 10 ^ (shown - left)
     → (number % 10 ≡ 0 → ⊥) → (k : ℕ) → 10 ^ (shown - k) ∣ written → left ≤ k
 no_fewer number shown left written h e last k d =

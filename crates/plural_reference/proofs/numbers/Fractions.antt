@@ -12,7 +12,7 @@ use Rattle.plural_reference.proofs.numbers.Numbers.{value_of-append-div, value_o
 
 -- ---- the shift keeps a written number
 
--- The first digit is below ten, also where it is missing and counts as 0.
+-- The first digit is below ten, also if it is missing and counts as 0.
 first_digit : (ds : List ℕ) → AreDigits ds → get_or ds 0 0 < 10
 first_digit [] h = omega arith
 first_digit (d ∷ ds) h = h.0
@@ -61,7 +61,7 @@ one_fraction a b shown written h k =
       t = h.t ∙ ap (λ n. written / 10 ^ (shown - n)) w ∙ sym k.t;
     }
 
--- no digit but zeros is shown just where w is 0
+-- no digit but zeros is shown exactly if w is 0
 pub zero_fraction : (o : Operands) (shown written : ℕ) → HasFraction o shown written → written < 10 ^ shown → (o.w ≡ 0) ↔ (written ≡ 0)
 zero_fraction o shown written h below = (
   λ e.

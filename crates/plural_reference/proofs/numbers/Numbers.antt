@@ -32,13 +32,13 @@ pub AreDigits-append : (xs ys : List ℕ) → AreDigits xs → AreDigits ys → 
 AreDigits-append [] ys h k = k
 AreDigits-append (x ∷ xs) ys h k = (h.0, AreDigits-append xs ys h.1 k)
 
--- Digits stay digits where the first of them are left out.
+-- Digits stay digits if the first of them are left out.
 pub AreDigits-drop : (n : ℕ) (ds : List ℕ) → AreDigits ds → AreDigits (drop n ds)
 AreDigits-drop zero ds h = h
 AreDigits-drop (suc n) [] h = h
 AreDigits-drop (suc n) (d ∷ ds) h = AreDigits-drop n ds h.1
 
--- So they do where the last are.
+-- So they do if the last are.
 pub AreDigits-take : (n : ℕ) (ds : List ℕ) → AreDigits ds → AreDigits (take n ds)
 AreDigits-take zero ds h = tt
 AreDigits-take (suc n) [] h = tt

@@ -52,7 +52,7 @@ written_digit d h = (omega arith, omega arith)
 
 -- ---- all digits at the front
 
--- the number that the digits at the front make of a number, where 64 bits hold it, and the rest
+-- the number that the digits at the front make of a number, if 64 bits hold it, and the rest
 abbrev pub scanned : ℕ → List ℕ → Option (ℕ × List ℕ)
 scanned n [] = Some (n, [])
 scanned n (b ∷ bytes) =
@@ -181,7 +181,7 @@ scan_of_word : (text ds rest : List ℕ) → HasWord text ds rest → scanned 0 
 scan_of_word text ds rest h =
     ap (scanned 0) h.spelled ∙ scans_digits ds rest 0 (value_of ds) h.word.digits h.whole (omega arith) h.word.below
 
--- what was scanned is a word where it has a digit
+-- what was scanned is a word if it has a digit
 pub word_found : (text : List ℕ) (m count : ℕ) (rest : List ℕ) → scanned 0 text ≡ Some (m, rest) → count ≡ length text - length rest
     → count ≢ 0
     → (ds : List ℕ) × HasWord text ds rest × (m ≡ value_of ds) × (count ≡ length ds)
@@ -211,7 +211,7 @@ no_word text m rest e size ds other h =
     let some : 0 < length ds = h.word.nonempty in
     omega arith
 
--- ... and none where 64 bits don't hold the number
+-- ... and none if 64 bits don't hold the number
 pub no_large_word : (text : List ℕ) → scanned 0 text ≡ None → (ds rest : List ℕ) → ¬ (HasWord text ds rest)
 no_large_word text e ds rest h = let some : scanned 0 text ≡ Some (value_of ds, rest) = scan_of_word text ds rest h in absurd cc
 

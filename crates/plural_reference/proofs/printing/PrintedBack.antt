@@ -56,7 +56,7 @@ rule_prints_back c (Some s) h k small =
       (behind.tokens, back.reads behind.tokens behind.unconditional, behind.reads),
     )
 
--- where the tokens fit, those that a condition leaves do too
+-- if the tokens fit, those that a condition leaves do too
 rest_fits : (tokens : List Token) (c : Condition) (rest : List Token) → AllFit tokens → ReadsUpTo tokens c rest → AllFit rest
 rest_fits tokens c rest f (inl h) = subst AllFit (sym h.1) f
 rest_fits tokens c rest f (inr h) = fit_right h.0 rest (subst AllFit h.1 f)

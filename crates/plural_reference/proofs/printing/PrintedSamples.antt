@@ -76,7 +76,7 @@ module _ (i f e : List Token) (a : AllFit ((i ++ f) ++ e)) (digit : AllByRecursi
   exponent_ends : EndsSample (flat_map token_text e)
   exponent_ends = subst EndsSample (append-nil (flat_map token_text e)) (exponent_follows e exponent [] tt)
 
-  -- where the sample has small runs, a token holds its integer digits
+  -- if the sample has small runs, a token holds its integer digits
   integer_small : HasSmallRuns whole → digits_value 10 (flat_map token_text i) ≤ max_number
   integer_small small = small (flat_map token_text i) (record {
     before = [];

@@ -47,7 +47,7 @@ module _ {A : Type 0} (Follows : List ℕ → Type 0) (Part : List Token → A �
     (separator : List ℕ) (mark : Token)
     (gives_mark : (rest : List ℕ) → tokens_of (separator ++ rest) ≡ mark ∷ tokens_of rest)
     (may_follow : (rest : List ℕ) → Follows (separator ++ rest)) where
-  -- where the text of each part spells it, the joined texts spell the parts with separators between them
+  -- if the text of each part spells it, the joined texts spell the parts with separators between them
   pub joined_spells : (xs : List A) → xs ≢ [] → AllByRecursion (λ x. Spells Follows Part (text x) x) xs
       → Spells Follows (Separated mark Part) (joined separator text xs) xs
   joined_spells [] some h = absurd (some refl)

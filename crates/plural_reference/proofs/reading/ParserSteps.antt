@@ -24,7 +24,7 @@ use Rattle.plural_reference.specs.Inner.Reader.{ReadsItem, ReadsItems, ReadsExpr
 use Rattle.plural_reference.proofs.reading.ReaderComplete.{before_item_stop, before_end_stop, after_modulo_stop, operator_stop}
 use Rattle.plural_reference.proofs.reading.ReaderComplete.{after_operand_stop, operand_stop}
 
--- where no value comes next, an item is a fault
+-- if no value comes next, an item is a fault
 pub no_item : (old : List Token) (o : Opened) (xs : List RangeListItem)
     → value_fault (first old) ≡ Some ExpectedValue → run (before_item o xs) old ≡ Err ExpectedValue
 no_item old o xs h = before_item_stop o xs old ExpectedValue h
@@ -193,7 +193,7 @@ some_relations [] (x ∷ xs) r = refl
 some_relations (g ∷ gs) [] r = refl
 some_relations (g ∷ gs) (x ∷ xs) r = refl
 
--- where no operand comes next, the reader stops as it does at the end
+-- if no operand comes next, the reader stops as it does at the end
 unconditional_fault : (b : Before) (rest : List Token) (kind : ParseError)
     → IsUnconditional rest → no_operand b.groups b.relations ≡ refuse kind → run (before_operand b) rest ≡ Err kind
 unfolding run

@@ -179,13 +179,13 @@ abbrev pub Said : List Token → Outcome → Type 0
 Said tokens (Ok (c, rest)) = ReadsUpTo tokens c rest
 Said tokens (Err kind) = Faulty tokens kind
 
--- what is said of a move, where the tokens p lead to a state and the token t follows
+-- what is said of a move, if the tokens p lead to a state and the token t follows
 abbrev pub SaidOfMove : List Token → Token → List Token → Move → Type 0
 SaidOfMove p t ts (go next) = Spells (p ++ t ∷ []) next
 SaidOfMove p t ts (finish c) = ReadsUpTo (p ++ t ∷ ts) c (t ∷ ts)
 SaidOfMove p t ts (refuse kind) = Faulty (p ++ t ∷ ts) kind
 
--- what is said where the rest ends the reading
+-- what is said when the rest ends the reading
 abbrev pub SaidOf : List Token → List Token → Move → Type 0
 SaidOf tokens rest (go next) = ⊥
 SaidOf tokens rest (finish c) = ReadsUpTo tokens c rest
@@ -243,7 +243,7 @@ said_no_operand p (g ∷ gs) [] (At ∷ ts) (behind_or g' gs' c) u = (places.aft
 said_no_operand p (g ∷ gs) [] (_ ∷ ts) (behind_or g' gs' c) u = absurd u
 said_no_operand p groups (r ∷ rs) rest (behind_and groups' r' rs' c) u = and_place p rest c u
 
--- what is said where a token ends the reading is said of the move
+-- what is said when a token ends the reading is said of the move
 move_said : (p : List Token) (t : Token) (ts : List Token) (m : Move) → SaidOf (p ++ t ∷ ts) (t ∷ ts) m → SaidOfMove p t ts m
 move_said p t ts (go s) h = absurd h
 move_said p t ts (finish c) h = h

@@ -1,4 +1,4 @@
--- The steps of the parser in samples, where these are kept or left out: what is stored is what is read, if it is kept.
+-- The steps of the parser in samples, which are kept or left out: what is stored is what is read, if it is kept.
 use Rattle.std.proofs.Common.{◌≡◌, ◌≢◌, ◌∷◌, ◌++◌, ℕ, List, [], Bool, true, false, Option, Some, None, Err, refl, sym, ap, ◌∙◌, subst}
 use Rattle.std.proofs.Common.{inl, inr}
 use Rattle.std.specs.Prelude.{unwrap_or}
@@ -63,7 +63,7 @@ kept_joined : (keeps : Bool) (stored before read part : List ℕ)
 kept_joined keeps stored before read part h k =
     kept_through keeps stored (before ++ part) (read ++ part) k (kept_part keeps (λ x. x ++ part) before read h)
 
--- where samples are kept, what is stored is what is read
+-- if samples are kept, what is stored is what is read
 pub kept_is_read : {A : Type 0} (Read : List Token → A → List Token → Type 0) (old : List Token) (x : A) (new : List Token)
     → ReadsStored true Read old x new → Read old x new
 kept_is_read Read old x new h = subst (λ y. Read old y new) (sym h.1) h.2

@@ -103,7 +103,7 @@ last_sample-range (Some lower) text = refl
 
 -- ---- what the text of a sample shows of its tokens
 
--- where the right side holds, either side does
+-- if the right side holds, either side does
 true_or : (a b : Bool) → b ≡ true → a || b ≡ true
 true_or true b h = refl
 true_or false b h = h
@@ -299,7 +299,7 @@ abbrev pub SaidSamples : List Token → SampleOutcome → Type 0
 SaidSamples tokens (Ok (ss, rest)) = ReadsSections tokens ss rest
 SaidSamples tokens (Err kind) = FaultyInSamples tokens kind
 
--- what is said of a move, where the tokens q lead to a state and the token t follows
+-- what is said of a move, if the tokens q lead to a state and the token t follows
 abbrev SaidMove : List Token → Token → List Token → SampleMove → Type 0
 SaidMove q t ts (goes s) = SpellsState (q ++ t ∷ []) s
 SaidMove q t ts (ends ss) = ReadsSections (q ++ t ∷ ts) ss (t ∷ ts)
@@ -318,7 +318,7 @@ abbrev NotAt : Token → Type 0
 NotAt At = ⊥
 NotAt _ = Unit {0}
 
--- where no range is open, only At continues the samples
+-- if no range is open, only At continues the samples
 nothing_open : (ss : List Section) (t : Token) → open_range ss ≡ None → NotAt t → ContinuesSamples ss t → ⊥
 nothing_open ss At h n k = absurd n
 nothing_open ss Comma h n k = absurd (true≢false (sym k ∙ ap is_some h))
@@ -441,17 +441,17 @@ unfolding Awaits
 said_behind_comma q p Ellipsis ts h = said_ellipsis q p p.ranges refl h.3 h.0 h.2
 said_behind_comma q p t ts h = said_start q p t ts h.0 (inr h.1) (λ e. (places.after_comma, q, t ∷ ts, refl, h.1, e))
 
--- where both sides are false, no side holds
+-- if both sides are false, no side holds
 pub both_false : (a b : Bool) → a ≡ false → b ≡ false → a || b ≡ false
 both_false true b h k = absurd (true≢false h)
 both_false false b h k = k
 
--- where no side holds, the left one is false
+-- if no side holds, the left one is false
 pub left_false : (a b : Bool) → a || b ≡ false → a ≡ false
 left_false true b h = absurd (true≢false h)
 left_false false b h = refl
 
--- where no side holds, the right one is false
+-- if no side holds, the right one is false
 pub right_false : (a b : Bool) → a || b ≡ false → b ≡ false
 right_false true b h = absurd (true≢false h)
 right_false false b h = h
@@ -520,7 +520,7 @@ module _ (q : List Token) (p : Partial) (text : DecimalValue) (h : InSample q p 
       → IsSomeAnd (open_range (with_sections p (ranges_with p text) false)) (λ r. P (last_sample r))
   taken_here P k = from_here (λ r. P (last_sample r)) (subst P (sym (last_sample-range p.lower text)) k)
 
-  -- a token joins the sample, or ends the samples where the sample is full and so can't take it
+  -- a token joins the sample, or ends the samples if the sample is full and so can't take it
   said_joins : (full : Bool) (next : SampleState) (t : Token) (ts : List Token)
       → (full ≡ true → ContinuesSamples (with_sections p (ranges_with p text) false) t → ⊥)
       → (full ≡ false → SpellsState (q ++ t ∷ []) next) → SaidMove q t ts (joins full next p text)
@@ -606,7 +606,7 @@ module _ (q : List Token) (p : Partial) (text : DecimalValue) (h : InSample q p 
         lower = (h.sample_tokens, refl, h.sample);
       }
 
-  -- Tilde leads to the upper sample, or ends the samples where the range has one
+  -- Tilde leads to the upper sample, or ends the samples if the range has one
   said_tilde : (lower : Option DecimalValue) → p.lower ≡ lower → (ts : List Token) → SaidMove q Tilde ts (tilde_move lower p text)
   said_tilde None e ts = (
     tilde_partial e,

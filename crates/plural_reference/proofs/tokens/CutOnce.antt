@@ -26,7 +26,7 @@ data Bite : Type 0 where
   ends : Bite
   goes : Scan → Bite
 
--- a byte ends the piece where it leads between two pieces, and belongs to it with more to come elsewhere
+-- a byte ends the piece if the state after it is between two pieces; otherwise it belongs to the piece, with more to come
 abbrev taken : Scan → Bite
 taken between = ends
 taken (in_keyword k ks t) = goes (in_keyword k ks t)
@@ -67,13 +67,13 @@ MarkBitten w = (rest : List ℕ) → MayFollow w.0 rest → first_piece (w.0 ++ 
 abbrev KeywordBitten : Word → Type 0
 KeywordBitten w = (rest : List ℕ) → first_piece (w.0 ++ rest) ≡ w.0
 
--- `i` is the first piece, where no `n` follows
+-- `i` is the first piece, if no `n` follows
 i_bitten : MarkBitten (codes "i", Operand I)
 unfolding piece_from
 i_bitten [] h = refl
 i_bitten (b ∷ bs) h = rw (no_eq b 110 (λ e. h.0 refl (ap Some e))) refl
 
--- `.` is the first piece, where no other `.` follows
+-- `.` is the first piece, if no other `.` follows
 point_bitten : MarkBitten (codes ".", Dot)
 unfolding piece_from
 point_bitten [] h = refl
@@ -94,7 +94,7 @@ keywords_bitten = (λ _. refl, (λ _. refl, (λ _. refl, (λ _. refl, (λ _. ref
 
 -- ---- broken keywords
 
--- where a keyword is open, the bytes that fit belong to the piece
+-- if a keyword is open, the bytes that fit belong to the piece
 tail_bitten : (k : ℕ) (ks : List ℕ) (t : Token) (begun : List ℕ) (next : ℕ) (more rest : List ℕ)
     → k ∷ ks ≡ begun ++ next ∷ more
     → piece_from (in_keyword k ks t) (begun ++ rest) ≡ begun ++ piece_from (in_keyword next more t) rest

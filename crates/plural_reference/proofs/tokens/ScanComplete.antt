@@ -35,13 +35,13 @@ KeywordScans w = (rest : List ℕ) → tokens_of (w.0 ++ rest) ≡ w.1 ∷ token
 pub no_eq : (a b : ℕ) → a ≢ b → nat_eq a b ≡ false
 no_eq a b h = ⊎_elim (λ p. absurd (h p.1)) (λ p. p.0) (eqb_tells a b)
 
--- `i` gives the operand i, where no `n` follows
+-- `i` gives the operand i, if no `n` follows
 i_scans : MarkScans (codes "i", Operand I)
 unfolding tokens_from
 i_scans [] h = refl
 i_scans (b ∷ bs) h = rw (no_eq b 110 (λ e. h.0 refl (ap Some e))) refl
 
--- `.` gives Dot, where no other `.` follows
+-- `.` gives Dot, if no other `.` follows
 point_scans : MarkScans (codes ".", Dot)
 unfolding tokens_from
 point_scans [] h = refl
@@ -206,7 +206,7 @@ carried_to P Q like carry (x ∷ xs) y h e =
       | inr later ↦ carried_to P Q like carry xs y h.1 later
     ]
 
--- and so to all y, where some x is like each of them
+-- and so to all y, if some x is like each of them
 pub carried : {A B : Type 0} (P : A → Type 0) (Q : B → Type 0) (like : A → B → Bool)
     → ((x : A) (y : B) → like x y ≡ true → P x → Q y) → (xs : List A) (ys : List B) → AllByRecursion P xs
     → list_all (λ y. list_any (λ x. like x y) xs) ys ≡ true → AllByRecursion Q ys

@@ -85,11 +85,11 @@ number_piece w rest n h whole =
     (λ large. too_large run (subst (λ x. max_number < x) h.3 large.1) (rw large.0 refl))
     (leb_tells n max_number)
 
--- `i` is a piece, where no `n` follows
+-- `i` is a piece, if no `n` follows
 i_piece : (rest : List ℕ) → first rest ≢ Some 110 → IsPiece (codes "i") rest (Some (Operand I))
 i_piece rest h = mark (Operand I) (6, lit< tt, refl) ((λ _. h), (λ e. absurd (texts_apart 105 46 [] [] refl e))) refl
 
--- `.` is a piece, where no other `.` follows
+-- `.` is a piece, if no other `.` follows
 point_piece : (rest : List ℕ) → first rest ≢ Some 46 → IsPiece (codes ".") rest (Some Dot)
 point_piece rest h = mark Dot (10, lit< tt, refl) ((λ e. absurd (texts_apart 46 105 [] [] refl e)), (λ _. h)) refl
 

@@ -9,7 +9,7 @@ use Rattle.plural_reference.specs.declared.token.Token.TheVariants.{Number}
 use Rattle.plural_reference.specs.Lexer.{Word, marks, keywords, max_number, IsPiece, space, mark, keyword, number}
 use Rattle.plural_reference.specs.Lexer.{unknown, too_large, broken, cut_off, Piece, IsCut, AreTokensOf}
 
--- the number of a token, where it has one, is at most the largest
+-- the number of a token, if it has one, is at most the largest
 abbrev pub TokenFits : Token → Type 0
 TokenFits (Number n) = n ≤ max_number
 TokenFits _ = Unit {0}

@@ -6,7 +6,7 @@ use Rattle.plural_runtime.specs.PackedTruth.{packed_truth, needed_ranges}
 use Rattle.plural_runtime.proofs.WalkSteps.{WalksFrom}
 use Rattle.plural_runtime.proofs.resolver.is_true.Given as goal
 
--- The item and what is left decide, and need the rest of the count.
+-- The item and the remaining ones decide, and need the rest of the count.
 abbrev pub invariant-relations : goal.invariant-relations
 invariant-relations g l = record {
   item : IsTrue (is_relation l.item);
