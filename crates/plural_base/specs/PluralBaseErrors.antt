@@ -14,7 +14,7 @@ elements_pack_error_text packing.DefaultLimit = codes "default too long"
 elements_pack_error_text packing.StartLimit = codes "elements too long"
 elements_pack_error_text packing.Memory = codes "out of memory"
 
--- the category, if one is named
+-- the category, where one is named
 abbrev pub rule_place_text : Option PluralCategory → List ℕ
 rule_place_text None = codes "rule: "
 rule_place_text (Some category) = codes "rule " ++ name_of category ++ codes ": "
