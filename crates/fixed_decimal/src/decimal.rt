@@ -34,6 +34,8 @@ pub struct Decimal {
 impl Decimal {
     /// Returns the number that a text writes: an unsigned decimal, after `+`, `-` or no sign. The errors
     /// are those of [`UnsignedDecimal::from_str`].
+    // Inlined, it isn't returned through memory: a tenth of the instructions that read a decimal.
+    #[inline(always)]
     pub fn from_str(alloc: Global, text: &str) -> Result<Decimal, DecimalError>
         ensures number { IfOk result (λ x. WritesDecimal text.now x × IsWithinLimit x.absolute) }
         ensures syntax { (result ≡ Err DecimalError.Syntax)

@@ -50,6 +50,7 @@ pub(crate) fn end_before_zeros(whole: &[u8], fraction: &[u8], from: usize) -> us
 }
 
 // The digits between two indices.
+#[inline(always)]
 pub(crate) fn digits_between(
     alloc: Global,
     whole: &[u8],

@@ -32,6 +32,7 @@ impl PluralOperands {
     ///     assert!(rt; PluralOperands::from_significand_and_exponent(absolute, exponent) == want);
     /// }
     /// ```
+    #[inline]
     pub fn from_significand_and_exponent(
         significand: &UnsignedDecimal,
         exponent: u8,
