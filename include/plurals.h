@@ -16,8 +16,8 @@
  *     to the front of out, and the bytes after it are unchanged. If it has more, the length is returned all the same, and
  *     out is unchanged, so a call with out_len 0 asks for the length. After a fault out is unchanged. No byte 0 is
  *     written after a text.
- *     Which fault: the rules are judged first, then the elements, then the number. PLURALS_MEMORY may come before any
- *     other fault, and only if malloc or realloc has failed; the same call then may be made again.
+ *     Which fault: that of the rules, else that of the elements, else that of the number. PLURALS_MEMORY may come before
+ *     any other fault, and only if malloc or realloc has failed; the same call may be made again then.
  *
  * Memory and ownership
  *     All bytes are the caller's, before and after a call. Nothing is kept between calls: no call has to be undone, and
@@ -69,7 +69,7 @@ enum plurals_type {
 /* Why a call returns no result. No fault tells a place. */
 enum plurals_fault {
     PLURALS_MEMORY = -1, /* out of memory: malloc or realloc has failed */
-    PLURALS_UTF8 = -2,   /* a text isn't UTF-8 */
+    PLURALS_UTF8 = -2,   /* a rule's text, a locale or a number isn't UTF-8; for JSON that is PLURALS_JSON */
     PLURALS_TYPE = -3,   /* the type of rules is neither PLURALS_CARDINAL nor PLURALS_ORDINAL */
 
     /* of a number's text */
@@ -97,9 +97,9 @@ enum plurals_fault {
     PLURALS_RULES_RULE_LIST_START = -37,      /* a relation starts before the one before it, or after the end */
     PLURALS_RULES_RULE_ITEM_LENGTH = -38,     /* a relation isn't of 5 bytes and a multiple of 8 */
     PLURALS_RULES_RULE_OPERAND = -39,         /* a relation's operand is above 7 */
-    PLURALS_RULES_START_LIMIT = -40,          /* the rules are too long for one block */
+    PLURALS_RULES_LIMIT = -40,                /* the rules are too long for one block */
 
-    /* of a block of elements, and of JSON as elements */
+    /* of a block of elements; the last two of JSON as elements */
     PLURALS_ELEMENTS_EMPTY = -50,           /* it has no byte */
     PLURALS_ELEMENTS_SHORT = -51,           /* the default's text, or its length, is cut off */
     PLURALS_ELEMENTS_PADDING = -52,         /* one of the bits 4 to 6 of the first byte is set */
@@ -113,53 +113,58 @@ enum plurals_fault {
     PLURALS_ELEMENTS_DEFAULT_LIMIT = -60,   /* the default's text has more than 255 bytes beside an item */
     PLURALS_ELEMENTS_START_LIMIT = -61,     /* an item would start after 65535 */
 
-    /* of a document, and of JSON as elements */
-    PLURALS_DOCUMENT_JSON = -70,        /* the text isn't JSON */
+    /* of a document, and of JSON as elements; a rule's text in a document has the faults above */
+    PLURALS_JSON = -70,                 /* the text isn't JSON */
     PLURALS_DOCUMENT_FLOAT = -71,       /* it has a number that isn't an integer of 64 bits */
     PLURALS_DOCUMENT_SHAPE = -72,       /* a value is of another kind than its place asks for */
     PLURALS_DOCUMENT_RANGE_KEY = -73,   /* a key names no range */
     PLURALS_DOCUMENT_RANGE_VALUE = -74, /* a range's value names no category */
-    PLURALS_DOCUMENT_LOCALE = -75       /* the locale isn't present, for this type of rules */
+    PLURALS_LOCALE = -75                /* the locale isn't present among the rules of this type */
 };
 
-/* Writes the block of a locale's rules, from a document as docs/JSON.md has it (tools/cldr-document makes one of CLDR's
- * files). type is PLURALS_CARDINAL or PLURALS_ORDINAL. The locale is compared byte by byte, without fallback. The whole
- * document is read, so a fault of another locale is one too. Takes memory, in the measure of the document. */
-int64_t plurals_rules_from_document(const char *json, size_t json_len, const char *locale, size_t locale_len, uint8_t type,
-                                    uint8_t *out, size_t out_len);
+/* Writes the block of the rules that a document has for a locale (docs/JSON.md; tools/cldr-document makes a document of
+ * CLDR's files). rule_type is PLURALS_CARDINAL or PLURALS_ORDINAL. The locale is compared byte by byte, without fallback.
+ * Faults, the first of these that there is: the type; the locale's text isn't UTF-8; the text isn't JSON; it is no document,
+ * in any of its locales; the locale isn't present; PLURALS_RULES_LIMIT. Takes memory, in the measure of the document. */
+int64_t plurals_rules_from_document(const char *json, size_t json_len, const char *locale, size_t locale_len,
+                                    uint8_t rule_type, uint8_t *out, size_t out_len);
 
-/* Writes the block of the rules that these five texts have, as CLDR has them, with their samples or without. A text of
- * length 0 is no rule. The texts are read from zero to many. Takes memory. */
+/* Writes the block of the rules of these five texts, which are as CLDR has them, with samples or without. A text of length
+ * 0 is no rule. Faults, the first of these that there is: a text isn't UTF-8; that of the first text that is no rule;
+ * PLURALS_RULES_LIMIT. Takes memory. */
 int64_t plurals_rules_from_texts(const char *zero, size_t zero_len, const char *one, size_t one_len, const char *two,
                                  size_t two_len, const char *few, size_t few_len, const char *many, size_t many_len,
                                  uint8_t *out, size_t out_len);
 
-/* Returns 0 if the bytes are a block of rules, or their fault, which is one of PLURALS_RULES_. The block without bytes is
- * that of no rules, under which every number is other. Takes no memory. */
+/* Returns 0 if the bytes are a block of rules, else their fault, which is from PLURALS_RULES_LIST_HEADER to
+ * PLURALS_RULES_RULE_OPERAND. The block without bytes is that of no rules, under which every number is other. Takes no
+ * memory. */
 int32_t plurals_check_rules(const uint8_t *rules, size_t rules_len);
 
 /* Returns the category of an integer, PLURALS_ZERO to PLURALS_OTHER, or the fault of the rules. Takes no memory. */
 int32_t plurals_category_of_integer(const uint8_t *rules, size_t rules_len, uint64_t number);
 
-/* Returns the category of a number as it is written: 1 and 1.0 are two numbers. A number may have a sign, zeros at both
- * ends and a compact exponent, as 1.2c6. plurals_is_exact tells whether all of it counts. May take memory. */
+/* Returns the category of a number as it is written: 1 and 1.0 are two numbers. It may have a sign, zeros at both ends and
+ * a compact exponent, as 1.2c6 (docs/NUMBERS.md). Of a long number a part decides; plurals_is_exact tells whether all of
+ * it would give the same category. Takes memory for the number. */
 int32_t plurals_category(const uint8_t *rules, size_t rules_len, const char *number, size_t number_len);
 
-/* Returns 1 if the category of the number is that of its exact value, however long it is, and 0 if it may be another one
- * (docs/EXACTNESS.md), or a fault. It is 1 for each number of at most 18 digits on each side of the point, after the
- * point has moved by the exponent. May take memory. */
+/* Returns 1 if the category of the number is that of all its digits, however many it has, 0 if it may be another one
+ * (docs/EXACTNESS.md), or a fault. It is 1 for each number that has at most 18 digits on either side of the point, once
+ * the exponent has moved it. Takes memory for the number. */
 int32_t plurals_is_exact(const uint8_t *rules, size_t rules_len, const char *number, size_t number_len);
 
-/* Writes the block of the elements of a JSON text, as {"other":[0,"{} items"],"one":[0,"{} item"]}. Takes memory. */
+/* Writes the block of the elements of a JSON text (docs/JSON.md), as {"other":[0,"{} items"],"one":[0,"{} item"]}. Faults,
+ * the first of these that there is: the text isn't JSON; it is no elements; they can't be packed. Takes memory. */
 int64_t plurals_elements_from_json(const char *json, size_t json_len, uint8_t *out, size_t out_len);
 
 /* Writes the text of the element that the number takes: the explicit one of exactly 0 or exactly 1 if it is present, else
- * that of the number's category, else that of other. May take memory. */
+ * that of the number's category, else that of other. Takes memory for the number. */
 int64_t plurals_element(const uint8_t *rules, size_t rules_len, const uint8_t *elements, size_t elements_len,
                         const char *number, size_t number_len, char *out, size_t out_len);
 
 /* Writes the message of the number: the text of its element, with the number as it is written in the place of each {}.
- * Takes memory. */
+ * Takes memory for the number and for the message. */
 int64_t plurals_message(const uint8_t *rules, size_t rules_len, const uint8_t *elements, size_t elements_len,
                         const char *number, size_t number_len, char *out, size_t out_len);
 
