@@ -187,6 +187,7 @@ int check(const std::vector<Language>& all) {
 // ---- rows
 
 // One row: what a round of each side does, and how many operations that is. A round returns a sum, so that none of it is left out.
+// A row may be the library's alone.
 struct Row {
     std::string name;
     size_t operations;
@@ -215,6 +216,10 @@ std::vector<Row> rows(const std::vector<Language>& all) {
             return sum;
         };
         found.push_back({"category of an integer, " + it.name, whole.size(), library, icu4c});
+    }
+    for (const auto& it : all) {
+        auto library = [&it] { return long(plurals_check_rules(it.block.data(), it.block.size())); };
+        found.push_back({"of that: the block checked, " + it.name, 1, library, nullptr});
     }
     for (const auto& it : all) {
         auto library = [&it] {
@@ -267,23 +272,30 @@ long rounds_of(const std::function<long()>& round) {
     return rounds;
 }
 
+struct Side {
+    const char* name;
+    std::function<long()> round;
+    long rounds = 0;
+    double least = 1e9;
+};
+
 int time_rows(const std::vector<Row>& all) {
     constexpr int kSamples = 100;
     for (const auto& it : all) {
-        long ours = rounds_of(it.library), theirs = rounds_of(it.icu4c);
-        double our_best = 1e9, their_best = 1e9;
-        for (int sample = 0; sample < kSamples; sample++) {
-            our_best = std::min(our_best, seconds(it.library, ours) / double(ours));
-            their_best = std::min(their_best, seconds(it.icu4c, theirs) / double(theirs));
-        }
-        std::printf("%s\tlibrary\t%.2f\n", it.name.c_str(), our_best * 1e9 / double(it.operations));
-        std::printf("%s\ticu4c\t%.2f\n", it.name.c_str(), their_best * 1e9 / double(it.operations));
+        std::vector<Side> sides;
+        sides.push_back({"library", it.library});
+        if (it.icu4c) sides.push_back({"icu4c", it.icu4c});
+        for (auto& side : sides) side.rounds = rounds_of(side.round);
+        for (int sample = 0; sample < kSamples; sample++)
+            for (auto& side : sides) side.least = std::min(side.least, seconds(side.round, side.rounds) / double(side.rounds));
+        for (const auto& side : sides)
+            std::printf("%s\t%s\t%.2f\n", it.name.c_str(), side.name, side.least * 1e9 / double(it.operations));
     }
     return 0;
 }
 
 void count_side(const Row& row, const char* side, const std::function<long()>& round) {
-    constexpr int kRounds = 5;
+    constexpr int kRounds = 20;
     for (int warm = 0; warm < 5; warm++) sink = round();
     std::string mark = row.name + "\t" + side + "\t" + std::to_string(row.operations * kRounds);
     for (int rounds : {kRounds, 2 * kRounds}) {
@@ -296,7 +308,7 @@ void count_side(const Row& row, const char* side, const std::function<long()>& r
 int count_rows(const std::vector<Row>& all) {
     for (const auto& it : all) {
         count_side(it, "library", it.library);
-        count_side(it, "icu4c", it.icu4c);
+        if (it.icu4c) count_side(it, "icu4c", it.icu4c);
     }
     return 0;
 }

@@ -1,4 +1,5 @@
-/* Gives each export bytes that mean little: random ones, and good ones with mistakes. Arguments: how many calls, and a seed.
+/* Gives each export bytes that mean little: random ones, good ones with mistakes, and texts at a limit. Arguments: how many calls,
+ * and a seed.
  *
  * Each slice lies between two pages that can't be touched, at one end of its own, so a read or a write outside of it is seen,
  * also where the library isn't compiled for the address sanitizer. malloc, realloc and free are wrapped at the link: some calls
@@ -121,6 +122,8 @@ static void fill_pools(void) {
     add_elements("{\"other\":[15,\"\"]}");
     add_elements("{\"zero\":[1,\"none\"],\"one\":[0,\"{}\"],\"two\":[2,\"{} {}\"],\"few\":[3,\"{\"],\"many\":[4,\"{{}}\"],"
                  "\"explicit_zero\":[5,\"\"],\"explicit_one\":[6,\"\\u00e9\"],\"other\":[0,\"}{\"]}");
+    add(ELEMENTS, "\x80\0\0\0", 4);
+    add_text(RULE, "i = 1 or");
     add_text(ELEMENTS_JSON, "{\"other\":[0.5,\"x\"]}");
     add_text(ELEMENTS_JSON, "{\"other\":[16,\"x\"]}");
     const char *numbers[] = {"0", "1", "1.0", "-1", "+01.50", ".5", "22", "1c6", "1.2c255", "1c256", "0.000000000000000000001",
@@ -161,12 +164,12 @@ static void spoil(enum kind kind, struct text *text) {
 }
 
 static void make_text(enum kind kind, struct text *text) {
-    if (below(3) == 0) {
+    if (below(5) == 0) {
         random_text(kind, text);
         return;
     }
     *text = pools[kind].texts[below(pools[kind].count)];
-    for (size_t mistakes = below(3); mistakes > 0; mistakes--) spoil(kind, text);
+    for (size_t chance = 2; below(chance) == 0; chance++) spoil(kind, text);
 }
 
 /* ---- rooms: bytes between two pages that can't be touched */
@@ -424,12 +427,64 @@ static void run_case(void) {
     if (export->ask == category_of_integer) compare_with_text(result);
 }
 
+/* ---- limits: texts that are too long by one, and those that are just short enough */
+
+enum { LONG = 70000 };
+static char long_text[LONG], other_text[LONG], json[2 * LONG];
+static uint8_t long_out[2 * LONG];
+
+/* A relation of so many values, and an end. */
+static void long_rule(char *text, int values, const char *end) {
+    size_t at = (size_t)sprintf(text, "n = 1");
+    for (int k = 1; k < values; k++) at += (size_t)sprintf(text + at, ",1");
+    strcpy(text + at, end);
+}
+
+static void long_elements(int other_length, int one_length) {
+    memset(long_text, 'x', LONG), memset(other_text, 'y', LONG);
+    sprintf(json, "{\"two\":[0,\"z\"],\"one\":[0,\"%.*s\"],\"other\":[0,\"%.*s\"]}", one_length, long_text, other_length, other_text);
+}
+
+static void expect_limit(const char *of, int64_t result, int64_t wanted) {
+    calls++;
+    if (wanted < 0 ? result != wanted : result < 0) {
+        printf("%s: %" PRId64 " in the place of %" PRId64 "\n", of, result, wanted);
+        exit(1);
+    }
+    if (wanted < 0) fault_of(wanted)->count++;
+    else results++;
+}
+
+static int64_t read_two(const char *one, const char *two) {
+    return plurals_rules_from_texts("", 0, one, strlen(one), two, strlen(two), "", 0, "", 0, long_out, sizeof long_out);
+}
+
+static int64_t read_elements(void) { return plurals_elements_from_json(json, strlen(json), long_out, sizeof long_out); }
+
+static void try_limits(void) {
+    long_rule(long_text, 8191, " and n = 1");
+    expect_limit("a relation's start", read_two(long_text, ""), 0);
+    long_rule(long_text, 8192, " and n = 1");
+    expect_limit("a relation's start", read_two(long_text, ""), PLURALS_TEXT_START_LIMIT);
+    long_rule(long_text, 8190, "");
+    expect_limit("a rule's start", read_two(long_text, "n = 2"), 0);
+    long_rule(long_text, 8191, "");
+    expect_limit("a rule's start", read_two(long_text, "n = 2"), PLURALS_RULES_LIMIT);
+    long_elements(255, 65534);
+    expect_limit("an element's start", read_elements(), 0);
+    long_elements(255, 65535);
+    expect_limit("an element's start", read_elements(), PLURALS_ELEMENTS_START_LIMIT);
+    long_elements(256, 1);
+    expect_limit("the default", read_elements(), PLURALS_ELEMENTS_DEFAULT_LIMIT);
+}
+
 int main(int count, char **words) {
     uint64_t wanted = count > 1 ? strtoull(words[1], NULL, 10) : 1000000;
     state = count > 2 ? strtoull(words[2], NULL, 10) : 1;
     printf("seed %" PRIu64 "\n", state);
     fill_pools();
     make_rooms();
+    try_limits();
     while (calls < wanted) run_case();
     printf("%10" PRIu64 " results\n", results);
     for (size_t k = 0; k < FAULTS; k++) printf("%10" PRIu64 " %s\n", faults[k].count, faults[k].name);
