@@ -481,6 +481,7 @@ static void try_limits(void) {
 int main(int count, char **words) {
     uint64_t wanted = count > 1 ? strtoull(words[1], NULL, 10) : 1000000;
     state = count > 2 ? strtoull(words[2], NULL, 10) : 1;
+    setvbuf(stdout, NULL, _IOLBF, 0);
     printf("seed %" PRIu64 "\n", state);
     fill_pools();
     make_rooms();
