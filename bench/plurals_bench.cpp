@@ -1,0 +1,326 @@
+// The library's exports beside ICU4C's plural rules: the same rules, the same numbers, in one program. bench/run calls it.
+//
+//   plurals_bench check RULES    each category by both sides; the status is 1 if one differs
+//   plurals_bench time RULES     lines `ROW<tab>SIDE<tab>NANOSECONDS`: the least of some samples, the sides in turn
+//   plurals_bench count RULES    for callgrind: of each row and side a dump of some rounds and one of twice as many, each with a
+//                                mark `ROW<tab>SIDE<tab>OPERATIONS`, where a round is of so many operations
+//
+// RULES is a file with a line `LOCALE<tab>CATEGORY<tab>TEXT` for each rule.
+#include <plurals.h>
+#include <unicode/numberformatter.h>
+#include <unicode/plurrule.h>
+#include <valgrind/callgrind.h>
+
+#include <algorithm>
+#include <chrono>
+#include <cstdio>
+#include <cstdlib>
+#include <fstream>
+#include <functional>
+#include <iostream>
+#include <map>
+#include <memory>
+#include <sstream>
+#include <string>
+#include <vector>
+
+namespace {
+
+const std::vector<std::string> kCategories = {"zero", "one", "two", "few", "many", "other"};
+constexpr int kRules = 5;
+
+[[noreturn]] void fail(const std::string& what) {
+    std::cerr << "plurals_bench: " << what << "\n";
+    std::exit(1);
+}
+
+// ---- numbers
+
+std::vector<int32_t> integers() {
+    std::vector<int32_t> found;
+    for (int32_t small = 0; small < 256; small++) found.push_back(small);
+    uint64_t state = 1;
+    for (int k = 0; k < 256; k++) {
+        state = state * 6364136223846793005u + 1442695040888963407u;
+        found.push_back(int32_t(state >> 33) >> (k % 24));
+    }
+    return found;
+}
+
+// Decimals of one to nine integer digits and none to four fraction digits, some of which are zeros at the end.
+std::vector<std::string> decimals() {
+    std::vector<std::string> found;
+    std::vector<int32_t> whole = integers();
+    for (size_t k = 0; k < whole.size(); k++) {
+        std::string text = std::to_string(whole[k] % 1000000000);
+        std::string fraction = std::to_string(10000 + whole[whole.size() - 1 - k] % 10000).substr(1, k % 5);
+        if (k % 15 == 4) fraction = std::string(fraction.size(), '0');
+        found.push_back(fraction.empty() ? text : text + "." + fraction);
+    }
+    return found;
+}
+
+size_t fraction_places(const std::string& text) {
+    size_t point = text.find('.');
+    return point == std::string::npos ? 0 : text.size() - point - 1;
+}
+
+// ---- the two sides of one language
+
+struct Language {
+    std::string name;
+    std::string texts[kRules];
+
+    std::vector<uint8_t> block;
+    std::unique_ptr<icu::PluralRules> rules;
+
+    // Reads the rules into a block, as a caller does with a buffer that is large enough, and returns its length.
+    int64_t read_block(uint8_t* out, size_t room) const {
+        return plurals_rules_from_texts(texts[0].data(), texts[0].size(), texts[1].data(), texts[1].size(), texts[2].data(),
+                                        texts[2].size(), texts[3].data(), texts[3].size(), texts[4].data(), texts[4].size(), out,
+                                        room);
+    }
+
+    // The rules in the one text that ICU4C reads.
+    icu::UnicodeString description() const {
+        std::string all;
+        for (int k = 0; k < kRules; k++)
+            if (!texts[k].empty()) all += (all.empty() ? "" : "; ") + kCategories[k] + ": " + texts[k];
+        return icu::UnicodeString::fromUTF8(all);
+    }
+
+    void read_both() {
+        block.resize(65536);
+        int64_t length = read_block(block.data(), block.size());
+        if (length < 0 || length > int64_t(block.size())) fail("the library doesn't read the rules of " + name);
+        block.resize(size_t(length));
+        UErrorCode status = U_ZERO_ERROR;
+        rules.reset(icu::PluralRules::createRules(description(), status));
+        if (U_FAILURE(status)) fail("ICU4C doesn't read the rules of " + name);
+    }
+
+    Language without_samples() const {
+        Language found;
+        found.name = name;
+        for (int k = 0; k < kRules; k++) found.texts[k] = texts[k].substr(0, texts[k].find('@'));
+        return found;
+    }
+};
+
+std::vector<Language> languages(const std::string& path) {
+    std::vector<Language> found;
+    std::ifstream file(path);
+    for (std::string line; std::getline(file, line);) {
+        std::istringstream fields(line);
+        std::string locale, category, text;
+        std::getline(fields, locale, '\t');
+        std::getline(fields, category, '\t');
+        std::getline(fields, text);
+        if (found.empty() || found.back().name != locale) {
+            found.emplace_back();
+            found.back().name = locale;
+        }
+        auto at = std::find(kCategories.begin(), kCategories.begin() + kRules, category) - kCategories.begin();
+        if (at < kRules) found.back().texts[at] = text;
+    }
+    if (found.empty()) fail(path + " has no rules");
+    for (auto& it : found) it.read_both();
+    return found;
+}
+
+// A formatter that writes a decimal with as many fraction digits as its text has: 1.0 stays 1.0.
+const icu::number::LocalizedNumberFormatter& formatter(size_t places) {
+    static std::map<size_t, icu::number::LocalizedNumberFormatter> found;
+    auto at = found.find(places);
+    if (at == found.end()) {
+        auto made = icu::number::NumberFormatter::withLocale(icu::Locale("en"))
+                        .grouping(UNUM_GROUPING_OFF)
+                        .precision(icu::number::Precision::fixedFraction(int32_t(places)));
+        at = found.emplace(places, made).first;
+    }
+    return at->second;
+}
+
+icu::UnicodeString select_text(const icu::PluralRules& rules, const icu::number::LocalizedNumberFormatter& writer,
+                               const std::string& text) {
+    UErrorCode status = U_ZERO_ERROR;
+    icu::number::FormattedNumber formatted = writer.formatDecimal({text.data(), int32_t(text.size())}, status);
+    icu::UnicodeString found = rules.select(formatted, status);
+    if (U_FAILURE(status)) fail("ICU4C doesn't read " + text);
+    return found;
+}
+
+// ---- agreement
+
+int category_number(const icu::UnicodeString& keyword) {
+    std::string name;
+    keyword.toUTF8String(name);
+    return int(std::find(kCategories.begin(), kCategories.end(), name) - kCategories.begin());
+}
+
+struct Agreement {
+    int compared = 0, different = 0;
+
+    void compare(const std::string& language, const std::string& number, int ours, int theirs) {
+        compared++;
+        if (ours == theirs) return;
+        different++;
+        std::cerr << language << " " << number << ": " << ours << " by the library, " << theirs << " by ICU4C\n";
+    }
+};
+
+int check(const std::vector<Language>& all) {
+    Agreement found;
+    for (const auto& it : all) {
+        const uint8_t* block = it.block.data();
+        for (int32_t number : integers())
+            found.compare(it.name, std::to_string(number), plurals_category_of_integer(block, it.block.size(), uint64_t(number)),
+                          category_number(it.rules->select(number)));
+        for (const auto& text : decimals())
+            found.compare(it.name, text, plurals_category(block, it.block.size(), text.data(), text.size()),
+                          category_number(select_text(*it.rules, formatter(fraction_places(text)), text)));
+    }
+    std::cout << "ICU4C " U_ICU_VERSION ": " << found.compared << " categories, " << found.different << " differ\n";
+    return found.different ? 1 : 0;
+}
+
+// ---- rows
+
+// One row: what a round of each side does, and how many operations that is. A round returns a sum, so that none of it is left out.
+// A row may be the library's alone.
+struct Row {
+    std::string name;
+    size_t operations;
+    std::function<long()> library, icu4c;
+};
+
+struct Decimal {
+    std::string text;
+    const icu::number::LocalizedNumberFormatter* writer;
+};
+
+std::vector<Row> rows(const std::vector<Language>& all) {
+    static const std::vector<int32_t> whole = integers();
+    static std::vector<Decimal> written;
+    for (const auto& text : decimals()) written.push_back({text, &formatter(fraction_places(text))});
+    std::vector<Row> found;
+    for (const auto& it : all) {
+        auto library = [&it] {
+            long sum = 0;
+            for (int32_t number : whole) sum += plurals_category_of_integer(it.block.data(), it.block.size(), uint64_t(number));
+            return sum;
+        };
+        auto icu4c = [&it] {
+            long sum = 0;
+            for (int32_t number : whole) sum += it.rules->select(number).length();
+            return sum;
+        };
+        found.push_back({"category of an integer, " + it.name, whole.size(), library, icu4c});
+    }
+    for (const auto& it : all) {
+        auto library = [&it] { return long(plurals_check_rules(it.block.data(), it.block.size())); };
+        found.push_back({"of that: the block checked, " + it.name, 1, library, nullptr});
+    }
+    for (const auto& it : all) {
+        auto library = [&it] {
+            long sum = 0;
+            for (const auto& number : written)
+                sum += plurals_category(it.block.data(), it.block.size(), number.text.data(), number.text.size());
+            return sum;
+        };
+        auto icu4c = [&it] {
+            long sum = 0;
+            for (const auto& number : written) sum += select_text(*it.rules, *number.writer, number.text).length();
+            return sum;
+        };
+        found.push_back({"category of a decimal's text, " + it.name, written.size(), library, icu4c});
+    }
+    for (bool is_whole : {true, false}) {
+        for (const auto& it : all) {
+            auto read = std::make_shared<Language>(it.without_samples());
+            if (is_whole) std::copy(it.texts, it.texts + kRules, read->texts);
+            auto description = std::make_shared<icu::UnicodeString>(read->description());
+            auto library = [read] {
+                static uint8_t out[65536];
+                return long(read->read_block(out, sizeof out));
+            };
+            auto icu4c = [description] {
+                UErrorCode status = U_ZERO_ERROR;
+                std::unique_ptr<icu::PluralRules> rules(icu::PluralRules::createRules(*description, status));
+                return long(rules != nullptr);
+            };
+            found.push_back({std::string("rules read, ") + (is_whole ? "with samples, " : "conditions alone, ") + it.name, 1, library, icu4c});
+        }
+    }
+    return found;
+}
+
+// ---- measures
+
+volatile long sink;
+
+double seconds(const std::function<long()>& round, long rounds) {
+    auto start = std::chrono::steady_clock::now();
+    for (long k = 0; k < rounds; k++) sink = round();
+    return std::chrono::duration<double>(std::chrono::steady_clock::now() - start).count();
+}
+
+// How many rounds take at least a millisecond.
+long rounds_of(const std::function<long()>& round) {
+    long rounds = 1;
+    while (seconds(round, rounds) < 0.001) rounds *= 2;
+    return rounds;
+}
+
+struct Side {
+    const char* name;
+    std::function<long()> round;
+    long rounds = 0;
+    double least = 1e9;
+};
+
+int time_rows(const std::vector<Row>& all) {
+    constexpr int kSamples = 100;
+    for (const auto& it : all) {
+        std::vector<Side> sides;
+        sides.push_back({"library", it.library});
+        if (it.icu4c) sides.push_back({"icu4c", it.icu4c});
+        for (auto& side : sides) side.rounds = rounds_of(side.round);
+        for (int sample = 0; sample < kSamples; sample++)
+            for (auto& side : sides) side.least = std::min(side.least, seconds(side.round, side.rounds) / double(side.rounds));
+        for (const auto& side : sides)
+            std::printf("%s\t%s\t%.2f\n", it.name.c_str(), side.name, side.least * 1e9 / double(it.operations));
+    }
+    return 0;
+}
+
+void count_side(const Row& row, const char* side, const std::function<long()>& round) {
+    constexpr int kRounds = 20;
+    for (int warm = 0; warm < 5; warm++) sink = round();
+    std::string mark = row.name + "\t" + side + "\t" + std::to_string(row.operations * kRounds);
+    for (int rounds : {kRounds, 2 * kRounds}) {
+        CALLGRIND_ZERO_STATS;
+        for (int k = 0; k < rounds; k++) sink = round();
+        CALLGRIND_DUMP_STATS_AT(mark.c_str());
+    }
+}
+
+int count_rows(const std::vector<Row>& all) {
+    for (const auto& it : all) {
+        count_side(it, "library", it.library);
+        if (it.icu4c) count_side(it, "icu4c", it.icu4c);
+    }
+    return 0;
+}
+
+}  // namespace
+
+int main(int count, char** words) {
+    if (count != 3) fail("two words are needed: check, time or count, and a file of rules");
+    std::string word = words[1];
+    std::vector<Language> all = languages(words[2]);
+    if (word == "check") return check(all);
+    if (word == "time") return time_rows(rows(all));
+    if (word == "count") return count_rows(rows(all));
+    fail("the first word is check, time or count");
+}

@@ -1,0 +1,24 @@
+/* Prints the messages of some numbers: other "{} items", one "{} item", with English's rule for one. */
+#include <plurals.h>
+#include <stdio.h>
+#include <string.h>
+
+int main(void) {
+    const char *one = "i = 1 and v = 0";
+    const char *texts = "{\"other\":[0,\"{} items\"],\"one\":[0,\"{} item\"]}";
+    const char *numbers[] = {"0", "1", "1.0", "2", "1c6", "-1", "x", "1c256"};
+    uint8_t rules[256], elements[256];
+    char message[256];
+    int64_t rules_len = plurals_rules_from_texts("", 0, one, strlen(one), "", 0, "", 0, "", 0, rules, sizeof rules);
+    int64_t elements_len = plurals_elements_from_json(texts, strlen(texts), elements, sizeof elements);
+    if (rules_len < 0 || rules_len > (int64_t)sizeof rules || elements_len < 0 || elements_len > (int64_t)sizeof elements) return 1;
+    for (size_t k = 0; k < sizeof numbers / sizeof *numbers; k++) {
+        int64_t length = plurals_message(rules, (size_t)rules_len, elements, (size_t)elements_len, numbers[k], strlen(numbers[k]),
+                                         message, sizeof message);
+        if (length == PLURALS_NUMBER_SYNTAX) printf("%s: it isn't a number\n", numbers[k]);
+        else if (length == PLURALS_NUMBER_LIMIT) printf("%s: it is over a limit\n", numbers[k]);
+        else if (length < 0 || length > (int64_t)sizeof message) return 1;
+        else printf("%.*s\n", (int)length, message);
+    }
+    return 0;
+}

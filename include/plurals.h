@@ -1,0 +1,175 @@
+/* Which form of a message does a number take? The plural rules of Fonuresse, for C and C++.
+ *
+ * A language's rules are one block of bytes, and so are the elements of a message, which are its texts by category. A
+ * program makes the blocks once and asks with them as often as it likes:
+ *
+ *     uint8_t rules[100];
+ *     int64_t rules_len = plurals_rules_from_texts("", 0, "i = 1 and v = 0", 15, "", 0, "", 0, "", 0, rules, sizeof rules);
+ *     int32_t category = plurals_category(rules, (size_t)rules_len, "1.0", 3);     category is PLURALS_OTHER
+ *
+ * examples/c/formatter.c is a whole program. docs/FORMATS.md has the formats of the blocks, docs/CONDITIONS.md that of a
+ * rule, docs/NUMBERS.md that of a number, docs/JSON.md that of documents and elements, docs/MESSAGES.md messages.
+ *
+ * Results
+ *     An int32_t is what the call says of it, or a fault, which is below 0.
+ *     An int64_t is the length of the result in bytes, or a fault. If the result has at most out_len bytes, it is written
+ *     to the front of out, and the bytes after it are unchanged. If it has more, the length is returned all the same, and
+ *     out is unchanged, so a call with out_len 0 asks for the length. After a fault out is unchanged. No byte 0 is
+ *     written after a text.
+ *     Which fault: that of the rules, else that of the elements, else that of the number. PLURALS_MEMORY may come before
+ *     any other fault, and only if malloc or realloc has failed; the same call may be made again then.
+ *
+ * Memory and ownership
+ *     All bytes are the caller's, before and after a call. Nothing is kept between calls: no call has to be undone, and
+ *     there is no state that calls share. A call that takes memory gives it back before it returns; it uses malloc,
+ *     realloc and free of the process, which have to be of one allocator, and malloc and realloc have to align a block to
+ *     each power of two up to 16 that divides its size. plurals_check_rules and plurals_category_of_integer take none.
+ *
+ * What the caller has to see to
+ *     A pointer and the length after it are one slice: so many bytes can be read there, and of out written. A text has no
+ *     byte 0 at its end, or the length doesn't count it.
+ *     No pointer is null, not even with length 0: any other pointer, as that of "", goes with length 0, and is the empty
+ *     text or the empty block. A length is at most that of one object, so below 2^63.
+ *     out overlaps no other slice of the call. During a call no other thread writes to its slices, nor reads out.
+ *     Everything else is checked: any bytes may be given as a text, a block or a number, and are refused by a fault where
+ *     they are none.
+ *
+ * Threads
+ *     Calls may run at once in any number of threads, also with the same blocks. No call is made from a signal handler, or
+ *     in the forked child of a process with threads.
+ *
+ * tools/header compares this file with the exports of crates/plurals_c and their faults.
+ */
+#ifndef FONURESSE_PLURALS_H
+#define FONURESSE_PLURALS_H
+
+#include <stddef.h>
+#include <stdint.h>
+
+#ifdef __cplusplus
+extern "C" {
+#endif
+
+/* The plural categories (UTS 35 Part 3, Language Plural Rules), as calls return them. */
+enum plurals_category {
+    PLURALS_ZERO = 0,
+    PLURALS_ONE = 1,
+    PLURALS_TWO = 2,
+    PLURALS_FEW = 3,
+    PLURALS_MANY = 4,
+    PLURALS_OTHER = 5
+};
+
+/* The two types of rules in a document. */
+enum plurals_type {
+    PLURALS_CARDINAL = 0, /* 1 item, 2 items */
+    PLURALS_ORDINAL = 1   /* 1st, 2nd, 3rd */
+};
+
+/* Why a call returns no result. No fault tells a place. */
+enum plurals_fault {
+    PLURALS_MEMORY = -1, /* out of memory: malloc or realloc has failed */
+    PLURALS_UTF8 = -2,   /* a rule's text, a locale or a number isn't UTF-8; for JSON that is PLURALS_JSON */
+    PLURALS_TYPE = -3,   /* the type of rules is neither PLURALS_CARDINAL nor PLURALS_ORDINAL */
+
+    /* of a number's text */
+    PLURALS_NUMBER_SYNTAX = -10, /* it isn't a number */
+    PLURALS_NUMBER_LIMIT = -11,  /* more than 32767 digits on a side of the point, or an exponent above 255 */
+
+    /* of a rule's text, given on its own or in a document */
+    PLURALS_TEXT_EXPECTED_AND_CONDITION = -20, /* it, or its condition, ends after "or" */
+    PLURALS_TEXT_EXPECTED_RELATION = -21,      /* it, or its condition, ends after "and" */
+    PLURALS_TEXT_EXPECTED_OPERATOR = -22,      /* no "=" or "!=" after an operand or a modulus */
+    PLURALS_TEXT_EXPECTED_OPERAND = -23,       /* no operand at the start, after "or" or after "and" */
+    PLURALS_TEXT_EXPECTED_VALUE = -24,         /* no number where a modulus, a range or a sample needs one */
+    PLURALS_TEXT_EXPECTED_SAMPLE_TYPE = -25,   /* neither "integer" nor "decimal" after "@" */
+    PLURALS_TEXT_VALUE_TOO_LARGE = -26,        /* a value above 4294967295; no text has this fault */
+    PLURALS_TEXT_START_LIMIT = -27,            /* the rule is too long to be packed */
+
+    /* of a block of rules */
+    PLURALS_RULES_LIST_HEADER = -30,          /* the list's head is cut off */
+    PLURALS_RULES_LIST_ZERO_COUNT = -31,      /* the list counts no item, and isn't empty */
+    PLURALS_RULES_LIST_START = -32,           /* an item starts before the one before it, or after the end */
+    PLURALS_RULES_ITEM_EMPTY = -33,           /* an item has no byte */
+    PLURALS_RULES_KEY = -34,                  /* a key is above 4, or not above the key before it */
+    PLURALS_RULES_RULE_LIST_HEADER = -35,     /* the head of a rule's list is cut off */
+    PLURALS_RULES_RULE_LIST_ZERO_COUNT = -36, /* a rule's list counts no relation, and isn't empty */
+    PLURALS_RULES_RULE_LIST_START = -37,      /* a relation starts before the one before it, or after the end */
+    PLURALS_RULES_RULE_ITEM_LENGTH = -38,     /* a relation isn't of 5 bytes and a multiple of 8 */
+    PLURALS_RULES_RULE_OPERAND = -39,         /* a relation's operand is above 7 */
+    PLURALS_RULES_LIMIT = -40,                /* the rules are too long for one block */
+
+    /* of a block of elements; the last two of JSON as elements */
+    PLURALS_ELEMENTS_EMPTY = -50,           /* it has no byte */
+    PLURALS_ELEMENTS_SHORT = -51,           /* the default's text, or its length, is cut off */
+    PLURALS_ELEMENTS_PADDING = -52,         /* one of the bits 4 to 6 of the first byte is set */
+    PLURALS_ELEMENTS_DEFAULT_TEXT = -53,    /* the default's text isn't UTF-8 */
+    PLURALS_ELEMENTS_LIST_HEADER = -54,     /* the list's head is cut off */
+    PLURALS_ELEMENTS_LIST_ZERO_COUNT = -55, /* the list counts no item, and isn't empty */
+    PLURALS_ELEMENTS_LIST_START = -56,      /* an item starts before the one before it, or after the end */
+    PLURALS_ELEMENTS_ITEM_EMPTY = -57,      /* an item has no byte */
+    PLURALS_ELEMENTS_KEY = -58,             /* a key is above 6 */
+    PLURALS_ELEMENTS_ITEM_TEXT = -59,       /* an item's text isn't UTF-8 */
+    PLURALS_ELEMENTS_DEFAULT_LIMIT = -60,   /* the default's text has more than 255 bytes beside an item */
+    PLURALS_ELEMENTS_START_LIMIT = -61,     /* an item would start after 65535 */
+
+    /* of a document, and of JSON as elements; a rule's text in a document has the faults above */
+    PLURALS_JSON = -70,                 /* the text isn't JSON */
+    PLURALS_DOCUMENT_FLOAT = -71,       /* it has a number that isn't an integer of 64 bits */
+    PLURALS_DOCUMENT_SHAPE = -72,       /* a value is of another kind than its place asks for */
+    PLURALS_DOCUMENT_RANGE_KEY = -73,   /* a key names no range */
+    PLURALS_DOCUMENT_RANGE_VALUE = -74, /* a range's value names no category */
+    PLURALS_LOCALE = -75                /* the locale isn't present among the rules of this type */
+};
+
+/* Writes the block of the rules that a document has for a locale (docs/JSON.md; tools/cldr-document makes a document of
+ * CLDR's files). rule_type is PLURALS_CARDINAL or PLURALS_ORDINAL. The locale is compared byte by byte, without fallback.
+ * Faults, the first of these that there is: the type; the locale's text isn't UTF-8; the text isn't JSON; it is no document,
+ * in any of its locales; the locale isn't present; PLURALS_RULES_LIMIT. Takes memory, in the measure of the document. */
+int64_t plurals_rules_from_document(const char *json, size_t json_len, const char *locale, size_t locale_len,
+                                    uint8_t rule_type, uint8_t *out, size_t out_len);
+
+/* Writes the block of the rules of these five texts, which are as CLDR has them, with samples or without. A text of length
+ * 0 is no rule. Faults, the first of these that there is: a text isn't UTF-8; that of the first text that is no rule;
+ * PLURALS_RULES_LIMIT. Takes memory. */
+int64_t plurals_rules_from_texts(const char *zero, size_t zero_len, const char *one, size_t one_len, const char *two,
+                                 size_t two_len, const char *few, size_t few_len, const char *many, size_t many_len,
+                                 uint8_t *out, size_t out_len);
+
+/* Returns 0 if the bytes are a block of rules, else their fault, which is from PLURALS_RULES_LIST_HEADER to
+ * PLURALS_RULES_RULE_OPERAND. The block without bytes is that of no rules, under which every number is other. Takes no
+ * memory. */
+int32_t plurals_check_rules(const uint8_t *rules, size_t rules_len);
+
+/* Returns the category of an integer, PLURALS_ZERO to PLURALS_OTHER, or the fault of the rules. Takes no memory. */
+int32_t plurals_category_of_integer(const uint8_t *rules, size_t rules_len, uint64_t number);
+
+/* Returns the category of a number as it is written: 1 and 1.0 are two numbers. It may have a sign, zeros at both ends and
+ * a compact exponent, as 1.2c6 (docs/NUMBERS.md). Of a long number a part decides; plurals_is_exact tells whether all of
+ * it would give the same category. Takes memory for the number. */
+int32_t plurals_category(const uint8_t *rules, size_t rules_len, const char *number, size_t number_len);
+
+/* Returns 1 if the category of the number is that of all its digits, however many it has, 0 if it may be another one
+ * (docs/EXACTNESS.md), or a fault. It is 1 for each number that has at most 18 digits on either side of the point, once
+ * the exponent has moved it. Takes memory for the number. */
+int32_t plurals_is_exact(const uint8_t *rules, size_t rules_len, const char *number, size_t number_len);
+
+/* Writes the block of the elements of a JSON text (docs/JSON.md), as {"other":[0,"{} items"],"one":[0,"{} item"]}. Faults,
+ * the first of these that there is: the text isn't JSON; it is no elements; they can't be packed. Takes memory. */
+int64_t plurals_elements_from_json(const char *json, size_t json_len, uint8_t *out, size_t out_len);
+
+/* Writes the text of the element that the number takes: the explicit one of exactly 0 or exactly 1 if it is present, else
+ * that of the number's category, else that of other. Takes memory for the number. */
+int64_t plurals_element(const uint8_t *rules, size_t rules_len, const uint8_t *elements, size_t elements_len,
+                        const char *number, size_t number_len, char *out, size_t out_len);
+
+/* Writes the message of the number: the text of its element, with the number as it is written in the place of each {}.
+ * Takes memory for the number and for the message. */
+int64_t plurals_message(const uint8_t *rules, size_t rules_len, const uint8_t *elements, size_t elements_len,
+                        const char *number, size_t number_len, char *out, size_t out_len);
+
+#ifdef __cplusplus
+}
+#endif
+
+#endif
