@@ -18,11 +18,11 @@ use Rattle.plurals_c.specs.GivenBytes.{ReadsText}
 use Rattle.plurals_c.specs.GivenTexts.{PackRules}
 use Rattle.plurals_c.specs.Results.{Then}
 use Rattle.plurals_c.specs.declared.fault.Fault.{Fault}
-use Rattle.plurals_c.specs.declared.fault.Fault.TheVariants.{Memory, Type, Json, Document, Locale}
+use Rattle.plurals_c.specs.declared.fault.Fault.TheVariants.{Memory, RuleType, Json, Document, Locale}
 
 -- 0 is cardinal and 1 ordinal
 abbrev pub type_of : ℕ → Result PluralRuleType Fault
-type_of n = if n == 0 then Ok Cardinal else (if n == 1 then Ok Ordinal else Err Type)
+type_of n = if n == 0 then Ok Cardinal else (if n == 1 then Ok Ordinal else Err RuleType)
 
 abbrev pub ReadsType : ℕ → Result PluralRuleType Fault → Type 0
 ReadsType n answer = answer ≡ type_of n

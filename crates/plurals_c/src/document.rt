@@ -20,7 +20,7 @@ pub(crate) fn rule_type_of(number: u8) -> Result<PluralRuleType, Fault>
     match number {
         0 => Ok(PluralRuleType::Cardinal),
         1 => Ok(PluralRuleType::Ordinal),
-        _ => Err(Fault::Type),
+        _ => Err(Fault::RuleType),
     }
 }
 

@@ -13,14 +13,14 @@ use icu_plurals::{
 };
 
 // Why there is no result. A fault of memory is always `Memory`, whatever it was wanted for.
-#[derive(Clone, Copy, Debug, PartialEq, Eq)]
+#[derive(Clone, Copy)]
 pub(crate) enum Fault {
     // Out of memory.
     Memory,
     // A text isn't UTF-8.
     Utf8,
     // The type is neither 0 nor 1.
-    Type,
+    RuleType,
     // A text is no number, or over a limit.
     Number(DecimalError),
     // A text gives no rule.
@@ -47,7 +47,7 @@ impl Fault {
         match self {
             Fault::Memory => MEMORY,
             Fault::Utf8 => -2,
-            Fault::Type => -3,
+            Fault::RuleType => -3,
             Fault::Number(fault) => decimal_number(fault),
             Fault::Text(fault) => rule_number(fault),
             Fault::Rules(fault) => block_number(fault),

@@ -9,3 +9,5 @@ mod fault;
 mod given;
 mod message;
 mod rules;
+#[cfg(test)]
+mod tests;

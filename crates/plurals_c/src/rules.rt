@@ -1,9 +1,10 @@
 //! Blocks of rules: from a document, from texts, and whether bytes are one.
 
-ghost use Rattle.std.specs.Prelude.{pos, option_map};
+ghost use Rattle.std.specs.Prelude.{pos};
+ghost use Rattle.std.specs.Option.{option_copied};
 ghost use Rattle.icu_plurals.specs.FiveRules.{five, rules_of};
 ghost use Rattle.plurals_c.specs.GivenBytes.{ReadsRules};
-ghost use Rattle.plurals_c.specs.GivenDocuments.{AreRulesIn, HasRulesFor};
+ghost use Rattle.plurals_c.specs.GivenDocuments.{AreRulesIn};
 ghost use Rattle.icu_plurals.specs.RuleTexts.{texts_of};
 ghost use Rattle.plurals_c.specs.GivenTexts.{AreRulesFrom, GiveRules, PackRules};
 ghost use Rattle.plurals_c.specs.Inner.GivenResults.{Gives, ReadsGiven};
@@ -87,7 +88,8 @@ fn rules_of_document(
     let locale = text_in(locale)?;
     let value = value_in(alloc, json)?;
     let maps = maps_in(alloc, &value)?;
-    packed(alloc, &rules_for(&maps, locale, rule_type)?)
+    let rules = rules_for(&maps, locale, rule_type)?;
+    packed(alloc, &rules)
 }
 
 // The block of the rules of five texts.
@@ -112,7 +114,7 @@ fn rules_of_texts(
 
 // The text of a rule, if it has any byte.
 fn given(bytes: &[u8]) -> Result<Option<&str>, Fault>
-    ensures { Gives (option_map (λ text. text.now)) (ReadsGiven bytes.now) result }
+    ensures { Gives option_copied (ReadsGiven bytes.now) result }
 {
     if bytes.is_empty() {
         return Ok(None);
