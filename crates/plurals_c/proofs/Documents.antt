@@ -1,11 +1,9 @@
 -- The block of the rules that a document has for a locale.
 use Rattle.std.proofs.Common.{◌≡◌, List, ℕ, Ok, Err, refl}
-use Rattle.serde_json.specs.Data.{Data}
-use Rattle.icu_plurals.specs.DocumentJson.{Document as Maps, document_of_json}
 use Rattle.icu_plurals.specs.FiveRules.{FiveRules}
 use Rattle.icu_plurals.specs.declared.PluralRuleType.{PluralRuleType}
 use Rattle.plurals_c.specs.GivenBytes.{ReadsText}
-use Rattle.plurals_c.specs.GivenDocuments.{AreRulesIn, HasRulesAt, HasRulesFor, Means, ReadsJson, ReadsType, rows_for}
+use Rattle.plurals_c.specs.GivenDocuments.{AreRulesIn, HasRulesFor, ReadsType}
 use Rattle.plurals_c.specs.GivenTexts.{PackRules}
 use Rattle.plurals_c.specs.Inner.GivenResults.{Gives}
 use Rattle.plurals_c.specs.declared.fault.Fault.{Fault}

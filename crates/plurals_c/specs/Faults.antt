@@ -6,7 +6,6 @@ use Rattle.icu_plurals.specs.declared.ElementsPackError.{ElementsPackError}
 use Rattle.icu_plurals.specs.declared.ElementsPackError.TheVariants as packing
 use Rattle.icu_plurals.specs.declared.JsonError.{JsonError}
 use Rattle.icu_plurals.specs.declared.JsonError.TheVariants as json
-use Rattle.icu_plurals.specs.declared.ListError.{ListError}
 use Rattle.icu_plurals.specs.declared.ListError.TheVariants.{Header, ZeroCount, Start}
 use Rattle.icu_plurals.specs.declared.RulesBytesError.{RulesBytesError}
 use Rattle.icu_plurals.specs.declared.RulesBytesError.TheVariants as block

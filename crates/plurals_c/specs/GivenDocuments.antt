@@ -2,12 +2,11 @@
 --     AreRulesIn json locale type answer      the bytes of the block. Faults are looked for in this order: those of the type, of the
 --                                             locale's text, of the JSON text, of the document, the locale isn't present, rules too long
 --     AreElementsIn json answer      the packed bytes. Faults: those of the JSON text, of the elements
-use Rattle.std.specs.Prelude.{◌≡◌, ℕ, List, ◌==◌, if◌then◌else◌, Option, Some, None, Result, Ok, Err, ⊤}
+use Rattle.std.specs.Prelude.{◌≡◌, ℕ, List, ◌==◌, if◌then◌else◌, Some, None, Result, Ok, Err, ⊤}
 use Rattle.std.specs.Str.{IsUtf8}
 use Rattle.serde_json.specs.Data.{Data}
 use Rattle.serde_json.specs.Read.{read}
 use Rattle.icu_plurals.specs.declared.JsonError.{JsonError}
-use Rattle.icu_plurals.specs.declared.JsonError.TheVariants as json
 use Rattle.icu_plurals.specs.declared.PluralRuleType.{PluralRuleType}
 use Rattle.icu_plurals.specs.declared.PluralRuleType.TheVariants.{Cardinal, Ordinal}
 use Rattle.icu_plurals.specs.DocumentJson.{Document as Maps, Rows, document_of_json, found}

@@ -1,7 +1,5 @@
-use Rattle.std.proofs.Common.{Ok}
 use Rattle.std.proofs.lemmas.Result.{err_from_is_err_and}
-use Rattle.std.specs.Option.{option_copied}
-use Rattle.icu_plurals.specs.FiveRules.{Five, five, rules_of}
+use Rattle.icu_plurals.specs.FiveRules.{five, rules_of}
 use Rattle.plurals_c.proofs.Steps.{passed_on}
 use Rattle.plurals_c.proofs.Texts.{not_texts, packed_texts, refused_texts, texts_read}
 use Rattle.plurals_c.proofs.rules.rules_of_texts.Goals as goal
