@@ -1,7 +1,7 @@
 -- The first bad item of a list of rules, which is looked for key by key.
 use Rattle.std.proofs.Common.{◌≡◌, ◌≢◌, ◌↔◌, ◌⊎◌, inl, inr, ℕ, zero, suc, ◌+◌, ◌<◌, ◌≤◌, List, [], ◌∷◌, ◌++◌, Option, Some, None, drop}
 use Rattle.std.proofs.Common.{Result, Ok, Err, refl, sym, ap, ◌∙◌, subst, arith, append-nil}
-use Rattle.std.specs.Prelude.{slice_get, MatchResult, IfOk}
+use Rattle.std.specs.Prelude.{slice_get, MatchResult, IfOk, length}
 use Rattle.std.proofs.lemmas.Bool.{cases_lt}
 use Rattle.std.proofs.lemmas.List.{drop_more}
 use Rattle.std.proofs.lemmas.Option.{slice_get_within, get_or_from_slice_get}
@@ -32,6 +32,33 @@ pub first_left : (items : List (List ℕ)) (place : ℕ) (item : List ℕ) → s
 first_left items place item h =
     drop_more items place [] (slice_get_within items place item h)
     ∙ ap (λ first. first ∷ drop (place + 1) items) (get_or_from_slice_get items place item [] h)
+
+-- ---- The first item that is left
+
+-- past the last item there is none with a key
+pub none_has_key : (key : ℕ) (items : List (List ℕ)) (place : ℕ) → slice_get items place ≡ None → HasOtherKey key (drop place items)
+none_has_key key items place h = subst (HasOtherKey key) (sym (none_left items place h)) tt
+
+-- an item without a byte has no key
+empty_has_none : (key : ℕ) (item : List ℕ) (others : List (List ℕ)) → length item ≡ 0 → HasOtherKey key (item ∷ others)
+empty_has_none key [] others h = tt
+empty_has_none key (first ∷ item) others h = absurd (omega arith)
+
+pub empty_has_no_key : (key : ℕ) (items : List (List ℕ)) (place : ℕ) (item : List ℕ) → slice_get items place ≡ Some item
+    → length item ≡ 0 → HasOtherKey key (drop place items)
+empty_has_no_key key items place item h empty =
+    subst (HasOtherKey key) (sym (first_left items place item h)) (empty_has_none key item (drop (place + 1) items) empty)
+
+-- the first byte of an item is its key
+pub first_byte_left : (items : List (List ℕ)) (place : ℕ) (item : List ℕ) (first : ℕ) (bytes : List ℕ)
+    → slice_get items place ≡ Some item → item ≡ first ∷ bytes → drop place items ≡ (first ∷ bytes) ∷ drop (place + 1) items
+first_byte_left items place item first bytes h is =
+    first_left items place item h ∙ ap (λ (all : List ℕ). all ∷ drop (place + 1) items) is
+
+pub other_key : (key : ℕ) (items : List (List ℕ)) (place : ℕ) (item : List ℕ) (first : ℕ) (bytes : List ℕ)
+    → slice_get items place ≡ Some item → item ≡ first ∷ bytes → first ≢ key → HasOtherKey key (drop place items)
+other_key key items place item first bytes h is other =
+    subst (HasOtherKey key) (sym (first_byte_left items place item first bytes h is)) other
 
 -- ---- Keys
 
@@ -126,7 +153,7 @@ rule_refused place key bytes items found fault small is one no_rule = (
 )
 
 -- an item that is left after all five keys is bad by its key
-pub left_over : (place first : ℕ) (bytes : List ℕ) (items : List (List ℕ)) (fault : Option RulesBytesError)
+left_over : (place first : ℕ) (bytes : List ℕ) (items : List (List ℕ)) (fault : Option RulesBytesError)
     → FirstRuleFault place 5 ((first ∷ bytes) ∷ items) fault ↔ (fault ≡ Some (errors.Key place))
 left_over place first bytes items fault = (
   (λ h. elim h [
@@ -139,6 +166,38 @@ left_over place first bytes items fault = (
   (λ h. inl (all_bad first, h)),
 )
 
+-- without items there is no fault
+pub nothing_left : (items : List (List ℕ)) (place : ℕ) (fault : Option RulesBytesError) → slice_get items place ≡ None
+    → FirstRuleFault place 5 (drop place items) fault ↔ (fault ≡ None)
+nothing_left items place fault h =
+    subst (λ all. FirstRuleFault place 5 all fault ↔ (fault ≡ None)) (sym (none_left items place h)) ((λ is. is), (λ is. is))
+
+-- an item without a byte is bad
+empty_bad : (place : ℕ) (item : List ℕ) (others : List (List ℕ)) (fault : Option RulesBytesError) → length item ≡ 0
+    → FirstRuleFault place 5 (item ∷ others) fault ↔ (fault ≡ Some (errors.ItemEmpty place))
+empty_bad place [] others fault h = ((λ is. is), (λ is. is))
+empty_bad place (first ∷ item) others fault h = absurd (omega arith)
+
+pub empty_left : (items : List (List ℕ)) (place : ℕ) (item : List ℕ) (fault : Option RulesBytesError)
+    → slice_get items place ≡ Some item → length item ≡ 0
+    → FirstRuleFault place 5 (drop place items) fault ↔ (fault ≡ Some (errors.ItemEmpty place))
+empty_left items place item fault h empty =
+    subst (λ all. FirstRuleFault place 5 all fault ↔ (fault ≡ Some (errors.ItemEmpty place))) (sym (first_left items place item h))
+    (empty_bad place item (drop (place + 1) items) fault empty)
+
+-- any other is bad by its key
+key_bad : (place : ℕ) (item : List ℕ) (others : List (List ℕ)) (fault : Option RulesBytesError) → 0 < length item
+    → FirstRuleFault place 5 (item ∷ others) fault ↔ (fault ≡ Some (errors.Key place))
+key_bad place [] others fault h = absurd (omega arith)
+key_bad place (first ∷ item) others fault h = left_over place first item others fault
+
+pub key_left : (items : List (List ℕ)) (place : ℕ) (item : List ℕ) (fault : Option RulesBytesError)
+    → slice_get items place ≡ Some item → 0 < length item
+    → FirstRuleFault place 5 (drop place items) fault ↔ (fault ≡ Some (errors.Key place))
+key_left items place item fault h long =
+    subst (λ all. FirstRuleFault place 5 all fault ↔ (fault ≡ Some (errors.Key place))) (sym (first_left items place item h))
+    (key_bad place item (drop (place + 1) items) fault long)
+
 -- ---- All keys
 
 -- one agreement after another
@@ -150,12 +209,13 @@ pub all_taken : (rules : FiveRules) (all after_zero after_one after_two after_fe
     → all ≡ keyed 0 rules.zero ++ after_zero → after_zero ≡ keyed 1 rules.one ++ after_one
     → after_one ≡ keyed 2 rules.two ++ after_two → after_two ≡ keyed 3 rules.few ++ after_few
     → after_few ≡ keyed 4 rules.many ++ after_many → after_many ≡ [] → all ≡ rule_items rules
-all_taken rules all after_zero after_one after_two after_few after_many zero one two few many none =
-    let last : after_few ≡ keyed 4 rules.many = many ∙ ap (λ items. keyed 4 rules.many ++ items) none ∙ append-nil (keyed 4 rules.many) in
-    let from_few : after_two ≡ keyed 3 rules.few ++ keyed 4 rules.many = few ∙ ap (λ items. keyed 3 rules.few ++ items) last in
+all_taken rules all after_zero after_one after_two after_few after_many is_zero is_one is_two is_few is_many none =
+    let last : after_few ≡ keyed 4 rules.many =
+    is_many ∙ ap (λ items. keyed 4 rules.many ++ items) none ∙ append-nil (keyed 4 rules.many) in
+    let from_few : after_two ≡ keyed 3 rules.few ++ keyed 4 rules.many = is_few ∙ ap (λ items. keyed 3 rules.few ++ items) last in
     let from_two : after_one ≡ keyed 2 rules.two ++ (keyed 3 rules.few ++ keyed 4 rules.many) =
-    two ∙ ap (λ items. keyed 2 rules.two ++ items) from_few in
-    zero ∙ ap (λ items. keyed 0 rules.zero ++ items) (one ∙ ap (λ items. keyed 1 rules.one ++ items) from_two)
+    is_two ∙ ap (λ items. keyed 2 rules.two ++ items) from_few in
+    is_zero ∙ ap (λ items. keyed 0 rules.zero ++ items) (is_one ∙ ap (λ items. keyed 1 rules.one ++ items) from_two)
 
 -- ---- Rules have no bad item
 

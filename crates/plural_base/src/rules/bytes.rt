@@ -43,9 +43,9 @@ impl<'data> PluralRulesData<'data> {
     ///
     /// [`Rule::parse_bytes`]: plural_runtime::Rule::parse_bytes
     pub fn from_bytes(bytes: &'data [u8]) -> Result<PluralRulesData<'data>, RulesBytesError>
-        ensures ok { IfOk result (λ data. RulesBytes (rules_of data) bytes.now) }
+        ensures ok { IfOk result (λ found. RulesBytes (rules_of found) bytes.now) }
         ensures accepted { (rules : FiveRules) → RulesBytes rules bytes.now
-            → MatchResult result (λ data. rules_of data ≡ rules) (λ _. ⊥) }
+            → MatchResult result (λ found. rules_of found ≡ rules) (λ _. ⊥) }
         ensures refused { (fault : RulesBytesError) → (result ≡ Err fault) ↔ HasRulesFault bytes.now fault }
     {
         rules_have_one_encoding();
