@@ -1,5 +1,5 @@
 -- The first bad item of a list of rules, which is looked for key by key.
-use Rattle.std.proofs.Common.{◌≡◌, ◌≢◌, ◌↔◌, ◌⊎◌, inl, inr, ℕ, zero, suc, ◌+◌, ◌<◌, ◌≤◌, List, [], ◌∷◌, ◌++◌, Option, Some, None, drop}
+use Rattle.std.proofs.Common.{◌≡◌, ◌≢◌, ◌↔◌, inl, inr, ℕ, zero, suc, ◌+◌, ◌<◌, ◌≤◌, List, [], ◌∷◌, ◌++◌, Option, Some, None, drop}
 use Rattle.std.proofs.Common.{Result, Ok, Err, refl, sym, ap, ◌∙◌, subst, arith, append-nil}
 use Rattle.std.specs.Prelude.{slice_get, MatchResult, IfOk, length}
 use Rattle.std.proofs.lemmas.Bool.{cases_lt}
@@ -7,11 +7,10 @@ use Rattle.std.proofs.lemmas.List.{drop_more}
 use Rattle.std.proofs.lemmas.Option.{slice_get_within, get_or_from_slice_get}
 use Rattle.packed_list.specs.ListBytes.{ListBytes, HasFault}
 use Rattle.packed_list.specs.declared.error.ListError.{ListError}
-use Rattle.plural_runtime.specs.PackedRelations.{PackedRelation, HasRuleFault}
-use Rattle.plural_runtime.specs.declared.error.RuleBytesError.{RuleBytesError}
-use Rattle.plural_base.specs.FiveRules.{FiveRules, five, rules_of}
+use Rattle.plural_runtime.specs.PackedRelations.{PackedRelation}
+use Rattle.plural_base.specs.FiveRules.{FiveRules, rules_of}
 use Rattle.plural_base.specs.RulesBytes.{keyed, rule_items, CanPackRule, CanPackRules, RulesBytes, RulesHaveOneEncoding}
-use Rattle.plural_base.specs.RulesBytes.{IsKeyFrom, IsBadKey, AreRule, FirstRuleFault, HasRulesFault}
+use Rattle.plural_base.specs.RulesBytes.{IsKeyFrom, IsBadKey, FirstRuleFault, HasRulesFault}
 use Rattle.plural_base.specs.Inner.KeyedItems.{HasOtherKey}
 use Rattle.plural_base.specs.declared.rules.data.PluralRulesData.{PluralRulesData}
 use Rattle.plural_base.specs.declared.rules.bytes.error.RulesBytesError.{RulesBytesError}
@@ -44,6 +43,7 @@ empty_has_none : (key : ℕ) (item : List ℕ) (others : List (List ℕ)) → le
 empty_has_none key [] others h = tt
 empty_has_none key (first ∷ item) others h = absurd (omega arith)
 
+-- so where it is the first that is left, that one has none
 pub empty_has_no_key : (key : ℕ) (items : List (List ℕ)) (place : ℕ) (item : List ℕ) → slice_get items place ≡ Some item
     → length item ≡ 0 → HasOtherKey key (drop place items)
 empty_has_no_key key items place item h empty =
@@ -55,26 +55,13 @@ pub first_byte_left : (items : List (List ℕ)) (place : ℕ) (item : List ℕ) 
 first_byte_left items place item first bytes h is =
     first_left items place item h ∙ ap (λ (all : List ℕ). all ∷ drop (place + 1) items) is
 
+-- so where that is another, the first item that is left has another key
 pub other_key : (key : ℕ) (items : List (List ℕ)) (place : ℕ) (item : List ℕ) (first : ℕ) (bytes : List ℕ)
     → slice_get items place ≡ Some item → item ≡ first ∷ bytes → first ≢ key → HasOtherKey key (drop place items)
 other_key key items place item first bytes h is other =
     subst (HasOtherKey key) (sym (first_byte_left items place item first bytes h is)) other
 
 -- ---- Keys
-
--- a bad key is bad one higher
-bad_after : (least key : ℕ) → IsBadKey least key → IsBadKey (least + 1) key
-bad_after least key (inl low) = inl (omega arith)
-bad_after least key (inr high) = inr high
-
--- another key than the least is bad already
-bad_before : (least key : ℕ) → key ≢ least → IsBadKey (least + 1) key → IsBadKey least key
-bad_before least key other (inl low) = inl (omega arith)
-bad_before least key other (inr high) = inr high
-
--- another key than the least is good one higher
-good_after : (least key : ℕ) → key ≢ least → IsKeyFrom least key → IsKeyFrom (least + 1) key
-good_after least key other is = (omega (arith, is.0), is.1)
 
 -- a good key is good one lower
 good_before : (least key : ℕ) → IsKeyFrom (least + 1) key → IsKeyFrom least key
@@ -84,73 +71,15 @@ good_before least key is = (omega (arith, is.0), is.1)
 least_good : (key : ℕ) → key ≤ 4 → IsKeyFrom key key
 least_good key small = (omega arith, small)
 
--- and so not bad
-least_not_bad : (key : ℕ) → key ≤ 4 → IsBadKey key key → ⊥
-least_not_bad key small (inl low) = omega arith
-least_not_bad key small (inr high) = omega arith
-
 -- no key is good once all five were asked for
 none_good : (key : ℕ) → IsKeyFrom 5 key → ⊥
 none_good key is = omega (arith, is.0, is.1)
 
 -- so each is bad
 all_bad : (key : ℕ) → IsBadKey 5 key
-all_bad key = elim (cases_lt key 5) [ | inl low ↦ inl low | inr high ↦ inr (omega arith) ]
+all_bad key = elim (cases_lt key 5) [ inl low ↦ inl low | inr high ↦ inr (omega arith) ]
 
--- ---- One key
-
--- where the first item has another key, the next key is asked for
-pub past_key : (place key : ℕ) (items : List (List ℕ)) (fault : Option RulesBytesError) → HasOtherKey key items
-    → FirstRuleFault place key items fault ↔ FirstRuleFault place (key + 1) items fault
-past_key place key [] fault other = ((λ h. h), (λ h. h))
-past_key place key ([] ∷ items) fault other = ((λ h. h), (λ h. h))
-past_key place key ((first ∷ bytes) ∷ items) fault other = (
-  (λ h. elim h [
-    | inl bad ↦ inl (bad_after key first bad.0, bad.1)
-    | inr good ↦ inr (elim good [
-      | inl refused ↦ inl (good_after key first other refused.0, refused.1)
-      | inr taken ↦ inr (good_after key first other taken.0, taken.1, taken.2)
-    ])
-  ]),
-  (λ h. elim h [
-    | inl bad ↦ inl (bad_before key first other bad.0, bad.1)
-    | inr good ↦ inr (elim good [
-      | inl refused ↦ inl (good_before key first refused.0, refused.1)
-      | inr taken ↦ inr (good_before key first taken.0, taken.1, taken.2)
-    ])
-  ]),
-)
-
--- behind an item that has the key and a rule the next key is asked for
-pub past_rule : (place key : ℕ) (bytes : List ℕ) (items : List (List ℕ)) (fault : Option RulesBytesError) → key ≤ 4
-    → AreRule bytes → ((found : RuleBytesError) → HasRuleFault bytes found → ⊥)
-    → FirstRuleFault place key ((key ∷ bytes) ∷ items) fault ↔ FirstRuleFault (place + 1) (key + 1) items fault
-past_rule place key bytes items fault small is no_fault = (
-  (λ h. elim h [
-    | inl bad ↦ absurd (least_not_bad key small bad.0)
-    | inr good ↦ elim good [
-      | inl refused ↦ absurd (no_fault refused.1.0 refused.1.1)
-      | inr taken ↦ taken.2
-    ]
-  ]),
-  (λ h. inr (inr (least_good key small, is, h))),
-)
-
--- an item that has the key and no rule is the first bad one
-pub rule_refused : (place key : ℕ) (bytes : List ℕ) (items : List (List ℕ)) (found : RuleBytesError)
-    (fault : Option RulesBytesError) → key ≤ 4 → HasRuleFault bytes found
-    → ((other : RuleBytesError) → HasRuleFault bytes other → other ≡ found) → (AreRule bytes → ⊥)
-    → FirstRuleFault place key ((key ∷ bytes) ∷ items) fault ↔ (fault ≡ Some (errors.Rule place found))
-rule_refused place key bytes items found fault small is one no_rule = (
-  (λ h. elim h [
-    | inl bad ↦ absurd (least_not_bad key small bad.0)
-    | inr good ↦ elim good [
-      | inl refused ↦ refused.1.2 ∙ ap (λ other. Some (errors.Rule place other)) (one refused.1.0 refused.1.1)
-      | inr taken ↦ absurd (no_rule taken.1)
-    ]
-  ]),
-  (λ h. inr (inl (least_good key small, (found, is, h)))),
-)
+-- ---- After all five keys
 
 -- an item that is left after all five keys is bad by its key
 left_over : (place first : ℕ) (bytes : List ℕ) (items : List (List ℕ)) (fault : Option RulesBytesError)
@@ -178,6 +107,7 @@ empty_bad : (place : ℕ) (item : List ℕ) (others : List (List ℕ)) (fault : 
 empty_bad place [] others fault h = ((λ is. is), (λ is. is))
 empty_bad place (first ∷ item) others fault h = absurd (omega arith)
 
+-- so where it is the first that is left, it is the first bad one
 pub empty_left : (items : List (List ℕ)) (place : ℕ) (item : List ℕ) (fault : Option RulesBytesError)
     → slice_get items place ≡ Some item → length item ≡ 0
     → FirstRuleFault place 5 (drop place items) fault ↔ (fault ≡ Some (errors.ItemEmpty place))
@@ -191,6 +121,7 @@ key_bad : (place : ℕ) (item : List ℕ) (others : List (List ℕ)) (fault : Op
 key_bad place [] others fault h = absurd (omega arith)
 key_bad place (first ∷ item) others fault h = left_over place first item others fault
 
+-- so where it is the first that is left, it is the first bad one by its key
 pub key_left : (items : List (List ℕ)) (place : ℕ) (item : List ℕ) (fault : Option RulesBytesError)
     → slice_get items place ≡ Some item → 0 < length item
     → FirstRuleFault place 5 (drop place items) fault ↔ (fault ≡ Some (errors.Key place))
@@ -198,24 +129,11 @@ key_left items place item fault h long =
     subst (λ all. FirstRuleFault place 5 all fault ↔ (fault ≡ Some (errors.Key place))) (sym (first_left items place item h))
     (key_bad place item (drop (place + 1) items) fault long)
 
--- ---- All keys
+-- ---- One step after another
 
 -- one agreement after another
 pub then_iff : {A B C : Type 0} → (A ↔ B) → (B ↔ C) → (A ↔ C)
 then_iff first second = ((λ a. second.0 (first.0 a)), (λ c. first.1 (second.1 c)))
-
--- rules that were taken one after another until no item was left have the items
-pub all_taken : (rules : FiveRules) (all after_zero after_one after_two after_few after_many : List (List ℕ))
-    → all ≡ keyed 0 rules.zero ++ after_zero → after_zero ≡ keyed 1 rules.one ++ after_one
-    → after_one ≡ keyed 2 rules.two ++ after_two → after_two ≡ keyed 3 rules.few ++ after_few
-    → after_few ≡ keyed 4 rules.many ++ after_many → after_many ≡ [] → all ≡ rule_items rules
-all_taken rules all after_zero after_one after_two after_few after_many is_zero is_one is_two is_few is_many none =
-    let last : after_few ≡ keyed 4 rules.many =
-    is_many ∙ ap (λ items. keyed 4 rules.many ++ items) none ∙ append-nil (keyed 4 rules.many) in
-    let from_few : after_two ≡ keyed 3 rules.few ++ keyed 4 rules.many = is_few ∙ ap (λ items. keyed 3 rules.few ++ items) last in
-    let from_two : after_one ≡ keyed 2 rules.two ++ (keyed 3 rules.few ++ keyed 4 rules.many) =
-    is_two ∙ ap (λ items. keyed 2 rules.two ++ items) from_few in
-    is_zero ∙ ap (λ items. keyed 0 rules.zero ++ items) (is_one ∙ ap (λ items. keyed 1 rules.one ++ items) from_two)
 
 -- ---- Rules have no bad item
 
@@ -261,18 +179,6 @@ Read = Result PluralRulesData RulesBytesError
 -- it tells this fault of the first bad item, or that no item is bad
 abbrev Tells : Read → Option RulesBytesError → Type 0
 Tells read fault = MatchResult read (λ _. fault ≡ None) (λ found. fault ≡ Some found)
-
--- bytes that are no packed list have the list's fault alone
-pub list_refused : (bytes : List ℕ) (found : ListError) → ((items : List (List ℕ)) → ListBytes items bytes → ⊥)
-    → ((fault : ListError) → (found ≡ fault) ↔ HasFault bytes fault)
-    → (fault : RulesBytesError) → (errors.List found ≡ fault) ↔ HasRulesFault bytes fault
-list_refused bytes found no_list told (errors.List fault) = (
-  (λ h. let same : found ≡ fault = cc in (told fault).0 same),
-  (λ h. ap errors.List ((told fault).1 h)),
-)
-list_refused bytes found no_list told (errors.ItemEmpty place) = ((λ h. absurd cc), (λ h. absurd (no_list h.0 h.1)))
-list_refused bytes found no_list told (errors.Key place) = ((λ h. absurd cc), (λ h. absurd (no_list h.0 h.1)))
-list_refused bytes found no_list told (errors.Rule place fault) = ((λ h. absurd cc), (λ h. absurd (no_list h.0 h.1)))
 
 -- no item has a fault of lists
 not_of_lists : (place least : ℕ) (items : List (List ℕ)) (fault : ListError) → FirstRuleFault place least items (Some (errors.List fault)) → ⊥

@@ -7,8 +7,8 @@ use crate::error::RuleBytesError;
 use crate::first_byte::operand_of;
 use crate::item::{HEAD_LENGTH, RANGE_LENGTH};
 use crate::rule::Rule;
-use packed_list::laws::{item_bytes, read_again};
 use packed_list::PackedList;
+use packed_list::laws::{item_bytes, read_again};
 
 impl<'data> Rule<'data> {
     /// Reads bytes as a rule. It allocates nothing.

@@ -58,7 +58,9 @@ impl<'data> PluralRulesData<'data> {
 }
 
 // The list of the items, if no start is too high.
-fn list_of<'a, 'b>(items: &'b [RuleItem<'a>]) -> Result<ListWriter<&'b [RuleItem<'a>]>, RulesPackError>
+fn list_of<'a, 'b>(
+    items: &'b [RuleItem<'a>],
+) -> Result<ListWriter<&'b [RuleItem<'a>]>, RulesPackError>
     requires { length items.now ≤ 5 }
     ensures list { IfOk result (λ list. list ≡ lent_items items.now) }
     ensures starts { IfOk result (λ _. CanPack (lent_items items.now)) }
