@@ -63,10 +63,7 @@ fn elements_of(alloc: Global, json: &[u8]) -> Result<PluralElementsPackedCow<'st
 }
 
 // The elements of a JSON value.
-fn packed_elements(
-    alloc: Global,
-    value: &Value,
-) -> Result<PluralElementsPackedCow<'static>, Fault>
+fn packed_elements(alloc: Global, value: &Value) -> Result<PluralElementsPackedCow<'static>, Fault>
     ensures { Means (packed_of_json (view value.now)) result }
 {
     Ok(PluralElementsPackedCow::from_json(alloc, value)?)

@@ -34,12 +34,7 @@ pub extern "C" fn plurals_message(
 }
 
 // The message of the number.
-fn message_for(
-    alloc: Global,
-    rules: &[u8],
-    elements: &[u8],
-    number: &[u8],
-) -> Result<String, Fault>
+fn message_for(alloc: Global, rules: &[u8], elements: &[u8], number: &[u8]) -> Result<String, Fault>
     ensures { Gives string_bytes (IsMessageFor rules.now elements.now number.now) result }
 {
     let rules = rules_in(rules)?;

@@ -59,6 +59,11 @@ fn each_category_has_its_number(rt: HostRuntime) {
     holds!(rt; none == 0);
     holds!(rt; plurals_check_rules(&[]) == 0);
     holds!(rt; plurals_category_of_integer(&[], 1) == 5);
+    // A space is a rule, and is true of all numbers.
+    let mut block = [0u8; 3];
+    holds!(rt; one_text(rt.alloc(), b" ", &mut block) == 3);
+    holds!(rt; block == *b"\x01\0\x01");
+    holds!(rt; plurals_category_of_integer(&block, 7) == 1);
 }
 
 #[test]

@@ -97,7 +97,10 @@ fn faults_of_json_texts_have_their_numbers(rt: HostRuntime) {
         (b"[]", -72),
         (b"{\"cardinal\":{\"a\":{\"one\":\"i 1\"}}}", -22),
         (b"{\"ranges\":{\"a\":{\"ranges\":{\"x\":\"one\"}}}}", -73),
-        (b"{\"ranges\":{\"a\":{\"ranges\":{\"one--one\":\"x\"}}}}", -74),
+        (
+            b"{\"ranges\":{\"a\":{\"ranges\":{\"one--one\":\"x\"}}}}",
+            -74,
+        ),
         (b"{}", -75),
     ];
     for (json, fault) in rows {

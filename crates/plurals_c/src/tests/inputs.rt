@@ -4,7 +4,8 @@ use crate::rules::plurals_rules_from_texts;
 use std::alloc::Global;
 
 // One locale with a cardinal rule and an ordinal one.
-pub const DOCUMENT: &[u8] = b"{\"cardinal\":{\"a\":{\"one\":\"i = 1 and v = 0\"}},\"ordinal\":{\"a\":{\"one\":\"n % 10 = 1 and n % 100 != 11\"}}}";
+pub const DOCUMENT: &[u8] =
+    b"{\"cardinal\":{\"a\":{\"one\":\"i = 1 and v = 0\"}},\"ordinal\":{\"a\":{\"one\":\"n % 10 = 1 and n % 100 != 11\"}}}";
 
 // Other "{} items", one "{} item".
 pub const ITEMS: &[u8] = b"\x80\x08{} items\x01\0\x10{} item";

@@ -30,8 +30,7 @@ returns c =
     let exponent = c.in_ok-number.number.exponent in
     let element : PackedValue = element_at (values_of elements) c.from.result rules in
     let kept : IsKeptElement (values_of elements) rules digits exponent element = (c.from.result, c.from.ensures.0, refl) in
-    let exact = c.kept_element_is_exact.ensures (values_of elements) rules digits exponent element c.from.ensures.1 kept in
-    (
+    let exact = c.kept_element_is_exact.ensures (values_of elements) rules digits exponent element c.from.ensures.1 kept in (
       Ok rules,
       c.in_ok-rules.ensures,
       (

@@ -42,8 +42,7 @@ returns-in-Ok c =
     c.in_ok-text.ensures.1 c.in-Ok.ensures.kept in
     let exact = subst (λ (text : List ℕ). IsMessageWith (IsExactElement c.new-message.result rules) x text filled)
     c.in_ok-text.ensures.1 c.in-Ok.ensures.exact in
-    let number = c.args.number.now in
-    (
+    let number = c.args.number.now in (
       Ok rules,
       c.in_ok-rules.ensures,
       (
