@@ -91,7 +91,7 @@ fn a_rule_without_relations_has_its_key_alone(rt: HostRuntime) -> Result<(), Fai
         many: Some(Rule::parse_bytes(b"")?),
         ..PluralRulesData::default()
     };
-    holds!(rt; rules.to_bytes(rt.alloc())?.as_slice() == b"\x01\0\x04");
+    holds!(rt; rules.to_bytes(rt.alloc())?.as_slice() == b"\x01\0\x04".as_slice());
     holds!(rt; PluralRulesData::from_bytes(b"\x01\0\x04")? == rules);
     Ok(())
 }
