@@ -21,13 +21,14 @@ use std::alloc::Global;
 
 impl<'data> PluralRulesData<'data> {
     /// The bytes of the rules, made by one allocation: a packed list of the rules that are present, each after the byte
-    /// of its key, 0 zero, 1 one, 2 two, 3 few, 4 many. No rules are no bytes. With `ONE_AND_FEW`, the bytes of the rules
-    /// `n = 1` for one and `n = 2` for few:
+    /// of its key, 0 zero, 1 one, 2 two, 3 few, 4 many. No rules are no bytes.
+    ///
+    /// With `read_rules`, which reads the texts of one and few, and `ONE_AND_FEW`, the bytes of these rules:
     ///
     /// <!-- snippet crates/plural_base_tests/src/tests/rules_bytes.rt:
     ///      example body of fn packs_each_rule_after_its_key -->
     /// ```
-    /// let rules = rules_of(alloc, Some("n = 1"), Some("n = 2"))?;
+    /// let rules = read_rules(alloc, Some("n = 1"), Some("n = 2"))?;
     /// let bytes = rules.to_bytes(alloc)?;
     /// assert!(rt; bytes.as_slice() == ONE_AND_FEW);
     /// let stored = PluralRulesData::from_bytes(&bytes)?;
