@@ -37,6 +37,7 @@ pub use Rattle.plural_runtime.specs.RuleKinds
 pub use Rattle.plural_base.specs.Categories
 pub use Rattle.plural_base.specs.FiveRules
 pub use Rattle.plural_base.specs.RuleTexts
+pub use Rattle.plural_base.specs.RulesBytes
 pub use Rattle.plural_base.specs.DecimalChoice
 -- ranges
 pub use Rattle.plural_base.specs.Ranges

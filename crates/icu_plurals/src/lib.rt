@@ -174,6 +174,7 @@ pub use packed_list::{Items, ListError, PackError, PackedList};
 pub use plural_base::{
     AllCategories, AsPluralRules, Categories, DataError, ElementsPackError, JsonError,
     JsonProvider, PluralCategory, PluralRuleType, PluralRules, PluralRulesOptions,
-    PluralRulesWithRanges, PluralsProvider, RulesTextError, rule_from_json, rule_to_json,
+    PluralRulesWithRanges, PluralsProvider, RulesBytesError, RulesPackError, RulesTextError,
+    rule_from_json, rule_to_json,
 };
 pub use plural_reference::{OperandsError, PluralOperands, RawPluralOperands, Sequence};

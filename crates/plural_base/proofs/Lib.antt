@@ -20,3 +20,5 @@ pub mod RangesWritten
 pub mod RangeRefusals
 pub mod RangeMembers
 pub mod RangesAgain
+pub mod OneRulesEncoding
+pub mod RuleItemFaults

@@ -2,3 +2,4 @@
 pub mod CategoriesLeft
 pub mod ModulusTests
 pub mod JsonSteps
+pub mod KeyedItems

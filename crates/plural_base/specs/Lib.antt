@@ -2,6 +2,7 @@
 pub use Rattle.fixed_decimal.specs.Digits
 pub use Rattle.fixed_decimal.specs.Places
 pub use Rattle.fixed_decimal.specs.Written
+pub use Rattle.packed_list.specs.ListBytes
 pub use Rattle.plural_reference.specs.Operands
 pub use Rattle.plural_reference.specs.Lexer
 pub use Rattle.plural_reference.specs.Parser
@@ -20,6 +21,7 @@ pub mod Categories
 pub mod FiveRules
 pub mod Ranges
 pub mod RuleTexts
+pub mod RulesBytes
 pub mod PluralBaseErrors
 pub mod Json
 pub mod RulesJson

@@ -1,10 +1,16 @@
--- The texts of the errors of JSON values (docs/JSON.md) and of packing elements.
+-- The texts of the errors of JSON values (docs/JSON.md), of rules as bytes (docs/FORMATS.md) and of packing elements.
 use Rattle.std.specs.Prelude.{ℕ, List, ◌++◌, codes, Option, Some, None}
-use Rattle.plural_runtime.specs.PluralRuntimeErrors.{rule_error_text}
+use Rattle.std.specs.Fmt.{decimal}
+use Rattle.packed_list.specs.PackedListErrors.{list_error_text}
+use Rattle.plural_runtime.specs.PluralRuntimeErrors.{rule_error_text, rule_bytes_error_text}
 use Rattle.plural_base.specs.declared.category.PluralCategory.{PluralCategory}
 use Rattle.plural_base.specs.Categories.{name_of}
 use Rattle.plural_base.specs.declared.elements_pack_error.ElementsPackError.{ElementsPackError}
 use Rattle.plural_base.specs.declared.elements_pack_error.ElementsPackError.TheVariants as packing
+use Rattle.plural_base.specs.declared.rules.bytes.error.RulesBytesError.{RulesBytesError}
+use Rattle.plural_base.specs.declared.rules.bytes.error.RulesBytesError.TheVariants as errors
+use Rattle.plural_base.specs.declared.rules.bytes.error.RulesPackError.{RulesPackError}
+use Rattle.plural_base.specs.declared.rules.bytes.error.RulesPackError.TheVariants as limits
 use Rattle.plural_base.specs.declared.json.error.JsonError.{JsonError}
 use Rattle.plural_base.specs.declared.json.error.JsonError.TheVariants.{Float, Shape, Rule, RangeKey, RangeValue, Pack, Memory}
 
@@ -13,6 +19,18 @@ abbrev pub elements_pack_error_text : ElementsPackError → List ℕ
 elements_pack_error_text packing.DefaultLimit = codes "default too long"
 elements_pack_error_text packing.StartLimit = codes "elements too long"
 elements_pack_error_text packing.Memory = codes "out of memory"
+
+-- why bytes are no rules
+abbrev pub rules_bytes_error_text : RulesBytesError → List ℕ
+rules_bytes_error_text (errors.List fault) = list_error_text fault
+rules_bytes_error_text (errors.ItemEmpty place) = codes "rule " ++ decimal place ++ codes " without a byte"
+rules_bytes_error_text (errors.Key place) = codes "bad key of rule " ++ decimal place
+rules_bytes_error_text (errors.Rule place fault) = codes "rule " ++ decimal place ++ codes ": " ++ rule_bytes_error_text fault
+
+-- why rules can't be packed
+abbrev pub rules_pack_error_text : RulesPackError → List ℕ
+rules_pack_error_text limits.StartLimit = codes "rules too long"
+rules_pack_error_text limits.Memory = codes "out of memory"
 
 -- the category, where one is named
 abbrev pub rule_place_text : Option PluralCategory → List ℕ

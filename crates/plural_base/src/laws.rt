@@ -2,12 +2,14 @@
 
 ghost use Rattle.plural_base.specs.ChoiceLaws.{BoundIsWidestForChoice, KeptChoiceIsExact};
 ghost use Rattle.plural_base.specs.Ranges.{RangeBytesDiffer, RangesAreTheirMaps};
+ghost use Rattle.plural_base.specs.RulesBytes.{RulesHaveOneEncoding};
 ghost use Rattle.plural_base.specs.RuleTexts.{HaveEveryReading, IsAnswerFor};
 ghost use Rattle.plural_reference.specs.Parser.{Reads};
 ghost use Rattle.plural_reference.specs.Lexer.{TextReads};
 ghost use Rattle.plural_reference.specs.Samples.{ReadsCondition};
 ghost use Rattle.plural_runtime.specs.RuleOfText.{TextsGiveOneAnswer};
 
+use packed_list::laws as lists;
 use plural_reference::laws::exactness;
 use plural_reference::laws::reading::{one_list_of_tokens, one_reading};
 use plural_runtime::laws as runtime;
@@ -51,6 +53,14 @@ pub fn rules_have_every_reading()
 {
     one_list_of_tokens();
     one_reading();
+}
+
+/// Rules of a language have the same bytes if and only if they are the same.
+pub fn rules_have_one_encoding()
+    ensures { RulesHaveOneEncoding }
+{
+    lists::one_encoding();
+    runtime::one_encoding();
 }
 
 /// No two ranges have one byte: [`UnvalidatedPluralRange::from_range`] is injective.

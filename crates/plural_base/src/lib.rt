@@ -36,6 +36,7 @@ pub use ranges::key::UnvalidatedPluralRange;
 pub use ranges::rules_with_ranges::PluralRulesWithRanges;
 pub use rules::PluralRules;
 pub use rules::as_plural_rules::AsPluralRules;
+pub use rules::bytes::error::{RulesBytesError, RulesPackError};
 pub use rules::categories::Categories;
 pub use rules::data::PluralRulesData;
 pub use rules::text::RulesTextError;

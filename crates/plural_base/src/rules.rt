@@ -6,6 +6,7 @@ ghost use Rattle.plural_base.specs.FiveRules.{first_category, passes, categories
 ghost use Rattle.plural_base.specs.declared.category.PluralCategory.TheVariants.{Other};
 
 pub(crate) mod as_plural_rules;
+pub(crate) mod bytes;
 pub(crate) mod categories;
 pub(crate) mod data;
 pub(crate) mod text;

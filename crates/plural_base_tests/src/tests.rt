@@ -5,4 +5,5 @@ mod json;
 mod long;
 mod provider;
 mod ranges;
+mod rules_bytes;
 mod texts;

@@ -3,6 +3,7 @@ mod ItemBytes
 mod FirstBytes
 mod ItemRanges
 mod RuleItems
+mod RuleFaults
 mod Meanings
 mod Walks
 mod TreeWalks

@@ -1,12 +1,12 @@
 -- The relations of a packed rule, and its groups (UTS 35 Part 3, Plural Rules Syntax: and-conditions joined by `or`).
-use Rattle.std.specs.Prelude.{◌<◌, ◌^◌, List, [], ◌∷◌, ℕ, ◌+◌, ◌++◌, map, flat_map, ◌-◌, ◌%◌, length, slice_index, Bool}
+use Rattle.std.specs.Prelude.{◌≡◌, ◌<◌, ◌^◌, List, [], ◌∷◌, ℕ, ◌+◌, ◌++◌, map, flat_map, ◌-◌, ◌%◌, length, slice_index, Bool}
 use Rattle.std.specs.Prelude.{if◌then◌else◌, ◌==◌, ◌&&◌, nat_lt, nat_le, not, Option, Some, None, nat_eq}
 use Rattle.std.specs.List.{AllByRecursion}
 use Rattle.plural_reference.specs.Truth.{RelationMeaning}
 use Rattle.plural_runtime.specs.declared.kinds.AndOr.{AndOr}
 use Rattle.plural_runtime.specs.declared.kinds.AndOr.TheVariants.{And, Or}
 use Rattle.std.specs.Int.{w32, to_le_bytes}
-use Rattle.packed_list.specs.ListBytes.{ListBytes, list_bytes}
+use Rattle.packed_list.specs.ListBytes.{ListBytes, list_bytes, HasFault}
 use Rattle.plural_reference.specs.declared.ast.Operand.{Operand}
 use Rattle.plural_reference.specs.declared.ast.Operand.TheVariants.{N, I, V, W, F, T, C, E}
 use Rattle.plural_reference.specs.declared.ast.Operator.{Operator}
@@ -121,6 +121,11 @@ or_else (Some fault) other = Some fault
 abbrev pub first_relation_fault : ℕ → List (List ℕ) → Option RuleBytesError
 first_relation_fault place [] = None
 first_relation_fault place (item ∷ items) = or_else (relation_fault place item) (first_relation_fault (place + 1) items)
+
+-- bytes are refused as a rule with a fault: they are no packed list, or it is that of the first bad item
+abbrev pub HasRuleFault : List ℕ → RuleBytesError → Type 0
+HasRuleFault bytes (errors.List fault) = HasFault bytes fault
+HasRuleFault bytes fault = (items : List (List ℕ)) × ListBytes items bytes × (first_relation_fault 0 items ≡ Some fault)
 
 -- ---- When two packed relations are equal.
 

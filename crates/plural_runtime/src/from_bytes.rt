@@ -1,15 +1,14 @@
 //! Reads bytes as a rule.
 
-ghost use Rattle.std.specs.Prelude.{◌≡◌, ◌↔◌, ◌≤◌, List, ℕ, length, IfOk, MatchResult, Ok, Err, Some, None};
-ghost use Rattle.packed_list.specs.ListBytes.{ListBytes, HasFault};
-ghost use Rattle.plural_runtime.specs.PackedRelations.{PackedRelation, RuleBytes, relation_fault, first_relation_fault};
+ghost use Rattle.std.specs.Prelude.{◌≡◌, ◌↔◌, ◌≤◌, List, length, IfOk, Ok, Err};
+ghost use Rattle.plural_runtime.specs.PackedRelations.{PackedRelation, RuleBytes, HasRuleFault, relation_fault, first_relation_fault};
 
 use crate::error::RuleBytesError;
 use crate::first_byte::operand_of;
 use crate::item::{HEAD_LENGTH, RANGE_LENGTH};
 use crate::rule::Rule;
+use packed_list::PackedList;
 use packed_list::laws::{item_bytes, read_again};
-use packed_list::{ListError, PackedList};
 
 impl<'data> Rule<'data> {
     /// Reads bytes as a rule. It allocates nothing.
@@ -36,9 +35,7 @@ impl<'data> Rule<'data> {
     pub fn parse_bytes(bytes: &'data [u8]) -> Result<Rule<'data>, RuleBytesError>
         ensures ok { IfOk result (λ rule. RuleBytes rule bytes.now) }
         ensures accepted { (relations : List PackedRelation) → RuleBytes relations bytes.now → result ≡ Ok relations }
-        ensures list_fault { (fault : ListError) → (result ≡ Err (RuleBytesError.List fault)) ↔ HasFault bytes.now fault }
-        ensures item_fault { (items : List (List ℕ)) → ListBytes items bytes.now
-            → MatchResult result (λ _. first_relation_fault 0 items ≡ None) (λ fault. first_relation_fault 0 items ≡ Some fault) }
+        ensures refused { (fault : RuleBytesError) → (result ≡ Err fault) ↔ HasRuleFault bytes.now fault }
     {
         read_again();
         item_bytes();

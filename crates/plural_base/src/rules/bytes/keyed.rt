@@ -1,0 +1,91 @@
+//! The rules in the items of a list, taken key by key.
+
+ghost use Rattle.std.specs.Prelude.{◌≡◌, ◌↔◌, ◌+◌, ◌++◌, ◌∷◌, ◌≤◌, [], drop, Option, Some, None, IfOk, IfNone, MatchOption, MatchResult};
+ghost use Rattle.plural_base.specs.FiveRules.{rules_of};
+ghost use Rattle.plural_base.specs.RulesBytes.{CanPackRule, CanPackRules, FirstRuleFault, keyed, rule_items};
+ghost use Rattle.plural_base.specs.Inner.KeyedItems.{HasOtherKey, items_left};
+
+use crate::rules::bytes::error::RulesBytesError;
+use crate::rules::bytes::keys;
+use crate::rules::data::PluralRulesData;
+use packed_list::PackedList;
+use plural_runtime::Rule;
+
+// The rules of the items, if none of these is bad.
+pub(crate) fn rules_in(list: PackedList<'_>) -> Result<PluralRulesData<'_>, RulesBytesError>
+    ensures can_pack { IfOk result (λ rules. CanPackRules (rules_of rules)) }
+    ensures items { IfOk result (λ rules. list.entry ≡ rule_items (rules_of rules)) }
+    ensures fault { (fault : Option RulesBytesError) → FirstRuleFault 0 0 list.entry fault
+        ↔ MatchResult result (λ _. fault ≡ None) (λ found. fault ≡ Some found) }
+{
+    let mut items = KeyedRules { list, place: 0 };
+    let zero = items.take(keys::ZERO)?;
+    let one = items.take(keys::ONE)?;
+    let two = items.take(keys::TWO)?;
+    let few = items.take(keys::FEW)?;
+    let many = items.take(keys::MANY)?;
+    match items.fault() {
+        None => Ok(PluralRulesData {
+            zero,
+            one,
+            two,
+            few,
+            many,
+        }),
+        Some(fault) => Err(fault),
+    }
+}
+
+// The items of a list, from a place on.
+#[derive(Drop)]
+pub(crate) struct KeyedRules<'data> {
+    list: PackedList<'data>,
+    place: usize,
+}
+
+impl<'data> KeyedRules<'data> {
+    // Takes the first item that is left and returns its rule, if it has this key. All keys below this one were asked for.
+    fn take(&mut self, key: u8) -> Result<Option<Rule<'data>>, RulesBytesError>
+        requires key { key ≤ 4 }
+        requires place { self.old.place ≤ key }
+        ensures place { IfOk result (λ _. self.new.place ≤ key + 1) }
+        ensures can_pack { IfOk result CanPackRule }
+        ensures items { IfOk result (λ rule. items_left self.old ≡ keyed key rule ++ items_left self.new) }
+        ensures fault { (fault : Option RulesBytesError) → FirstRuleFault self.old.place key (items_left self.old) fault
+            ↔ MatchResult result (λ _. FirstRuleFault self.new.place (key + 1) (items_left self.new) fault) (λ found. fault ≡ Some found) }
+    {
+        let Some(bytes) = self.bytes_of(key) else {
+            return Ok(None);
+        };
+        match Rule::parse_bytes(bytes) {
+            Ok(rule) => {
+                self.place += 1;
+                Ok(Some(rule))
+            }
+            Err(fault) => Err(RulesBytesError::Rule(self.place, fault)),
+        }
+    }
+
+    // What follows the key in the first item that is left, if it has this key.
+    fn bytes_of(&self, key: u8) -> Option<&'data [u8]>
+        ensures { MatchOption result (HasOtherKey key (items_left self.now))
+            (λ bytes. items_left self.now ≡ (key ∷ bytes.now) ∷ drop (self.now.place + 1) self.now.list) }
+    {
+        let item = self.list.get(self.place)?;
+        let (first, bytes) = item.split_first()?;
+        if *first == key { Some(bytes) } else { None }
+    }
+
+    // What is wrong with the first item that is left after all keys were asked for, if any.
+    fn fault(&self) -> Option<RulesBytesError>
+        ensures none { IfNone result (items_left self.now ≡ []) }
+        ensures fault { (fault : Option RulesBytesError) → FirstRuleFault self.now.place 5 (items_left self.now) fault ↔ (fault ≡ result) }
+    {
+        let item = self.list.get(self.place)?;
+        if item.is_empty() {
+            Some(RulesBytesError::ItemEmpty(self.place))
+        } else {
+            Some(RulesBytesError::Key(self.place))
+        }
+    }
+}

@@ -1,0 +1,4 @@
+pub mod Steps
+pub mod Numbers
+pub mod Texts
+pub mod Documents

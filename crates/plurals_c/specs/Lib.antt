@@ -1,0 +1,8 @@
+pub mod Faults
+pub mod Results
+pub mod GivenBytes
+pub mod GivenTexts
+pub mod GivenDocuments
+pub mod NumberAnswers
+-- not definitions of the subject
+pub mod Inner

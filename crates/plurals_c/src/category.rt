@@ -1,0 +1,93 @@
+//! The category of a number under a block of rules.
+
+ghost use Rattle.std.specs.Prelude.{◌≡◌};
+ghost use Rattle.plurals_c.specs.NumberAnswers.{IsCategoryOf, IsCategoryOfInteger, IsExactnessOf, category_number, truth_number};
+ghost use Rattle.plurals_c.specs.Results.{Answered};
+
+use crate::fault::Fault;
+use crate::given::{number_in, rules_in};
+use icu_plurals::{PluralCategory, PluralOperands};
+use std::alloc::Global;
+
+/// The category of an integer, by its number: 0 zero, 1 one, 2 two, 3 few, 4 many, 5 other. It takes no
+/// memory.
+///
+/// A fault is negative, and is one of the rules.
+#[unsafe(no_mangle)]
+pub extern "C" fn plurals_category_of_integer(rules: &[u8], number: u64) -> i32
+    ensures { Answered (IsCategoryOfInteger rules.now number) category_number result }
+{
+    match category_of_integer(rules, number) {
+        Ok(category) => category_number(category),
+        Err(fault) => fault.number(),
+    }
+}
+
+/// The category of the number that a text writes, a decimal with a compact exponent or not, by its number
+/// as [`plurals_category_of_integer`] returns it. It is chosen by what is kept of the number, which
+/// is all of it where [`plurals_is_exact`] returns 1.
+///
+/// A fault is negative: one of the rules, else one of the number. It takes memory for the number.
+#[unsafe(no_mangle)]
+pub extern "C" fn plurals_category(alloc: Global, rules: &[u8], number: &[u8]) -> i32
+    ensures { Answered (IsCategoryOf rules.now number.now) category_number result }
+{
+    match category_of(alloc, rules, number) {
+        Ok(category) => category_number(category),
+        Err(fault) => fault.number(),
+    }
+}
+
+/// 1 if the category of the number is that of the number itself, whatever its length, and not only of
+/// what is kept of it; else 0.
+///
+/// A fault is negative: one of the rules, else one of the number. It takes memory for the number.
+#[unsafe(no_mangle)]
+pub extern "C" fn plurals_is_exact(alloc: Global, rules: &[u8], number: &[u8]) -> i32
+    ensures { Answered (IsExactnessOf rules.now number.now) truth_number result }
+{
+    match is_exact_for(alloc, rules, number) {
+        Ok(is_exact) => i32::from(is_exact),
+        Err(fault) => fault.number(),
+    }
+}
+
+// The category of an integer.
+fn category_of_integer(rules: &[u8], number: u64) -> Result<PluralCategory, Fault>
+    ensures { IsCategoryOfInteger rules.now number result }
+{
+    let rules = rules_in(rules)?;
+    Ok(rules.category_for(PluralOperands::from(number)))
+}
+
+// The category of the number that a text writes.
+fn category_of(alloc: Global, rules: &[u8], number: &[u8]) -> Result<PluralCategory, Fault>
+    ensures { IsCategoryOf rules.now number.now result }
+{
+    let rules = rules_in(rules)?;
+    let number = number_in(alloc, number)?;
+    Ok(rules.category_for_compact(&number))
+}
+
+// Whether this category is exact.
+fn is_exact_for(alloc: Global, rules: &[u8], number: &[u8]) -> Result<bool, Fault>
+    ensures { IsExactnessOf rules.now number.now result }
+{
+    let rules = rules_in(rules)?;
+    let number = number_in(alloc, number)?;
+    Ok(rules.is_exact_for(&number))
+}
+
+// The number of a category.
+fn category_number(category: PluralCategory) -> i32
+    ensures { result ≡ category_number category }
+{
+    match category {
+        PluralCategory::Zero => 0,
+        PluralCategory::One => 1,
+        PluralCategory::Two => 2,
+        PluralCategory::Few => 3,
+        PluralCategory::Many => 4,
+        PluralCategory::Other => 5,
+    }
+}
