@@ -23,6 +23,18 @@ impl<'data> PluralRulesData<'data> {
     /// The bytes of the rules, made by one allocation: a packed list of the rules that are present, each after the byte
     /// of its key, 0 zero, 1 one, 2 two, 3 few, 4 many. No rules are no bytes.
     ///
+    /// With `read_rules`, which reads the texts of one and few, and `ONE_AND_FEW`, the bytes of these rules:
+    ///
+    /// <!-- snippet crates/plural_base_tests/src/tests/rules_bytes.rt:
+    ///      example body of fn packs_each_rule_after_its_key -->
+    /// ```
+    /// let rules = read_rules(alloc, Some("n = 1"), Some("n = 2"))?;
+    /// let bytes = rules.to_bytes(alloc)?;
+    /// assert!(rt; bytes.as_slice() == ONE_AND_FEW);
+    /// let stored = PluralRulesData::from_bytes(&bytes)?;
+    /// assert!(rt; stored == rules);
+    /// ```
+    ///
     /// The errors: a rule would start after place 65535 of the data ([`RulesPackError::StartLimit`]), which is looked
     /// for first; out of memory ([`RulesPackError::Memory`]).
     pub fn to_bytes(&self, alloc: Global) -> Result<Vec<u8>, RulesPackError>
@@ -35,6 +47,21 @@ impl<'data> PluralRulesData<'data> {
     }
 
     /// The rules in these bytes, borrowed from them. It takes no memory.
+    ///
+    /// <!-- snippet crates/plural_base_tests/src/tests/rules_bytes.rt:
+    ///      example "let rules" to "}" of fn rules_that_are_read_choose_as_before -->
+    /// ```
+    /// let rules = PluralRules::from_data(PluralRulesData::from_bytes(ONE_AND_FEW)?);
+    /// let rows = [
+    ///     (0u8, PluralCategory::Other),
+    ///     (1, PluralCategory::One),
+    ///     (2, PluralCategory::Few),
+    ///     (3, PluralCategory::Other),
+    /// ];
+    /// for (number, category) in rows {
+    ///     assert!(rt; rules.category_for(PluralOperands::from(number)) == category);
+    /// }
+    /// ```
     ///
     /// The error is that the bytes are no packed list ([`RulesBytesError::List`]), or what is wrong with the first bad
     /// item: it has no byte ([`RulesBytesError::ItemEmpty`]); its key is above 4, or not above the key of the item

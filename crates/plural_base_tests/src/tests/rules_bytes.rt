@@ -12,8 +12,8 @@ use std::test::Fail;
 const ONE_AND_FEW: &[u8] =
     b"\x02\0\x10\0\x01\x01\0\xc0\0\0\0\0\x01\0\0\0\x01\0\0\0\x03\x01\0\xc0\0\0\0\0\x02\0\0\0\x02\0\0\0";
 
-// The rules of these texts.
-fn rules_of(
+// The rules of the texts of one and few.
+fn read_rules(
     alloc: Global,
     one: Option<&str>,
     few: Option<&str>,
@@ -23,7 +23,7 @@ fn rules_of(
 
 #[test]
 fn packs_each_rule_after_its_key(rt: HostRuntime) -> Result<(), Fail> {
-    let rules = rules_of(rt.alloc(), Some("n = 1"), Some("n = 2"))?;
+    let rules = read_rules(rt.alloc(), Some("n = 1"), Some("n = 2"))?;
     let bytes = rules.to_bytes(rt.alloc())?;
     holds!(rt; bytes.as_slice() == ONE_AND_FEW);
     let stored = PluralRulesData::from_bytes(&bytes)?;
@@ -91,7 +91,7 @@ fn a_rule_without_relations_has_its_key_alone(rt: HostRuntime) -> Result<(), Fai
         many: Some(Rule::parse_bytes(b"")?),
         ..PluralRulesData::default()
     };
-    holds!(rt; rules.to_bytes(rt.alloc())?.as_slice() == b"\x01\0\x04");
+    holds!(rt; rules.to_bytes(rt.alloc())?.as_slice() == b"\x01\0\x04".as_slice());
     holds!(rt; PluralRulesData::from_bytes(b"\x01\0\x04")? == rules);
     Ok(())
 }
@@ -190,7 +190,7 @@ fn values(alloc: Global, count: usize) -> Result<String, AllocError> {
 // Why rules with this number of values for one and for few can't be packed.
 fn refusal(alloc: Global, one: usize, few: usize) -> Result<Option<RulesPackError>, Fail> {
     let (one, few) = (values(alloc, one)?, values(alloc, few)?);
-    let rules = rules_of(alloc, Some(&one), Some(&few))?;
+    let rules = read_rules(alloc, Some(&one), Some(&few))?;
     Ok(rules.to_bytes(alloc).err())
 }
 
@@ -204,7 +204,7 @@ fn no_rule_starts_after_the_limit(rt: HostRuntime) -> Result<(), Fail> {
 #[test]
 fn a_long_last_rule_comes_back(rt: HostRuntime) -> Result<(), Fail> {
     let few = values(rt.alloc(), 8191)?;
-    let rules = rules_of(rt.alloc(), Some("n = 1"), Some(&few))?;
+    let rules = read_rules(rt.alloc(), Some("n = 1"), Some(&few))?;
     holds!(rt; comes_back(rt.alloc(), &rules)?);
     Ok(())
 }
