@@ -187,7 +187,8 @@ static void make_rooms(void) {
     }
 }
 
-/* The place of that many bytes, at one of the two ends of a room. At the last end a slice without bytes has a pointer that can't be read. */
+/* The place of that many bytes, at one of the two ends of a room. At the last end a slice without bytes has a pointer that
+ * can't be read. */
 static uint8_t *place(size_t room, size_t length) { return below(2) ? rooms[room] : rooms[room] + room_size - length; }
 
 /* ---- the exports */
