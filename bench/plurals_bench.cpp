@@ -3,7 +3,7 @@
 //   plurals_bench check RULES    each category by both sides; the status is 1 if one differs
 //   plurals_bench time RULES     lines `ROW<tab>SIDE<tab>NANOSECONDS`: the least of some samples, the sides in turn
 //   plurals_bench count RULES    for callgrind: of each row and side a dump of some rounds and one of twice as many, each with a
-//                                mark `ROW<tab>SIDE<tab>OPERATIONS`, where a round is of so many operations
+//                                mark `ROW<tab>SIDE<tab>OPERATIONS`, with the operations of the first of them
 //
 // RULES is a file with a line `LOCALE<tab>CATEGORY<tab>TEXT` for each rule.
 #include <plurals.h>

@@ -26,8 +26,8 @@
  *     each power of two up to 16 that divides its size. plurals_check_rules and plurals_category_of_integer take none.
  *
  * What the caller has to see to
- *     A pointer and the length after it are one slice: so many bytes can be read there, and of out written. A text has no
- *     byte 0 at its end, or the length doesn't count it.
+ *     A pointer and the length after it are one slice: that many bytes can be read there, and in out written. A text needs
+ *     no byte 0 at its end; if it has one, the length doesn't count it.
  *     No pointer is null, not even with length 0: any other pointer, as that of "", goes with length 0, and is the empty
  *     text or the empty block. A length is at most that of one object, so below 2^63.
  *     out overlaps no other slice of the call. During a call no other thread writes to its slices, nor reads out.

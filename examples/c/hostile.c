@@ -187,7 +187,8 @@ static void make_rooms(void) {
     }
 }
 
-/* So many bytes at one of the two ends of a room. At the last end a slice without bytes has a pointer that can't be read. */
+/* The place of that many bytes, at one of the two ends of a room. At the last end a slice without bytes has a pointer that
+ * can't be read. */
 static uint8_t *place(size_t room, size_t length) { return below(2) ? rooms[room] : rooms[room] + room_size - length; }
 
 /* ---- the exports */
@@ -433,7 +434,7 @@ enum { LONG = 70000 };
 static char long_text[LONG], other_text[LONG], json[2 * LONG];
 static uint8_t long_out[2 * LONG];
 
-/* A relation of so many values, and an end. */
+/* Writes a relation with that many values, and an end. */
 static void long_rule(char *text, int values, const char *end) {
     size_t at = (size_t)sprintf(text, "n = 1");
     for (int k = 1; k < values; k++) at += (size_t)sprintf(text + at, ",1");
