@@ -133,3 +133,38 @@ fn a_buffer_that_is_too_short_stays_as_it_is(rt: HostRuntime) {
     // A text without a byte fits every buffer.
     holds!(rt; plurals_element(rt.alloc(), &[], b"\0", b"5", &mut []) == 0);
 }
+
+// At most one growth is refused: out of memory is returned at most once, and the calls made again succeed.
+#[test]
+fn growth_may_be_refused(rt: HostRuntime) {
+    let mut refused = 0u8;
+    for _ in 0..2u8 {
+        let mut out = [7u8; 64];
+        let texts = one_text(rt.alloc(), b"i = 1 and v = 0", &mut out);
+        let document = plurals_rules_from_document(rt.alloc(), DOCUMENT, b"a", 0, &mut out);
+        let json = b"{\"other\":[0,\"{} items\"],\"one\":[0,\"{} item\"]}";
+        let elements = plurals_elements_from_json(rt.alloc(), json, &mut out);
+        let number = b"1234567890123456789012345678901234567890.5";
+        let category = plurals_category(rt.alloc(), &[], number);
+        let exact = plurals_is_exact(rt.alloc(), &[], number);
+        let element = plurals_element(rt.alloc(), &[], ITEMS, number, &mut out);
+        let message = plurals_message(rt.alloc(), &[], ITEMS, number, &mut out);
+        let rows = [
+            (texts, 33),
+            (document, 33),
+            (elements, 20),
+            (i64::from(category), 5),
+            (i64::from(exact), 1),
+            (element, 8),
+            (message, 48),
+        ];
+        for (told, wanted) in rows {
+            if told == -1 {
+                refused = refused.saturating_add(1);
+            } else {
+                holds!(rt; told == wanted, at wanted);
+            }
+        }
+    }
+    holds!(rt; refused <= 1);
+}

@@ -4,7 +4,8 @@ use crate::category::plurals_category;
 use crate::elements::{plurals_element, plurals_elements_from_json};
 use crate::rules::{plurals_check_rules, plurals_rules_from_document, plurals_rules_from_texts};
 use crate::tests::assertion::holds;
-use crate::tests::inputs::{DOCUMENT, one_text};
+use crate::tests::inputs::{DOCUMENT, one_text, repeated};
+use std::test::Fail;
 
 #[test]
 fn faults_of_numbers_have_their_numbers(rt: HostRuntime) {
@@ -117,4 +118,21 @@ fn faults_of_json_texts_have_their_numbers(rt: HostRuntime) {
         let told = plurals_elements_from_json(rt.alloc(), json, &mut []);
         holds!(rt; told == fault, at json);
     }
+}
+
+#[test]
+fn faults_of_long_texts_have_their_numbers(rt: HostRuntime) -> Result<(), Fail> {
+    let text = repeated(rt.alloc(), b"i = 1", b" and i = 1", 5042, b"")?;
+    holds!(rt; one_text(rt.alloc(), text.as_slice(), &mut []) == -27);
+    let text = repeated(rt.alloc(), b"i = 1", b",1", 8191, b"")?;
+    let zero = text.as_slice();
+    let told = plurals_rules_from_texts(rt.alloc(), zero, b"", b"", b"", b"i = 1", &mut []);
+    holds!(rt; told == -40);
+    let before = b"{\"one\":[0,\"\"],\"other\":[0,\"";
+    let json = repeated(rt.alloc(), before, b"a", 256, b"\"]}")?;
+    holds!(rt; plurals_elements_from_json(rt.alloc(), json.as_slice(), &mut []) == -60);
+    let before = b"{\"other\":[0,\"\"],\"one\":[0,\"b\"],\"zero\":[0,\"";
+    let json = repeated(rt.alloc(), before, b"a", 65535, b"\"]}")?;
+    holds!(rt; plurals_elements_from_json(rt.alloc(), json.as_slice(), &mut []) == -61);
+    Ok(())
 }

@@ -1,7 +1,7 @@
 //! What the tests pass.
 
 use crate::rules::plurals_rules_from_texts;
-use std::alloc::Global;
+use std::alloc::{AllocError, Global};
 
 // One locale with a cardinal rule and an ordinal one.
 pub const DOCUMENT: &[u8] =
@@ -20,4 +20,20 @@ pub fn written_as(told: i64, out: &[u8], text: &[u8]) -> bool {
     told == text.len() as i64
         && out.starts_with(text)
         && out.iter().skip(text.len()).all(|byte| *byte == 7)
+}
+
+// A text with a part of it repeated.
+pub fn repeated(
+    alloc: Global,
+    before: &[u8],
+    part: &[u8],
+    count: u16,
+    after: &[u8],
+) -> Result<Vec<u8>, AllocError> {
+    let mut text = Vec::from_slice(alloc, before)?;
+    for _ in 0..count {
+        text.extend_from_slice(part)?;
+    }
+    text.extend_from_slice(after)?;
+    Ok(text)
 }
