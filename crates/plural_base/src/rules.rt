@@ -61,6 +61,7 @@ impl<'data> PluralRules<'data> {
     ghost use Rattle.plural_base.specs.FiveRules.{rules_of};
 
     /// The rules of this data.
+    #[inline]
     pub fn from_data(rules: PluralRulesData<'data>) -> PluralRules<'data>
         ensures { result ≡ rules_of rules.entry }
     {

@@ -10,6 +10,7 @@ use icu_plurals::{CompactDecimal, PluralRules};
 use std::alloc::Global;
 
 // The rules of a block, borrowed from it.
+#[inline(always)]
 pub(crate) fn rules_in(bytes: &[u8]) -> Result<PluralRules<'_>, Fault>
     ensures { ReadsRules bytes.now result }
 {

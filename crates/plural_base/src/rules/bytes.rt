@@ -69,6 +69,7 @@ impl<'data> PluralRulesData<'data> {
     /// ([`RulesBytesError::Rule`]).
     ///
     /// [`Rule::parse_bytes`]: plural_runtime::Rule::parse_bytes
+    #[inline(always)]
     pub fn from_bytes(bytes: &'data [u8]) -> Result<PluralRulesData<'data>, RulesBytesError>
         ensures ok { IfOk result (λ found. RulesBytes (rules_of found) bytes.now) }
         ensures accepted { (rules : FiveRules) → RulesBytes rules bytes.now

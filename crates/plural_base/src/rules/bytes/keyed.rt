@@ -12,6 +12,8 @@ use packed_list::PackedList;
 use plural_runtime::Rule;
 
 // The rules of the items, if none of these is bad.
+// Inlined, as are the calls in it, the rules are made in place: to copy them took more than to check them.
+#[inline(always)]
 pub(crate) fn rules_in(list: PackedList<'_>) -> Result<PluralRulesData<'_>, RulesBytesError>
     ensures can_pack { IfOk result (λ rules. CanPackRules (rules_of rules)) }
     ensures items { IfOk result (λ rules. list.entry ≡ rule_items (rules_of rules)) }
@@ -45,6 +47,7 @@ pub(crate) struct KeyedRules<'data> {
 
 impl<'data> KeyedRules<'data> {
     // Takes the first item that is left and returns its rule, if it has this key. All keys below this one were asked for.
+    #[inline(always)]
     fn take(&mut self, key: u8) -> Result<Option<Rule<'data>>, RulesBytesError>
         requires key { key ≤ 4 }
         requires place { self.old.place ≤ key }
@@ -67,6 +70,7 @@ impl<'data> KeyedRules<'data> {
     }
 
     // What follows the key in the first item that is left, if it has this key.
+    #[inline(always)]
     fn bytes_of(&self, key: u8) -> Option<&'data [u8]>
         ensures { MatchOption result (HasOtherKey key (items_left self.now))
             (λ bytes. items_left self.now ≡ (key ∷ bytes.now) ∷ drop (self.now.place + 1) self.now.list) }
@@ -77,6 +81,7 @@ impl<'data> KeyedRules<'data> {
     }
 
     // What is wrong with the first item that is left after all keys were asked for, if any.
+    #[inline]
     fn fault(&self) -> Option<RulesBytesError>
         ensures none { IfNone result (items_left self.now ≡ []) }
         ensures fault { (fault : Option RulesBytesError) → FirstRuleFault self.now.place 5 (items_left self.now) fault ↔ (fault ≡ result) }
