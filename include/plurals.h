@@ -124,14 +124,15 @@ enum plurals_fault {
 
 /* Writes the block of the rules that a document has for a locale (docs/JSON.md; tools/cldr-document makes a document of
  * CLDR's files). rule_type is PLURALS_CARDINAL or PLURALS_ORDINAL. The locale is compared byte by byte, without fallback.
- * Faults, the first of these that there is: the type; the locale's text isn't UTF-8; the text isn't JSON; it is no document,
- * in any of its locales; the locale isn't present; PLURALS_RULES_LIMIT. Takes memory, in the measure of the document. */
+ * Faults, in the order in which they are looked for: the type; the locale's text isn't UTF-8; the text isn't JSON; it is no
+ * document, in any of its locales; the locale isn't present; PLURALS_RULES_LIMIT. Takes memory in proportion to the
+ * document. */
 int64_t plurals_rules_from_document(const char *json, size_t json_len, const char *locale, size_t locale_len,
                                     uint8_t rule_type, uint8_t *out, size_t out_len);
 
 /* Writes the block of the rules of these five texts, which are as CLDR has them, with samples or without. A text of length
- * 0 is no rule. Faults, the first of these that there is: a text isn't UTF-8; that of the first text that is no rule;
- * PLURALS_RULES_LIMIT. Takes memory. */
+ * 0 is no rule. Faults, in the order in which they are looked for: a text isn't UTF-8; that of the first text that is no
+ * rule; PLURALS_RULES_LIMIT. Takes memory. */
 int64_t plurals_rules_from_texts(const char *zero, size_t zero_len, const char *one, size_t one_len, const char *two,
                                  size_t two_len, const char *few, size_t few_len, const char *many, size_t many_len,
                                  uint8_t *out, size_t out_len);
@@ -155,7 +156,7 @@ int32_t plurals_category(const uint8_t *rules, size_t rules_len, const char *num
 int32_t plurals_is_exact(const uint8_t *rules, size_t rules_len, const char *number, size_t number_len);
 
 /* Writes the block of the elements of a JSON text (docs/JSON.md), as {"other":[0,"{} items"],"one":[0,"{} item"]}. Faults,
- * the first of these that there is: the text isn't JSON; it is no elements; they can't be packed. Takes memory. */
+ * in the order in which they are looked for: the text isn't JSON; it means no elements; they can't be packed. Takes memory. */
 int64_t plurals_elements_from_json(const char *json, size_t json_len, uint8_t *out, size_t out_len);
 
 /* Writes the text of the element that the number takes: the explicit one of exactly 0 or exactly 1 if it is present, else
