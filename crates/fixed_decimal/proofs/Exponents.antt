@@ -15,7 +15,7 @@ use Rattle.fixed_decimal.proofs.Signs.{decimal_letter, one_signed}
 
 -- ---- the exponent itself
 
--- up to three digits behind the letter
+-- up to three digits after the letter
 pub exponent_from : (t : List ℕ) (e : ℕ) → WritesUpToThree t e → HasExponent (99 ∷ t) e
 exponent_from t e h =
     let d : AreDigits (digits_in t) × (text_of (digits_in t) ≡ t) = digits_back t h.digits in

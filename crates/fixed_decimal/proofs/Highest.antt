@@ -1,4 +1,4 @@
--- The highest digit that isn't zero: the kept span begins with it.
+-- The highest digit that isn't zero: the stored span begins with it.
 use Rattle.std.proofs.Common.{◌≡◌, ◌≢◌, ℕ, suc, ◌+◌, ◌-◌, ◌<◌, ◌≤◌, ◌≤ℤ◌, inl, inr, refl, sym, ◌∙◌, ap, subst, length, arith, get_or}
 use Rattle.std.proofs.Common.{reverse, pos, negsuc, ℤ, int_lt, nat_abs, true, false, ◌↔◌}
 use Rattle.std.proofs.lemmas.Int.{ints}
@@ -10,7 +10,7 @@ use Rattle.fixed_decimal.specs.Inner.UnsignedInside.{digits_of, places_of, IsSpa
 use Rattle.fixed_decimal.specs.declared.unsigned.UnsignedDecimal.TheInside.{Inside}
 use Rattle.fixed_decimal.proofs.Spans.{digit_before, digit_after, digit_at_index, length-whole, negative_place, whole_place}
 
--- with so many integer places, the digit behind so many zeros stands at this power of ten or above
+-- with these integer places, the digit after these leading zeros stands at this power of ten or above
 abbrev pub Reaches : ℕ → ℕ → ℤ → Type 0
 Reaches places leading (pos n) = leading + n < places
 Reaches places leading (negsuc n) = leading < places + suc n

@@ -68,7 +68,7 @@ zeros_around from end ds h k a b =
     ∙ ap (λ xs. xs ++ drop end ds) (take-append-drop from (take end ds))
     ∙ take-append-drop end ds
 
--- ---- the span of so many places
+-- ---- the span as the parser finds it
 
 module _ (a : Inside) (ds : List ℕ) (end : ℕ) (all : a.whole_places + a.fraction_places ≡ length ds)
     (order : a.leading_zeros ≤ end) (inside : end ≤ length ds) (span : a.span.items ≡ between a.leading_zeros end ds) where

@@ -1,4 +1,4 @@
--- The number that a run of the written digits writes, by the kept span.
+-- The number that a run of the written digits writes, by the stored span.
 use Rattle.std.proofs.Common.{◌≡◌, ℕ, zero, suc, ◌+◌, ◌-◌, ◌*◌, ◌^◌, ◌<◌, ◌≤◌, inl, inr, min, List, [], ◌∷◌, ◌++◌, refl, sym, ◌∙◌, ap}
 use Rattle.std.proofs.Common.{subst, length, take, drop, arith, get_or, replicate}
 use Rattle.std.proofs.lemmas.Bool.{cases_lt}
@@ -12,7 +12,7 @@ use Rattle.fixed_decimal.proofs.Spans.{AreDigits-take, AreDigits-drop, AreDigits
 use Rattle.fixed_decimal.proofs.Spans.{padded-after, digit_before, digit_after, digit_at_index}
 use Rattle.fixed_decimal.proofs.Values.{value_of-append, value_of-below}
 
--- ---- so many digits from a place on
+-- ---- a run of digits from a place on
 
 -- A run has as many digits as are asked for.
 pub length-digits_from : (x : Places) (i n : ℕ) → length (digits_from x i n) ≡ n
@@ -47,7 +47,7 @@ value_of-zeros : (n : ℕ) → value_of (replicate n 0) ≡ 0
 value_of-zeros zero = refl
 value_of-zeros (suc n) = let e : value_of (replicate n 0) ≡ 0 = value_of-zeros n in omega arith
 
--- each zero behind them is a power of ten, and zeros before them are nothing
+-- each zero after them is a power of ten, and zeros before them are nothing
 value_of-padded : (n : ℕ) (ds : List ℕ) (m : ℕ) → value_of (padded n ds m) ≡ value_of ds * 10 ^ m
 value_of-padded n ds m =
     let l : length (replicate {A = ℕ} m 0) ≡ m = length-replicate {A = ℕ} m 0 in
@@ -57,13 +57,13 @@ value_of-padded n ds m =
     ∙ ap (λ k. value_of ds * 10 ^ m + k) (value_of-zeros m)
     ∙ omega arith
 
--- ---- the kept digits of a run: those of the span from `start` to `stop`
+-- ---- the stored digits of a run: those of the span from `start` to `stop`
 
 -- `before` of the run's digits are zeros that stand before the span.
 module _ (a : Inside) (place count before start stop end : ℕ) (b : before ≡ min count (a.leading_zeros - place))
     (s : start ≡ place - a.leading_zeros) (some : start < length a.span.items)
     (e : end ≡ place + count - a.leading_zeros) (t : stop ≡ min end (length a.span.items)) where
-  -- The run has so many digits of the span.
+  -- The run has all digits between the two.
   length-kept : length (take (stop - start) (drop start a.span.items)) ≡ stop - start
   length-kept = length-take-le (stop - start) (drop start a.span.items) (omega (arith, length-drop start a.span.items))
 
@@ -78,7 +78,7 @@ module _ (a : Inside) (place count before start stop end : ℕ) (b : before ≡ 
             get_or-eq_default (take (stop - start) (drop start a.span.items)) 0 short ∙ sym (get_or-eq_default a.span.items 0 none)
       ]
 
-  -- Each digit of the run is one of them, or a zero before or behind them.
+  -- Each digit of the run is one of them, or a zero before or after them.
   run-at : (k : ℕ) → k < count
       → get_or (digits_of a) (place + k) 0 ≡ get_or (padded before (take (stop - start) (drop start a.span.items)) (end - stop)) k 0
   run-at k h =
@@ -106,12 +106,12 @@ module _ (a : Inside) (place count before start stop end : ℕ) (b : before ≡ 
       let inside : k < count = omega (arith, length-digits_from (places_of a) place count) in
       digits_from-at (places_of a) place count k inside ∙ sym (digit_at_index a (place + k)) ∙ run-at k inside)
 
-  -- The run's number is theirs times a power of ten for each zero behind them.
+  -- The run's number is theirs times a power of ten for each zero after them.
   pub run_value : value_of (take (stop - start) (drop start a.span.items)) * 10 ^ (end - stop)
       ≡ value_of (digits_from (places_of a) place count)
   run_value = sym (ap value_of run ∙ value_of-padded before (take (stop - start) (drop start a.span.items)) (end - stop))
 
-  -- It is below the power of ten of the run's length, as that of so many digits is.
+  -- It is below the power of ten of the run's length.
   pub run_below : IsSpan a → value_of (take (stop - start) (drop start a.span.items)) * 10 ^ (end - stop) < 10 ^ count
   run_below h =
       let digits : AreDigits (digits_from (places_of a) place count)

@@ -88,11 +88,11 @@ module _ (whole fraction : List ℕ) (from end p q m i places : ℕ) (order : fr
     (all : places ≡ max (length whole) 1) (inside : end ≤ places + length fraction) (first : (from < length whole)
     ⊎ (places ≤ from)) (m_is : m ≡ min from (length whole)) (p_is : p ≡ min end (length whole) - m)
     (i_is : i ≡ from - places) (q_is : q ≡ end - places - i) where
-  -- The part before the point has so many.
+  -- The part before the point is as long as was asked for.
   length-front : length (digits_in (take p (drop m whole))) ≡ p
   length-front = length-part whole m p (omega arith)
 
-  -- And the part behind it.
+  -- And the part after it.
   length-back : length (digits_in (take q (drop i fraction))) ≡ q
   length-back = elim first [
     | inl before ↦ length-part fraction i q (omega arith)

@@ -8,7 +8,7 @@ use Rattle.fixed_decimal.specs.declared.sign.Sign.TheVariants as sign
 use Rattle.fixed_decimal.specs.declared.decimal.Decimal.{Decimal}
 use Rattle.fixed_decimal.proofs.Texts.{no_sign, no_letter, one_unsigned}
 
--- the sign and the digits behind it are those of the text
+-- the sign and the digits after it are those of the text
 same_sign : (s r : Sign) (ds es : List ℕ) → HasNoSign ds → HasNoSign es → sign_text s ++ ds ≡ sign_text r ++ es → (s ≡ r) × (ds ≡ es)
 same_sign sign.None sign.None ds es h k e = (refl, e)
 same_sign sign.None sign.Negative ds es h k e = absurd (h.not_negative (ap (λ xs. get_or xs 0 0) e))
@@ -44,23 +44,23 @@ decimal_letter t x h k inside letter =
     signed_letter x.sign h.0 x.absolute h.1 k (subst (λ (s : List ℕ). k < length s) h.2 inside)
     (ap (λ s. get_or s k 0) (sym h.2) ∙ letter)
 
--- ---- what is written behind the sign, and what with it
+-- ---- what is written after the sign, and what with it
 
 module _ (t : List ℕ) (s : Sign) (digits : List ℕ) (form : t ≡ sign_text s ++ digits) (only : (r : Sign) (ds : List ℕ)
     → HasNoSign ds → t ≡ sign_text r ++ ds → (r ≡ s) × (ds ≡ digits)) where
-  -- A number behind the sign makes a decimal of the whole text.
+  -- A number after the sign makes a decimal of the whole text.
   pub signed_from : (x : Places) → WritesUnsigned digits x → (y : Decimal) × WritesDecimal t y × (y.absolute ≡ x)
   signed_from x h = (record { sign = s; absolute = x }, (digits, h, form), refl)
 
-  -- The digits of each decimal that the text writes are those behind its sign.
+  -- The digits of each decimal that the text writes are those after its sign.
   pub unsigned_from : (y : Decimal) → WritesDecimal t y → WritesUnsigned digits y.absolute
   unsigned_from y h = subst (λ (ds : List ℕ). WritesUnsigned ds y.absolute) (only y.sign h.0 (no_sign h.0 y.absolute h.1) h.2).1 h.1
 
-  -- Without a number behind the sign there is no decimal.
+  -- Without a number after the sign there is no decimal.
   pub none_signed : ((x : Places) → ¬ (WritesUnsigned digits x)) → (y : Decimal) → ¬ (WritesDecimal t y)
   none_signed none y h = none y.absolute (unsigned_from y h)
 
-  -- Without a decimal there is no number behind the sign.
+  -- Without a decimal there is no number after the sign.
   pub none_unsigned : ((y : Decimal) → ¬ (WritesDecimal t y)) → (x : Places) → ¬ (WritesUnsigned digits x)
   none_unsigned none x h = let p : (y : Decimal) × WritesDecimal t y × (y.absolute ≡ x) = signed_from x h in none p.0 p.1
 
@@ -68,7 +68,7 @@ module _ (t : List ℕ) (s : Sign) (digits : List ℕ) (form : t ≡ sign_text s
   pub over_signed : ((x : Places) × WritesUnsigned digits x × IsOverLimit x) → (y : Decimal) × WritesDecimal t y × IsOverLimit y.absolute
   over_signed p = (record { sign = s; absolute = p.0 }, (digits, p.1, form), p.2)
 
-  -- A decimal over the limit has a number over the limit behind its sign.
+  -- A decimal over the limit has a number over the limit after its sign.
   pub over_unsigned : ((y : Decimal) × WritesDecimal t y × IsOverLimit y.absolute)
       → (x : Places) × WritesUnsigned digits x × IsOverLimit x
   over_unsigned p = (p.0.absolute, unsigned_from p.0 p.1, p.2)

@@ -1,4 +1,4 @@
--- What the kept span says of the written digits.
+-- What the stored span says of the written digits.
 use Rattle.std.proofs.Common.{◌≡◌, ℕ, zero, suc, ◌+◌, ◌-◌, ◌<◌, ◌≤◌, ◌⊎◌, inl, inr, List, [], ◌∷◌, ◌++◌, refl, sym, ◌∙◌, ap, subst}
 use Rattle.std.proofs.Common.{length, take, drop, arith, get_or, replicate, reverse, length-append, length-drop, append_assoc, pos}
 use Rattle.std.proofs.Common.{negsuc, ℤ, int_lt, nat_abs, true, false}
@@ -41,7 +41,7 @@ AreDigits-take (suc n) (d ∷ ds) h = (h.0, AreDigits-take n ds h.1)
 abbrev pub padded : ℕ → List ℕ → ℕ → List ℕ
 padded n s m = replicate n 0 ++ s ++ replicate m 0
 
--- Zeros before and behind digits count.
+-- Zeros before and after digits count.
 pub length-padded : (n : ℕ) (s : List ℕ) (m : ℕ) → length (padded n s m) ≡ n + length s + m
 length-padded n s m =
     length-append (replicate n 0 ++ s) (replicate m 0)
@@ -59,15 +59,15 @@ length-digits_of a h =
     let i : a.leading_zeros + length a.span.items ≤ a.whole_places + a.fraction_places = h.inside in
     length-padded a.leading_zeros a.span.items _ ∙ omega arith
 
--- So many of them are integer digits.
+-- There is an integer digit for each integer place.
 pub length-whole : (a : Inside) → IsSpan a → length (places_of a).whole ≡ a.whole_places
 length-whole a h = length-take-le a.whole_places (digits_of a) (omega (arith, length-digits_of a h))
 
--- The others are fraction digits.
+-- There is a fraction digit for each fraction place.
 pub length-fraction : (a : Inside) → IsSpan a → length (places_of a).fraction ≡ a.fraction_places
 length-fraction a h = length-drop a.whole_places (digits_of a) ∙ omega (arith, length-digits_of a h)
 
--- What is kept so is a written number.
+-- What is stored so is a written number.
 pub written : (a : Inside) → IsSpan a → IsWritten (places_of a)
 written a h =
     let d : AreDigits (digits_of a) = AreDigits-padded a.leading_zeros a.span.items _ h.digits in
@@ -85,9 +85,9 @@ within a h =
     let f : a.fraction_places ≤ 32767 = h.fraction_within in
     record { whole = omega (arith, length-whole a h); fraction = omega (arith, length-fraction a h) }
 
--- ---- the places that so many integer and fraction places cut the digits into
+-- ---- the digits cut at the point, by the counts of integer and fraction places
 
--- How many zeros follow the span among so many places.
+-- How many zeros follow the span.
 abbrev pub rest_zeros : ℕ → ℕ → ℕ → List ℕ → ℕ
 rest_zeros w f n s = w + f - (n + length s)
 
@@ -95,7 +95,7 @@ rest_zeros w f n s = w + f - (n + length s)
 abbrev pub cut_at : ℕ → List ℕ → Places
 cut_at w ds = record { whole = take w ds; fraction = drop w ds }
 
--- The places of a span with so many zeros before it.
+-- The places of a span with zeros before it.
 abbrev pub spread : ℕ → ℕ → ℕ → List ℕ → Places
 spread w f n s = cut_at w (padded n s (rest_zeros w f n s))
 
@@ -115,7 +115,7 @@ pub same_places : (a b c d : List ℕ) → a ≡ b → c ≡ d
     → (let x : Places = record { whole = a; fraction = c } in let y : Places = record { whole = b; fraction = d } in x ≡ y)
 same_places a b c d e f = rw (e, f) refl
 
--- One place to the right, where a fraction digit is there to take.
+-- One place to the right, where there is a fraction digit to take.
 one_right-inside : (w : ℕ) (ds : List ℕ) → w < length ds → one_right (cut_at w ds) ≡ cut_at (suc w) ds
 one_right-inside w ds h =
     let z : w + 0 ≡ w = omega arith in
@@ -124,7 +124,7 @@ one_right-inside w ds h =
     (ap (λ d. take w ds ++ d ∷ []) (get_or-drop w ds 0 0 ∙ ap (λ k. get_or ds k 0) z) ∙ sym (take-suc ds w 0 h))
     (drop-drop 1 w ds ∙ ap (λ k. drop k ds) k)
 
--- One place to the right behind the last digit adds a 0.
+-- One place to the right after the last digit adds a 0.
 one_right-end : (w : ℕ) (ds : List ℕ) → length ds ≡ w → one_right (cut_at w ds) ≡ cut_at (suc w) (ds ++ 0 ∷ [])
 one_right-end w ds h =
     let none : drop w ds ≡ [] = drop_of_length-le ds (omega arith) in
@@ -195,7 +195,7 @@ shifted_whole a d h =
     ap (λ (x : Places). length x.whole) (shift_right-spread d a.whole_places a.fraction_places a.leading_zeros a.span.items inside)
     ∙ length-take-le (a.whole_places + d) _ (omega arith)
 
--- So many fraction places fewer.
+-- It takes them from the fraction.
 pub shifted_fraction : (a : Inside) (d : ℕ) → IsSpan a → length (shift_right d (places_of a)).fraction ≡ a.fraction_places - d
 shifted_fraction a d h =
     let inside : a.leading_zeros + length a.span.items ≤ a.whole_places + a.fraction_places = h.inside in
@@ -335,7 +335,7 @@ over_from w f n s h (inr k) =
     let l : length (drop w (padded n s (rest_zeros w f n s))) ≡ f = length-drop w _
     ∙ omega (arith, length-spread w f n s h) in inr (omega arith)
 
--- At most so many on both sides aren't.
+-- No more than the limit on both sides isn't.
 not_over : (w f n : ℕ) (s : List ℕ) → n + length s ≤ w + f → w ≤ 32767 → f ≤ 32767 → IsOverLimit (spread w f n s) → ⊥
 not_over w f n s h i j (inl k) =
     let l : length (take w (padded n s (rest_zeros w f n s))) ≡ w
@@ -346,7 +346,7 @@ not_over w f n s h i j (inr k) =
 
 -- ---- the span after a shift
 
--- What is kept of the number when the point goes to the right.
+-- What is stored of the number when the point goes to the right.
 abbrev pub moved_right : Inside → ℕ → Inside
 moved_right a d = record a { whole_places = a.whole_places + d; fraction_places = a.fraction_places - d }
 

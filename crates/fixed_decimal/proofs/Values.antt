@@ -26,7 +26,7 @@ value_of-append (x ∷ xs) ys =
 top_below : (d p v q : ℕ) → d < 10 → v < p → q ≡ p * 10 → d * p + v < q
 top_below d p v q h k e = let m : d * p ≤ 9 * p = mul-le-mul_right p (omega arith) in omega arith
 
--- So many digits write less than that power of ten.
+-- Digits write less than the power of ten of their length.
 pub value_of-below : (ds : List ℕ) → AreDigits ds → value_of ds < 10 ^ length ds
 value_of-below [] h = omega arith
 value_of-below (d ∷ ds) h = top_below d (10 ^ length ds) (value_of ds) _ h.0 (value_of-below ds h.1) (pow-suc 10 (length ds))

@@ -14,7 +14,7 @@ no_integer_digit = record {
   form = inr (inr (lit< tt, refl, refl));
 }
 
--- `5.`: a point has digits behind it
+-- `5.`: a point has digits after it
 no_fraction_digit : (x : Places) → WritesUnsigned (codes "5.") x → ⊥
 no_fraction_digit x h = at (has_point (codes "5.") x h)
   where

@@ -25,7 +25,7 @@ starts_lower least [] h = tt
 starts_lower least ([] ∷ items) h = tt
 starts_lower least ((key ∷ bytes) ∷ items) h = omega arith
 
--- behind a rule that may be absent, too
+-- after a rule that may be absent, too
 starts_at : (key : ℕ) (rule : Option Rule) (items : List (List ℕ)) → StartsAt (key + 1) items → StartsAt key (keyed key rule ++ items)
 starts_at key None items h = starts_lower key items h
 starts_at key (Some rule) items h = let same : key ≤ key = omega arith in same
@@ -35,7 +35,7 @@ not_below : (key : ℕ) (items : List (List ℕ)) (bytes : List ℕ) (others : L
     → items ≡ (key ∷ bytes) ∷ others → ⊥
 not_below key items bytes others h same = let low : key + 1 ≤ key = subst (StartsAt (key + 1)) same h in omega arith
 
--- the items of a rule and of those behind it tell whether it is present, and which it is
+-- the items of a rule and of those after it tell whether it is present, and which it is
 told_apart : OneRule → (key : ℕ) (rule other : Option Rule) (items others : List (List ℕ)) → CanPackRule rule → CanPackRule other
     → StartsAt (key + 1) items → StartsAt (key + 1) others → keyed key rule ++ items ≡ keyed key other ++ others
     → (rule ≡ other) × (items ≡ others)

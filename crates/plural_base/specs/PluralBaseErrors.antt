@@ -32,7 +32,7 @@ abbrev pub rules_pack_error_text : RulesPackError → List ℕ
 rules_pack_error_text limits.StartLimit = codes "rules too long"
 rules_pack_error_text limits.Memory = codes "out of memory"
 
--- the category, where one is named
+-- the category, if one is named
 abbrev pub rule_place_text : Option PluralCategory → List ℕ
 rule_place_text None = codes "rule: "
 rule_place_text (Some category) = codes "rule " ++ name_of category ++ codes ": "

@@ -1,4 +1,4 @@
-//! Tables of commands with their answers.
+//! Tables of commands and what they print.
 
 use crate::error::RunError;
 use crate::run::run;

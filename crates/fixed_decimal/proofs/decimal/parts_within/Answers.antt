@@ -6,7 +6,7 @@ use Rattle.fixed_decimal.proofs.Refusals.{carried, no_cause}
 use Rattle.fixed_decimal.proofs.decimal.parts_within.Goals as goal
 use Rattle.fixed_decimal.proofs.decimal.parts_within.Goals.{After-from_residual}
 
--- the error of the digits is answered
+-- the error of the digits is returned
 same_error : (c : After-from_residual) → c.from_residual.result ≡ Err c.in_err-point.field-0.0
 same_error c = let p = err_from_is_err_and c.from_residual.result c.from_residual.ensures.1 in p.1 ∙ ap Err p.2
 

@@ -4,7 +4,7 @@ use Rattle.std.proofs.lemmas.Result.{IfOk-weaker}
 use Rattle.fixed_decimal.specs.Inner.TextParts.{places_of_sides, places_around}
 use Rattle.fixed_decimal.proofs.unsigned.UnsignedDecimal.from_point.Goals as goal
 
--- what stands behind the point
+-- what stands after the point
 tail : (text rest : List ℕ) (n m : ℕ) → rest ≡ drop n text → m ≡ min (length rest) 1
     → take (length rest - m) (drop m rest) ≡ drop (n + 1) text
 tail text rest n m e one =
