@@ -1,11 +1,11 @@
 -- The numbers of a sample, or of a range of samples (UTS 35 Part 3, Samples).
 --     compact_text sample      the sample's text, with `c` in place of an `e`
 --     GivesNumber text answer      the number that a text writes, or why it writes none
---     number_text places parts exponent      the text of this many parts of 10 ^ places and of an exponent
+--     number_text places parts exponent      the text of parts / 10 ^ places, with an exponent
 --     numbers_between a b      those from a to b in steps of the last visible digit, or why there are none
 --     AreNumbersOf range answer      the numbers of a range, or why it has none
 --     count_of numbers, text_at numbers k      how many there are, and the text of each, counted from 0
-use Rattle.std.specs.Prelude.{◌≡◌, ◌⊎◌, ℕ, zero, suc, ◌+◌, ◌-◌, ◌/◌, ◌%◌, ◌==◌, nat_lt, Bool, not, if◌then◌else◌, ◌&&◌, ◌||◌}
+use Rattle.std.specs.Prelude.{◌≡◌, ◌⊎◌, ◌≤◌, ℕ, zero, suc, ◌+◌, ◌-◌, ◌/◌, ◌%◌, ◌==◌, nat_lt, Bool, not, if◌then◌else◌, ◌&&◌, ◌||◌}
 use Rattle.std.specs.Prelude.{List, [], ◌∷◌, ◌++◌, length, Option, Some, None, Result, Ok, Err, codes}
 use Rattle.std.specs.Fmt.{decimal}
 use Rattle.std.specs.List.{position_or_len, before_first, after_first}
@@ -14,6 +14,7 @@ use Rattle.icu_plurals.specs.declared.DecimalError.TheVariants.{Syntax, Limit, M
 use Rattle.icu_plurals.specs.declared.provider.rules.reference.ast.DecimalValue.{DecimalValue}
 use Rattle.icu_plurals.specs.declared.provider.rules.reference.ast.SampleRange.{SampleRange}
 use Rattle.icu_plurals.specs.Operands.{all_digits_value, kept_places}
+use Rattle.icu_plurals.specs.Places.{IsWithinLimit}
 use Rattle.icu_plurals.specs.Samples.{letter_e}
 use Rattle.icu_plurals.specs.Written.{CompactNumber, WritesCompact, IsCompactOverLimit}
 use Rattle.plural_checker.specs.declared.fault.RangeFault.{RangeFault}
@@ -34,9 +35,9 @@ compact_text text =
     then before_first (λ b. b == letter_e) text ++ codes "c" ++ after_first (λ b. b == letter_e) text
     else text
 
--- the text writes this number, or no number, or one over a limit
+-- the text writes this number, which is within the limits, or no number, or one over a limit
 abbrev pub GivesNumber : List ℕ → Result CompactNumber DecimalError → Type 0
-GivesNumber text (Ok x) = WritesCompact text x
+GivesNumber text (Ok x) = WritesCompact text x × IsWithinLimit x.significand.absolute × (x.exponent ≤ 255)
 GivesNumber text (Err Syntax) = (x : CompactNumber) → ¬ (WritesCompact text x)
 GivesNumber text (Err Limit) = (x : CompactNumber) × WritesCompact text x × IsCompactOverLimit x
 GivesNumber text (Err Memory) = ⊥
@@ -70,7 +71,7 @@ number_text places parts exponent = parts_text places parts ++ exponent_text exp
 abbrev pub most_numbers : ℕ
 most_numbers = 100
 
--- the number that all written digits write: the number itself is this many parts of a power of ten
+-- the number that all written digits write, without the point
 abbrev pub parts_of : CompactNumber → ℕ
 parts_of x = all_digits_value x.significand.absolute
 

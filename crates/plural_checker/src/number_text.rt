@@ -1,4 +1,4 @@
-//! The texts of numbers that are counted in parts of a power of ten.
+//! The texts of numbers that are given as an integer and a count of fraction digits.
 
 ghost use Rattle.std.specs.Prelude.{◌≡◌, ◌<◌, ◌++◌, IfOk, OnOk, string_bytes};
 ghost use Rattle.plural_checker.specs.SampleNumbers.{digit_text, exponent_text, number_text, parts_text, point_at};
@@ -6,7 +6,7 @@ ghost use Rattle.plural_checker.specs.SampleNumbers.{digit_text, exponent_text, 
 use icu_plurals::provider::rules::reference::ast::DecimalValue;
 use std::alloc::{AllocError, Global};
 
-// Returns the text of `parts` parts of `10^places`, with an exponent.
+// Returns the text of `parts / 10^places`, with an exponent.
 pub(crate) fn number_text(
     alloc: Global,
     places: usize,
@@ -20,7 +20,7 @@ pub(crate) fn number_text(
     Ok(DecimalValue(text))
 }
 
-// Returns the text of `parts` parts of `10^places`: the text of the digits before the last, and then the last digit.
+// Returns the text of `parts / 10^places`: the text of the digits before the last, and then the last digit.
 fn parts_text(alloc: Global, places: usize, parts: u128) -> Result<String, AllocError>
     ensures { IfOk result (λ text. string_bytes text ≡ parts_text places parts) }
 {

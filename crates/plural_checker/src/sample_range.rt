@@ -13,13 +13,13 @@ use std::alloc::{AllocError, Global};
 // The most numbers that a range may have.
 const MOST_NUMBERS: u64 = 100;
 
-/// The numbers of a range of samples: a first number and a count. Each number after the first is one part of `10^places` more
-/// than the number before it.
+/// The numbers of a range of samples: a first number and a count. Each number after the first is `1 / 10^places` more than the
+/// number before it.
 #[derive(Clone, Copy, Debug, PartialEq, Eq)]
 pub struct Steps {
     /// How many fraction digits each number shows.
     pub places: usize,
-    /// The first number, counted in parts of `10^places`.
+    /// The first number, times `10^places`.
     pub first: u64,
     /// How many numbers there are.
     pub count: u64,

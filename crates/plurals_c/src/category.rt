@@ -24,8 +24,8 @@ pub extern "C" fn plurals_category_of_integer(rules: &[u8], number: u64) -> i32
 }
 
 /// The category of the number that a text writes, a decimal with a compact exponent or not, by its number
-/// as [`plurals_category_of_integer`] returns it. It is chosen by what is kept of the number, which
-/// is all of it where [`plurals_is_exact`] returns 1.
+/// as [`plurals_category_of_integer`] returns it. It is chosen by what is kept of the number; where
+/// [`plurals_is_exact`] returns 1 it is that of the number itself.
 ///
 /// A fault is negative: one of the rules, else one of the number. It takes memory for the number.
 #[unsafe(no_mangle)]
@@ -38,8 +38,8 @@ pub extern "C" fn plurals_category(alloc: Global, rules: &[u8], number: &[u8]) -
     }
 }
 
-/// 1 if the category of the number is that of the number itself, whatever its length, and not only of
-/// what is kept of it; else 0.
+/// 1 if the number is within the exactness bound of the rules, so that its category is that of the number
+/// itself, whatever its length, and not only of what is kept of it; else 0.
 ///
 /// A fault is negative: one of the rules, else one of the number. It takes memory for the number.
 #[unsafe(no_mangle)]
