@@ -147,11 +147,11 @@ fault_beside default (Some items) =
 abbrev pub pack_fault : PackedElements → Option ElementsPackError
 pack_fault packed = fault_beside packed.default packed.items
 
--- what the bytes are the encoding of gives all operands, under all rules, the same value as the elements
+-- the bytes encode packed elements, and what they encode gives all operands, under all rules, the same value as the elements
 abbrev pub AnswersAs : Elements PackedValue → List ℕ → Type 0
 AnswersAs values bytes =
-    (packed : PackedElements) → ElementsBytes packed bytes → (op : Operands) (rules : FiveRules)
-    → element_at (elements_of packed) op rules ≡ element_at values op rules
+    ((packed : PackedElements) × ElementsBytes packed bytes) × ((packed : PackedElements) → ElementsBytes packed bytes
+    → (op : Operands) (rules : FiveRules) → element_at (elements_of packed) op rules ≡ element_at values op rules)
 
 -- the values without those of the five categories that equal that of other
 abbrev pub without_repeats : Elements PackedValue → Elements PackedValue

@@ -7,6 +7,7 @@ mod packing;
 use crate::tests::assertion::holds;
 use icu_plurals::provider::rules::{reference, runtime};
 use icu_plurals::*;
+use serde_json::Value;
 use std::test::Fail;
 
 // Names a type.
@@ -34,6 +35,8 @@ fn types_stand_at_their_paths() {
     named::<icu_plurals::PluralRulesOptions>();
     named::<icu_plurals::PluralRules<'static>>();
     named::<icu_plurals::RulesTextError>();
+    named::<icu_plurals::RulesBytesError>();
+    named::<icu_plurals::RulesPackError>();
     named::<icu_plurals::JsonError>();
     named::<icu_plurals::ElementsPackError>();
     named::<icu_plurals::DataError>();
@@ -48,6 +51,37 @@ fn types_stand_at_their_paths() {
     named::<icu_plurals::ElementsBytesError>();
     named::<icu_plurals::provider::UnvalidatedPluralRange>();
     named::<icu_plurals::provider::PluralRanges>();
+}
+
+// Names a type by a trait that it has.
+fn choosing<R: icu_plurals::AsPluralRules<'static>>() {}
+fn providing<P: icu_plurals::PluralsProvider>() {}
+
+#[test]
+fn traits_stand_at_their_paths() {
+    choosing::<icu_plurals::PluralRules<'static>>();
+    providing::<icu_plurals::JsonProvider>();
+}
+
+#[test]
+fn laws_stand_at_their_paths() {
+    icu_plurals::laws::rules_have_every_reading();
+    icu_plurals::laws::texts_give_one_answer();
+    icu_plurals::laws::one_list_of_tokens();
+    icu_plurals::laws::one_encoding_of_elements();
+    icu_plurals::laws::elements_read_again();
+    icu_plurals::laws::packed_values_again();
+    icu_plurals::laws::packed_elements_answer();
+    icu_plurals::laws::kept_element_is_exact();
+}
+
+#[test]
+fn functions_of_json_values_stand_at_their_paths(rt: HostRuntime) -> Result<(), Fail> {
+    let value = Value::from_str(rt.alloc(), "\"i = 1\"")?;
+    let rule = icu_plurals::rule_from_json(rt.alloc(), &value)?;
+    let written = icu_plurals::rule_to_json(rt.alloc(), &rule)?;
+    holds!(rt; written == value);
+    Ok(())
 }
 
 #[test]

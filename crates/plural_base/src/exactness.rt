@@ -1,4 +1,4 @@
-//! When the category of a decimal is exact.
+//! Whether a number is within the exactness bound of rules.
 
 ghost use Rattle.std.specs.Prelude.{◌≡◌, ◌↔◌, ◌^◌, ◌≤◌, Some, pos, ◌-ℤ◌, IsTrue};
 ghost use Rattle.std.specs.List.{list_all};
@@ -16,7 +16,8 @@ use plural_reference::{KEPT_LIMIT, KEPT_PLACES};
 use plural_runtime::{Operand, Relation, Rule};
 
 impl<'data> PluralRules<'data> {
-    /// Whether the rules choose the category of the number itself, and not only of what is kept of it.
+    /// Whether the number is within the exactness bound of the rules. If they are read from texts, its
+    /// category is then that of the number itself, and not only of what is kept of it.
     ///
     /// This holds if, after the point has moved by the exponent, the number has at most 18 fraction
     /// places; and either at most 18 integer places, or an integer part of at least `10^18` under

@@ -23,9 +23,9 @@ pub fn kept_choice_is_exact()
     runtime::texts_give_one_answer();
 }
 
-/// The bound on moduli is the widest: for each modulus `m` up to 4294967295 that doesn't divide
-/// `10^18`, under the single rule one: `i % m = r`, with `r = 2 * 10^18 mod m`, the number `2 * 10^18`
-/// has the category one, and its kept operands choose other.
+/// The bound on moduli is the widest: for each modulus `m` from 1 to 4294967295 that doesn't
+/// divide `10^18`, under the single rule one: `i % m = r`, with `r = 2 * 10^18 mod m`, the number
+/// `2 * 10^18` has the category one, and its kept operands choose other.
 pub fn bound_is_widest()
     ensures { BoundIsWidestForChoice }
 {

@@ -1,7 +1,7 @@
 //! The parts of a document, and the places where an object is expected.
 
-ghost use Rattle.std.specs.Prelude.{◌≡◌, IfOk};
-ghost use Rattle.plurals_check.specs.Parts.{part_name};
+ghost use Rattle.std.specs.Prelude.{◌≡◌, Some, IfOk};
+ghost use Rattle.plurals_check.specs.Parts.{part_name, place_text};
 
 use std::alloc::{AllocError, Global};
 use std::fmt;
@@ -75,6 +75,8 @@ pub enum Place {
 }
 
 impl fmt::Display for Place {
+    ghost output = { λ place. Some (place_text place) };
+
     fn fmt<W: fmt::Write>(&self, f: &mut fmt::Formatter<W>) -> fmt::Result {
         match self {
             Place::Document => f.write_str("document"),

@@ -55,6 +55,7 @@ fn long_numbers_are_exact_by_their_moduli(rt: HostRuntime) -> Result<(), Fail> {
         (ends, 28, "11", OTHER, true),
         ("i % 3906250000 = 1", 17, "1", ONE, true),
         ("i % 4294967295 = 1", 17, "1", OTHER, false),
+        ("i % 0 = 1", 17, "1", OTHER, true),
         ("f % 7 = 0", 17, "1", ONE, true),
         ("n % 1000000 = 7", 32765, "7", ONE, true),
     ];
