@@ -1,10 +1,11 @@
 //! Packed elements as JSON.
 
-ghost use Rattle.std.specs.Prelude.{◌≡◌, ◌≢◌, Err, IfErr, IfOk, OnOk, option_map};
+ghost use Rattle.std.specs.Prelude.{◌≡◌, ◌≢◌, ◌↔◌, Err, IfErr, IfOk, IsFalse, IsTrue, None, OnOk, option_map};
 ghost use Rattle.std.specs.Option.{option_and_then};
 ghost use Rattle.plural_base.specs.Json.{Answers};
 ghost use Rattle.serde_json.specs.Find.{as_str};
 ghost use Rattle.serde_json.specs.View.{view, members_view};
+ghost use Rattle.serde_json.specs.Written.{has_float};
 ghost use Rattle.icu_plurals.specs.Elements.{each_by};
 ghost use Rattle.icu_plurals.specs.ElementsJson.{elements_in_json, elements_json, metadata_in, optional_in, packed_of_json, packs, value_in, value_json, with_value};
 ghost use Rattle.icu_plurals.specs.Inner.ElementsViews.{lent_value, metadata_number};
@@ -47,6 +48,9 @@ impl PluralElementsPackedCow<'static> {
         value: &Value,
     ) -> Result<PluralElementsPackedCow<'static>, JsonError>
         ensures answers { Answers (λ packed. packed) result (packed_of_json (view value.now)) }
+        // Both are checked before memory is taken.
+        ensures float { (result ≡ Err JsonError.Float) ↔ IsTrue (has_float (view value.now)) }
+        ensures shape { (result ≡ Err JsonError.Shape) ↔ (IsFalse (has_float (view value.now)) × (elements_in_json (view value.now) ≡ None)) }
         ensures memory { result ≢ Err (JsonError.Pack ElementsPackError.Memory) }
     {
         if holds_float(value) {
@@ -83,6 +87,8 @@ fn packed(
     elements: &PluralElements<(FourBitMetadata, &str)>,
 ) -> Result<PluralElementsPackedCow<'static>, JsonError>
     ensures answers { Answers (λ packed. packed) result (packs (each_by lent_value elements.now)) }
+    ensures float { result ≢ Err JsonError.Float }
+    ensures shape { result ≢ Err JsonError.Shape }
     ensures memory { result ≢ Err (JsonError.Pack ElementsPackError.Memory) }
 {
     read_again();
