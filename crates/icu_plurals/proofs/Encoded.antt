@@ -93,11 +93,12 @@ encoded e lent bytes same are valid short can spelled =
 
 -- bytes of the packed elements, and of no others, give every number the same value as the elements
 pub answers_as : (again : PackedItems) (e : Elements PackedValue) (bytes : List ℕ) → ElementsBytes (packed_of e) bytes → AnswersAs e bytes
-answers_as again e bytes h =
-    ((packed_of e, h),
-    λ packed are op rules.
-    let same : packed ≡ packed_of e = same_elements again packed (packed_of e) bytes are h in
-    ap (λ p. element_at (elements_of p) op rules) same ∙ answers_again e op rules)
+answers_as again e bytes h = (
+  (packed_of e, h),
+  λ packed are op rules.
+      let same : packed ≡ packed_of e = same_elements again packed (packed_of e) bytes are h in
+      ap (λ p. element_at (elements_of p) op rules) same ∙ answers_again e op rules,
+)
 
 -- the default and the borrowed items are refused exactly if the elements have that fault
 pub default_refused : (e : Elements PackedValue) (default : PackedValue) (lent : List Item) → default ≡ e.other

@@ -55,6 +55,7 @@ fn types_stand_at_their_paths() {
 
 // Names a type by a trait that it has.
 fn choosing<R: icu_plurals::AsPluralRules<'static>>() {}
+
 fn providing<P: icu_plurals::PluralsProvider>() {}
 
 #[test]
