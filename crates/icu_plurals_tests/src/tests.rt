@@ -53,9 +53,10 @@ fn types_stand_at_their_paths() {
     named::<icu_plurals::provider::PluralRanges>();
 }
 
-// Names a type by a trait that it has.
+// Names a type that chooses categories.
 fn choosing<R: icu_plurals::AsPluralRules<'static>>() {}
 
+// Names a type that has the rules of locales.
 fn providing<P: icu_plurals::PluralsProvider>() {}
 
 #[test]

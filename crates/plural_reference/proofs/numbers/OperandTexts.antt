@@ -1,6 +1,6 @@
 -- How an operand text is divided into its parts.
 use Rattle.std.proofs.Common.{◌≡◌, ◌≢◌, ◌⊎◌, ℕ, zero, suc, ◌+◌, ◌-◌, ◌*◌, ◌^◌, ◌<◌, ◌≤◌, inl, inr, true, false, Option, Some, None}
-use Rattle.std.proofs.Common.{List, [], ◌∷◌, ◌++◌, refl, sym, ◌∙◌, ap, subst, length, map, arith, rules, lit<, Result, Ok, Err}
+use Rattle.std.proofs.Common.{List, [], ◌∷◌, ◌++◌, refl, sym, ◌∙◌, ap, subst, length, map, arith, lit<}
 use Rattle.std.proofs.Common.{cond, ltb, nat_eq, get_or, drop, length-append}
 use Rattle.std.proofs.lemmas.Bool.{cases_eq, cases_lt, lt-ltb, le-ltb, le-leb, eq-eqb}
 use Rattle.std.proofs.lemmas.Bool.Decides.{leb_tells, eqb_tells}
@@ -9,11 +9,10 @@ use Rattle.std.proofs.Math.Nat.{pow-suc}
 use Rattle.std.specs.Char.{is_ascii_digit, IsAsciiDigit}
 use Rattle.fixed_decimal.specs.Digits.{value_of, AreDigits, text_of}
 use Rattle.plural_reference.specs.Operands.{Operands, HasFraction}
-use Rattle.plural_reference.specs.OperandText.{IsWord, WritesCount, WritesFraction, WritesExponent, WritesUnsignedOperands}
-use Rattle.plural_reference.specs.OperandText.{WritesOperands, FailsOperands, ReadsOperands}
+use Rattle.plural_reference.specs.OperandText.{WritesCount, WritesFraction, WritesExponent, WritesUnsignedOperands}
+use Rattle.plural_reference.specs.OperandText.{WritesOperands, FailsOperands}
 use Rattle.plural_reference.specs.Inner.OperandReader.{IsReading, BeginsWithNoDigit, HasCount, HasWord, WritesBehindPoint, without_sign}
-use Rattle.plural_reference.specs.declared.operands.error.OperandsError.{OperandsError}
-use Rattle.plural_reference.specs.declared.operands.error.OperandsError.TheVariants.{Empty, Invalid}
+use Rattle.plural_reference.specs.declared.operands.error.OperandsError.TheVariants.{Invalid}
 use Rattle.plural_reference.proofs.numbers.Numbers.{power_above}
 
 -- ---- digits and their bytes

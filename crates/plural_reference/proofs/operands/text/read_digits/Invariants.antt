@@ -1,4 +1,4 @@
-use Rattle.std.proofs.Common.{◌≡◌, ◌<◌, ◌^◌, ◌≤◌, length}
+use Rattle.std.proofs.Common.{◌≡◌, ◌≤◌, length}
 use Rattle.plural_reference.proofs.numbers.OperandTexts.{scanned}
 use Rattle.plural_reference.proofs.operands.text.read_digits.Given as goal
 
