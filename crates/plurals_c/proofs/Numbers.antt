@@ -19,7 +19,11 @@ pub number_refused : (text : List ℕ) (e : DecimalError) (r : Result CompactNum
     → WritesNumber text r
 number_refused text decimal.Syntax r is syntax limit = rw is (syntax.0 refl)
 number_refused text decimal.Limit r is syntax limit = rw is (limit.0 refl)
-number_refused text decimal.Memory r is syntax limit = rw is tt
+number_refused text decimal.Memory r is syntax limit =
+    rw is (
+      λ none. (let same : ◌≡◌ {A = Result CompactNumber DecimalError} (Err decimal.Memory) (Err decimal.Syntax) = syntax.1 none in absurd cc),
+      λ over. (let same : ◌≡◌ {A = Result CompactNumber DecimalError} (Err decimal.Memory) (Err decimal.Limit) = limit.1 over in absurd cc),
+    )
 
 -- ---- After the rules
 

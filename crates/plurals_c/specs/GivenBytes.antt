@@ -3,7 +3,7 @@
 --     ReadsElements bytes answer      the elements of packed bytes (docs/FORMATS.md)
 --     ReadsText bytes answer      the text
 --     ReadsNumber bytes answer      the number that a text writes within the limits (docs/NUMBERS.md)
-use Rattle.std.specs.Prelude.{◌≡◌, ℕ, ◌≤◌, List, Result, Ok, Err, ⊤}
+use Rattle.std.specs.Prelude.{◌≡◌, ℕ, ◌≤◌, List, Result, Ok, Err}
 use Rattle.std.specs.Str.{IsUtf8}
 use Rattle.icu_plurals.specs.declared.DecimalError.TheVariants as decimal
 use Rattle.icu_plurals.specs.declared.RulesBytesError.{RulesBytesError}
@@ -33,11 +33,19 @@ abbrev pub ReadsText : List ℕ → Result (List ℕ) Fault → Type 0
 ReadsText bytes (Ok text) = IsUtf8 bytes × (text ≡ bytes)
 ReadsText bytes (Err fault) = (fault ≡ Utf8) × ¬ (IsUtf8 bytes)
 
--- why a text is no number: it is out of form, or what it writes is over a limit; or memory ran out
+-- the text isn't of a number's form
+abbrev pub WritesNone : List ℕ → Type 0
+WritesNone text = (x : CompactNumber) → ¬ (WritesCompact text x)
+
+-- it writes a number over a limit
+abbrev pub WritesOverLimit : List ℕ → Type 0
+WritesOverLimit text = (x : CompactNumber) × WritesCompact text x × IsCompactOverLimit x
+
+-- why a text gives no number: it is out of form, or what it writes is over a limit; or neither, and memory ran out
 abbrev pub IsNumberFault : List ℕ → Fault → Type 0
-IsNumberFault text Memory = ⊤
-IsNumberFault text (Number decimal.Syntax) = (x : CompactNumber) → ¬ (WritesCompact text x)
-IsNumberFault text (Number decimal.Limit) = (x : CompactNumber) × WritesCompact text x × IsCompactOverLimit x
+IsNumberFault text Memory = ¬ (WritesNone text) × ¬ (WritesOverLimit text)
+IsNumberFault text (Number decimal.Syntax) = WritesNone text
+IsNumberFault text (Number decimal.Limit) = WritesOverLimit text
 IsNumberFault text fault = ⊥
 
 -- the number that a text writes within the limits

@@ -2,7 +2,7 @@
 --     AreRulesIn json locale type answer      the bytes of the block. Faults are looked for in this order: those of the type, of the
 --                                             locale's text, of the JSON text, of the document, the locale isn't present, rules too long
 --     AreElementsIn json answer      the packed bytes. Faults: those of the JSON text, of the elements
-use Rattle.std.specs.Prelude.{◌≡◌, ℕ, List, ◌==◌, if◌then◌else◌, Some, None, Result, Ok, Err, ⊤}
+use Rattle.std.specs.Prelude.{◌≡◌, ℕ, ◌<◌, List, length, ◌==◌, if◌then◌else◌, Some, None, Result, Ok, Err, ⊤}
 use Rattle.std.specs.Str.{IsUtf8}
 use Rattle.serde_json.specs.Data.{Data}
 use Rattle.serde_json.specs.Read.{read}
@@ -26,9 +26,9 @@ type_of n = if n == 0 then Ok Cardinal else (if n == 1 then Ok Ordinal else Err 
 abbrev pub ReadsType : ℕ → Result PluralRuleType Fault → Type 0
 ReadsType n answer = answer ≡ type_of n
 
--- the bytes are no JSON text, or memory ran out
+-- the bytes are no JSON text; or there are some, and memory ran out
 abbrev pub IsJsonFault : List ℕ → Fault → Type 0
-IsJsonFault bytes Memory = ⊤
+IsJsonFault bytes Memory = 0 < length bytes
 IsJsonFault bytes Json = IsUtf8 bytes → read bytes ≡ None
 IsJsonFault bytes fault = ⊥
 

@@ -9,9 +9,10 @@ use std::test::Fail;
 
 #[test]
 fn faults_of_numbers_have_their_numbers(rt: HostRuntime) {
-    let rows: [(&[u8], i32); 6] = [
+    let rows: [(&[u8], i32); 7] = [
         (b"\xff", -2),
         (b"x", -10),
+        (b"1,5", -10),
         (b"", -10),
         (b"1c0256", -10),
         (b"1c256", -11),
