@@ -193,8 +193,8 @@ impl UnsignedDecimal {
 
     /// Returns the number that up to 18 digits write, from a place on, as a number and the power of ten
     /// that it is multiplied by. Places count from the first integer digit at 0, and after the last
-    /// written place each digit is 0. The zeros after the stored digits aren't read but counted, and
-    /// both numbers are 0 if no stored digit is among those asked for.
+    /// written place each digit is 0. The zeros after the stored digits aren't read but counted: the
+    /// clauses fix the product, and leave open which of its last zeros are in the power.
     #[inline]
     pub fn number_from(&self, place: usize, count: usize) -> (u64, usize)
         requires few { count ≤ 18 }

@@ -2,12 +2,13 @@
 -- value of other is always present; each of the seven others is present or absent.
 --     Elements T      the values by key
 --     values_in_order e      the eight places in the order in which closures are called
+--     AreClones is_clone e copy      each value of the copy is a clone of the one at its key
 --     of_category e c      the value of a category, or that of other
 --     element_at e op rules      the value for operands: the explicit one, else that of the category by the rules, else of other
 use Rattle.std.specs.Prelude.{ℕ, ◌==◌, ◌&&◌, List, [], ◌∷◌, Bool, Option, Some, None, option_map, unwrap_or, if◌then◌else◌, ◌≡◌}
 use Rattle.plural_reference.specs.Operands.{Operands, AreKept, AreExact}
 use Rattle.plural_runtime.specs.PackedTruth.{packed_truth}
-use Rattle.plural_base.specs.FiveRules.{FiveRules, first_category, Five, moduli_of}
+use Rattle.plural_base.specs.FiveRules.{FiveRules, first_category, Five, moduli_of, Paired}
 use Rattle.plural_base.specs.declared.category.PluralCategory.{PluralCategory}
 use Rattle.plural_base.specs.declared.category.PluralCategory.TheVariants.{Zero, One, Two, Few, Many, Other}
 use Rattle.fixed_decimal.specs.Places.{Places, IsWritten}
@@ -45,6 +46,17 @@ each_by f e = record {
   explicit_zero = option_map f e.explicit_zero;
   explicit_one = option_map f e.explicit_one;
 }
+
+-- each value is a clone of the one at its key
+pub record AreClones {T : Type 0} (IsClone : T → T → Type 0) (e copy : Elements T) : Type 0 where
+  pub other : IsClone e.other copy.other
+  pub zero : Paired IsClone e.zero copy.zero
+  pub one : Paired IsClone e.one copy.one
+  pub two : Paired IsClone e.two copy.two
+  pub few : Paired IsClone e.few copy.few
+  pub many : Paired IsClone e.many copy.many
+  pub explicit_zero : Paired IsClone e.explicit_zero copy.explicit_zero
+  pub explicit_one : Paired IsClone e.explicit_one copy.explicit_one
 
 -- the value, unless it equals that of other
 abbrev pub unless_equal : {T : Type 0} → (T → T → Bool) → T → Option T → Option T

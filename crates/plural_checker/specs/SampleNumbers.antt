@@ -79,7 +79,7 @@ parts_of x = all_digits_value x.significand.absolute
 abbrev pub places_of : CompactNumber → ℕ
 places_of x = length x.significand.absolute.fraction
 
--- more than 18 digits are written
+-- more than 18 digits are written, counting the 0 of an absent integer part
 abbrev pub is_long : CompactNumber → Bool
 is_long x = nat_lt kept_places (length x.significand.absolute.whole + places_of x)
 

@@ -59,7 +59,7 @@ pub enum RangeFault {
     End(DecimalError),
     /// The ends have different counts of fraction digits, or different exponents.
     Uneven,
-    /// An end has more than 18 digits.
+    /// An end has more than 18 digits, counting the 0 of an absent integer part.
     Long,
     /// The second end is less than the first.
     Down,

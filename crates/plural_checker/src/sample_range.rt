@@ -42,8 +42,8 @@ impl SampleNumbers {
     ///
     /// The inner error says why `a~b` has none; the first of these that applies: [`RangeFault::End`] if an end writes no number, or
     /// one over a limit; [`RangeFault::Uneven`] if the ends have different counts of fraction digits, or different exponents;
-    /// [`RangeFault::Long`] if one has more than 18 digits; [`RangeFault::Down`] if b is less than a;
-    /// [`RangeFault::Wide`] if there would be more than 100. Signs are ignored: no sample that is read from a text has one. The
+    /// [`RangeFault::Long`] if one has more than 18 digits, counting the 0 of an absent integer part; [`RangeFault::Down`] if b is
+    /// less than a; [`RangeFault::Wide`] if there would be more than 100. Signs are ignored: no sample that is read from a text has one. The
     /// outer error is out of memory.
     pub fn of(
         alloc: Global,

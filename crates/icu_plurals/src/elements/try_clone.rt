@@ -1,13 +1,16 @@
 //! Clones of elements.
 
-ghost use Rattle.std.specs.Prelude.{◌≡◌, IfOk};
+ghost use Rattle.std.specs.Prelude.{◌≡◌, IfOk, IsOk};
+ghost use Rattle.icu_plurals.specs.Elements.{AreClones};
+ghost use Rattle.plural_base.specs.FiveRules.{Paired};
 
 use super::PluralElements;
 use std::alloc::AllocError;
 
 impl<T: Clone> PluralElements<T> {
     /// A clone of each value at its key. It takes memory if clones of the values do; the only error is
-    /// out of memory. It equals what was cloned if clones of `T` equal their sources.
+    /// out of memory, and there is none if clones of `T` never fail. It equals what was cloned if clones
+    /// of `T` equal their sources.
     ///
     /// <!-- snippet crates/icu_plurals_tests/src/tests/elements.rt: example body of fn a_clone_equals_its_source -->
     /// ```
@@ -18,7 +21,9 @@ impl<T: Clone> PluralElements<T> {
     /// assert!(rt; few.try_clone()? == few);
     /// ```
     pub fn try_clone(&self) -> Result<PluralElements<T>, AllocError>
-        ensures { ((x : T) (y : T) → T.is_clone x y → y ≡ x) → IfOk result (λ e. e ≡ self.now) }
+        ensures clones { IfOk result (λ e. AreClones T.is_clone self.now e) }
+        ensures same { ((x : T) (y : T) → T.is_clone x y → y ≡ x) → IfOk result (λ e. e ≡ self.now) }
+        ensures succeeds { ((x : T) → T.is_infallible x) → IsOk result }
     {
         Ok(PluralElements {
             other: self.other.clone()?,
@@ -35,7 +40,9 @@ impl<T: Clone> PluralElements<T> {
 
 // A clone of the value, if present.
 fn cloned<T: Clone>(place: &Option<T>) -> Result<Option<T>, AllocError>
-    ensures { ((x : T) (y : T) → T.is_clone x y → y ≡ x) → IfOk result (λ s. s ≡ place.now) }
+    ensures clone { IfOk result (λ s. Paired T.is_clone place.now s) }
+    ensures same { ((x : T) (y : T) → T.is_clone x y → y ≡ x) → IfOk result (λ s. s ≡ place.now) }
+    ensures succeeds { ((x : T) → T.is_infallible x) → IsOk result }
 {
     match place {
         Some(value) => Ok(Some(value.clone()?)),

@@ -281,6 +281,29 @@ fn a_clone_equals_its_source(rt: HostRuntime) -> Result<(), Fail> {
     Ok(())
 }
 
+// A value that counts how often it was cloned.
+#[derive(Debug, Drop, PartialEq)]
+struct Copied {
+    times: u32,
+}
+
+impl Clone for Copied {
+    fn clone(&self) -> Result<Copied, AllocError> {
+        Ok(Copied {
+            times: self.times.saturating_add(1),
+        })
+    }
+}
+
+#[test]
+fn each_value_is_cloned_once(rt: HostRuntime) -> Result<(), Fail> {
+    let source = PluralElements::new(Copied { times: 0 }).with_few_value(Some(Copied { times: 5 }));
+    let clone = source.try_clone()?;
+    holds!(rt; clone.other().times == 1);
+    holds!(rt; clone.few().times == 6);
+    Ok(())
+}
+
 // At most one growth is refused: out of memory is returned at most once, and the call made again succeeds.
 #[test]
 fn growth_of_clones_of_elements_may_be_refused(rt: HostRuntime) {

@@ -14,16 +14,21 @@ const DOCUMENT: &[u8] =
 
 const REPORT: &str = "locales: 1, rules: 2, numbers: 17, faults: 0\n";
 
-// A reader of a text and then this many spaces, which ends or fails after them.
+// A reader of a text and then this many spaces, which ends or fails after them; its first calls are interrupted.
 #[derive(Drop)]
 pub(crate) struct Input<'a> {
     text: &'a [u8],
     spaces: usize,
     fails: bool,
+    interrupts: usize,
 }
 
 impl<'a> Read for Input<'a> {
     fn read(&mut self, buf: &mut [u8]) -> io::Result<usize> {
+        if self.interrupts > 0 {
+            self.interrupts -= 1;
+            return Err(io::Error::from(io::ErrorKind::Interrupted));
+        }
         if !self.text.is_empty() {
             return self.text.read(buf);
         }
@@ -44,6 +49,7 @@ impl<'a> Input<'a> {
             text: text.unwrap_or(b""),
             spaces: 0,
             fails: text.is_none(),
+            interrupts: 0,
         }
     }
 
@@ -58,6 +64,7 @@ fn document_up_to(length: usize, fails: bool) -> Input<'static> {
         text: DOCUMENT,
         spaces: length.saturating_sub(DOCUMENT.len()),
         fails,
+        interrupts: 0,
     }
 }
 
@@ -75,6 +82,13 @@ fn what_is_too_long_is_not_read_on(rt: HostRuntime) {
     holds!(rt; reader.spaces == 99);
     let mut failing = document_up_to(MOST + 1, true);
     holds!(rt; gives(rt.alloc(), false, &mut failing, too_long) == Some(true));
+}
+
+#[test]
+fn an_interrupted_read_is_repeated(rt: HostRuntime) {
+    let mut reader = document_up_to(5000, false);
+    reader.interrupts = 3;
+    holds!(rt; gives(rt.alloc(), false, &mut reader, REPORT) == Some(true));
 }
 
 #[test]

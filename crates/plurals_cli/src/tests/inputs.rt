@@ -10,16 +10,21 @@ use std::test::Fail;
 // The most bytes that an input may have.
 const MOST: usize = 4_194_304;
 
-// A reader of a text and then a number of spaces, which ends or fails after them.
+// A reader of a text and then a number of spaces, which ends or fails after them; its first calls are interrupted.
 #[derive(Drop)]
 pub(crate) struct Input<'a> {
     text: &'a [u8],
     spaces: usize,
     fails: bool,
+    interrupts: usize,
 }
 
 impl<'a> Read for Input<'a> {
     fn read(&mut self, buf: &mut [u8]) -> io::Result<usize> {
+        if self.interrupts > 0 {
+            self.interrupts -= 1;
+            return Err(io::Error::from(io::ErrorKind::Interrupted));
+        }
         if !self.text.is_empty() {
             return self.text.read(buf);
         }
@@ -40,6 +45,7 @@ impl<'a> Input<'a> {
             text: text.unwrap_or(b""),
             spaces: 0,
             fails: text.is_none(),
+            interrupts: 0,
         }
     }
 
@@ -54,6 +60,7 @@ fn document_up_to(length: usize, fails: bool) -> Input<'static> {
         text: DOCUMENT,
         spaces: length.saturating_sub(DOCUMENT.len()),
         fails,
+        interrupts: 0,
     }
 }
 
@@ -78,6 +85,14 @@ fn what_is_too_long_is_not_read_on(rt: HostRuntime) {
 }
 
 #[test]
+fn an_interrupted_read_is_repeated(rt: HostRuntime) {
+    let words = ["category", "a", "cardinal", "1"];
+    let mut reader = document_up_to(5000, false);
+    reader.interrupts = 3;
+    holds!(rt; gives(rt.alloc(), &words, &mut reader, "one\n") == Some(true));
+}
+
+#[test]
 fn a_failing_reader_is_a_fault(rt: HostRuntime) {
     let words = ["category", "a", "cardinal", "1"];
     let cannot = "1: cannot read input\n";
@@ -89,6 +104,7 @@ fn a_failing_reader_is_a_fault(rt: HostRuntime) {
         text: b"{",
         spaces: 0,
         fails: true,
+        interrupts: 0,
     };
     holds!(rt; gives(rt.alloc(), &words, &mut reader, cannot) == Some(true));
 }
