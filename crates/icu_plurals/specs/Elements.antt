@@ -2,7 +2,7 @@
 -- value of other is always present; each of the seven others is present or absent.
 --     Elements T      the values by key
 --     values_in_order e      the eight places in the order in which closures are called
---     AreClones is_clone e copy      each value of the copy is a clone of the one at its key
+--     AreClones IsClone e copy      each value of the copy is a clone of the one at its key
 --     of_category e c      the value of a category, or that of other
 --     element_at e op rules      the value for operands: the explicit one, else that of the category by the rules, else of other
 use Rattle.std.specs.Prelude.{ℕ, ◌==◌, ◌&&◌, List, [], ◌∷◌, Bool, Option, Some, None, option_map, unwrap_or, if◌then◌else◌, ◌≡◌}
