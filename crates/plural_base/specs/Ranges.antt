@@ -1,4 +1,6 @@
--- A value for each of the six plural categories.
+-- The categories of ranges of numbers (UTS 35 Part 3, Plural Ranges): tables of pairs, the bytes and the texts of ranges.
+--
+-- A value for each of the six plural categories:
 --     each f      the value that f gives for each
 --     at things category      the value of a category
 --     put_at things category thing      the same values, but for this one

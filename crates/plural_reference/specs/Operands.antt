@@ -1,6 +1,6 @@
--- The operands of a number (UTS 35 Part 3, Plural Operand Meanings): i its integer part; v and w how many fraction digits
--- it shows, with and without trailing zeros; f and t those digits as a number, with and without trailing zeros; and c the
--- compact exponent, which e names too.
+-- The operands of a number (UTS 35 Part 3, Plural Operand Meanings). i is its integer part; v and w count the fraction
+-- digits that it shows, with and without trailing zeros; f and t are these digits as a number, with and without trailing
+-- zeros; c is the compact exponent, which e names too.
 --     of_whole n      those of a whole number: no fraction, no exponent
 --     of_wide n      those that are kept of an integer of 128 bits
 --     kept_places, kept_limit      18 and 10 ^ 18: what is kept of a longer number

@@ -1,4 +1,4 @@
--- What a call that reads may return.
+-- What a call that reads may return: what its definition says, or out of memory.
 use Rattle.std.specs.Prelude.{◌≡◌, ◌⊎◌, List, ℕ, Result, Ok, Err}
 use Rattle.plural_reference.specs.declared.error.ParseError.{ParseError}
 use Rattle.plural_reference.specs.declared.error.ReadError.{ReadError}

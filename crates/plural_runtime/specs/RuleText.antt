@@ -1,4 +1,4 @@
--- Not a definition of the subject: the printed text of packed relations, one after the other.
+-- The printed text of packed relations, one after the other, for private contracts; printed rules pack again.
 use Rattle.std.specs.Prelude.{ℕ, List, [], ◌∷◌, ◌++◌, codes, Bool, true, false, if◌then◌else◌, ◌==◌, ◌≡◌, None, Ok}
 use Rattle.std.specs.Fmt.{decimal}
 use Rattle.plural_reference.specs.declared.ast.Operator.{Operator}
