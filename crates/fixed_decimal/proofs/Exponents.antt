@@ -147,11 +147,11 @@ module _ (bytes t front : List ℕ) (e : ℕ) (same : bytes ≡ t) (found : (res
       let here : (front ≡ h.0) × (e ≡ y.exponent) = only h.0 h.1 y.significand y.exponent h.2 h.3 (same ∙ h.4) in
       (subst (λ (s : List ℕ). WritesDecimal s y.significand) (sym here.0) h.2, here.1)
 
-  -- Where the front is no decimal, the text is no compact number.
+  -- Where the front isn't a decimal, the text isn't a compact number.
   pub none_compact : ((x : Decimal) → ¬ (WritesDecimal front x)) → (y : CompactNumber) → ¬ (WritesCompact t y)
   none_compact none y h = none y.significand (decimal_from y h).0
 
-  -- Where the text is no compact number, its front is no decimal.
+  -- Where the text isn't a compact number, its front isn't a decimal.
   pub none_decimal : ((y : CompactNumber) → ¬ (WritesCompact t y)) → (x : Decimal) → ¬ (WritesDecimal front x)
   none_decimal none x h = none (record { significand = x; exponent = e }) (compact_from x h)
 

@@ -23,7 +23,7 @@ written_are_digits whole fraction h k =
 pub length-whole_digits : (whole : List ℕ) → length (or_zero (digits_in whole)) ≡ max (length whole) 1
 length-whole_digits whole = length-or_zero (digits_in whole) ∙ ap (λ n. max n 1) (length-digits_in whole)
 
--- The written digits are those of both sides.
+-- The written digits are the digits of both sides.
 pub length-written : (whole fraction : List ℕ) → length (written_digits whole fraction) ≡ max (length whole) 1 + length fraction
 length-written whole fraction =
     length-append (or_zero (digits_in whole)) (digits_in fraction) ∙ omega (arith, length-whole_digits whole, length-digits_in fraction)

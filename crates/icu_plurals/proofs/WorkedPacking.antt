@@ -31,7 +31,7 @@ marked_bytes : elements_bytes
     ∷ 120 ∷ 1 ∷ 0 ∷ 17 ∷ 120 ∷ []
 marked_bytes = refl
 
--- a category's value that equals other's is no value of its own
+-- a category's value that equals other's isn't a value of its own
 equal_is_no_repeat : without_repeats (record items { two = Some (plain (codes "items")) }) ≡ items
 equal_is_no_repeat = refl
 

@@ -1,6 +1,6 @@
 -- Packed elements: a default, and either nothing else or a list of items after it. A value is four bits of metadata and a text.
 --     PackedElements      the default and its items
---     ElementsBytes packed bytes      the bytes are those of packed elements
+--     ElementsBytes packed bytes      the bytes encode packed elements
 --     elements_of packed      the values by key: if a key occurs twice, that of its first item
 --     packed_of elements      what elements are packed as
 use Rattle.std.specs.Prelude.{◌≡◌, ℕ, ◌+◌, ◌*◌, ◌<◌, ◌≤◌, ◌==◌, ◌&&◌, List, [], ◌∷◌, ◌++◌, length, map, Bool, IsTrue, Option, Some}
@@ -68,7 +68,7 @@ bytes_with default (Some items) = (128 + default.metadata) ∷ length default.te
 abbrev pub elements_bytes : PackedElements → List ℕ
 elements_bytes packed = bytes_with packed.default packed.items
 
--- the bytes are those of the packed elements
+-- the bytes encode the packed elements
 pub record ElementsBytes (packed : PackedElements) (bytes : List ℕ) : Type 0 where
   pub default : IsPackedValue packed.default
   pub items : AllByRecursion IsPackedItem (items_of packed)
@@ -153,7 +153,7 @@ AnswersAs values bytes =
     ((packed : PackedElements) × ElementsBytes packed bytes) × ((packed : PackedElements) → ElementsBytes packed bytes
     → (op : Operands) (rules : FiveRules) → element_at (elements_of packed) op rules ≡ element_at values op rules)
 
--- the values without those of the five categories that equal that of other
+-- the values, without the category values that equal the value of other
 abbrev pub without_repeats : Elements PackedValue → Elements PackedValue
 without_repeats e = record {
   other = e.other;

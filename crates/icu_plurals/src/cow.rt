@@ -80,7 +80,7 @@ impl PluralElementsPackedCow<'static> {
 }
 
 impl<'data> PluralElementsPackedCow<'data> {
-    /// Packed elements in borrowed bytes. It takes no memory.
+    /// Packed elements in borrowed bytes. It allocates nothing.
     ///
     /// <!-- snippet crates/icu_plurals_tests/src/tests/packing.rt:
     ///      example "let packed" to "holds!(rt; packed.as_packed().get_default" of fn lent_bytes_keep_their_metadata -->
@@ -125,7 +125,7 @@ impl<'data> PluralElementsPackedCow<'data> {
         PluralElementsPackedULE::from_checked(self.bytes.as_slice())
     }
 
-    /// The text for a number, as [`PluralElementsPackedULE::get`] returns it. It takes no memory.
+    /// The text for a number, as [`PluralElementsPackedULE::get`] returns it. It allocates nothing.
     pub fn get(&self, op: PluralOperands, rules: &PluralRules<'_>) -> &str
         ensures { result.now ≡ (element_at (elements_of self.now) op rules.now).text }
     {

@@ -199,7 +199,7 @@ impl<T> PluralElements<T> {
     }
 
     /// The value for a number: the explicit one if the operands are exactly 0 or 1 and it is present,
-    /// else that of the category that the rules choose, else that of other. It takes no memory.
+    /// else that of the category that the rules choose, else that of other. It allocates nothing.
     ///
     /// With the rule `i = 1` for one:
     ///

@@ -41,14 +41,14 @@ impl PluralElementsPackedCow<'static> {
     /// ```
     ///
     /// [`JsonError::Float`] if the value holds a float, else [`JsonError::Shape`] if a part has another form, else
-    /// [`JsonError::Pack`] if the elements can't be packed. It takes memory for the bytes; out of memory is
+    /// [`JsonError::Pack`] if the elements can't be packed. It allocates for the bytes; out of memory is
     /// [`JsonError::Memory`].
     pub fn from_json(
         alloc: Global,
         value: &Value,
     ) -> Result<PluralElementsPackedCow<'static>, JsonError>
         ensures answers { Answers (λ packed. packed) result (packed_of_json (view value.now)) }
-        // Both are checked before memory is taken.
+        // Both are checked before anything is allocated.
         ensures float { (result ≡ Err JsonError.Float) ↔ IsTrue (has_float (view value.now)) }
         ensures shape { (result ≡ Err JsonError.Shape) ↔ (IsFalse (has_float (view value.now)) × (elements_in_json (view value.now) ≡ None)) }
         ensures memory { result ≢ Err (JsonError.Pack ElementsPackError.Memory) }
@@ -65,7 +65,7 @@ impl PluralElementsPackedCow<'static> {
 
 impl<'data> PluralElementsPackedCow<'data> {
     /// The JSON value of the elements, as [`PluralElementsPackedULE::decode`] returns them: an object with a list of
-    /// metadata and text under the key of each value that is present. It takes memory; the only error is
+    /// metadata and text under the key of each value that is present. It allocates; the only error is
     /// [`JsonError::Memory`].
     ///
     /// <!-- snippet crates/icu_plurals_tests/src/tests/packing.rt: example "let value = packed.to_json" to "holds!" -->

@@ -28,7 +28,7 @@ pub fn elements_read_again()
     read_again();
 }
 
-/// Packed elements have the values that were packed, without those of the five categories that equal the value of other
+/// Packed elements have the values that were packed, without the category values that equal the value of other
 /// in metadata and text.
 pub fn packed_values_again()
     ensures { (e : Elements PackedValue) → elements_of (packed_of e) ≡ without_repeats e }

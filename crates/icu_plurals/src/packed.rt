@@ -50,7 +50,7 @@ impl<'a> PluralElementsPackedULE<'a> {
     ghost use Rattle.icu_plurals.specs.Inner.ElementsReading.{AreElements};
     ghost use Rattle.icu_plurals.specs.Inner.ElementsViews.{lent_value, lent_elements};
 
-    /// Reads bytes as packed elements. It takes no memory.
+    /// Reads bytes as packed elements. It allocates nothing.
     ///
     /// <!-- snippet crates/using/src/elements.rt: "let stored" to "println" of fn print_stored_texts -->
     /// ```
@@ -63,7 +63,7 @@ impl<'a> PluralElementsPackedULE<'a> {
     /// follow, but the length of the default's text is missing or more than the bytes left
     /// ([`ElementsBytesError::Short`]); one of the bits 4 to 6 of the first byte is set
     /// ([`ElementsBytesError::Padding`]); the default isn't UTF-8 ([`ElementsBytesError::DefaultText`]); what follows it
-    /// is no packed list ([`ElementsBytesError::List`]). Then the first bad item: it has no byte
+    /// isn't a packed list ([`ElementsBytesError::List`]). Then the first bad item: it has no byte
     /// ([`ElementsBytesError::ItemEmpty`]), its key is above 6 ([`ElementsBytesError::Key`]), or its text isn't UTF-8
     /// ([`ElementsBytesError::ItemText`]).
     pub fn parse_bytes(bytes: &'a [u8]) -> Result<PluralElementsPackedULE<'a>, ElementsBytesError>
@@ -125,7 +125,7 @@ impl<'a> PluralElementsPackedULE<'a> {
     }
 
     /// All values by key, borrowed from the bytes. If a key occurs twice, its first item counts, and a category's value
-    /// is present even if it equals the default. It takes no memory.
+    /// is present even if it equals the default. It allocates nothing.
     ///
     /// <!-- snippet crates/icu_plurals_tests/src/tests/packed.rt:
     ///      example "let bytes" to "holds!(rt; shown(elements.zero())" of fn decodes_every_key -->

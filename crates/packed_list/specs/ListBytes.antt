@@ -38,12 +38,12 @@ pub record CanPack (items : List (List ℕ)) : Type 0 where
   pub count : length items ≤ 65535
   pub starts : IsFalse (has_high_start items)
 
--- the bytes are those of the items
+-- the bytes encode the items
 pub record ListBytes (items : List (List ℕ)) (bytes : List ℕ) : Type 0 where
   pub can_pack : CanPack items
   pub spelled : bytes ≡ list_bytes items
 
--- ---- What is wrong with bytes that are no list, in the order in which it is looked for.
+-- ---- What is wrong with bytes that aren't a list, in the order in which it is looked for.
 
 -- the number in the two bytes at a place, low byte first
 abbrev pub two_byte_number : List ℕ → ℕ → ℕ

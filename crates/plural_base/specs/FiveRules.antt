@@ -86,12 +86,12 @@ modulus_on E modulus = []
 abbrev pub moduli_of_relation : PackedRelation → List ℕ
 moduli_of_relation relation = modulus_on relation.meaning.operand relation.meaning.modulus
 
--- those of the relations of a rule, if present
+-- the moduli of the relations of a rule, if present
 abbrev pub moduli_of_rule : Option (List PackedRelation) → List ℕ
 moduli_of_rule None = []
 moduli_of_rule (Some relations) = flat_map moduli_of_relation relations
 
--- those of all five rules
+-- the moduli of all five rules
 abbrev pub moduli_of : FiveRules → List ℕ
 moduli_of rules =
     moduli_of_rule rules.zero ++ moduli_of_rule rules.one ++ moduli_of_rule rules.two ++ moduli_of_rule rules.few

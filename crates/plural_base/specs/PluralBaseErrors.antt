@@ -20,7 +20,7 @@ elements_pack_error_text packing.DefaultLimit = codes "default too long"
 elements_pack_error_text packing.StartLimit = codes "elements too long"
 elements_pack_error_text packing.Memory = codes "out of memory"
 
--- why bytes are no rules
+-- why bytes aren't rules
 abbrev pub rules_bytes_error_text : RulesBytesError → List ℕ
 rules_bytes_error_text (errors.List fault) = list_error_text fault
 rules_bytes_error_text (errors.ItemEmpty place) = codes "rule " ++ decimal place ++ codes " without a byte"

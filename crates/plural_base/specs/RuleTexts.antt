@@ -70,7 +70,7 @@ IsAnswerFor text condition = (tokens : List Token) → AreTokensOf text tokens �
 abbrev pub ArePackingsOf : Five (Option Condition) → FiveRules → Type 0
 ArePackingsOf = ArePaired (λ condition rule. packing condition ≡ Ok rule)
 
--- for all conditions that the texts of rules are read as by this relation, the texts are those of rules with these conditions,
+-- for all conditions that the texts of rules are read as by this relation, the texts give rules with these conditions,
 -- and the rules are their packings
 abbrev pub HaveEveryReading : (List ℕ → Condition → Type 0) → Type 0
 HaveEveryReading Read =

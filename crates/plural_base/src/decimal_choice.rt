@@ -12,7 +12,7 @@ use plural_runtime::laws::texts_give_one_answer;
 impl<'data> PluralRules<'data> {
     /// The category of a decimal by its kept operands. If [`PluralRules::is_exact_for_decimal`] holds
     /// and the rules come from texts, it is the category of the number itself, whatever its length.
-    /// It takes no memory.
+    /// It allocates nothing.
     ///
     /// <!-- snippet crates/plural_base_tests/src/tests/exact.rt: example fn decimal -->
     /// ```
@@ -34,7 +34,7 @@ impl<'data> PluralRules<'data> {
 
     /// The category of a compact decimal by its kept operands, after the point has moved by the
     /// exponent. If [`PluralRules::is_exact_for`] holds and the rules come from texts, it is the
-    /// category of the number itself, whatever its length. It takes no memory.
+    /// category of the number itself, whatever its length. It allocates nothing.
     ///
     /// In French, whose rules `french` returns,
     ///

@@ -22,7 +22,7 @@ impl<'data> PluralRules<'data> {
     /// This holds if, after the point has moved by the exponent, the number has at most 18 fraction
     /// places; and either at most 18 integer places, or an integer part of at least `10^18` under
     /// rules whose moduli on `n` and `i` all divide `10^18`. Places count as they are written, with
-    /// leading and trailing zeros. It takes no memory.
+    /// leading and trailing zeros. It allocates nothing.
     ///
     /// <!-- snippet crates/using/src/numbers.rt: body of fn print_exactness -->
     /// ```
@@ -148,7 +148,7 @@ fn relation_divides(relation: Relation<'_>) -> bool
     }
 }
 
-// Whether a modulus is 0, which is no modulus, or divides 10 to the power 18.
+// Whether a modulus is 0, which isn't a modulus, or divides 10 to the power 18.
 fn divides_ten_to_18(modulus: u32) -> bool
     ensures { result ≡ divides_ten_to_18 modulus }
 {

@@ -14,7 +14,7 @@ use std::marker::Model;
 /// The categories that ranges of numbers have, by the categories of their starts and their ends (UTS 35
 /// Part 3, Plural Ranges): a map from pairs of categories to categories. A pair that is absent has its
 /// end's category. Tables are equal if they hold the same pairs. Of its calls only
-/// [`PluralRanges::to_json`] takes memory.
+/// [`PluralRanges::to_json`] allocates.
 ///
 /// <!-- snippet crates/plural_base_tests/src/tests/ranges.rt:
 ///      example "let mut ranges" to "holds!(rt; ranges.len()" of fn a_pair_has_the_category_that_was_put_last -->

@@ -68,7 +68,7 @@ impl<'data> PluralRules<'data> {
         PluralRules { data: rules }
     }
 
-    /// The category of a number by its operands. It takes no memory.
+    /// The category of a number by its operands. It allocates nothing.
     ///
     /// <!-- snippet crates/plural_base_tests/src/tests/exact.rt:
     ///      example "let rules" to "holds!" of fn integers_of_64_bits_are_whole -->

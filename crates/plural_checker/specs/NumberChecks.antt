@@ -1,4 +1,4 @@
--- What is wrong with the numbers of a sample that is listed under a category. The rules are those of the language's five texts;
+-- What is wrong with the numbers of a sample that is listed under a category. The rules come from the language's five texts;
 -- if one of these gives none, categories aren't checked, and only a range without numbers is wrong, and a text that writes no
 -- number or one over a limit.
 --     IsCheckedNumber rules category x fault      a number

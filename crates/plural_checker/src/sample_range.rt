@@ -70,7 +70,7 @@ impl SampleNumbers {
         }
     }
 
-    /// Returns the text of a number, counted from 0. It takes memory; the only error is out of memory.
+    /// Returns the text of a number, counted from 0. It allocates; the only error is out of memory.
     pub fn text(&self, alloc: Global, index: u64) -> Result<DecimalValue, AllocError>
         ensures { IfOk result (λ text. text ≡ text_at self.now index) }
     {

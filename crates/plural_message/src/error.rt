@@ -22,7 +22,7 @@ use std::fmt;
 /// ```
 #[derive(Clone, Copy, Debug, PartialEq, Eq)]
 pub enum MessageError {
-    /// The text is no number, or is over a limit. It is never out of memory.
+    /// The text isn't a number, or is over a limit. It is never out of memory.
     Number(DecimalError),
     /// Out of memory, for the number or for the message.
     Memory,

@@ -65,7 +65,7 @@ impl<'a> Message<'a> {
     /// The message for a number, which is given as a text: a decimal, with a compact exponent or not. Its
     /// operands and the rules choose an element (UTS 35 Part 3, Language Plural Rules), and in the element's
     /// text each `{}`, from the left, is replaced by the number's text as it was given. There is no escape
-    /// for `{}`. The message takes memory.
+    /// for `{}`. It allocates the message.
     ///
     /// With elements for `{} item` and `{} items`, and others with `none` for exactly 0:
     ///
@@ -87,7 +87,7 @@ impl<'a> Message<'a> {
     /// }
     /// ```
     ///
-    /// The errors: [`MessageError::Number`] with `Syntax` if the text is no number, and with `Limit` if it is
+    /// The errors: [`MessageError::Number`] with `Syntax` if the text isn't a number, and with `Limit` if it is
     /// over a limit; [`MessageError::Memory`] if memory ran out.
     pub fn format(
         &self,
@@ -110,7 +110,7 @@ impl<'a> Message<'a> {
     /// The message for a number that was read already, with a text to show for it: as it was written, or in
     /// the digits and marks of a locale. The number's operands and the rules choose an element, as for
     /// [`Message::format`], and in the element's text each `{}`, from the left, is replaced by the given text.
-    /// Whether the text writes the number isn't checked. The message takes memory; the only error is out of
+    /// Whether the text writes the number isn't checked. It allocates the message; the only error is out of
     /// memory.
     ///
     /// <!-- snippet crates/using/src/messages.rt: "let number" to "println" of fn print_marks -->

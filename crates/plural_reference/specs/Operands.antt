@@ -1,7 +1,7 @@
 -- The operands of a number (UTS 35 Part 3, Plural Operand Meanings). i is its integer part; v and w count the fraction
 -- digits that it shows, with and without trailing zeros; f and t are these digits as a number, with and without trailing
 -- zeros; c is the compact exponent, which e names too.
---     of_whole n      those of a whole number: no fraction, no exponent
+--     of_whole n      the operands of a whole number: no fraction, no exponent
 --     of_wide n      those that are kept of an integer of 128 bits
 --     kept_places, kept_limit      18 and 10 ^ 18: what is kept of a longer number
 use Rattle.std.specs.Prelude.{ℕ, ◌+◌, ◌%◌, ◌^◌, nat_lt, if◌then◌else◌, ◌≡◌, ◌-◌, ◌/◌, ◌≤◌, List, ◌++◌, length, take, drop, nat_le}
@@ -17,7 +17,7 @@ pub record Operands : Type 0 where
   pub t : ℕ
   pub c : ℕ
 
--- those of a whole number without a fraction or an exponent
+-- the operands of a whole number without a fraction or an exponent
 abbrev pub of_whole : ℕ → Operands
 of_whole n = record { i = n; v = 0; w = 0; f = 0; t = 0; c = 0 }
 

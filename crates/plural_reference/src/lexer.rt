@@ -10,7 +10,7 @@ use crate::token::Token;
 use std::marker::Model;
 
 /// The tokens of a text, one at a time: at most one for each byte, and after the last always `None`.
-/// It allocates nothing, and refuses nothing: what is no piece of a rule is [`Token::Junk`]. Contracts
+/// It allocates nothing, and refuses nothing: what isn't a piece of a rule is [`Token::Junk`]. Contracts
 /// see the list of the remaining tokens.
 ///
 /// <!-- snippet crates/plural_reference_tests/src/tests/tokens.rt:

@@ -25,7 +25,7 @@ pub enum Token {
     And,
     /// `%`.
     Modulo,
-    /// What is no piece of a rule: an unknown byte, a broken keyword, or a number above 4294967295.
+    /// What isn't a piece of a rule: an unknown byte, a broken keyword, or a number above 4294967295.
     Junk,
     /// `@`.
     At,

@@ -114,7 +114,7 @@ agree number (relation ∷ relations) (inr never) =
     not_true true h = cc
     not_true false h = refl
 
--- the groups of the tree have the same truth as those of the relations
+-- the groups of the tree have the same truth as the relations' groups
 groups_alike : (number : Operands) (relations : List PackedRelation) → (number.w ≡ 0) ⊎ IsTrue (has_no_negated_n relations)
     → is_true_of (tree_relation_truth number) (unpacked_groups relations) ≡ some_group (is_true_at number) (groups relations)
 groups_alike number [] ok = refl

@@ -88,12 +88,12 @@ relation_bytes relation =
 abbrev pub packed_bytes : List PackedRelation → List ℕ
 packed_bytes relations = list_bytes (map relation_bytes relations)
 
--- the bytes are those of the relations
+-- the bytes encode the relations
 pub record RuleBytes (relations : List PackedRelation) (bytes : List ℕ) : Type 0 where
   pub fit : AllByRecursion FitsBytes relations
   pub packed : ListBytes (map relation_bytes relations) bytes
 
--- ---- What is wrong with the items of a packed list that is no rule.
+-- ---- What is wrong with the items of a packed list that isn't a rule.
 
 -- a count of bytes is that of whole ranges
 abbrev pub is_whole : ℕ → Bool
@@ -107,7 +107,7 @@ is_item_length n = nat_le head_length n && is_whole (n - head_length)
 abbrev pub is_relation : List ℕ → Bool
 is_relation item = is_item_length (length item) && nat_le (slice_index item 0 % 64) 7
 
--- what is wrong with the item at a place: its length before its operand
+-- the fault of the item at a place: its length before its operand
 abbrev pub relation_fault : ℕ → List ℕ → Option RuleBytesError
 relation_fault place item =
     if not (is_item_length (length item)) then Some (errors.ItemLength place)
@@ -117,12 +117,12 @@ abbrev pub or_else : Option RuleBytesError → Option RuleBytesError → Option 
 or_else None other = other
 or_else (Some fault) other = Some fault
 
--- what is wrong with the first bad item, if there is one; the first item is at the given place
+-- the fault of the first bad item, if there is one; the first item is at the given place
 abbrev pub first_relation_fault : ℕ → List (List ℕ) → Option RuleBytesError
 first_relation_fault place [] = None
 first_relation_fault place (item ∷ items) = or_else (relation_fault place item) (first_relation_fault (place + 1) items)
 
--- bytes are refused as a rule with a fault: they are no packed list, or it is that of the first bad item
+-- bytes are refused as a rule with a fault: they aren't a packed list, or it is that of the first bad item
 abbrev pub HasRuleFault : List ℕ → RuleBytesError → Type 0
 HasRuleFault bytes (errors.List fault) = HasFault bytes fault
 HasRuleFault bytes fault = (items : List (List ℕ)) × ListBytes items bytes × (first_relation_fault 0 items ≡ Some fault)

@@ -42,12 +42,12 @@ abbrev pub needed_of_relation : Operands → RelationMeaning → ℕ
 needed_of_relation number relation =
     needed_of_value relation.ranges (option_map (remainder relation.modulus) (operand_value relation.operand number))
 
--- how many ranges of a group are needed: those of the relations before which all are true
+-- how many ranges of a group are needed: the ranges of the relations before which all are true
 abbrev pub needed_of_group : Operands → List PackedRelation → ℕ
 needed_of_group number group =
     sum_by (λ at. if group_truth number at.0 then needed_of_relation number at.1.meaning else 0) (with_earlier group)
 
--- how many ranges of a rule are needed: those of the groups before which none is true
+-- how many ranges of a rule are needed: the ranges of the groups before which none is true
 unfoldable pub needed_ranges : Operands → List PackedRelation → ℕ
 needed_ranges number relations =
     sum_by (λ at. if list_any (group_truth number) at.0 then 0 else needed_of_group number at.1) (with_earlier (groups relations))

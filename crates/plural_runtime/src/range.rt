@@ -78,7 +78,7 @@ impl RangeOrValue {
     }
 }
 
-// Only for the proof: eight bytes are those of the range that they hold.
+// Only for the proof: eight bytes encode the range that they hold.
 fn spelled(bytes: &[u8])
     requires { length bytes.now ≡ range_length }
     ensures { range_bytes (range_in bytes.now) ≡ bytes.now }

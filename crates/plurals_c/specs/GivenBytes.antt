@@ -18,12 +18,12 @@ use Rattle.plurals_c.specs.Results.{Then}
 use Rattle.plurals_c.specs.declared.fault.Fault.{Fault}
 use Rattle.plurals_c.specs.declared.fault.Fault.TheVariants.{Memory, Utf8, Number, Rules, Elements}
 
--- the rules that the bytes are the block of, or what is wrong with them
+-- the rules that the bytes are the block of, or their fault
 abbrev pub ReadsRules : List ℕ → Result FiveRules Fault → Type 0
 ReadsRules bytes (Ok rules) = RulesBytes rules bytes
 ReadsRules bytes (Err e) = (fault : RulesBytesError) × (e ≡ Rules fault) × HasRulesFault bytes fault
 
--- the elements that the bytes are those of, or what is wrong with them
+-- the elements that the bytes encode, or their fault
 abbrev pub ReadsElements : List ℕ → Result PackedElements Fault → Type 0
 ReadsElements bytes (Ok elements) = ElementsBytes elements bytes
 ReadsElements bytes (Err e) = (fault : ElementsBytesError) × (e ≡ Elements fault) × HasElementsFault bytes fault

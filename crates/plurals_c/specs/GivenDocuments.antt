@@ -26,7 +26,7 @@ type_of n = if n == 0 then Ok Cardinal else (if n == 1 then Ok Ordinal else Err 
 abbrev pub ReadsType : ℕ → Result PluralRuleType Fault → Type 0
 ReadsType n answer = answer ≡ type_of n
 
--- the bytes are no JSON text; or there are some, and memory ran out
+-- the bytes aren't JSON; or there are some, and memory ran out
 abbrev pub IsJsonFault : List ℕ → Fault → Type 0
 IsJsonFault bytes Memory = 0 < length bytes
 IsJsonFault bytes Json = IsUtf8 bytes → read bytes ≡ None

@@ -88,7 +88,7 @@ abbrev pub IsElementOf : List ℕ → List ℕ → List ℕ → Result (List ℕ
 IsElementOf = AfterAll HasElement
 
 -- The text of the element that the number chooses, filled by the number's text (docs/MESSAGES.md); within the exactness bound the
--- element is that of the number itself. The message takes memory.
+-- element is that of the number itself. The message allocates.
 abbrev pub HasMessage : List ℕ → FiveRules → PackedElements → CompactNumber → Result (List ℕ) Fault → Type 0
 HasMessage number rules elements x (Ok text) =
     IsMessageWith (IsKeptElement (elements_of elements) rules) x number text

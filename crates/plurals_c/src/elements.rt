@@ -21,7 +21,7 @@ use std::alloc::Global;
 /// is shorter, nothing is written.
 ///
 /// A fault is negative, and then nothing is written: no JSON text, else no elements, or elements that
-/// can't be packed. It takes memory.
+/// can't be packed. It allocates.
 #[unsafe(no_mangle)]
 pub extern "C" fn plurals_elements_from_json(alloc: Global, json: &[u8], out: &mut [u8]) -> i64
     ensures { Written (AreElementsIn json.now) out.old out.new result }
@@ -37,7 +37,7 @@ pub extern "C" fn plurals_elements_from_json(alloc: Global, json: &[u8], out: &m
 /// a compact exponent or not.
 ///
 /// A fault is negative, and then nothing is written: one of the rules, else of the elements, else of the
-/// number. It takes memory for the number.
+/// number. It allocates for the number.
 #[unsafe(no_mangle)]
 pub extern "C" fn plurals_element(
     alloc: Global,

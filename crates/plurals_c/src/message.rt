@@ -16,7 +16,7 @@ use std::alloc::Global;
 /// written. The number is a text that writes a decimal, with a compact exponent or not.
 ///
 /// A fault is negative, and then nothing is written: one of the rules, else of the elements, else of the
-/// number. It takes memory for the number and for the message.
+/// number. It allocates for the number and for the message.
 #[unsafe(no_mangle)]
 pub extern "C" fn plurals_message(
     alloc: Global,

@@ -21,7 +21,7 @@ impl Formatter {
     ghost use Rattle.uses.specs.Formatter.{IsFormatted};
 
     /// Returns the message for a number: the text for its category, with the number as it was written in place of
-    /// each `{}`. The errors are those of [`Message::format`].
+    /// each `{}`. The errors are as for [`Message::format`].
     pub fn format(&self, alloc: Global, number: &str) -> Result<String, MessageError>
         ensures kept { IfOk result (λ text. IsFormatted IsKeptElement self.now number.now (string_bytes text)) }
         ensures exact { IfOk result (λ text. IsFormatted IsExactElement self.now number.now (string_bytes text)) }

@@ -36,7 +36,7 @@ unfoldable pub read_elements : List ℕ → PackedElements
 read_elements [] = record { default = record { metadata = 0; text = [] }; items = None }
 read_elements (first ∷ bytes) = read_behind first bytes
 
--- the bytes are those of the packed elements that they hold
+-- the bytes encode the packed elements that they hold
 abbrev pub AreElements : List ℕ → Type 0
 AreElements bytes = ElementsBytes (read_elements bytes) bytes
 

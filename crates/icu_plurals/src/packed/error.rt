@@ -4,7 +4,7 @@ use packed_list::ListError;
 use std::error::Error;
 use std::fmt;
 
-/// Why bytes are no packed elements. The causes down to [`List`] are looked for in this order; then the
+/// Why bytes aren't packed elements. The causes down to [`List`] are looked for in this order; then the
 /// first bad item is named, with the first of the last three that it has.
 ///
 /// [`List`]: ElementsBytesError::List
@@ -18,7 +18,7 @@ pub enum ElementsBytesError {
     Padding,
     /// The default's text isn't UTF-8.
     DefaultText,
-    /// What follows the default is no packed list.
+    /// What follows the default isn't a packed list.
     List(ListError),
     /// The item at this place has no byte.
     ItemEmpty(usize),

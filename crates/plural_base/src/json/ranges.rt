@@ -17,7 +17,7 @@ use serde_json::{Map, Value, json};
 use std::alloc::{AllocError, Global};
 
 impl UnvalidatedPluralRange {
-    /// The JSON value of the range, its text. It takes memory.
+    /// The JSON value of the range, its text. It allocates.
     ///
     /// [`JsonError::RangeKey`] if and only if the byte names no range; out of memory is
     /// [`JsonError::Memory`].
@@ -32,9 +32,9 @@ impl UnvalidatedPluralRange {
         Ok(Value::String(text_of(alloc, start, end)?))
     }
 
-    /// The range of a JSON value, which is its text. It takes no memory.
+    /// The range of a JSON value, which is its text. It allocates nothing.
     ///
-    /// [`JsonError::Float`] if the value holds a float, else [`JsonError::Shape`] if it is no text, else
+    /// [`JsonError::Float`] if the value holds a float, else [`JsonError::Shape`] if it isn't a text, else
     /// [`JsonError::RangeKey`] if the text names no range.
     pub fn from_json(value: &Value) -> Result<UnvalidatedPluralRange, JsonError>
         ensures answers { result ≡ key_of_json (view value.now) }
@@ -49,7 +49,7 @@ impl UnvalidatedPluralRange {
 
 impl PluralRanges {
     /// The JSON value of the ranges: an object with `ranges` alone, an object from the text of each
-    /// range that has a category to the category's name. It takes memory; the only error is
+    /// range that has a category to the category's name. It allocates; the only error is
     /// [`JsonError::Memory`].
     ///
     /// <!-- snippet crates/plural_base_tests/src/tests/ranges.rt:
@@ -71,12 +71,12 @@ impl PluralRanges {
     }
 
     /// The ranges of a JSON value: an object with an object under `ranges`, from texts of ranges to names
-    /// of categories. Other keys aren't read. It takes no memory.
+    /// of categories. Other keys aren't read. It allocates nothing.
     ///
     /// [`JsonError::Float`] if the value holds a float, else [`JsonError::Shape`] if it or what is under
-    /// `ranges` is no object; else the refusal of the first member, in the order of the keys' bytes, key
+    /// `ranges` isn't an object; else the refusal of the first member, in the order of the keys' bytes, key
     /// before value: [`JsonError::RangeKey`] if the key names no range, [`JsonError::Shape`] if the value
-    /// is no text, [`JsonError::RangeValue`] if it is no category's name.
+    /// isn't a text, [`JsonError::RangeValue`] if it isn't a category's name.
     ///
     /// With `full`, a table that has all 36 pairs:
     ///

@@ -8,7 +8,7 @@ impl<'data> PluralRules<'data> {
     ghost use Rattle.plural_base.specs.Providers.{Makes, of_type};
 
     /// The rules of a locale, of the type of the options; no type means cardinal. They are borrowed
-    /// from the provider. [`DataError::NotFound`] if and only if it has none. It takes no memory.
+    /// from the provider. [`DataError::NotFound`] if and only if it has none. It allocates nothing.
     ///
     /// <!-- snippet crates/plural_base_tests/src/tests/provider.rt: example body of fn options_say_which_rules_are_loaded -->
     /// ```
@@ -48,7 +48,7 @@ impl<'data> PluralRules<'data> {
     }
 
     /// The rules of a locale for cardinal numbers, borrowed from the provider.
-    /// [`DataError::NotFound`] if and only if it has none. It takes no memory.
+    /// [`DataError::NotFound`] if and only if it has none. It allocates nothing.
     ///
     /// <!-- snippet crates/using/src/english.rt: "let rules" to "}" of fn print_english -->
     /// ```
@@ -77,7 +77,7 @@ impl<'data> PluralRules<'data> {
     }
 
     /// The rules of a locale for ordinal numbers, borrowed from the provider.
-    /// [`DataError::NotFound`] if and only if it has none. It takes no memory.
+    /// [`DataError::NotFound`] if and only if it has none. It allocates nothing.
     ///
     /// <!-- snippet crates/using/src/json.rt: body of fn print_places -->
     /// ```

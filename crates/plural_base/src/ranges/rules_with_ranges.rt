@@ -58,7 +58,7 @@ impl<'data, R: AsPluralRules<'data>> PluralRulesWithRanges<R> {
         self.rules.as_plural_rules()
     }
 
-    /// The category of a range of numbers, by the operands of its start and its end. It takes no memory.
+    /// The category of a range of numbers, by the operands of its start and its end. It allocates nothing.
     ///
     /// <!-- snippet crates/plural_base_tests/src/tests/ranges.rt: example fn cardinal -->
     /// ```
@@ -106,7 +106,7 @@ impl<'data, R: AsPluralRules<'data>> PluralRulesWithRanges<R> {
 impl<'data> PluralRulesWithRanges<PluralRules<'data>> {
     /// The rules of a locale, of the type of the options, and its ranges; no type means cardinal. The
     /// rules are borrowed from the provider. [`DataError::NotFound`] if and only if the provider has no
-    /// such rules or no ranges. It takes no memory.
+    /// such rules or no ranges. It allocates nothing.
     ///
     /// <!-- snippet crates/plural_base_tests/src/tests/ranges.rt: example fn zero_to_one -->
     /// ```
@@ -157,7 +157,7 @@ impl<'data> PluralRulesWithRanges<PluralRules<'data>> {
 
 impl<R: Drop> PluralRulesWithRanges<R> {
     /// These rules, and the ranges of a locale. Whether the rules are those of the locale isn't checked.
-    /// [`DataError::NotFound`] if and only if the provider has no ranges. It takes no memory.
+    /// [`DataError::NotFound`] if and only if the provider has no ranges. It allocates nothing.
     ///
     /// <!-- snippet crates/using/src/named.rt: body of fn print_named_range -->
     /// ```

@@ -46,7 +46,7 @@ impl<'data> PluralRulesData<'data> {
         Ok(list.to_bytes(alloc)?)
     }
 
-    /// The rules in these bytes, borrowed from them. It takes no memory.
+    /// The rules in these bytes, borrowed from them. It allocates nothing.
     ///
     /// <!-- snippet crates/plural_base_tests/src/tests/rules_bytes.rt:
     ///      example "let rules" to "}" of fn rules_that_are_read_choose_as_before -->
@@ -63,9 +63,9 @@ impl<'data> PluralRulesData<'data> {
     /// }
     /// ```
     ///
-    /// The error is that the bytes are no packed list ([`RulesBytesError::List`]), or what is wrong with the first bad
+    /// The error is that the bytes aren't a packed list ([`RulesBytesError::List`]), or the fault of the first bad
     /// item: it has no byte ([`RulesBytesError::ItemEmpty`]); its key is above 4, or not above the key of the item
-    /// before it ([`RulesBytesError::Key`]); what follows is no rule, as [`Rule::parse_bytes`] tells
+    /// before it ([`RulesBytesError::Key`]); what follows isn't a rule, as [`Rule::parse_bytes`] tells
     /// ([`RulesBytesError::Rule`]).
     ///
     /// [`Rule::parse_bytes`]: plural_runtime::Rule::parse_bytes

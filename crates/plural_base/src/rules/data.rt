@@ -46,7 +46,7 @@ impl<'data> PluralRulesData<'data> {
         }
     }
 
-    /// A copy of the rules. It takes memory if a rule owns its bytes; the only error is out of memory.
+    /// A copy of the rules. It allocates if a rule owns its bytes; the only error is out of memory.
     pub fn try_clone(&self) -> Result<PluralRulesData<'data>, AllocError>
         ensures { IfOk result (λ copy. copy ≡ self.now) }
     {

@@ -60,7 +60,7 @@ impl PluralRulesData<'static> {
     ghost use Rattle.plural_base.specs.RuleTexts.{AreRulesOf, texts_of};
 
     /// The rules of texts as CLDR writes them (UTS 35 Part 3, Plural Rules Syntax), samples included,
-    /// read in the order zero, one, two, few, many. It takes memory for each rule.
+    /// read in the order zero, one, two, few, many. It allocates for each rule.
     ///
     /// <!-- snippet crates/plural_base_tests/src/tests/texts.rt:
     ///      example "let one" to "let rules" of fn rules_of_four_forms_choose_as_languages_do -->

@@ -70,15 +70,15 @@ module _ {A : Type 0} (Follows : List ℕ → Type 0) (Part : List Token → A �
 
 -- ---- numbers
 
--- a byte below `0` is no digit
+-- a byte below `0` isn't a digit
 pub below_digits : (b : ℕ) → b < 48 → IsAsciiDigit b → ⊥
 below_digits b h d = omega (arith, d.0)
 
--- a byte above `9` is no digit
+-- a byte above `9` isn't a digit
 pub above_digits : (b : ℕ) → 57 < b → IsAsciiDigit b → ⊥
 above_digits b h d = omega (arith, d.1)
 
--- what may follow a number: the end, or a byte that is no digit
+-- what may follow a number: the end, or a byte that isn't a digit
 abbrev pub EndsRun : List ℕ → Type 0
 EndsRun rest = IfSome (first rest) (λ b. ¬ (IsAsciiDigit b))
 

@@ -448,7 +448,7 @@ item_done : (p : List Token) (o : Opened) (xs : List RangeListItem) (x : RangeLi
     → IsCondition p (ended_condition (with_relation o.before (relation_of o (xs ++ x ∷ []))))
 item_done p o xs x h = condition_done p o.before _ (relation_done p o xs x h)
 
--- a range is no single value
+-- a range isn't a single value
 range_is_no_value : (a b v : Value) → Some (items.Range a b) ≡ Some (items.Value v) → ⊥
 range_is_no_value a b v h = cc
 

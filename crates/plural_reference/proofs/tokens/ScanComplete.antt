@@ -258,7 +258,7 @@ piece_scans piece rest token (too_large r large k) = run_scans piece rest r ∙ 
 piece_scans piece rest token (broken begun next b e g d k) = rw (e, k) (broken_scans begun next b rest g d)
 piece_scans piece rest token (cut_off next g e k) = rw (e, k) (cut_off_scans piece next g)
 
--- the tokens of a cut are those of the scan, so all cuts of a text have the same tokens
+-- the tokens of a cut are the scan's, so all cuts of a text have the same tokens
 pub cut_scans : (text : List ℕ) (pieces : List Piece) → IsCut text pieces → tokens_of text ≡ filter_map (λ p. p.1) pieces
 unfolding tokens_from
 cut_scans text [] h = rw h refl

@@ -1,5 +1,5 @@
 -- Every text has a cut, with the tokens of the scan: the bytes of the open piece are kept beside the state of the scan until
--- the piece ends. From the scan to cuts; with ScanComplete the tokens of a text are just those of the scan, which the laws of
+-- the piece ends. From the scan to cuts; with ScanComplete the tokens of a text are just the scan's, which the laws of
 -- reading, the lexer and the printed texts cite.
 use Rattle.std.proofs.Common.{◌≡◌, ◌≢◌, ◌<◌, ◌≤◌, ◌+◌, ◌*◌, ℕ, List, [], ◌∷◌, ◌++◌, Option, Some, None, refl, sym, ap}
 use Rattle.std.proofs.Common.{◌∙◌, subst, append_assoc, inl, inr, cond, Bool, true, false, nat_eq, arith, ⊎_elim, lit<}
@@ -364,10 +364,10 @@ unfolding tokens_from
 all_cuts [] s w h = said_end w s h
 all_cuts (b ∷ bs) s w h = said_step w s b bs h (all_cuts bs)
 
--- every text has tokens: those of the scan
+-- every text has tokens: the scan's
 pub has_tokens : (text : List ℕ) → AreTokensOf text (tokens_of text)
 has_tokens text = all_cuts text between [] refl
 
--- a text has no other tokens than those of the scan
+-- a text has no other tokens than the scan's
 pub tokens_are : (text : List ℕ) (tokens : List Token) → AreTokensOf text tokens → tokens ≡ tokens_of text
 tokens_are text tokens h = h.2 ∙ sym (cut_scans text h.0 h.1)

@@ -199,7 +199,7 @@ NoOperator old e = (e ≡ ExpectedOperator) × (operator_fault (first old) ≡ S
 abbrev pub TakesOperand : List Token → operand.Operand → List Token → Type 0
 TakesOperand old o new = (t : Token) × (old ≡ t ∷ new) × (operand_of t ≡ Some o)
 
--- a token that is no operand comes next: a fault wherever one is expected
+-- a token that isn't an operand comes next: a fault wherever one is expected
 abbrev pub NoOperand : List Token → ParseError → Type 0
 NoOperand old e = (e ≡ ExpectedOperand) × ((at_end : Option ParseError) → operand_fault at_end (first old) ≡ Some ExpectedOperand)
 

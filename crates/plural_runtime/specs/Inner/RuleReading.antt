@@ -59,10 +59,10 @@ relation_in bytes = record {
   };
 }
 
--- the relations that bytes hold, if they are those of a rule
+-- the relations that bytes hold, if they encode a rule
 unfoldable pub relations_in : List ℕ → List PackedRelation
 relations_in bytes = map relation_in (items_in bytes)
 
--- the bytes are those of the relations that they hold
+-- the bytes encode the relations that they hold
 abbrev pub IsRule : List ℕ → Type 0
 IsRule bytes = RuleBytes (relations_in bytes) bytes
