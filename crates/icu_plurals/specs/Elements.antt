@@ -94,7 +94,7 @@ exact_element_at e exact conditions =
     unwrap_or (explicit_at e exact) (of_category e (first_category (exact_truth exact) conditions))
 
 -- For any five texts that the rules are read from: if the number, with its compact exponent, is within the bound, the value is
--- that of the exact number. A modulus 0 isn't a modulus in exact truth.
+-- that of the exact number. Exact truth treats a modulus 0 as if it weren't written.
 abbrev pub IsExactElement : {T : Type 0} → Elements T → FiveRules → Places → ℕ → T → Type 0
 IsExactElement e rules number exponent value =
     (texts : Five (Option (List ℕ))) (conditions : Five (Option Condition)) (exact : Operands)

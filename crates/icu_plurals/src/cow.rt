@@ -80,7 +80,7 @@ impl PluralElementsPackedCow<'static> {
 }
 
 impl<'data> PluralElementsPackedCow<'data> {
-    /// Packed elements in borrowed bytes. It allocates nothing.
+    /// Returns the packed elements in borrowed bytes. It allocates nothing.
     ///
     /// <!-- snippet crates/icu_plurals_tests/src/tests/packing.rt:
     ///      example "let packed" to "holds!(rt; packed.as_packed().get_default" of fn lent_bytes_keep_their_metadata -->
@@ -116,7 +116,7 @@ impl<'data> PluralElementsPackedCow<'data> {
         }
     }
 
-    /// The same elements, borrowed from these.
+    /// Returns the same elements, borrowed from these.
     #[inline]
     pub fn as_packed(&self) -> PluralElementsPackedULE<'_>
         ensures { lent_elements result ≡ self.now }
@@ -125,7 +125,7 @@ impl<'data> PluralElementsPackedCow<'data> {
         PluralElementsPackedULE::from_checked(self.bytes.as_slice())
     }
 
-    /// The text for a number, as [`PluralElementsPackedULE::get`] returns it. It allocates nothing.
+    /// Returns the text for a number, as [`PluralElementsPackedULE::get`] returns it. It allocates nothing.
     pub fn get(&self, op: PluralOperands, rules: &PluralRules<'_>) -> &str
         ensures { result.now ≡ (element_at (elements_of self.now) op rules.now).text }
     {
@@ -133,7 +133,7 @@ impl<'data> PluralElementsPackedCow<'data> {
         text
     }
 
-    /// Packed elements of the same bytes: borrowed if these are borrowed, else a copy. The only error is out of memory.
+    /// Returns packed elements of the same bytes: borrowed if these are borrowed, else a copy. The only error is out of memory.
     pub fn try_clone(&self) -> Result<PluralElementsPackedCow<'data>, AllocError>
         ensures { IfOk result (λ packed. packed ≡ self.now) }
     {

@@ -21,7 +21,7 @@ use serde_json::{Map, Value, json};
 use std::alloc::{AllocError, Global};
 
 impl PluralElementsPackedCow<'static> {
-    /// The packed elements of a JSON value: an object with a list of metadata, from 0 to 15, and a text under `other`,
+    /// Returns the packed elements of a JSON value: an object with a list of metadata, from 0 to 15, and a text under `other`,
     /// and such a list, null or nothing under each of `zero`, `one`, `two`, `few`, `many`, `explicit_zero` and
     /// `explicit_one`. Other keys aren't read. A category's value that equals that of other isn't packed.
     ///
@@ -64,7 +64,7 @@ impl PluralElementsPackedCow<'static> {
 }
 
 impl<'data> PluralElementsPackedCow<'data> {
-    /// The JSON value of the elements, as [`PluralElementsPackedULE::decode`] returns them: an object with a list of
+    /// Returns the JSON value of the elements, as [`PluralElementsPackedULE::decode`] returns them: an object with a list of
     /// metadata and text under the key of each value that is present. It allocates; the only error is
     /// [`JsonError::Memory`].
     ///

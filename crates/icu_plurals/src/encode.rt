@@ -19,7 +19,7 @@ use plural_base::ElementsPackError;
 use std::alloc::{AllocError, Global};
 
 impl PluralElementsPackedULE<'_> {
-    /// The bytes of elements, made by one allocation. The explicit values are packed, and those of the categories that
+    /// Returns the bytes of elements, made by one allocation. The explicit values are packed, and those of the categories that
     /// differ from that of other in metadata or text; the value of other is the default.
     ///
     /// <!-- snippet crates/icu_plurals_tests/src/tests/packing.rt:

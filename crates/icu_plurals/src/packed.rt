@@ -89,7 +89,7 @@ impl<'a> PluralElementsPackedULE<'a> {
         PluralElementsPackedULE { bytes }
     }
 
-    /// The bytes of the elements.
+    /// Returns the bytes of the elements.
     #[inline]
     pub fn as_bytes(&self) -> &'a [u8]
         ensures { ElementsBytes (lent_elements self.now) result.now }
@@ -97,7 +97,7 @@ impl<'a> PluralElementsPackedULE<'a> {
         self.bytes
     }
 
-    /// The value for a number: the explicit one if the operands are exactly 0 or 1 and it is present, else that of
+    /// Returns the value for a number: the explicit one if the operands are exactly 0 or 1 and it is present, else that of
     /// the category that the rules choose, else the default. If a key occurs twice, its first item counts. The item
     /// is looked up in the bytes; no memory is taken.
     ///
@@ -124,7 +124,7 @@ impl<'a> PluralElementsPackedULE<'a> {
         }
     }
 
-    /// All values by key, borrowed from the bytes. If a key occurs twice, its first item counts, and a category's value
+    /// Returns all values by key, borrowed from the bytes. If a key occurs twice, its first item counts, and a category's value
     /// is present even if it equals the default. It allocates nothing.
     ///
     /// <!-- snippet crates/icu_plurals_tests/src/tests/packed.rt:
@@ -142,7 +142,7 @@ impl<'a> PluralElementsPackedULE<'a> {
         Values::of_checked(self.bytes).by_key()
     }
 
-    /// The default.
+    /// Returns the default.
     ///
     /// <!-- snippet crates/icu_plurals_tests/src/tests/packed.rt:
     ///      example "let alone" to "holds!" of fn decodes_the_first_of_a_key_and_equal_values -->

@@ -40,7 +40,7 @@ const ALL: &[PluralCategory] = &[
 ];
 
 impl PluralCategory {
-    /// All six, in the order of their names: few, many, one, other, two, zero.
+    /// Returns all six, in the order of their names: few, many, one, other, two, zero.
     ///
     /// <!-- snippet crates/plural_base_tests/src/tests/categories.rt:
     ///      example "let mut all" to "holds!(rt; all.next() == Some(PluralCategory::Few" -->
@@ -56,7 +56,7 @@ impl PluralCategory {
         AllCategories { left: ALL }
     }
 
-    /// The category of a name in lower case, as CLDR writes it; `None` for any other text.
+    /// Returns the category of a name in lower case, as CLDR writes it; `None` for any other text.
     ///
     /// <!-- snippet crates/plural_base_tests/src/tests/categories.rt:
     ///      example "let rows" to "}" of fn names_are_those_of_the_categories -->
@@ -81,7 +81,7 @@ impl PluralCategory {
         PluralCategory::get_for_cldr_bytes(name.as_bytes())
     }
 
-    /// The category whose name has these bytes; `None` for any others.
+    /// Returns the category whose name has these bytes; `None` for any others.
     ///
     /// <!-- snippet crates/plural_base_tests/src/tests/categories.rt:
     ///      example "for name in" to "}" of fn names_are_those_of_the_categories -->

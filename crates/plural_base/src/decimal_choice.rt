@@ -10,7 +10,7 @@ use plural_reference::laws::exactness::kept_operands_agree;
 use plural_runtime::laws::texts_give_one_answer;
 
 impl<'data> PluralRules<'data> {
-    /// The category of a decimal by its kept operands. If [`PluralRules::is_exact_for_decimal`] holds
+    /// Returns the category of a decimal by its kept operands. If [`PluralRules::is_exact_for_decimal`] holds
     /// and the rules come from texts, it is the category of the number itself, whatever its length.
     /// It allocates nothing.
     ///
@@ -32,7 +32,7 @@ impl<'data> PluralRules<'data> {
         self.category_for(PluralOperands::from(number))
     }
 
-    /// The category of a compact decimal by its kept operands, after the point has moved by the
+    /// Returns the category of a compact decimal by its kept operands, after the point has moved by the
     /// exponent. If [`PluralRules::is_exact_for`] holds and the rules come from texts, it is the
     /// category of the number itself, whatever its length. It allocates nothing.
     ///

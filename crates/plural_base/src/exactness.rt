@@ -16,7 +16,7 @@ use plural_reference::{KEPT_LIMIT, KEPT_PLACES};
 use plural_runtime::{Operand, Relation, Rule};
 
 impl<'data> PluralRules<'data> {
-    /// Whether the number is within the exactness bound of the rules. If they are read from texts, its
+    /// Returns whether the number is within the exactness bound of the rules. If they are read from texts, its
     /// category is then that of the number itself, and not only of what is kept of it.
     ///
     /// This holds if, after the point has moved by the exponent, the number has at most 18 fraction
@@ -148,7 +148,7 @@ fn relation_divides(relation: Relation<'_>) -> bool
     }
 }
 
-// Whether a modulus is 0, which isn't a modulus, or divides 10 to the power 18.
+// Whether a modulus is 0, which doesn't count, or divides 10 to the power 18.
 fn divides_ten_to_18(modulus: u32) -> bool
     ensures { result ≡ divides_ten_to_18 modulus }
 {

@@ -85,17 +85,17 @@ pub trait PluralsProvider {
     // The categories of ranges of a locale.
     ghost ranges: { Self → List ℕ → Option Ranges };
 
-    /// The locale's rules for cardinal numbers, borrowed; [`DataError::NotFound`] if and only if there
+    /// Returns the locale's rules for cardinal numbers, borrowed; [`DataError::NotFound`] if and only if there
     /// are none. It allocates nothing.
     fn load_cardinal(&self, locale: &str) -> Result<PluralRulesData<'_>, DataError>
         ensures { Loads (cardinal self.now locale.now) result };
 
-    /// The locale's rules for ordinal numbers, borrowed; [`DataError::NotFound`] if and only if there
+    /// Returns the locale's rules for ordinal numbers, borrowed; [`DataError::NotFound`] if and only if there
     /// are none. It allocates nothing.
     fn load_ordinal(&self, locale: &str) -> Result<PluralRulesData<'_>, DataError>
         ensures { Loads (ordinal self.now locale.now) result };
 
-    /// The locale's categories of ranges; [`DataError::NotFound`] if and only if there are none. It
+    /// Returns the locale's categories of ranges; [`DataError::NotFound`] if and only if there are none. It
     /// allocates nothing.
     fn load_ranges(&self, locale: &str) -> Result<PluralRanges, DataError>
         ensures { LoadsRanges (ranges self.now locale.now) result };

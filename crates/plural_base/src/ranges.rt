@@ -49,7 +49,7 @@ impl Model for PluralRanges {
 }
 
 impl PluralRanges {
-    /// The table without pairs.
+    /// Returns the table without pairs.
     pub fn new() -> PluralRanges
         ensures { result ≡ no_ranges }
     {
@@ -58,7 +58,7 @@ impl PluralRanges {
         }
     }
 
-    /// The category of a pair, if it has one.
+    /// Returns the category of a pair, if it has one.
     #[inline]
     pub fn get(&self, start: RawPluralCategory, end: RawPluralCategory) -> Option<RawPluralCategory>
         ensures { result ≡ category_at self.now start end }
@@ -86,7 +86,7 @@ impl PluralRanges {
         before
     }
 
-    /// How many pairs have a category; at most 36.
+    /// Returns how many pairs have a category; at most 36.
     pub fn len(&self) -> usize
         ensures value { result ≡ size_of self.now }
         ensures bound { result ≤ 36 }
@@ -99,7 +99,7 @@ impl PluralRanges {
             + self.row_len(RawPluralCategory::Many)
     }
 
-    /// Whether no pair has a category.
+    /// Returns whether no pair has a category.
     pub fn is_empty(&self) -> bool
         ensures { result ≡ (size_of self.now == 0) }
     {

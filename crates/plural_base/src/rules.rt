@@ -60,7 +60,7 @@ impl<'data> Model for PluralRules<'data> {
 impl<'data> PluralRules<'data> {
     ghost use Rattle.plural_base.specs.FiveRules.{rules_of};
 
-    /// The rules of this data.
+    /// Returns the rules of this data.
     #[inline]
     pub fn from_data(rules: PluralRulesData<'data>) -> PluralRules<'data>
         ensures { result ≡ rules_of rules.entry }
@@ -106,7 +106,7 @@ impl<'data> PluralRules<'data> {
         }
     }
 
-    /// The categories that a number may have: those whose rule is present, from zero to many, then
+    /// Returns the categories that a number may have: those whose rule is present, from zero to many, then
     /// other.
     ///
     /// <!-- snippet crates/plural_base_tests/src/tests/categories.rt:

@@ -55,14 +55,14 @@ impl<'a> Model for Message<'a> {
 }
 
 impl<'a> Message<'a> {
-    /// The message with these texts. Their metadata isn't used.
+    /// Returns the message with these texts. Their metadata isn't used.
     pub fn new(elements: PluralElementsPackedULE<'a>) -> Message<'a>
         ensures { result ≡ elements_of (lent_elements elements.entry) }
     {
         Message { elements }
     }
 
-    /// The message for a number, which is given as a text: a decimal, with a compact exponent or not. Its
+    /// Returns the message for a number, which is given as a text: a decimal, with a compact exponent or not. Its
     /// operands and the rules choose an element (UTS 35 Part 3, Language Plural Rules), and in the element's
     /// text each `{}`, from the left, is replaced by the number's text as it was given. There is no escape
     /// for `{}`. It allocates the message.
@@ -107,7 +107,7 @@ impl<'a> Message<'a> {
         Ok(self.format_number(alloc, &compact, number, rules)?)
     }
 
-    /// The message for a number that was read already, with a text to show for it: as it was written, or in
+    /// Returns the message for a number that was read already, with a text to show for it: as it was written, or in
     /// the digits and marks of a locale. The number's operands and the rules choose an element, as for
     /// [`Message::format`], and in the element's text each `{}`, from the left, is replaced by the given text.
     /// Whether the text writes the number isn't checked. It allocates the message; the only error is out of

@@ -44,7 +44,7 @@ exact_truth number condition = is_true_of (λ relation. exact_relation_truth num
 --     IsWithinBound x e moduli      the number x with the compact exponent e, under rules with these moduli on i and n
 --     IsAdmitted moduli relation      what such a rule's relation looks like
 
--- each number of the list divides n; 0 isn't a modulus and doesn't count
+-- each number of the list but 0 divides n
 abbrev pub AllDivide : List ℕ → ℕ → Type 0
 AllDivide moduli n = (m : ℕ) → Contains moduli m → 0 < m → m ∣ n
 
@@ -58,7 +58,7 @@ pub record IsBoundedAt (y : Places) (moduli : List ℕ) : Type 0 where
 abbrev pub IsWithinBound : Places → ℕ → List ℕ → Type 0
 IsWithinBound x e moduli = IsBoundedAt (shift_right e x) moduli
 
--- a modulus on n or i is one of these; 0 isn't a modulus
+-- a modulus on n or i is one of these, or 0
 abbrev pub IsListed : Operand → ℕ → List ℕ → Type 0
 IsListed N modulus moduli = 0 < modulus → Contains moduli modulus
 IsListed I modulus moduli = 0 < modulus → Contains moduli modulus

@@ -44,7 +44,7 @@ operand_value T number = Some number.t
 operand_value C number = Some number.c
 operand_value E number = Some number.c
 
--- the remainder of a value by a modulus; 0 isn't a modulus
+-- the remainder of a value by a modulus; there is none by 0
 abbrev pub remainder : ℕ → ℕ → ℕ
 remainder modulus value = if modulus == 0 then value else (value % modulus)
 

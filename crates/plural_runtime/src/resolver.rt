@@ -74,7 +74,7 @@ fn is_true<C: Counter>(rule: &Rule<'_>, operands: &PluralOperands, counter: &mut
     let Some(mut item) = next_of_group(&mut items) else {
         return true;
     };
-    // All relations before the item in its group are true, and no earlier group is: so nothing else is to be kept.
+    // All relations before the item in its group are true, and no earlier group is, so no other state is needed.
     'relations: loop {
         if relation_holds(item, operands, counter) {
             let Some(next) = next_of_group(&mut items) else {

@@ -64,7 +64,7 @@ pub extern "C" fn plurals_rules_from_texts(
     }
 }
 
-/// 0 if the bytes are a block of rules, else their fault. It allocates nothing.
+/// Returns 0 if the bytes are a block of rules, else their fault. It allocates nothing.
 #[unsafe(no_mangle)]
 pub extern "C" fn plurals_check_rules(rules: &[u8]) -> i32
     ensures { Answered (ReadsRules rules.now) (λ _. pos 0) result }

@@ -7,7 +7,7 @@ ghost use Rattle.icu_plurals.specs.ElementCalls.{CallsAt, CallsEach, RefusesAt, 
 use super::PluralElements;
 
 impl<T> PluralElements<T> {
-    /// The closure's results for the values, at the same keys. It is called for other, zero, one, two,
+    /// Returns the closure's results for the values, at the same keys. It is called for other, zero, one, two,
     /// few, many, explicit zero and explicit one, in this order, if they are present. With `values`, which lists the
     /// values as the accessors return them:
     ///

@@ -8,7 +8,7 @@ use super::PluralElements;
 use std::alloc::AllocError;
 
 impl<T: Clone> PluralElements<T> {
-    /// A clone of each value at its key. It allocates if clones of the values do; the only error is
+    /// Returns a clone of each value at its key. It allocates if clones of the values do; the only error is
     /// out of memory, and there is none if clones of `T` never fail. It equals what was cloned if clones
     /// of `T` equal their sources.
     ///

@@ -52,7 +52,7 @@ pub(crate) const ALL: [RawPluralCategory; 6] = [
 ];
 
 impl RawPluralCategory {
-    /// The name in lower case, as CLDR writes it.
+    /// Returns the name in lower case, as CLDR writes it.
     pub fn as_str(self) -> &'static str
         ensures { result.now ≡ name_of (category_of self) }
     {

@@ -47,7 +47,7 @@ impl Model for JsonProvider {
 impl JsonProvider {
     ghost use Rattle.plural_base.specs.DocumentJson.{found, document_of_json, value_of_locale, AreRangesAt, IsReadAt};
 
-    /// The provider of a document: an object with an object from locales to rules, as
+    /// Returns the provider of a document: an object with an object from locales to rules, as
     /// [`PluralRulesData::from_json`] reads them, under each of `cardinal` and `ordinal`, and one to
     /// ranges, as [`PluralRanges::from_json`] reads them, under `ranges`. Each of the three may be null
     /// or absent. Other keys aren't read.

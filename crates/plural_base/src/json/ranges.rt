@@ -17,7 +17,7 @@ use serde_json::{Map, Value, json};
 use std::alloc::{AllocError, Global};
 
 impl UnvalidatedPluralRange {
-    /// The JSON value of the range, its text. It allocates.
+    /// Returns the JSON value of the range, its text. It allocates.
     ///
     /// [`JsonError::RangeKey`] if and only if the byte names no range; out of memory is
     /// [`JsonError::Memory`].
@@ -32,7 +32,7 @@ impl UnvalidatedPluralRange {
         Ok(Value::String(text_of(alloc, start, end)?))
     }
 
-    /// The range of a JSON value, which is its text. It allocates nothing.
+    /// Returns the range of a JSON value, which is its text. It allocates nothing.
     ///
     /// [`JsonError::Float`] if the value holds a float, else [`JsonError::Shape`] if it isn't a text, else
     /// [`JsonError::RangeKey`] if the text names no range.
@@ -48,7 +48,7 @@ impl UnvalidatedPluralRange {
 }
 
 impl PluralRanges {
-    /// The JSON value of the ranges: an object with `ranges` alone, an object from the text of each
+    /// Returns the JSON value of the ranges: an object with `ranges` alone, an object from the text of each
     /// range that has a category to the category's name. It allocates; the only error is
     /// [`JsonError::Memory`].
     ///
@@ -70,7 +70,7 @@ impl PluralRanges {
         Ok(under_ranges(alloc, Value::Object(members))?)
     }
 
-    /// The ranges of a JSON value: an object with an object under `ranges`, from texts of ranges to names
+    /// Returns the ranges of a JSON value: an object with an object under `ranges`, from texts of ranges to names
     /// of categories. Other keys aren't read. It allocates nothing.
     ///
     /// [`JsonError::Float`] if the value holds a float, else [`JsonError::Shape`] if it or what is under

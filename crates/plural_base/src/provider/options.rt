@@ -29,7 +29,7 @@ pub struct PluralRulesOptions {
 }
 
 impl PluralRulesOptions {
-    /// The same options with this type.
+    /// Returns the same options with this type.
     pub fn with_type(self, rule_type: PluralRuleType) -> PluralRulesOptions
         ensures { result ≡ record { rule_type = Some rule_type } }
     {

@@ -7,7 +7,7 @@ use crate::rules::PluralRules;
 impl<'data> PluralRules<'data> {
     ghost use Rattle.plural_base.specs.Providers.{Makes, of_type};
 
-    /// The rules of a locale, of the type of the options; no type means cardinal. They are borrowed
+    /// Returns the rules of a locale, of the type of the options; no type means cardinal. They are borrowed
     /// from the provider. [`DataError::NotFound`] if and only if it has none. It allocates nothing.
     ///
     /// <!-- snippet crates/plural_base_tests/src/tests/provider.rt: example body of fn options_say_which_rules_are_loaded -->
@@ -47,7 +47,7 @@ impl<'data> PluralRules<'data> {
         }
     }
 
-    /// The rules of a locale for cardinal numbers, borrowed from the provider.
+    /// Returns the rules of a locale for cardinal numbers, borrowed from the provider.
     /// [`DataError::NotFound`] if and only if it has none. It allocates nothing.
     ///
     /// <!-- snippet crates/using/src/english.rt: "let rules" to "}" of fn print_english -->
@@ -76,7 +76,7 @@ impl<'data> PluralRules<'data> {
         Ok(PluralRules::from_data(provider.load_cardinal(locale)?))
     }
 
-    /// The rules of a locale for ordinal numbers, borrowed from the provider.
+    /// Returns the rules of a locale for ordinal numbers, borrowed from the provider.
     /// [`DataError::NotFound`] if and only if it has none. It allocates nothing.
     ///
     /// <!-- snippet crates/using/src/json.rt: body of fn print_places -->

@@ -26,7 +26,7 @@ use crate::category::raw::RawPluralCategory;
 pub struct UnvalidatedPluralRange(pub u8);
 
 impl UnvalidatedPluralRange {
-    /// The byte of a start and an end. With rows such as `one`, `other`, 32 and `"one--other"`:
+    /// Returns the byte of a start and an end. With rows such as `one`, `other`, 32 and `"one--other"`:
     ///
     /// <!-- snippet crates/plural_base_tests/src/tests/ranges.rt:
     ///      example "for (start, end, byte, text)" to "}" of fn a_range_has_a_byte_and_a_text -->
@@ -46,7 +46,7 @@ impl UnvalidatedPluralRange {
         UnvalidatedPluralRange(16 * (start as u8) + end as u8)
     }
 
-    /// The byte of a range's text: the start's name, two hyphens, the end's name. `None` for any other
+    /// Returns the byte of a range's text: the start's name, two hyphens, the end's name. `None` for any other
     /// text.
     pub fn from_text(text: &str) -> Option<UnvalidatedPluralRange>
         ensures { (key : Key) → (result ≡ Some key) ↔ IsKeyOfText text.now key }

@@ -51,14 +51,14 @@ impl<R> Model for PluralRulesWithRanges<R> {
 }
 
 impl<'data, R: AsPluralRules<'data>> PluralRulesWithRanges<R> {
-    /// The rules.
+    /// Returns the rules.
     pub fn rules(&self) -> &PluralRules<'data>
         ensures { result.now ≡ R.rules self.now.rules }
     {
         self.rules.as_plural_rules()
     }
 
-    /// The category of a range of numbers, by the operands of its start and its end. It allocates nothing.
+    /// Returns the category of a range of numbers, by the operands of its start and its end. It allocates nothing.
     ///
     /// <!-- snippet crates/plural_base_tests/src/tests/ranges.rt: example fn cardinal -->
     /// ```
@@ -83,7 +83,7 @@ impl<'data, R: AsPluralRules<'data>> PluralRulesWithRanges<R> {
         self.resolve_range(start, end)
     }
 
-    /// The category of a range, by those of its start and its end: the pair's, if it has one, else the
+    /// Returns the category of a range, by those of its start and its end: the pair's, if it has one, else the
     /// end's.
     ///
     /// <!-- snippet crates/plural_base_tests/src/tests/ranges.rt:
@@ -104,7 +104,7 @@ impl<'data, R: AsPluralRules<'data>> PluralRulesWithRanges<R> {
 }
 
 impl<'data> PluralRulesWithRanges<PluralRules<'data>> {
-    /// The rules of a locale, of the type of the options, and its ranges; no type means cardinal. The
+    /// Returns the rules of a locale, of the type of the options, and its ranges; no type means cardinal. The
     /// rules are borrowed from the provider. [`DataError::NotFound`] if and only if the provider has no
     /// such rules or no ranges. It allocates nothing.
     ///
@@ -130,7 +130,7 @@ impl<'data> PluralRulesWithRanges<PluralRules<'data>> {
         PluralRulesWithRanges::try_new_with_rules_unstable(provider, locale, rules)
     }
 
-    /// The rules of a locale for cardinal numbers, and its ranges; otherwise as
+    /// Returns the rules of a locale for cardinal numbers, and its ranges; otherwise as
     /// [`PluralRulesWithRanges::try_new_unstable`].
     pub fn try_new_cardinal_unstable<P: PluralsProvider>(
         provider: &'data P,
@@ -142,7 +142,7 @@ impl<'data> PluralRulesWithRanges<PluralRules<'data>> {
         PluralRulesWithRanges::try_new_with_rules_unstable(provider, locale, rules)
     }
 
-    /// The rules of a locale for ordinal numbers, and its ranges; otherwise as
+    /// Returns the rules of a locale for ordinal numbers, and its ranges; otherwise as
     /// [`PluralRulesWithRanges::try_new_unstable`].
     pub fn try_new_ordinal_unstable<P: PluralsProvider>(
         provider: &'data P,
@@ -156,7 +156,7 @@ impl<'data> PluralRulesWithRanges<PluralRules<'data>> {
 }
 
 impl<R: Drop> PluralRulesWithRanges<R> {
-    /// These rules, and the ranges of a locale. Whether the rules are those of the locale isn't checked.
+    /// Returns these rules, and the ranges of a locale. Whether the rules are those of the locale isn't checked.
     /// [`DataError::NotFound`] if and only if the provider has no ranges. It allocates nothing.
     ///
     /// <!-- snippet crates/using/src/named.rt: body of fn print_named_range -->

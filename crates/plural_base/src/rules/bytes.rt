@@ -20,7 +20,7 @@ use packed_list::{ListWriter, PackedList};
 use std::alloc::Global;
 
 impl<'data> PluralRulesData<'data> {
-    /// The bytes of the rules, made by one allocation: a packed list of the rules that are present, each after the byte
+    /// Returns the bytes of the rules, made by one allocation: a packed list of the rules that are present, each after the byte
     /// of its key, 0 zero, 1 one, 2 two, 3 few, 4 many. No rules are no bytes.
     ///
     /// With `read_rules`, which reads the texts of one and few, and `ONE_AND_FEW`, the bytes of these rules:
@@ -46,7 +46,7 @@ impl<'data> PluralRulesData<'data> {
         Ok(list.to_bytes(alloc)?)
     }
 
-    /// The rules in these bytes, borrowed from them. It allocates nothing.
+    /// Returns the rules in these bytes, borrowed from them. It allocates nothing.
     ///
     /// <!-- snippet crates/plural_base_tests/src/tests/rules_bytes.rt:
     ///      example "let rules" to "}" of fn rules_that_are_read_choose_as_before -->

@@ -59,7 +59,7 @@ impl PluralRulesData<'static> {
     ghost use Rattle.plural_base.specs.FiveRules.{rules_of};
     ghost use Rattle.plural_base.specs.RuleTexts.{AreRulesOf, texts_of};
 
-    /// The rules of texts as CLDR writes them (UTS 35 Part 3, Plural Rules Syntax), samples included,
+    /// Returns the rules of texts as CLDR writes them (UTS 35 Part 3, Plural Rules Syntax), samples included,
     /// read in the order zero, one, two, few, many. It allocates for each rule.
     ///
     /// <!-- snippet crates/plural_base_tests/src/tests/texts.rt:
