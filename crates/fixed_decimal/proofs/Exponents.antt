@@ -141,7 +141,8 @@ module _ (bytes t front : List ℕ) (e : ℕ) (same : bytes ≡ t) (found : (res
   compact_from : (x : Decimal) → WritesDecimal front x → WritesCompact t (record { significand = x; exponent = e })
   compact_from x h = (front, found.0, h, found.1, sym same ∙ found.2)
 
-  -- The decimal of such a number is written by the part before the exponent, and its exponent is the one that was found.
+  -- The decimal of such a number is written by the part before the exponent, and its exponent is
+  -- the one that was found.
   decimal_from : (y : CompactNumber) → WritesCompact t y → WritesDecimal front y.significand × (e ≡ y.exponent)
   decimal_from y h =
       let here : (front ≡ h.0) × (e ≡ y.exponent) = only h.0 h.1 y.significand y.exponent h.2 h.3 (same ∙ h.4) in

@@ -21,7 +21,8 @@ items_bytes : elements_bytes
     ∷ 109 ∷ 115 ∷ []
 items_bytes = refl
 
--- a value that equals other's is left out, but an explicit one isn't; values with different metadata differ
+-- a value that equals other's is left out, but an explicit one isn't; values with different
+-- metadata differ
 equal_bytes : elements_bytes (packed_of (record (only_other (plain (codes "x"))) { two = Some (plain (codes "x")) })) ≡ 0 ∷ 120 ∷ []
 equal_bytes = refl
 

@@ -1,4 +1,5 @@
--- What is wrong with bytes that aren't packed elements, in the order in which faults are looked for.
+-- What is wrong with bytes that aren't packed elements, in the order in which faults are looked
+-- for.
 use Rattle.std.specs.Prelude.{◌≡◌, ℕ, ◌+◌, ◌/◌, ◌%◌, ◌<◌, ◌≤◌, List, [], ◌∷◌, ◌++◌, length, if◌then◌else◌, nat_lt, IsTrue, IsFalse}
 use Rattle.std.specs.Prelude.{Option, Some, None}
 use Rattle.std.specs.Option.{option_or}
@@ -9,7 +10,8 @@ use Rattle.icu_plurals.specs.declared.packed.error.ElementsBytesError.TheVariant
 
 -- ---- the parts
 
--- the first byte, the default's text, and what is left after it if bit 7 of the first byte says that items follow
+-- the first byte, the default's text, and what is left after it if bit 7 of the first byte says
+-- that items follow
 pub record ElementsParts : Type 0 where
   pub first : ℕ
   pub text : List ℕ

@@ -50,9 +50,9 @@ impl PluralElementsPackedCow<'static> {
     /// assert!(rt; one.get(PluralOperands::from(2u8), &rules) == "abc");
     /// ```
     ///
-    /// [`ElementsPackError::DefaultLimit`] if the text of other has more than 255 bytes and isn't the only one that is
-    /// packed, else [`ElementsPackError::StartLimit`] if another one would start after place 65535 of the data; out of
-    /// memory is [`ElementsPackError::Memory`].
+    /// [`ElementsPackError::DefaultLimit`] if the text of other has more than 255 bytes and isn't
+    /// the only one that is packed, else [`ElementsPackError::StartLimit`] if another one would
+    /// start after place 65535 of the data; out of memory is [`ElementsPackError::Memory`].
     pub fn from_elements(
         alloc: Global,
         elements: &PluralElements<&str>,
@@ -125,7 +125,8 @@ impl<'data> PluralElementsPackedCow<'data> {
         PluralElementsPackedULE::from_checked(self.bytes.as_slice())
     }
 
-    /// Returns the text for a number, as [`PluralElementsPackedULE::get`] returns it. It allocates nothing.
+    /// Returns the text for a number, as [`PluralElementsPackedULE::get`] returns it. It allocates
+    /// nothing.
     pub fn get(&self, op: PluralOperands, rules: &PluralRules<'_>) -> &str
         ensures { result.now ≡ (element_at (elements_of self.now) op rules.now).text }
     {
@@ -133,7 +134,8 @@ impl<'data> PluralElementsPackedCow<'data> {
         text
     }
 
-    /// Returns packed elements of the same bytes: borrowed if these are borrowed, else a copy. The only error is out of memory.
+    /// Returns packed elements of the same bytes: borrowed if these are borrowed, else a copy. The
+    /// only error is out of memory.
     pub fn try_clone(&self) -> Result<PluralElementsPackedCow<'data>, AllocError>
         ensures { IfOk result (λ packed. packed ≡ self.now) }
     {

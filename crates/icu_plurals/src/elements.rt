@@ -13,8 +13,8 @@ use plural_base::{PluralCategory, PluralRules};
 use plural_reference::PluralOperands;
 use std::marker::Model;
 
-/// A value for each plural category, and for exactly 0 and exactly 1 (UTS 35 Part 3, Plural Rules and
-/// Explicit 0 and 1 Rules). The value of other is always present.
+/// A value for each plural category, and for exactly 0 and exactly 1 (UTS 35 Part 3, Plural Rules
+/// and Explicit 0 and 1 Rules). The value of other is always present.
 ///
 /// [`get`] chooses among them by the operands of a number: in English
 ///
@@ -198,8 +198,9 @@ impl<T> PluralElements<T> {
         }
     }
 
-    /// Returns the value for a number: the explicit one if the operands are exactly 0 or 1 and it is present,
-    /// else that of the category that the rules choose, else that of other. It allocates nothing.
+    /// Returns the value for a number: the explicit one if the operands are exactly 0 or 1 and it
+    /// is present, else that of the category that the rules choose, else that of other. It
+    /// allocates nothing.
     ///
     /// With the rule `i = 1` for one:
     ///

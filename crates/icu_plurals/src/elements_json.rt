@@ -21,9 +21,10 @@ use serde_json::{Map, Value, json};
 use std::alloc::{AllocError, Global};
 
 impl PluralElementsPackedCow<'static> {
-    /// Returns the packed elements of a JSON value: an object with a list of metadata, from 0 to 15, and a text under `other`,
-    /// and such a list, null or nothing under each of `zero`, `one`, `two`, `few`, `many`, `explicit_zero` and
-    /// `explicit_one`. Other keys aren't read. A category's value that equals that of other isn't packed.
+    /// Returns the packed elements of a JSON value: an object with a list of metadata, from 0 to
+    /// 15, and a text under `other`, and such a list, null or nothing under each of `zero`, `one`,
+    /// `two`, `few`, `many`, `explicit_zero` and `explicit_one`. Other keys aren't read. A
+    /// category's value that equals that of other isn't packed.
     ///
     /// With rows such as `{"other":[0,"abc"]}`, `b"\0abc"` and again `{"other":[0,"abc"]}`:
     ///
@@ -40,9 +41,9 @@ impl PluralElementsPackedCow<'static> {
     /// }
     /// ```
     ///
-    /// [`JsonError::Float`] if the value holds a float, else [`JsonError::Shape`] if a part has another form, else
-    /// [`JsonError::Pack`] if the elements can't be packed. It allocates for the bytes; out of memory is
-    /// [`JsonError::Memory`].
+    /// [`JsonError::Float`] if the value holds a float, else [`JsonError::Shape`] if a part has
+    /// another form, else [`JsonError::Pack`] if the elements can't be packed. It allocates for the
+    /// bytes; out of memory is [`JsonError::Memory`].
     pub fn from_json(
         alloc: Global,
         value: &Value,
@@ -64,9 +65,9 @@ impl PluralElementsPackedCow<'static> {
 }
 
 impl<'data> PluralElementsPackedCow<'data> {
-    /// Returns the JSON value of the elements, as [`PluralElementsPackedULE::decode`] returns them: an object with a list of
-    /// metadata and text under the key of each value that is present. It allocates; the only error is
-    /// [`JsonError::Memory`].
+    /// Returns the JSON value of the elements, as [`PluralElementsPackedULE::decode`] returns them:
+    /// an object with a list of metadata and text under the key of each value that is present. It
+    /// allocates; the only error is [`JsonError::Memory`].
     ///
     /// <!-- snippet crates/icu_plurals_tests/src/tests/packing.rt: example "let value = packed.to_json" to "holds!" -->
     /// ```

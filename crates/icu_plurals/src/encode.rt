@@ -19,8 +19,9 @@ use plural_base::ElementsPackError;
 use std::alloc::{AllocError, Global};
 
 impl PluralElementsPackedULE<'_> {
-    /// Returns the bytes of elements, made by one allocation. The explicit values are packed, and those of the categories that
-    /// differ from that of other in metadata or text; the value of other is the default.
+    /// Returns the bytes of elements, made by one allocation. The explicit values are packed, and
+    /// those of the categories that differ from that of other in metadata or text; the value of
+    /// other is the default.
     ///
     /// <!-- snippet crates/icu_plurals_tests/src/tests/packing.rt:
     ///      const EIGHT; fn eight; example body of fn packs_every_key_in_order -->
@@ -43,9 +44,10 @@ impl PluralElementsPackedULE<'_> {
     /// assert!(rt; bytes.as_slice() == EIGHT);
     /// ```
     ///
-    /// The errors, in the order in which they are looked for: the default has more than 255 bytes, and an item is packed
-    /// too ([`ElementsPackError::DefaultLimit`]); an item would start after place 65535 of the data
-    /// ([`ElementsPackError::StartLimit`]); out of memory ([`ElementsPackError::Memory`]).
+    /// The errors, in the order in which they are looked for: the default has more than 255 bytes,
+    /// and an item is packed too ([`ElementsPackError::DefaultLimit`]); an item would start after
+    /// place 65535 of the data ([`ElementsPackError::StartLimit`]); out of memory
+    /// ([`ElementsPackError::Memory`]).
     pub fn encode(
         alloc: Global,
         elements: &PluralElements<(FourBitMetadata, &str)>,

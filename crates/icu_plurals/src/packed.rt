@@ -19,8 +19,8 @@ use parts::{check_parts, parts_of};
 use plural_base::PluralRules;
 use plural_reference::PluralOperands;
 
-/// Elements as checked bytes: a default, and either nothing else or a packed list of items after it. Each value is
-/// metadata and a text. Two are equal if and only if their bytes are.
+/// Elements as checked bytes: a default, and either nothing else or a packed list of items after
+/// it. Each value is metadata and a text. Two are equal if and only if their bytes are.
 ///
 /// <!-- snippet crates/icu_plurals_tests/src/tests/packing.rt: example body of fn packed_elements_answer_as_before -->
 /// ```
@@ -59,13 +59,14 @@ impl<'a> PluralElementsPackedULE<'a> {
     /// println!(rt; "{text}")?;
     /// ```
     ///
-    /// The faults, in the order in which they are looked for: no byte ([`ElementsBytesError::Empty`]); items are to
-    /// follow, but the length of the default's text is missing or more than the bytes left
-    /// ([`ElementsBytesError::Short`]); one of the bits 4 to 6 of the first byte is set
-    /// ([`ElementsBytesError::Padding`]); the default isn't UTF-8 ([`ElementsBytesError::DefaultText`]); what follows it
-    /// isn't a packed list ([`ElementsBytesError::List`]). Then the first bad item: it has no byte
-    /// ([`ElementsBytesError::ItemEmpty`]), its key is above 6 ([`ElementsBytesError::Key`]), or its text isn't UTF-8
-    /// ([`ElementsBytesError::ItemText`]).
+    /// The faults, in the order in which they are looked for: no byte
+    /// ([`ElementsBytesError::Empty`]); items are to follow, but the length of the default's text
+    /// is missing or more than the bytes left ([`ElementsBytesError::Short`]); one of the bits 4 to
+    /// 6 of the first byte is set ([`ElementsBytesError::Padding`]); the default isn't UTF-8
+    /// ([`ElementsBytesError::DefaultText`]); what follows it isn't a packed list
+    /// ([`ElementsBytesError::List`]). Then the first bad item: it has no byte
+    /// ([`ElementsBytesError::ItemEmpty`]), its key is above 6 ([`ElementsBytesError::Key`]), or
+    /// its text isn't UTF-8 ([`ElementsBytesError::ItemText`]).
     pub fn parse_bytes(bytes: &'a [u8]) -> Result<PluralElementsPackedULE<'a>, ElementsBytesError>
         ensures ok { IfOk result (λ elements. ElementsBytes (lent_elements elements) bytes.now) }
         ensures accepted { (elements : PackedElements) → ElementsBytes elements bytes.now
@@ -97,9 +98,9 @@ impl<'a> PluralElementsPackedULE<'a> {
         self.bytes
     }
 
-    /// Returns the value for a number: the explicit one if the operands are exactly 0 or 1 and it is present, else that of
-    /// the category that the rules choose, else the default. If a key occurs twice, its first item counts. The item
-    /// is looked up in the bytes; no memory is taken.
+    /// Returns the value for a number: the explicit one if the operands are exactly 0 or 1 and it
+    /// is present, else that of the category that the rules choose, else the default. If a key
+    /// occurs twice, its first item counts. The item is looked up in the bytes; no memory is taken.
     ///
     /// With the bytes of a row, and what is `wanted` for each of four numbers:
     ///
@@ -124,8 +125,9 @@ impl<'a> PluralElementsPackedULE<'a> {
         }
     }
 
-    /// Returns all values by key, borrowed from the bytes. If a key occurs twice, its first item counts, and a category's value
-    /// is present even if it equals the default. It allocates nothing.
+    /// Returns all values by key, borrowed from the bytes. If a key occurs twice, its first item
+    /// counts, and a category's value is present even if it equals the default. It allocates
+    /// nothing.
     ///
     /// <!-- snippet crates/icu_plurals_tests/src/tests/packed.rt:
     ///      example "let bytes" to "holds!(rt; shown(elements.zero())" of fn decodes_every_key -->

@@ -1,4 +1,5 @@
--- The bytes of a list of byte items: the count, the starts of all items but the first, and the items.
+-- The bytes of a list of byte items: the count, the starts of all items but the first, and the
+-- items.
 use Rattle.std.specs.Prelude.{◌≡◌, ℕ, ◌+◌, ◌/◌, ◌%◌, ◌≤◌, List, [], ◌∷◌, ◌++◌, length, drop, flat_map, map, Bool, nat_lt, IsFalse}
 use Rattle.std.specs.Prelude.{◌⊎◌, zero, suc, ◌*◌, ◌<◌, slice_index}
 use Rattle.std.specs.List.{concat, list_any}
@@ -23,7 +24,8 @@ starts_from place (item ∷ items) = place ∷ starts_from (place + length item)
 abbrev pub item_starts : List (List ℕ) → List ℕ
 item_starts items = starts_from 0 items
 
--- no item is no byte; else the count, the starts of all items but the first, and the items without gaps
+-- no item is no byte; else the count, the starts of all items but the first, and the items without
+-- gaps
 abbrev pub list_bytes : List (List ℕ) → List ℕ
 list_bytes [] = []
 list_bytes (item ∷ items) = two_bytes (length (item ∷ items))

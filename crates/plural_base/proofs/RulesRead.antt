@@ -107,7 +107,8 @@ rules_taken given value rules h =
 
 module _ {A : Type 0} (meant : Data → Stands A) (Reads : Data → A → Type 0)
     (taken : (value : Data) (thing : A) → meant value ≡ Ok thing → Reads value thing) (locale : List ℕ) where
-  -- under the key of a row is what is read from its value, under another key what the other rows have
+  -- under the key of a row is what is read from its value, under another key what the other rows
+  -- have
   at_key : (o : Ordering) (value : Data) (thing : A) (there : Option Data) (there' : Option A) → Reads value thing
       → Paired Reads there there'
       → Paired Reads (match_ordering o there (Some value) there) (cond (is_eq o) (Some thing) there')

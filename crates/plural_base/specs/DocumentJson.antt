@@ -33,7 +33,8 @@ pub record Document : Type 0 where
 
 -- ---- Reading
 
--- each member is the row of its key; the members are in the order of the keys' bytes, and the first refusal is the result
+-- each member is the row of its key; the members are in the order of the keys' bytes, and the first
+-- refusal is the result
 abbrev pub rows_meant : {A : Type 0} → (Data → Stands A) → Members → Stands (Rows A)
 rows_meant meant no_members = Ok []
 rows_meant meant (member locale value members) = do

@@ -1,6 +1,8 @@
--- Five rules, one for each category but other, and the category that they choose (UTS 35 Part 3, Language Plural Rules).
+-- Five rules, one for each category but other, and the category that they choose (UTS 35 Part 3,
+-- Language Plural Rules).
 --     Five A      a value for each of zero, one, two, few and many
---     first_category test things      the first of zero, one, two, few, many whose value is present and passes, else other
+--     first_category test things      the first of zero, one, two, few, many whose value is present
+--         and passes, else other
 --     categories_of things      those whose value is present, in this order, then other
 use Rattle.std.specs.Prelude.{List, [], ◌∷◌, ◌++◌, Bool, false, Option, Some, None, is_some, if◌then◌else◌, ℕ, flat_map}
 use Rattle.plural_base.specs.declared.category.PluralCategory.{PluralCategory}

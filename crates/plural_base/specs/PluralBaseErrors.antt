@@ -1,4 +1,5 @@
--- The texts of the errors of JSON values (docs/JSON.md), of rules as bytes (docs/FORMATS.md) and of packing elements.
+-- The texts of the errors of JSON values (docs/JSON.md), of rules as bytes (docs/FORMATS.md) and of
+-- packing elements.
 use Rattle.std.specs.Prelude.{ℕ, List, ◌++◌, codes, Option, Some, None}
 use Rattle.std.specs.Fmt.{decimal}
 use Rattle.packed_list.specs.PackedListErrors.{list_error_text}

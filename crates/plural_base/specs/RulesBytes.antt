@@ -1,8 +1,11 @@
--- The rules of a language as one block of bytes: a packed list of the rules that are present (docs/FORMATS.md).
---     rule_items rules      the items of the list: each the byte of a key, and the bytes of its rule
+-- The rules of a language as one block of bytes: a packed list of the rules that are present
+-- (docs/FORMATS.md).
+--     rule_items rules      the items of the list: each the byte of a key, and the bytes of its
+--         rule
 --     RulesBytes rules bytes      the bytes encode the rules
 --     HasRulesFault bytes fault      why other bytes are refused
---     RulesHaveOneEncoding      rules have the same bytes if and only if they are the same (`laws::rules_have_one_encoding`)
+--     RulesHaveOneEncoding      rules have the same bytes if and only if they are the same
+--         (`laws::rules_have_one_encoding`)
 use Rattle.std.specs.Prelude.{◌≡◌, ◌↔◌, ◌⊎◌, ℕ, ◌+◌, ◌<◌, ◌≤◌, List, [], ◌∷◌, ◌++◌, Option, Some, None, ⊤}
 use Rattle.packed_list.specs.ListBytes.{ListBytes, HasFault}
 use Rattle.plural_runtime.specs.PackedRelations.{PackedRelation, RuleBytes, packed_bytes, HasRuleFault}
@@ -18,7 +21,8 @@ abbrev pub keyed : ℕ → Option (List PackedRelation) → List (List ℕ)
 keyed key None = []
 keyed key (Some rule) = (key ∷ packed_bytes rule) ∷ []
 
--- the items of the rules that are present: 0 is the key of zero, 1 of one, 2 of two, 3 of few, 4 of many
+-- the items of the rules that are present: 0 is the key of zero, 1 of one, 2 of two, 3 of few, 4 of
+-- many
 abbrev pub rule_items : FiveRules → List (List ℕ)
 rule_items rules = keyed 0 rules.zero ++ (keyed 1 rules.one ++ (keyed 2 rules.two ++ (keyed 3 rules.few ++ keyed 4 rules.many)))
 
@@ -63,8 +67,8 @@ AreRule bytes = (rule : List PackedRelation) × RuleBytes rule bytes
 abbrev pub IsRuleRefused : ℕ → List ℕ → Option RulesBytesError → Type 0
 IsRuleRefused place bytes fault = (found : RuleBytesError) × HasRuleFault bytes found × (fault ≡ Some (errors.Rule place found))
 
--- What is wrong with the first bad item, or none if no item is bad. The first item is at the given place and has at least the given
--- key; each other one has a greater key than the item before it.
+-- What is wrong with the first bad item, or none if no item is bad. The first item is at the given
+-- place and has at least the given key; each other one has a greater key than the item before it.
 abbrev pub FirstRuleFault : ℕ → ℕ → List (List ℕ) → Option RulesBytesError → Type 0
 FirstRuleFault place least [] fault = fault ≡ None
 FirstRuleFault place least ([] ∷ items) fault = fault ≡ Some (errors.ItemEmpty place)

@@ -16,8 +16,8 @@ use plural_reference::{KEPT_LIMIT, KEPT_PLACES};
 use plural_runtime::{Operand, Relation, Rule};
 
 impl<'data> PluralRules<'data> {
-    /// Returns whether the number is within the exactness bound of the rules. If they are read from texts, its
-    /// category is then that of the number itself, and not only of what is kept of it.
+    /// Returns whether the number is within the exactness bound of the rules. If they are read from
+    /// texts, its category is then that of the number itself, and not only of what is kept of it.
     ///
     /// This holds if, after the point has moved by the exponent, the number has at most 18 fraction
     /// places; and either at most 18 integer places, or an integer part of at least `10^18` under

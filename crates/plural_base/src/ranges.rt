@@ -11,9 +11,9 @@ use crate::category::by_category::ByCategory;
 use crate::category::raw::{ALL, RawPluralCategory};
 use std::marker::Model;
 
-/// The categories that ranges of numbers have, by the categories of their starts and their ends (UTS 35
-/// Part 3, Plural Ranges): a map from pairs of categories to categories. A pair that is absent has its
-/// end's category. Tables are equal if they hold the same pairs. Of its calls only
+/// The categories that ranges of numbers have, by the categories of their starts and their ends
+/// (UTS 35 Part 3, Plural Ranges): a map from pairs of categories to categories. A pair that is
+/// absent has its end's category. Tables are equal if they hold the same pairs. Of its calls only
 /// [`PluralRanges::to_json`] allocates.
 ///
 /// <!-- snippet crates/plural_base_tests/src/tests/ranges.rt:

@@ -18,8 +18,9 @@ use plural_reference::PluralOperands;
 use plural_runtime::{Rule, test_rule};
 use std::marker::Model;
 
-/// The rules of one language and type (UTS 35 Part 3, Language Plural Rules), which choose a number's
-/// category: the first of zero, one, two, few and many whose rule is present and true, else other.
+/// The rules of one language and type (UTS 35 Part 3, Language Plural Rules), which choose a
+/// number's category: the first of zero, one, two, few and many whose rule is present and true,
+/// else other.
 ///
 /// <!-- snippet crates/using/src/texts.rt: "let one" to "}" of fn print_czech -->
 /// ```
@@ -77,7 +78,8 @@ impl<'data> PluralRules<'data> {
     /// let operands = PluralOperands::from(2_000_000_000_000_000_000u64);
     /// assert!(rt; rules.category_for(operands) == ONE);
     /// ```
-    // Inlined with the two below, the operands of an integer stay constants: a sixth of the instructions less.
+    // Inlined with the two below, the operands of an integer stay constants: a sixth of the
+    // instructions less.
     #[inline(always)]
     pub fn category_for(&self, operands: PluralOperands) -> PluralCategory
         ensures first { result ≡ first_category (packed_truth operands) self.now }
@@ -106,8 +108,8 @@ impl<'data> PluralRules<'data> {
         }
     }
 
-    /// Returns the categories that a number may have: those whose rule is present, from zero to many, then
-    /// other.
+    /// Returns the categories that a number may have: those whose rule is present, from zero to
+    /// many, then other.
     ///
     /// <!-- snippet crates/plural_base_tests/src/tests/categories.rt:
     ///      example body of fn categories_are_those_with_a_rule_and_other -->

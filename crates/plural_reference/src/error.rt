@@ -8,8 +8,8 @@ use std::alloc::{AllocError, AllocFailed};
 use std::error::Error;
 use std::fmt;
 
-/// Why a text isn't a rule: what is expected at the first place where the text doesn't continue as a
-/// rule (UTS 35 Part 3, Plural Rules Syntax).
+/// Why a text isn't a rule: what is expected at the first place where the text doesn't continue as
+/// a rule (UTS 35 Part 3, Plural Rules Syntax).
 #[derive(Clone, Copy, Debug, PartialEq, Eq)]
 pub enum ParseError {
     /// An and-condition after `or`, if the text or the condition ends.

@@ -36,7 +36,8 @@ impl Error for RuleBytesError {}
 /// Why a tree or a text can't be packed.
 #[derive(Clone, Copy, Debug, PartialEq, Eq)]
 pub enum RuleError {
-    /// The text isn't a rule, or a value of the tree is above 4294967295 (`ParseError::ValueTooLarge`).
+    /// The text isn't a rule, or a value of the tree is above 4294967295
+    /// (`ParseError::ValueTooLarge`).
     Parse(ParseError),
     /// A relation would start after place 65535 of the data.
     StartLimit,

@@ -13,9 +13,10 @@ use packed_list::laws::{item_bytes, read_again};
 impl<'data> Rule<'data> {
     /// Reads bytes as a rule. It allocates nothing.
     ///
-    /// The error is that the bytes aren't a packed list ([`RuleBytesError::List`]), or the fault of the first bad
-    /// item: its length isn't 5 plus a multiple of 8 ([`RuleBytesError::ItemLength`]), or its first byte names
-    /// no operand ([`RuleBytesError::Operand`]).
+    /// The error is that the bytes aren't a packed list ([`RuleBytesError::List`]), or the fault of
+    /// the first bad item: its length isn't 5 plus a multiple of 8
+    /// ([`RuleBytesError::ItemLength`]), or its first byte names no operand
+    /// ([`RuleBytesError::Operand`]).
     ///
     /// Rows of refused bytes and their fault:
     ///

@@ -7,7 +7,8 @@ ghost use Rattle.plural_runtime.specs.RuleKinds.{ends, item_of, ItemGives, range
 
 use plural_reference::{ParseError, ast};
 
-/// A range of values with both its ends, or one value. A range whose start is above its end holds nothing.
+/// A range of values with both its ends, or one value. A range whose start is above its end holds
+/// nothing.
 ///
 /// <!-- snippet crates/plural_runtime_tests/src/tests/kinds.rt:
 /// example "let equal_ends" to "holds!(rt; RangeOrValue" of fn ranges_are_those_of_trees -->
@@ -68,7 +69,8 @@ impl RangeOrValue {
         [a, b, c, d, e, f, g, h]
     }
 
-    /// Returns the range of two ends of four bytes each, low byte first, or the value if they are equal.
+    /// Returns the range of two ends of four bytes each, low byte first, or the value if they are
+    /// equal.
     pub fn from_unaligned(bytes: [u8; 8]) -> RangeOrValue
         ensures bytes { range_bytes (ends result) ≡ bytes }
         ensures value { result ≡ range_or_value (ends result) }

@@ -18,8 +18,8 @@ pub struct RelationULE<'a> {
     ghost checked: { IsTrue (is_relation bytes.now) },
 }
 
-/// A relation, with its ranges borrowed from the bytes of an item. Relations are equal if their mark, polarity,
-/// operand, modulus and ranges are.
+/// A relation, with its ranges borrowed from the bytes of an item. Relations are equal if their
+/// mark, polarity, operand, modulus and ranges are.
 ///
 /// <!-- snippet crates/plural_runtime_tests/src/tests/kinds.rt:
 /// example "let relation = item" to "holds!(rt; relation.range(0)" of fn a_simple_rule_is_one_relation -->

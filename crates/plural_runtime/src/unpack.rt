@@ -18,7 +18,8 @@ const ROOM: usize = 4;
 impl<'data> Rule<'data> {
     /// Returns the tree of the rule, without samples. The only error is out of memory.
     ///
-    /// Each relation marked Or begins a new and-condition. Equal ends come back as a value, a modulus 0 as none.
+    /// Each relation marked Or begins a new and-condition. Equal ends come back as a value, a
+    /// modulus 0 as none.
     ///
     /// <!-- snippet crates/plural_runtime_tests/src/tests/texts.rt:
     /// const LONG_RULE; example "let rule" to "holds!" of fn a_condition_comes_back -->

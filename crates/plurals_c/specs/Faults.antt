@@ -87,7 +87,8 @@ packing_number packing.DefaultLimit = minus 60
 packing_number packing.StartLimit = minus 61
 packing_number packing.Memory = memory_number
 
--- a JSON value is refused; a rule's text in it and elements that can't be packed have the same numbers as elsewhere
+-- a JSON value is refused; a rule's text in it and elements that can't be packed have the same
+-- numbers as elsewhere
 abbrev pub json_number : JsonError → ℤ
 json_number json.Float = minus 71
 json_number json.Shape = minus 72

@@ -2,7 +2,8 @@
 --     ReadsRules bytes answer      the rules of a block (docs/FORMATS.md)
 --     ReadsElements bytes answer      the elements of packed bytes (docs/FORMATS.md)
 --     ReadsText bytes answer      the text
---     ReadsNumber bytes answer      the number that a text writes within the limits (docs/NUMBERS.md)
+--     ReadsNumber bytes answer      the number that a text writes within the limits
+--         (docs/NUMBERS.md)
 use Rattle.std.specs.Prelude.{◌≡◌, ℕ, ◌≤◌, List, Result, Ok, Err}
 use Rattle.std.specs.Str.{IsUtf8}
 use Rattle.icu_plurals.specs.declared.DecimalError.TheVariants as decimal
@@ -41,7 +42,8 @@ WritesNone text = (x : CompactNumber) → ¬ (WritesCompact text x)
 abbrev pub WritesOverLimit : List ℕ → Type 0
 WritesOverLimit text = (x : CompactNumber) × WritesCompact text x × IsCompactOverLimit x
 
--- why a text gives no number: it is out of form, or what it writes is over a limit; or neither, and memory ran out
+-- why a text gives no number: it is out of form, or what it writes is over a limit; or neither, and
+-- memory ran out
 abbrev pub IsNumberFault : List ℕ → Fault → Type 0
 IsNumberFault text Memory = ¬ (WritesNone text) × ¬ (WritesOverLimit text)
 IsNumberFault text (Number decimal.Syntax) = WritesNone text

@@ -1,5 +1,5 @@
--- The block of the rules of five texts. An empty text isn't a rule. Faults are looked for in this order: a text that isn't UTF-8, the
--- first text that gives no rule, rules too long for a block.
+-- The block of the rules of five texts. An empty text isn't a rule. Faults are looked for in this
+-- order: a text that isn't UTF-8, the first text that gives no rule, rules too long for a block.
 --     AreRulesFrom texts answer      the bytes of the block, or the fault
 use Rattle.std.specs.Prelude.{◌≡◌, ℕ, List, [], ◌∷◌, Option, Some, None, Result, Ok, Err, ⊤, IsTrue}
 use Rattle.std.specs.Str.{IsUtf8}

@@ -1,4 +1,5 @@
-//! Five small callers of `icu_plurals` and `plural_message`, each proved from their public contracts alone.
+//! Five small callers of `icu_plurals` and `plural_message`, each proved from their public
+//! contracts alone.
 #![tactic(auto)]
 
 mod compact_units;

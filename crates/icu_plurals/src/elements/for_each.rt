@@ -8,8 +8,8 @@ ghost use Rattle.icu_plurals.specs.ElementCalls.{VisitsAt, VisitsEach, RefusesAt
 use super::PluralElements;
 
 impl<T> PluralElements<T> {
-    /// Calls the closure for other, zero, one, two, few, many, explicit zero and explicit one, in this
-    /// order, if they are present. With `seen`, which notes the calls:
+    /// Calls the closure for other, zero, one, two, few, many, explicit zero and explicit one, in
+    /// this order, if they are present. With `seen`, which notes the calls:
     ///
     /// <!-- snippet crates/icu_plurals_tests/src/tests/elements.rt: example body of fn absent_values_are_skipped -->
     /// ```
@@ -27,8 +27,9 @@ impl<T> PluralElements<T> {
         self.visit_all(&mut f);
     }
 
-    /// As [`PluralElements::for_each`] up to the first `Err` of the closure, which is then the result;
-    /// the closure isn't called again. With `seen`, which gives `Err(refused)` at call `refused`:
+    /// As [`PluralElements::for_each`] up to the first `Err` of the closure, which is then the
+    /// result; the closure isn't called again. With `seen`, which gives `Err(refused)` at call
+    /// `refused`:
     ///
     /// <!-- snippet crates/icu_plurals_tests/src/tests/elements.rt:
     ///      example "let answer = eight().try_for_each" to "holds!(rt; seen.calls" -->

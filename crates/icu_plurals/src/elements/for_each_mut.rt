@@ -8,8 +8,9 @@ ghost use Rattle.icu_plurals.specs.ElementCalls.{CallsAt, CallsEach, Changes, Ch
 use super::PluralElements;
 
 impl<T> PluralElements<T> {
-    /// Calls the closure, which may change the value that it gets, for other, zero, one, two, few, many,
-    /// explicit zero and explicit one, in this order, if they are present. With `seen`, which notes the calls:
+    /// Calls the closure, which may change the value that it gets, for other, zero, one, two, few,
+    /// many, explicit zero and explicit one, in this order, if they are present. With `seen`, which
+    /// notes the calls:
     ///
     /// <!-- snippet crates/icu_plurals_tests/src/tests/elements.rt: example "elements.for_each_mut" to "});" -->
     /// ```

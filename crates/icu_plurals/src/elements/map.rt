@@ -7,9 +7,9 @@ ghost use Rattle.icu_plurals.specs.ElementCalls.{CallsAt, CallsEach, RefusesAt, 
 use super::PluralElements;
 
 impl<T> PluralElements<T> {
-    /// Returns the closure's results for the values, at the same keys. It is called for other, zero, one, two,
-    /// few, many, explicit zero and explicit one, in this order, if they are present. With `values`, which lists the
-    /// values as the accessors return them:
+    /// Returns the closure's results for the values, at the same keys. It is called for other,
+    /// zero, one, two, few, many, explicit zero and explicit one, in this order, if they are
+    /// present. With `values`, which lists the values as the accessors return them:
     ///
     /// <!-- snippet crates/icu_plurals_tests/src/tests/elements.rt:
     ///      example "let elements" to "holds!" of fn absent_values_are_skipped -->
@@ -34,8 +34,8 @@ impl<T> PluralElements<T> {
         }
     }
 
-    /// As [`PluralElements::map`] up to the first `Err` of the closure, which is then the result; the
-    /// closure isn't called again.
+    /// As [`PluralElements::map`] up to the first `Err` of the closure, which is then the result;
+    /// the closure isn't called again.
     ///
     /// <!-- snippet crates/icu_plurals_tests/src/tests/elements.rt: example fn lists -->
     /// ```

@@ -8,9 +8,9 @@ use super::PluralElements;
 use std::alloc::AllocError;
 
 impl<T: Clone> PluralElements<T> {
-    /// Returns a clone of each value at its key. It allocates if clones of the values do; the only error is
-    /// out of memory, and there is none if clones of `T` never fail. It equals what was cloned if clones
-    /// of `T` equal their sources.
+    /// Returns a clone of each value at its key. It allocates if clones of the values do; the only
+    /// error is out of memory, and there is none if clones of `T` never fail. It equals what was
+    /// cloned if clones of `T` equal their sources.
     ///
     /// <!-- snippet crates/icu_plurals_tests/src/tests/elements.rt: example body of fn a_clone_equals_its_source -->
     /// ```

@@ -4,15 +4,16 @@ use packed_list::ListError;
 use std::error::Error;
 use std::fmt;
 
-/// Why bytes aren't packed elements. The causes down to [`List`] are looked for in this order; then the
-/// first bad item is named, with the first of the last three that it has.
+/// Why bytes aren't packed elements. The causes down to [`List`] are looked for in this order; then
+/// the first bad item is named, with the first of the last three that it has.
 ///
 /// [`List`]: ElementsBytesError::List
 #[derive(Clone, Copy, Debug, PartialEq, Eq)]
 pub enum ElementsBytesError {
     /// There is no byte.
     Empty,
-    /// Items are to follow, and the length of the default's text is missing, or is more than the bytes left.
+    /// Items are to follow, and the length of the default's text is missing, or is more than the
+    /// bytes left.
     Short,
     /// One of the bits 4 to 6 of the first byte is set.
     Padding,

@@ -1,4 +1,5 @@
--- A reader of list bytes, for the view of a list, for bytes that are known to be one, and for laws. Not a definition of the subject.
+-- A reader of list bytes, for the view of a list, for bytes that are known to be one, and for laws.
+-- Not a definition of the subject.
 use Rattle.std.specs.Prelude.{ℕ, suc, ◌+◌, ◌-◌, ◌*◌, ◌<◌, ◌≤◌, List, [], ◌∷◌, length, drop, slice_index, slice_range}
 use Rattle.packed_list.specs.ListBytes.{ListBytes, two_byte_number, start_at}
 

@@ -34,8 +34,8 @@ impl UnvalidatedPluralRange {
 
     /// Returns the range of a JSON value, which is its text. It allocates nothing.
     ///
-    /// [`JsonError::Float`] if the value holds a float, else [`JsonError::Shape`] if it isn't a text, else
-    /// [`JsonError::RangeKey`] if the text names no range.
+    /// [`JsonError::Float`] if the value holds a float, else [`JsonError::Shape`] if it isn't a
+    /// text, else [`JsonError::RangeKey`] if the text names no range.
     pub fn from_json(value: &Value) -> Result<UnvalidatedPluralRange, JsonError>
         ensures answers { result ≡ key_of_json (view value.now) }
         ensures no_memory { result ≢ Err JsonError.Memory }
@@ -48,8 +48,8 @@ impl UnvalidatedPluralRange {
 }
 
 impl PluralRanges {
-    /// Returns the JSON value of the ranges: an object with `ranges` alone, an object from the text of each
-    /// range that has a category to the category's name. It allocates; the only error is
+    /// Returns the JSON value of the ranges: an object with `ranges` alone, an object from the text
+    /// of each range that has a category to the category's name. It allocates; the only error is
     /// [`JsonError::Memory`].
     ///
     /// <!-- snippet crates/plural_base_tests/src/tests/ranges.rt:
@@ -70,13 +70,14 @@ impl PluralRanges {
         Ok(under_ranges(alloc, Value::Object(members))?)
     }
 
-    /// Returns the ranges of a JSON value: an object with an object under `ranges`, from texts of ranges to names
-    /// of categories. Other keys aren't read. It allocates nothing.
+    /// Returns the ranges of a JSON value: an object with an object under `ranges`, from texts of
+    /// ranges to names of categories. Other keys aren't read. It allocates nothing.
     ///
-    /// [`JsonError::Float`] if the value holds a float, else [`JsonError::Shape`] if it or what is under
-    /// `ranges` isn't an object; else the refusal of the first member, in the order of the keys' bytes, key
-    /// before value: [`JsonError::RangeKey`] if the key names no range, [`JsonError::Shape`] if the value
-    /// isn't a text, [`JsonError::RangeValue`] if it isn't a category's name.
+    /// [`JsonError::Float`] if the value holds a float, else [`JsonError::Shape`] if it or what is
+    /// under `ranges` isn't an object; else the refusal of the first member, in the order of the
+    /// keys' bytes, key before value: [`JsonError::RangeKey`] if the key names no range,
+    /// [`JsonError::Shape`] if the value isn't a text, [`JsonError::RangeValue`] if it isn't a
+    /// category's name.
     ///
     /// With `full`, a table that has all 36 pairs:
     ///

@@ -18,12 +18,12 @@ use plural_runtime::{Rule, RuleError};
 use serde_json::Value;
 use std::alloc::Global;
 
-/// Returns the rule of a JSON value, which is a text as CLDR writes rules, samples included (UTS 35 Part 3,
-/// Plural Rules Syntax).
+/// Returns the rule of a JSON value, which is a text as CLDR writes rules, samples included (UTS 35
+/// Part 3, Plural Rules Syntax).
 ///
-/// [`JsonError::Float`] if the value holds a float, else [`JsonError::Shape`] if it isn't a text, else
-/// [`JsonError::Rule`] without a category if the text gives no rule. It allocates for the rule; out
-/// of memory is [`JsonError::Memory`].
+/// [`JsonError::Float`] if the value holds a float, else [`JsonError::Shape`] if it isn't a text,
+/// else [`JsonError::Rule`] without a category if the text gives no rule. It allocates for the
+/// rule; out of memory is [`JsonError::Memory`].
 ///
 /// <!-- snippet crates/plural_base_tests/src/tests/json.rt: example body of fn a_rule_is_its_printed_text -->
 /// ```
@@ -47,8 +47,8 @@ pub fn rule_from_json(alloc: Global, value: &Value) -> Result<Rule<'static>, Jso
     read_rule(alloc, value, None)
 }
 
-/// Returns the JSON value of a rule, its printed text, as the example of [`rule_from_json`] shows. It
-/// allocates for the text; the only error is [`JsonError::Memory`].
+/// Returns the JSON value of a rule, its printed text, as the example of [`rule_from_json`] shows.
+/// It allocates for the text; the only error is [`JsonError::Memory`].
 pub fn rule_to_json(alloc: Global, rule: &Rule<'_>) -> Result<Value, JsonError>
     ensures written { IfOk result (λ value. view value ≡ rule_json rule.now) }
     ensures memory { IfErr result (λ error. error ≡ JsonError.Memory) }

@@ -7,8 +7,9 @@ use crate::rules::PluralRules;
 impl<'data> PluralRules<'data> {
     ghost use Rattle.plural_base.specs.Providers.{Makes, of_type};
 
-    /// Returns the rules of a locale, of the type of the options; no type means cardinal. They are borrowed
-    /// from the provider. [`DataError::NotFound`] if and only if it has none. It allocates nothing.
+    /// Returns the rules of a locale, of the type of the options; no type means cardinal. They are
+    /// borrowed from the provider. [`DataError::NotFound`] if and only if it has none. It allocates
+    /// nothing.
     ///
     /// <!-- snippet crates/plural_base_tests/src/tests/provider.rt: example body of fn options_say_which_rules_are_loaded -->
     /// ```

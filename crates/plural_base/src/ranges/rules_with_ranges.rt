@@ -16,8 +16,9 @@ use crate::rules::as_plural_rules::AsPluralRules;
 use plural_reference::PluralOperands;
 use std::marker::Model;
 
-/// Rules and the categories of ranges, which choose a range's category by those of its start and its end
-/// (UTS 35 Part 3, Plural Ranges). The order of start and end isn't checked, nor that both are positive.
+/// Rules and the categories of ranges, which choose a range's category by those of its start and
+/// its end (UTS 35 Part 3, Plural Ranges). The order of start and end isn't checked, nor that both
+/// are positive.
 ///
 /// <!-- snippet crates/using/src/ranges.rt: body of fn print_ranges -->
 /// ```
@@ -58,7 +59,8 @@ impl<'data, R: AsPluralRules<'data>> PluralRulesWithRanges<R> {
         self.rules.as_plural_rules()
     }
 
-    /// Returns the category of a range of numbers, by the operands of its start and its end. It allocates nothing.
+    /// Returns the category of a range of numbers, by the operands of its start and its end. It
+    /// allocates nothing.
     ///
     /// <!-- snippet crates/plural_base_tests/src/tests/ranges.rt: example fn cardinal -->
     /// ```
@@ -83,8 +85,8 @@ impl<'data, R: AsPluralRules<'data>> PluralRulesWithRanges<R> {
         self.resolve_range(start, end)
     }
 
-    /// Returns the category of a range, by those of its start and its end: the pair's, if it has one, else the
-    /// end's.
+    /// Returns the category of a range, by those of its start and its end: the pair's, if it has
+    /// one, else the end's.
     ///
     /// <!-- snippet crates/plural_base_tests/src/tests/ranges.rt:
     ///      example "let resolved = ranges.resolve_range(PluralCategory::Other" to "holds!" -->
@@ -104,9 +106,9 @@ impl<'data, R: AsPluralRules<'data>> PluralRulesWithRanges<R> {
 }
 
 impl<'data> PluralRulesWithRanges<PluralRules<'data>> {
-    /// Returns the rules of a locale, of the type of the options, and its ranges; no type means cardinal. The
-    /// rules are borrowed from the provider. [`DataError::NotFound`] if and only if the provider has no
-    /// such rules or no ranges. It allocates nothing.
+    /// Returns the rules of a locale, of the type of the options, and its ranges; no type means
+    /// cardinal. The rules are borrowed from the provider. [`DataError::NotFound`] if and only if
+    /// the provider has no such rules or no ranges. It allocates nothing.
     ///
     /// <!-- snippet crates/plural_base_tests/src/tests/ranges.rt: example fn zero_to_one -->
     /// ```
@@ -156,8 +158,9 @@ impl<'data> PluralRulesWithRanges<PluralRules<'data>> {
 }
 
 impl<R: Drop> PluralRulesWithRanges<R> {
-    /// Returns these rules, and the ranges of a locale. Whether the rules are those of the locale isn't checked.
-    /// [`DataError::NotFound`] if and only if the provider has no ranges. It allocates nothing.
+    /// Returns these rules, and the ranges of a locale. Whether the rules are those of the locale
+    /// isn't checked. [`DataError::NotFound`] if and only if the provider has no ranges. It
+    /// allocates nothing.
     ///
     /// <!-- snippet crates/using/src/named.rt: body of fn print_named_range -->
     /// ```

@@ -46,7 +46,8 @@ impl<'data> PluralRulesData<'data> {
         }
     }
 
-    /// Returns a copy of the rules. It allocates if a rule owns its bytes; the only error is out of memory.
+    /// Returns a copy of the rules. It allocates if a rule owns its bytes; the only error is out of
+    /// memory.
     pub fn try_clone(&self) -> Result<PluralRulesData<'data>, AllocError>
         ensures { IfOk result (λ copy. copy ≡ self.now) }
     {

@@ -1,6 +1,7 @@
--- What the reader of conditions returns is what the grammar says: the tokens so far spell what its state holds as complete, so
--- the condition that it ends with is read, and a fault that it stops with is theirs. Readings, Answered, the worked rows and
--- RuleReadings cite the last lemma, SampleSound those on parts with separators after them.
+-- What the reader of conditions returns is what the grammar says: the tokens so far spell what its
+-- state holds as complete, so the condition that it ends with is read, and a fault that it stops
+-- with is theirs. Readings, Answered, the worked rows and RuleReadings cite the last lemma,
+-- SampleSound those on parts with separators after them.
 use Rattle.std.proofs.Common.{◌≡◌, List, [], ◌∷◌, ◌++◌, Option, Some, None, Ok, Err, refl, sym, ap, ◌∙◌, subst, append_assoc, inl, inr}
 use Rattle.std.proofs.lemmas.List.{append-nil}
 use Rattle.plural_reference.specs.declared.ast.RangeListItem.{RangeListItem}
@@ -545,7 +546,8 @@ said_at_end tokens (go s) h = absurd h
 said_at_end tokens (finish c) h = h
 said_at_end tokens (refuse kind) h = h
 
--- what is said of a move, and of the result from the next state, is said of the result from this one
+-- what is said of a move, and of the result from the next state, is said of the result from this
+-- one
 said_move : (p : List Token) (t : Token) (ts : List Token) (m : Move) → SaidOfMove p t ts m
     → ((next : State) → Spells (p ++ t ∷ []) next → Said ((p ++ t ∷ []) ++ ts) (run next ts))
     → Said (p ++ t ∷ ts) (proceed m (t ∷ ts) (λ next. run next ts))

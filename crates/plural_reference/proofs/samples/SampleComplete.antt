@@ -1,6 +1,7 @@
--- What the grammar of samples spells is read, and a fault is returned: the tokens of sections lead the reader of samples past
--- them, and those of a waiting place lead it to a state that refuses what follows. From the grammar to the reader;
--- RuleReadings cites the two last facts, the steps of the parser in samples the step that each kind of token makes.
+-- What the grammar of samples spells is read, and a fault is returned: the tokens of sections lead
+-- the reader of samples past them, and those of a waiting place lead it to a state that refuses
+-- what follows. From the grammar to the reader; RuleReadings cites the two last facts, the steps of
+-- the parser in samples the step that each kind of token makes.
 use Rattle.std.proofs.Common.{◌≡◌, ◌≢◌, ◌<◌, ◌+◌, ◌/◌, ◌%◌, ℕ, zero, suc, Bool, true, false, List, [], ◌∷◌, ◌++◌, Option}
 use Rattle.std.proofs.Common.{Some, None, Ok, Err, refl, sym, ap, ◌∙◌, subst, append_assoc, inl, inr, cond, nat_eq, arith}
 use Rattle.std.proofs.lemmas.Bool.{true≢false}

@@ -1,4 +1,5 @@
--- A reader of rule bytes, for the view of a rule, the laws and private contracts. Not a definition of the subject.
+-- A reader of rule bytes, for the view of a rule, the laws and private contracts. Not a definition
+-- of the subject.
 use Rattle.std.specs.Prelude.{ℕ, ◌+◌, ◌*◌, ◌%◌, List, [], ◌∷◌, map, drop, slice_index, if◌then◌else◌, ◌==◌, nat_lt, Option, Some, None}
 use Rattle.packed_list.specs.Inner.ListReading.{items_in}
 use Rattle.plural_reference.specs.declared.ast.Operand.{Operand}

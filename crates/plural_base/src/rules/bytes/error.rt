@@ -6,8 +6,8 @@ use std::alloc::AllocError;
 use std::error::Error;
 use std::fmt;
 
-/// Why bytes aren't rules of a language: they aren't a packed list, or the first bad item has the first of the other
-/// three faults.
+/// Why bytes aren't rules of a language: they aren't a packed list, or the first bad item has the
+/// first of the other three faults.
 #[derive(Clone, Copy, Debug, PartialEq, Eq)]
 pub enum RulesBytesError {
     /// They aren't a packed list.
