@@ -9,6 +9,7 @@ from library import CATEGORIES, RULES, TOP, Missing
 
 PLACES = ("/usr/lib/*/gettext/cldr-plurals", "/usr/lib*/gettext/cldr-plurals", "/usr/libexec/gettext/cldr-plurals")
 DOCUMENT = TOP / "crates/plurals_check/stdin"
+ORDER = "two forms, other first"
 TYPES = ("cardinal", "ordinal")
 LAST = 100_000
 # Ends of the machine's integers and of decimal places, with their neighbours.
@@ -116,55 +117,61 @@ def form_of(expression):
     return eval(f"lambda n: int({text})")  # numbers, n and operators alone
 
 
-def chooser(path, rules):
-    """Returns the function from an integer to its category by gettext's expression, and whether rules were given as they are.
+def kept(path, rules):
+    """Returns the rules that hold for some integer: the others have no form."""
+    return [it for it in rules if printed(path, [it])[0] > 1]
 
-    Rules that hold for no integer have no form. Where one rule is left, it is given twice: of two forms cldr-plurals prints another
-    kind of expression."""
-    kept = [it for it in rules if printed(path, [it])[0] > 1]
-    given = [kept[0], ("many", kept[0][1])] if len(kept) == 1 else rules
-    forms, expression = printed(path, given)
-    names = [kept[0][0]] * 2 if len(kept) == 1 else [name for name, _ in kept]
-    if forms != len(names) + 1:
+
+def chooser(path, rules):
+    """Returns the function from an integer to its category by gettext's expression.
+
+    One rule is given twice, since cldr-plurals prints another kind of expression for two forms (docs/PEERS.md). Of rules that leave
+    no integer to other, the last one takes its form."""
+    left = kept(path, rules)
+    if len(left) == 1:
+        left *= 2
+    forms, expression = printed(path, left)
+    names = [*(name for name, _ in left), "other"]
+    if forms not in (len(left), len(left) + 1):
         raise Missing(f"cldr-plurals has {forms} forms for {rules}")
-    form, names = form_of(expression), [*names, "other"]
-    return (lambda number: names[form(number)]), len(kept) != 1
+    form = form_of(expression)
+    return lambda number: names[form(number)]
 
 
 # ---- the comparison
 
 
-def two_forms(path, rules, library, block, counts):
-    """Compares what cldr-plurals prints for one rule given once, where form 1 should be other."""
-    kept = [it for it in rules if printed(path, [it])[0] > 1]
+def compare_two_forms(path, rules, library, counts):
+    """Compares what cldr-plurals prints for one rule that is given once: form 0 should be its category, and form 1 other."""
+    name, _ = rules[0]
     _, expression = printed(path, rules)
-    form = form_of(expression)
-    is_swapped = not re.fullmatch(r"\(n (!=|>) \d+\)", expression)
+    is_negated = re.fullmatch(r"\(n (!=|>) \d+\)", expression)
+    form, block = form_of(expression), library.rules(dict(rules))
     for number in range(LAST // 100 + 1):
-        ours, theirs = library.category_of_integer(block, number), (kept[0][0], "other")[form(number)]
+        ours, theirs = library.category_of_integer(block, number), (name, "other")[form(number)]
         counts["compared"] += 1
-        if ours == theirs:
-            continue
-        swapped = (kept[0][0], "other")[1 - form(number)]
-        counts["two forms in the other order" if is_swapped and ours == swapped else "unexplained"] += 1
+        if ours != theirs:
+            counts["unexplained" if is_negated else ORDER] += 1
+
+
+def compare_set(path, rules, library, counts, say):
+    block, choose = library.rules(dict(rules)), chooser(path, rules)
+    for number in [*range(LAST + 1), *EDGES]:
+        ours, theirs = library.category_of_integer(block, number), choose(number)
+        counts["compared"] += 1
+        if ours != theirs:
+            counts["unexplained"] += 1
+            say(f"gettext, {dict(rules)}, {number}: {ours} by the library, {theirs} by gettext")
 
 
 def compare(library, say):
-    path = program()
-    counts = Counter()
+    """Returns the counts of CLDR's sets."""
+    path, counts = program(), Counter()
     for rules in sets():
-        block = library.rules(dict(rules))
-        if isinstance(block, str):
-            raise Missing(f"the library refuses {rules}: {block}")
-        choose, is_plain = chooser(path, rules)
-        for number in [*range(LAST + 1), *EDGES]:
-            ours, theirs = library.category_of_integer(block, number), choose(number)
-            counts["compared"] += 1
-            if ours != theirs:
-                counts["unexplained"] += 1
-                say(f"gettext: {dict(rules)} {number}: {ours} by the library, {theirs} by gettext")
-        if not is_plain:
-            two_forms(path, rules, library, block, counts)
+        compare_set(path, rules, library, counts, say)
+        left = kept(path, rules)
+        if len(left) == 1:
+            compare_two_forms(path, left, library, counts)
     return counts
 
 
@@ -192,7 +199,7 @@ def wrapped(words, front, width=100):
 
 
 def row(path, rules, last):
-    choose, _ = chooser(path, rules)
+    choose = chooser(path, rules)
     by_category = {}
     for number in range(last + 1):
         by_category.setdefault(choose(number), []).append(number)

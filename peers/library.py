@@ -66,11 +66,11 @@ class Library:
         self._is_exact.argtypes = [*block, *block]
 
     def rules(self, texts):
-        """Returns the block of these texts by category, or the fault of the first that is no rule."""
+        """Returns the block of these texts by category, or the number of the fault of the first that is no rule."""
         words = [word for it in RULES for word in (texts.get(it, "").encode(), len(texts.get(it, "").encode()))]
         out = ctypes.create_string_buffer(65536)
         length = self._of_texts(*words, out, len(out))
-        return TEXT_FAULTS.get(length, length) if length < 0 else out.raw[:length]
+        return length if length < 0 else out.raw[:length]
 
     def category_of_integer(self, block, number):
         return CATEGORIES[self._of_integer(block, len(block), number)]

@@ -1,5 +1,6 @@
 //! The kinds of rows: one file a subject.
 
+mod integer_categories;
 mod numbers;
 mod texts;
 
@@ -9,6 +10,9 @@ use std::alloc::Global;
 
 /// Returns the result of the call that a kind names, as a short text.
 pub fn result(alloc: Global, kind: &str, arguments: &mut Arguments) -> Result<String, RowFault> {
+    if let Some(found) = integer_categories::result(alloc, kind, arguments) {
+        return found;
+    }
     if let Some(found) = numbers::result(alloc, kind, arguments) {
         return found;
     }
