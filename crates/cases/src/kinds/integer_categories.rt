@@ -2,8 +2,8 @@
 
 use crate::arguments::Arguments;
 use crate::fault::RowFault;
-use crate::show;
-use icu_plurals::{PluralCategory, PluralOperands, PluralRules, RawPluralCategory};
+use icu_plurals::provider::RawPluralCategory;
+use icu_plurals::{PluralCategory, PluralOperands, PluralRules};
 use std::alloc::Global;
 
 // In the order of CLDR.
