@@ -21,7 +21,7 @@ def changed(random, text_of, relation):
     """Returns a random condition whose last relation is this one, and its text, in which text_of writes this relation."""
     groups = with_last(shared.condition(random), relation)
     text, own = shared.condition_text(groups), shared.relation_text(relation)
-    return groups, text[: len(text) - len(own)] + text_of(relation)
+    return groups, text.removesuffix(own) + text_of(relation)
 
 
 def single(random):
@@ -88,6 +88,13 @@ def range_down(random):
     return text, groups, REFUSED
 
 
+def two_range_marks(random):
+    low, middle, high = sorted((shared.value(random), shared.value(random), shared.value(random)))
+    relation = replace(shared.relation(random), ranges=((low, high),))
+    groups, text = changed(random, lambda it: shared.relation_text(replace(it, ranges=())) + f"{low}..{middle}..{high}", relation)
+    return text, with_last(groups, replace(relation, ranges=((low, middle),))), groups
+
+
 def of_32_bits(random):
     """A value from 2^31 to 2^32 - 1."""
     value = random.randrange(2**31, 2**32)
@@ -135,6 +142,7 @@ BORDERS = {
     "`or` at the end": ends_in_or,
     "a comma at the end": ends_in_comma,
     "a range that goes down": range_down,
+    "two `..` in a range": two_range_marks,
     "a value from 2147483648 to 4294967295": of_32_bits,
     "a value above 4294967295": above_32_bits,
     "modulus 0": modulus_zero,

@@ -76,7 +76,7 @@ def drawn(random, count):
 
 
 class Comparison:
-    """Counts differences by class, and keeps the shortest of each."""
+    """Counts of differences by class, and the shortest text of each."""
 
     def __init__(self):
         self.counts = Counter()
@@ -120,5 +120,5 @@ def compare(library, seed, count, say):
         compare_rules(path, library, random, min(1000, count - first), comparison)
     texts = borders.compare(lambda questions: asked(path, questions), library, random, max(count // 100, 1), say)
     for name, text in comparison.shortest.items():
-        say(f"ICU4C, {name}: {text}")
+        say(f"shortest, {name}: {text}")
     return comparison.counts, texts
