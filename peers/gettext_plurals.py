@@ -143,25 +143,31 @@ def chooser(path, rules):
 
 def compare_two_forms(path, rules, library, counts):
     """Compares what cldr-plurals prints for one rule that is given once: form 0 should be its category, and form 1 other."""
-    name, _ = rules[0]
+    names = (rules[0][0], "other")
     _, expression = printed(path, rules)
-    is_negated = re.fullmatch(r"\(n (!=|>) \d+\)", expression)
+    is_rule_itself = not re.fullmatch(r"\(n (!=|>) \d+\)", expression)
     form, block = form_of(expression), library.rules(dict(rules))
     for number in range(LAST // 100 + 1):
-        ours, theirs = library.category_of_integer(block, number), (name, "other")[form(number)]
+        ours, at = library.category_of_integer(block, number), form(number)
         counts["compared"] += 1
-        if ours != theirs:
-            counts["unexplained" if is_negated else ORDER] += 1
+        if ours != names[at]:
+            counts[ORDER if is_rule_itself and ours == names[1 - at] else "unexplained"] += 1
 
 
 def compare_set(path, rules, library, counts, say):
     block, choose = library.rules(dict(rules)), chooser(path, rules)
-    for number in [*range(LAST + 1), *EDGES]:
-        ours, theirs = library.category_of_integer(block, number), choose(number)
+
+    def compare_number(ours, number):
+        theirs = choose(number)
         counts["compared"] += 1
         if ours != theirs:
             counts["unexplained"] += 1
             say(f"gettext, {dict(rules)}, {number}: {ours} by the library, {theirs} by gettext")
+
+    for number in [*range(LAST + 1), *EDGES]:
+        compare_number(library.category_of_integer(block, number), number)
+    for number in [*range(LAST // 100 + 1), *EDGES]:
+        compare_number(library.category(block, str(number)), number)
 
 
 def compare(library, say):

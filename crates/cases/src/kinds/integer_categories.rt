@@ -33,39 +33,56 @@ fn integer_categories(alloc: Global, arguments: &mut Arguments) -> Result<String
     let rules = PluralRules::from_data(arguments.rules(alloc)?);
     let first = arguments.number()?;
     let last = arguments.number()?;
+    let mut found = Vec::new(alloc);
+    for number in first..=last {
+        found.push(rules.category_for(PluralOperands::from(number)))?;
+    }
     let mut shown = String::new(alloc);
     for category in CATEGORIES {
-        let integers = integers_of(alloc, &rules, category, first, last)?;
-        if !integers.is_empty() {
-            let name = RawPluralCategory::from(category).as_str();
-            let mark = if shown.is_empty() { "" } else { "; " };
-            let part = format!(in alloc; "{mark}{name} {integers}")?;
-            shown.push_str(part.as_str())?;
-        }
+        push_category(alloc, &mut shown, category, first, found.as_slice())?;
     }
     Ok(shown)
+}
+
+// Adds a category with its integers, if it has some. The categories of all integers come from the first one on.
+fn push_category(
+    alloc: Global,
+    shown: &mut String,
+    category: PluralCategory,
+    first: u64,
+    found: &[PluralCategory],
+) -> Result<(), RowFault> {
+    let integers = integers_of(alloc, category, first, found)?;
+    if !integers.is_empty() {
+        let name = RawPluralCategory::from(category).as_str();
+        let mark = if shown.is_empty() { "" } else { "; " };
+        let part = format!(in alloc; "{mark}{name} {integers}")?;
+        shown.push_str(part.as_str())?;
+    }
+    Ok(())
 }
 
 // The integers of a category, neighbours as `2~4`.
 fn integers_of(
     alloc: Global,
-    rules: &PluralRules<'_>,
     category: PluralCategory,
     first: u64,
-    last: u64,
+    found: &[PluralCategory],
 ) -> Result<String, RowFault> {
     let mut shown = String::new(alloc);
     let mut start = None;
-    for number in first..=last {
-        if rules.category_for(PluralOperands::from(number)) == category {
+    let mut number = first;
+    for other in found {
+        if *other == category {
             start = start.or(Some(number));
         } else if let Some(begun) = start {
             push_run(alloc, &mut shown, begun, number.saturating_sub(1))?;
             start = None;
         }
+        number = number.saturating_add(1);
     }
     if let Some(begun) = start {
-        push_run(alloc, &mut shown, begun, last)?;
+        push_run(alloc, &mut shown, begun, number.saturating_sub(1))?;
     }
     Ok(shown)
 }
