@@ -109,11 +109,15 @@ def compact(random):
 
 
 def aimed(random, rules):
-    """Returns a number near a value of a relation."""
+    """Returns a number whose operand is near a value of a relation, where such a number is short enough."""
     chosen = random.choice([it for groups in rules.values() for group in groups for it in group])
     low, high = random.choice(chosen.ranges)
     near = max(random.choice((low, high, low - 1, high + 1)) + random.randrange(3) * (chosen.modulus or 0), 0)
-    return str(near) if chosen.operand in "nice" else f"{random.randrange(3)}.{near}"
+    if chosen.operand == "v" and 0 < near < 30:
+        return f"{random.randrange(3)}.{digits(random, near)}"
+    if chosen.operand in "ce" and 0 < near < 22:
+        return f"{random.randrange(1, 10)}c{near}"
+    return f"{random.randrange(3)}.{near}" if chosen.operand in "ft" else str(near)
 
 
 def number(random, rules):
