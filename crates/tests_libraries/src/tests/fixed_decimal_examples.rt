@@ -1,8 +1,8 @@
 //! The examples of the pages of `fixed_decimal`, and the texts of its errors.
 
+use crate::tests::assertion::holds;
 use fixed_decimal::{CompactDecimal, Decimal, DecimalError, Sign, UnsignedDecimal};
 use std::test::Fail;
-use tests_holds::holds;
 
 // Whether a number has these places and digits, the highest first.
 fn is_written(number: &UnsignedDecimal, range: (i16, i16), digits: &str) -> bool {

@@ -1,9 +1,9 @@
 //! Growth of numbers that may be refused: these run under `rt try --test --fail-alloc N` for each N, and with memory too.
 
+use crate::tests::assertion::holds;
 use fixed_decimal::{CompactDecimal, Decimal, DecimalError, UnsignedDecimal};
 use std::alloc::{AllocError, Global};
 use std::test::Fail;
-use tests_holds::holds;
 
 // Whether a number has these places and digits, the highest first.
 fn is_written(number: &UnsignedDecimal, range: (i16, i16), digits: &str) -> bool {

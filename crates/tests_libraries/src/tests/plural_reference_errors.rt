@@ -1,8 +1,8 @@
 //! The texts of errors of `plural_reference`.
 
+use crate::tests::assertion::holds;
 use plural_reference::{LexerError, OperandsError, ParseError, ReadError};
 use std::test::Fail;
-use tests_holds::holds;
 
 #[test]
 fn prints_errors(rt: HostRuntime) -> Result<(), Fail> {

@@ -1,12 +1,12 @@
 //! The examples of the pages of `plural_reference`.
 
+use crate::tests::assertion::holds;
 use fixed_decimal::CompactDecimal;
 use plural_reference::ast::{Operand, RangeListItem, Value};
 use plural_reference::{
     Lexer, OperandsError, PluralOperands, RawPluralOperands, Token, parse_condition, test_condition,
 };
 use std::test::Fail;
-use tests_holds::holds;
 
 // The operands i, v, w, f, t and c.
 fn six(i: u64, v: usize, w: usize, f: u64, t: u64, c: usize) -> PluralOperands {

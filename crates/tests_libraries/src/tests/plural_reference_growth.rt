@@ -1,5 +1,6 @@
 //! Each allocation fails in turn: these run under `rt try --test --fail-alloc N` for each N, and with memory too.
 
+use crate::tests::assertion::holds;
 use crate::tests::plural_reference_rules::{BENGALI_ONE, FRENCH_MANY, RUSSIAN_FEW};
 use plural_reference::ast::{Condition, Rule};
 use plural_reference::{
@@ -8,7 +9,6 @@ use plural_reference::{
 };
 use std::alloc::Global;
 use std::fmt;
-use tests_holds::holds;
 
 // A rule of the text, read again if memory ran out: at most one allocation fails.
 fn rule_of(alloc: Global, text: &str) -> Result<Rule, ReadError> {

@@ -1,5 +1,6 @@
 //! Printed trees that no text gives, and writers that refuse.
 
+use crate::tests::assertion::holds;
 use plural_reference::ast::{
     AndCondition, Condition, Expression, Operand, Operator, RangeList, RangeListItem, Relation,
     Rule, SampleList, SampleRange, Samples, Value,
@@ -12,7 +13,6 @@ use std::alloc::Global;
 use std::fmt;
 use std::process::Abort;
 use std::test::Fail;
-use tests_holds::holds;
 
 fn printed(alloc: Global, condition: &Condition) -> Result<String, Fail> {
     let mut text = String::new(alloc);

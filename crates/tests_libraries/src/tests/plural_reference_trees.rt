@@ -1,5 +1,6 @@
 //! Clones and values of trees.
 
+use crate::tests::assertion::holds;
 use crate::tests::plural_reference_rules::{BENGALI_ONE, FRENCH_MANY, RUSSIAN_FEW};
 use plural_reference::ast::{
     AndCondition, RangeList, RangeListItem, Relation, SampleList, Sequence, Value,
@@ -7,7 +8,6 @@ use plural_reference::ast::{
 use plural_reference::{ParseError, parse};
 use std::process::Abort;
 use std::test::Fail;
-use tests_holds::holds;
 
 // The relation and its parts are equal to their clones.
 fn clones_relation(rt: &impl Abort, relation: &Relation) -> Result<(), Fail> {

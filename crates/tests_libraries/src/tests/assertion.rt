@@ -1,6 +1,5 @@
 //! An assertion for tests: it prints its condition and the row of a table, and is proved in a fraction of the time that
 //! `assert_eq!` takes.
-#![tactic(auto)]
 
 ghost use Rattle.std.specs.Prelude.{IsTrue};
 
@@ -21,17 +20,16 @@ pub fn fail_unless_at(rt: &impl Abort, holds: bool, condition: &str, row: &impl 
     assert!(rt; holds, "{row:?}: {condition}");
 }
 
-/// Ends the test unless the condition holds: `holds!(rt; CONDITION)`, with the text of a row after a comma, or `at` and another
-/// value.
-#[macro_export]
 macro_rules! holds {
     ($rt:expr; $condition:expr) => {
-        $crate::fail_unless(&$rt, $condition, stringify!($condition), "")
+        crate::tests::assertion::fail_unless(&$rt, $condition, stringify!($condition), "")
     };
     ($rt:expr; $condition:expr, at $row:expr) => {
-        $crate::fail_unless_at(&$rt, $condition, stringify!($condition), &$row)
+        crate::tests::assertion::fail_unless_at(&$rt, $condition, stringify!($condition), &$row)
     };
     ($rt:expr; $condition:expr, $row:expr) => {
-        $crate::fail_unless(&$rt, $condition, stringify!($condition), $row)
+        crate::tests::assertion::fail_unless(&$rt, $condition, stringify!($condition), $row)
     };
 }
+
+pub(crate) use holds;
