@@ -1,7 +1,20 @@
 //! The kinds of rows: one file a subject.
 
+mod categories;
+mod five_rules;
+mod lists;
+mod locales;
 mod numbers;
+mod packed_rules;
+mod range_categories;
+mod ranges;
+mod relations;
+mod rule_truths;
+mod rules_bytes;
+mod rules_json;
+mod runs;
 mod texts;
+mod trees;
 
 use crate::arguments::Arguments;
 use crate::fault::RowFault;
@@ -13,6 +26,39 @@ pub fn result(alloc: Global, kind: &str, arguments: &mut Arguments) -> Result<St
         return found;
     }
     if let Some(found) = texts::result(alloc, kind, arguments) {
+        return found;
+    }
+    if let Some(found) = categories::result(alloc, kind, arguments) {
+        return found;
+    }
+    if let Some(found) = five_rules::result(alloc, kind, arguments) {
+        return found;
+    }
+    if let Some(found) = lists::result(alloc, kind, arguments) {
+        return found;
+    }
+    if let Some(found) = locales::result(alloc, kind, arguments) {
+        return found;
+    }
+    if let Some(found) = packed_rules::result(alloc, kind, arguments) {
+        return found;
+    }
+    if let Some(found) = range_categories::result(alloc, kind, arguments) {
+        return found;
+    }
+    if let Some(found) = ranges::result(alloc, kind, arguments) {
+        return found;
+    }
+    if let Some(found) = relations::result(alloc, kind, arguments) {
+        return found;
+    }
+    if let Some(found) = rule_truths::result(alloc, kind, arguments) {
+        return found;
+    }
+    if let Some(found) = rules_bytes::result(alloc, kind, arguments) {
+        return found;
+    }
+    if let Some(found) = rules_json::result(alloc, kind, arguments) {
         return found;
     }
     Err(RowFault::UnknownKind)

@@ -10,7 +10,7 @@ impl<'data> PluralRules<'data> {
     /// The rules of a locale, of the type of the options; no type means cardinal. They are borrowed
     /// from the provider. [`DataError::NotFound`] if and only if it has none. It takes no memory.
     ///
-    /// <!-- snippet crates/plural_base_tests/src/tests/provider.rt: example body of fn options_say_which_rules_are_loaded -->
+    /// <!-- snippet crates/tests_libraries/src/tests/plural_base_rules.rt: example body of fn options_say_which_rules_are_loaded -->
     /// ```
     /// let provider = provider(alloc, DOCUMENT)?;
     /// let two = PluralOperands::from(2u64);

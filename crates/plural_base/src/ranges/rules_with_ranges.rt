@@ -60,7 +60,7 @@ impl<'data, R: AsPluralRules<'data>> PluralRulesWithRanges<R> {
 
     /// The category of a range of numbers, by the operands of its start and its end. It takes no memory.
     ///
-    /// <!-- snippet crates/plural_base_tests/src/tests/ranges.rt: example fn cardinal -->
+    /// <!-- snippet crates/tests_libraries/src/tests/plural_base_ranges.rt: example fn cardinal -->
     /// ```
     /// fn cardinal(
     ///     provider: &JsonProvider,
@@ -86,7 +86,7 @@ impl<'data, R: AsPluralRules<'data>> PluralRulesWithRanges<R> {
     /// The category of a range, by those of its start and its end: the pair's, if it has one, else the
     /// end's.
     ///
-    /// <!-- snippet crates/plural_base_tests/src/tests/ranges.rt:
+    /// <!-- snippet crates/tests_libraries/src/tests/plural_base_ranges.rt:
     ///      example "let resolved = ranges.resolve_range(PluralCategory::Other" to "holds!" -->
     /// ```
     /// let resolved = ranges.resolve_range(PluralCategory::Other, PluralCategory::One);
@@ -108,7 +108,7 @@ impl<'data> PluralRulesWithRanges<PluralRules<'data>> {
     /// rules are borrowed from the provider. [`DataError::NotFound`] if and only if the provider has no
     /// such rules or no ranges. It takes no memory.
     ///
-    /// <!-- snippet crates/plural_base_tests/src/tests/ranges.rt: example fn zero_to_one -->
+    /// <!-- snippet crates/tests_libraries/src/tests/plural_base_ranges.rt: example fn zero_to_one -->
     /// ```
     /// fn zero_to_one(
     ///     provider: &JsonProvider,
