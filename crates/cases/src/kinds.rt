@@ -1,10 +1,12 @@
 //! The kinds of rows: one file a subject.
 
 mod categories;
+mod conditions;
+mod decimals;
 mod five_rules;
 mod lists;
 mod locales;
-mod numbers;
+mod operands;
 mod packed_rules;
 mod range_categories;
 mod ranges;
@@ -13,7 +15,8 @@ mod rule_truths;
 mod rules_bytes;
 mod rules_json;
 mod runs;
-mod texts;
+mod samples;
+mod tokens;
 mod trees;
 
 use crate::arguments::Arguments;
@@ -22,10 +25,19 @@ use std::alloc::Global;
 
 /// Returns the result of the call that a kind names, as a short text.
 pub fn result(alloc: Global, kind: &str, arguments: &mut Arguments) -> Result<String, RowFault> {
-    if let Some(found) = numbers::result(alloc, kind, arguments) {
+    if let Some(found) = decimals::result(alloc, kind, arguments) {
         return found;
     }
-    if let Some(found) = texts::result(alloc, kind, arguments) {
+    if let Some(found) = operands::result(alloc, kind, arguments) {
+        return found;
+    }
+    if let Some(found) = tokens::result(alloc, kind, arguments) {
+        return found;
+    }
+    if let Some(found) = conditions::result(alloc, kind, arguments) {
+        return found;
+    }
+    if let Some(found) = samples::result(alloc, kind, arguments) {
         return found;
     }
     if let Some(found) = categories::result(alloc, kind, arguments) {

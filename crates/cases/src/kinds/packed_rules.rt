@@ -138,7 +138,7 @@ fn one_and_a_half() -> PluralOperands {
     })
 }
 
-// Whether the tree of a text's rule has the condition that the text is read as.
+// Whether the tree of a text's rule has the condition that the text is read as, and a clone of it.
 fn condition_comes_back(alloc: Global, arguments: &mut Arguments) -> Result<String, RowFault> {
     let text = arguments.text(alloc)?;
     let Ok(rule) = Rule::from_str(alloc, text.as_str()) else {
@@ -147,5 +147,7 @@ fn condition_comes_back(alloc: Global, arguments: &mut Arguments) -> Result<Stri
     let Ok(condition) = parse_condition(alloc, text.as_bytes()) else {
         return show::word(alloc, "no condition");
     };
-    show::truth(alloc, rule.to_ast(alloc)?.condition == condition)
+    let found = rule.to_ast(alloc)?.condition;
+    let clone = found.try_clone()?;
+    show::truth(alloc, found == condition && clone == condition)
 }
