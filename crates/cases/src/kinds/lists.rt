@@ -105,7 +105,7 @@ fn list_bytes(alloc: Global, arguments: &mut Arguments) -> Result<String, RowFau
 
 // How many bytes a list has, and the first of them.
 fn list_size(alloc: Global, arguments: &mut Arguments) -> Result<String, RowFault> {
-    let shown = arguments.number()? as usize;
+    let shown = arguments.size()?;
     let items = arguments.list()?;
     match packed(alloc, items.as_slice())? {
         Ok(bytes) => {

@@ -2,7 +2,6 @@
 
 use crate::arguments::{Arguments, text_of};
 use crate::fault::RowFault;
-use crate::kinds::relations::byte;
 use crate::kinds::runs::push_word;
 use crate::show;
 use plural_base::{PluralCategory, PluralRanges, RawPluralCategory, UnvalidatedPluralRange};
@@ -65,7 +64,7 @@ fn range_of_text(alloc: Global, arguments: &mut Arguments) -> Result<String, Row
 
 // The text of a byte, as JSON.
 fn range_of_byte(alloc: Global, arguments: &mut Arguments) -> Result<String, RowFault> {
-    match UnvalidatedPluralRange(byte(arguments)?).to_json(alloc) {
+    match UnvalidatedPluralRange(arguments.byte()?).to_json(alloc) {
         Ok(value) => Ok(value.to_string(alloc)?),
         Err(error) => show::error(alloc, &error),
     }
@@ -73,8 +72,8 @@ fn range_of_byte(alloc: Global, arguments: &mut Arguments) -> Result<String, Row
 
 // How one range stands to another.
 fn range_order(alloc: Global, arguments: &mut Arguments) -> Result<String, RowFault> {
-    let first = UnvalidatedPluralRange(byte(arguments)?);
-    let second = UnvalidatedPluralRange(byte(arguments)?);
+    let first = UnvalidatedPluralRange(arguments.byte()?);
+    let second = UnvalidatedPluralRange(arguments.byte()?);
     show::name(alloc, &first.cmp(&second))
 }
 

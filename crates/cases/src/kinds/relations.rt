@@ -72,7 +72,7 @@ fn parts(alloc: Global, relation: &Relation<'_>) -> Result<String, RowFault> {
 // The bytes of one relation.
 fn relation_bytes(alloc: Global, arguments: &mut Arguments) -> Result<String, RowFault> {
     let rule = rule(alloc, arguments)?;
-    match rule.get(arguments.number()? as usize) {
+    match rule.get(arguments.size()?) {
         Some(relation) => show::bytes(alloc, relation.as_bytes()),
         None => show::word(alloc, "none"),
     }
@@ -95,8 +95,7 @@ fn equal_relations(alloc: Global, arguments: &mut Arguments) -> Result<String, R
 
 // The parts of a relation's first byte, and the byte of these parts.
 fn first_byte(alloc: Global, arguments: &mut Arguments) -> Result<String, RowFault> {
-    let byte = byte(arguments)?;
-    match AndOrPolarityOperand::from_unaligned(byte) {
+    match AndOrPolarityOperand::from_unaligned(arguments.byte()?) {
         Some(parts) => {
             let AndOrPolarityOperand {
                 and_or,
@@ -108,12 +107,6 @@ fn first_byte(alloc: Global, arguments: &mut Arguments) -> Result<String, RowFau
         }
         None => show::word(alloc, "none"),
     }
-}
-
-/// Returns an argument that is a byte.
-pub fn byte(arguments: &mut Arguments) -> Result<u8, RowFault> {
-    let number = arguments.number()?;
-    u8::try_from(number).map_err(|_| RowFault::Not("a byte"))
 }
 
 // A range of a list of one value or of two ends, of 32 bits each.

@@ -59,8 +59,8 @@ fn counted(alloc: Global, rule: &Rule<'_>, numbers: &[Value]) -> Result<String, 
     Ok(shown)
 }
 
-/// Returns the operands that a text names.
-pub fn operands_of(text: &str) -> Result<PluralOperands, RowFault> {
+// The operands that a text names.
+fn operands_of(text: &str) -> Result<PluralOperands, RowFault> {
     text.parse::<PluralOperands>()
         .map_err(|_| RowFault::Not("operands"))
 }
@@ -68,7 +68,7 @@ pub fn operands_of(text: &str) -> Result<PluralOperands, RowFault> {
 // The truth of a text's packed rule and of its condition.
 fn both_truths(alloc: Global, arguments: &mut Arguments) -> Result<String, RowFault> {
     let text = arguments.text(alloc)?;
-    let operands = operands_of(&arguments.text(alloc)?)?;
+    let operands = arguments.operands(alloc)?;
     let Ok(rule) = Rule::from_str(alloc, text.as_str()) else {
         return show::word(alloc, "no rule");
     };
