@@ -16,7 +16,7 @@ pub fn result(
     arguments: &mut Arguments,
 ) -> Option<Result<String, RowFault>> {
     Some(match kind {
-        "all_categories" => counted(alloc, PluralCategory::all()),
+        "all_categories" => all_categories(alloc),
         "category_of_name" => category_of_name(alloc, arguments),
         "raw_category" => raw_category(alloc, arguments),
         "category_order" => category_order(alloc, arguments),
@@ -40,26 +40,54 @@ pub fn category(alloc: Global, arguments: &mut Arguments) -> Result<PluralCatego
     PluralCategory::get_for_cldr_string(name.as_str()).ok_or(RowFault::Not("a category"))
 }
 
-// Each category, before it how many are still to come, and at the end that none is.
-fn counted<I: ExactSizeIterator<Item = PluralCategory> + Drop>(
-    alloc: Global,
-    categories: I,
-) -> Result<String, RowFault> {
-    let mut categories = categories;
+// Every category, and how many are still to come.
+fn all_categories(alloc: Global) -> Result<String, RowFault> {
     let mut shown = String::new(alloc);
+    let mut all = PluralCategory::all();
     for _ in 0..8u8 {
-        let left = categories.len();
-        if categories.size_hint() != (left, Some(left)) {
-            return show::word(alloc, "another size");
-        }
-        let Some(category) = categories.next() else {
-            push_part(&mut shown, format!(in alloc; "{left}")?.as_str())?;
+        let (left, bounds) = (all.len(), all.size_hint());
+        let next = all.next();
+        push_next(alloc, &mut shown, left, bounds, next)?;
+        if next.is_none() {
             return Ok(shown);
-        };
-        let part = format!(in alloc; "{left} {}", name_of(category))?;
-        push_part(&mut shown, part.as_str())?;
+        }
     }
     Ok(shown)
+}
+
+// The categories of rules, and how many are still to come.
+fn categories(alloc: Global, arguments: &mut Arguments) -> Result<String, RowFault> {
+    let rules = PluralRules::from_data(arguments.rules(alloc)?);
+    let mut shown = String::new(alloc);
+    let mut categories = rules.categories();
+    for _ in 0..8u8 {
+        let (left, bounds) = (categories.len(), categories.size_hint());
+        let next = categories.next();
+        push_next(alloc, &mut shown, left, bounds, next)?;
+        if next.is_none() {
+            return Ok(shown);
+        }
+    }
+    Ok(shown)
+}
+
+// Adds how many categories are still to come, and the next one.
+fn push_next(
+    alloc: Global,
+    shown: &mut String,
+    left: usize,
+    bounds: (usize, Option<usize>),
+    next: Option<PluralCategory>,
+) -> Result<(), RowFault> {
+    let name = if bounds != (left, Some(left)) {
+        "another size"
+    } else {
+        match next {
+            Some(category) => name_of(category),
+            None => "none",
+        }
+    };
+    push_part(shown, format!(in alloc; "{left} {name}")?.as_str())
 }
 
 // The category of a name, of its text and of its bytes.
@@ -98,12 +126,6 @@ fn raw_category_order(alloc: Global, arguments: &mut Arguments) -> Result<String
     let first = RawPluralCategory::from(category(alloc, arguments)?);
     let second = RawPluralCategory::from(category(alloc, arguments)?);
     show::name(alloc, &first.cmp(&second))
-}
-
-// The categories of rules.
-fn categories(alloc: Global, arguments: &mut Arguments) -> Result<String, RowFault> {
-    let rules = PluralRules::from_data(arguments.rules(alloc)?);
-    counted(alloc, rules.categories())
 }
 
 // The category of an integer by its operands, under the rules and under the same ones borrowed.

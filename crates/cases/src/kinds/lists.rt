@@ -70,6 +70,7 @@ fn started(alloc: Global, start: Option<usize>, item: Option<&[u8]>) -> Result<S
 // What each beginning of bytes is.
 fn list_beginnings(alloc: Global, arguments: &mut Arguments) -> Result<String, RowFault> {
     let bytes = arguments.bytes(alloc)?;
+    let bytes = bytes.as_slice();
     let mut runs = Runs::new(alloc);
     for end in 0..=bytes.len() {
         let result = match PackedList::parse_bytes(&bytes[..end]) {
@@ -109,9 +110,10 @@ fn list_size(alloc: Global, arguments: &mut Arguments) -> Result<String, RowFaul
     let items = arguments.list()?;
     match packed(alloc, items.as_slice())? {
         Ok(bytes) => {
-            let count = bytes.len();
-            let first = hex::encode(alloc, &bytes[..shown.min(count)])?;
-            Ok(format!(in alloc; "{count} bytes: {first}")?)
+            let bytes = bytes.as_slice();
+            let first = bytes.get(..shown).unwrap_or(bytes);
+            let digits = hex::encode(alloc, first)?;
+            Ok(format!(in alloc; "{} bytes: {digits}", bytes.len())?)
         }
         Err(error) => show::error(alloc, &error),
     }

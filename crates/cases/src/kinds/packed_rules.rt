@@ -95,6 +95,7 @@ fn repacked(alloc: Global, rule: &Rule<'_>) -> Result<String, RowFault> {
 // What each beginning of bytes is.
 fn rule_beginnings(alloc: Global, arguments: &mut Arguments) -> Result<String, RowFault> {
     let bytes = arguments.bytes(alloc)?;
+    let bytes = bytes.as_slice();
     let mut runs = Runs::new(alloc);
     for end in 0..=bytes.len() {
         let result = match Rule::parse_bytes(&bytes[..end]) {

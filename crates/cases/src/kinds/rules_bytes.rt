@@ -30,7 +30,7 @@ pub fn result(
 fn rules_bytes(alloc: Global, arguments: &mut Arguments) -> Result<String, RowFault> {
     let rules = arguments.rules(alloc)?;
     match rules.to_bytes(alloc) {
-        Ok(bytes) if comes_back(alloc, &rules, &bytes)? => show::bytes(alloc, &bytes),
+        Ok(bytes) if comes_back(alloc, &rules, &bytes) => show::bytes(alloc, &bytes),
         Ok(_) => show::word(alloc, "other rules are read"),
         Err(error) => show::error(alloc, &error),
     }
@@ -40,7 +40,7 @@ fn rules_bytes(alloc: Global, arguments: &mut Arguments) -> Result<String, RowFa
 fn rules_bytes_size(alloc: Global, arguments: &mut Arguments) -> Result<String, RowFault> {
     let rules = arguments.rules(alloc)?;
     match rules.to_bytes(alloc) {
-        Ok(bytes) if comes_back(alloc, &rules, &bytes)? => {
+        Ok(bytes) if comes_back(alloc, &rules, &bytes) => {
             Ok(format!(in alloc; "{} bytes", bytes.len())?)
         }
         Ok(_) => show::word(alloc, "other rules are read"),
@@ -49,10 +49,10 @@ fn rules_bytes_size(alloc: Global, arguments: &mut Arguments) -> Result<String, 
 }
 
 // Whether these rules are read from these bytes, and have these bytes again.
-fn comes_back(alloc: Global, rules: &PluralRulesData<'_>, bytes: &[u8]) -> Result<bool, RowFault> {
+fn comes_back(alloc: Global, rules: &PluralRulesData<'_>, bytes: &[u8]) -> bool {
     match PluralRulesData::from_bytes(bytes) {
-        Ok(read) => Ok(read == *rules && has_bytes(alloc, &read, bytes)),
-        Err(_) => Ok(false),
+        Ok(read) => read == *rules && has_bytes(alloc, &read, bytes),
+        Err(_) => false,
     }
 }
 
@@ -90,6 +90,7 @@ fn category_of_bytes(alloc: Global, arguments: &mut Arguments) -> Result<String,
 // What each beginning of bytes is.
 fn rules_beginnings(alloc: Global, arguments: &mut Arguments) -> Result<String, RowFault> {
     let bytes = arguments.bytes(alloc)?;
+    let bytes = bytes.as_slice();
     let mut runs = Runs::new(alloc);
     for end in 0..=bytes.len() {
         runs.push(beginning(alloc, &bytes[..end])?)?;
