@@ -1,9 +1,9 @@
 //! Packed lists: examples of the pages, growth that is refused, the texts of errors.
 
+use crate::tests::assertion::holds;
 use packed_list::{ListError, PackError, PackedList};
 use std::alloc::Global;
 use std::test::Fail;
-use tests_holds::holds;
 
 // The list of `ab`, the empty item and `cd`.
 const THREE_ITEMS: &[u8] = b"\x03\x00\x02\x00\x02\x00abcd";

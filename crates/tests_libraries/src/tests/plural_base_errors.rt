@@ -1,11 +1,11 @@
 //! The texts of errors.
 
+use crate::tests::assertion::holds;
 use packed_list::ListError;
 use plural_base::*;
 use plural_reference::ParseError;
 use plural_runtime::{RuleBytesError, RuleError};
 use std::test::Fail;
-use tests_holds::holds;
 
 const OPERATOR: RuleError = RuleError::Parse(ParseError::ExpectedOperator);
 

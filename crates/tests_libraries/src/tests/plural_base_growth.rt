@@ -1,11 +1,11 @@
 //! Growth that is refused in reading, writing and cloning rules, documents and ranges.
 
+use crate::tests::assertion::holds;
 use plural_base::*;
 use plural_reference::PluralOperands;
 use plural_runtime::RuleError;
 use serde_json::Value;
 use std::test::Fail;
-use tests_holds::holds;
 
 // Five rules as CLDR writes them, samples included.
 const ZERO: Option<&str> = Some(

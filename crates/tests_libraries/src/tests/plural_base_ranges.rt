@@ -1,11 +1,11 @@
 //! Examples of the pages of `plural_base`: ranges.
 
+use crate::tests::assertion::holds;
 use plural_base::*;
 use plural_reference::PluralOperands;
 use serde_json::Value;
 use std::alloc::Global;
 use std::test::Fail;
-use tests_holds::holds;
 
 const OTHER: RawPluralCategory = RawPluralCategory::Other;
 

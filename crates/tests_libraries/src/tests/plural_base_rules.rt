@@ -1,5 +1,6 @@
 //! Examples of the pages of `plural_base`: categories, rules, their JSON and their bytes.
 
+use crate::tests::assertion::holds;
 use fixed_decimal::Decimal;
 use plural_base::*;
 use plural_reference::PluralOperands;
@@ -7,7 +8,6 @@ use plural_runtime::Rule;
 use serde_json::Value;
 use std::alloc::Global;
 use std::test::Fail;
-use tests_holds::holds;
 
 const ONE: PluralCategory = PluralCategory::One;
 

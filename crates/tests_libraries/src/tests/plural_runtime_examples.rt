@@ -1,12 +1,12 @@
 //! Examples of the pages of `plural_runtime`.
 
+use crate::tests::assertion::holds;
 use plural_reference::{PluralOperands, ast, parse_condition};
 use plural_runtime::{
     AndOr, AndOrPolarityOperand, Operand, Polarity, RangeOrValue, Rule, RuleBytesError, Steps,
     test_rule, test_rule_counted,
 };
 use std::test::Fail;
-use tests_holds::holds;
 
 const LONG_RULE: &str = "n % 10 = 3..4, 9 and n % 100 != 10..19, 70..79, 90..99 or n = 0";
 

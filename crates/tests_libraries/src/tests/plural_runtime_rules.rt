@@ -1,5 +1,6 @@
 //! Packed rules: growth that is refused, writers that refuse a piece of a printed rule, the texts of errors.
 
+use crate::tests::assertion::holds;
 use packed_list::ListError;
 use plural_reference::ParseError;
 use plural_runtime::{Rule, RuleBytesError, RuleError};
@@ -7,7 +8,6 @@ use std::alloc::Global;
 use std::fmt;
 use std::fmt::Write;
 use std::test::Fail;
-use tests_holds::holds;
 
 // Rules of CLDR with the bytes of their conditions: Bengali's ordinal one, Russian's few and French many.
 const CLDR_RULES: [(&str, &[u8], &str); 3] = [
