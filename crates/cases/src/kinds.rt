@@ -1,11 +1,27 @@
 //! The kinds of rows: one file a subject.
 
+mod categories;
 mod conditions;
 mod decimals;
+<<<<<<< HEAD
 mod integer_categories;
+=======
+mod five_rules;
+mod lists;
+mod locales;
+>>>>>>> base
 mod operands;
+mod packed_rules;
+mod range_categories;
+mod ranges;
+mod relations;
+mod rule_truths;
+mod rules_bytes;
+mod rules_json;
+mod runs;
 mod samples;
 mod tokens;
+mod trees;
 
 use crate::arguments::Arguments;
 use crate::fault::RowFault;
@@ -28,7 +44,41 @@ pub fn result(alloc: Global, kind: &str, arguments: &mut Arguments) -> Result<St
     if let Some(found) = samples::result(alloc, kind, arguments) {
         return found;
     }
+<<<<<<< HEAD
     if let Some(found) = integer_categories::result(alloc, kind, arguments) {
+=======
+    if let Some(found) = categories::result(alloc, kind, arguments) {
+        return found;
+    }
+    if let Some(found) = five_rules::result(alloc, kind, arguments) {
+        return found;
+    }
+    if let Some(found) = lists::result(alloc, kind, arguments) {
+        return found;
+    }
+    if let Some(found) = locales::result(alloc, kind, arguments) {
+        return found;
+    }
+    if let Some(found) = packed_rules::result(alloc, kind, arguments) {
+        return found;
+    }
+    if let Some(found) = range_categories::result(alloc, kind, arguments) {
+        return found;
+    }
+    if let Some(found) = ranges::result(alloc, kind, arguments) {
+        return found;
+    }
+    if let Some(found) = relations::result(alloc, kind, arguments) {
+        return found;
+    }
+    if let Some(found) = rule_truths::result(alloc, kind, arguments) {
+        return found;
+    }
+    if let Some(found) = rules_bytes::result(alloc, kind, arguments) {
+        return found;
+    }
+    if let Some(found) = rules_json::result(alloc, kind, arguments) {
+>>>>>>> base
         return found;
     }
     Err(RowFault::UnknownKind)

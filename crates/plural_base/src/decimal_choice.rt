@@ -14,7 +14,7 @@ impl<'data> PluralRules<'data> {
     /// [`PluralRules::is_exact_for_decimal`] holds and the rules come from texts, it is the
     /// category of the number itself, whatever its length. It allocates nothing.
     ///
-    /// <!-- snippet crates/plural_base_tests/src/tests/exact.rt: example fn decimal -->
+    /// <!-- snippet crates/tests_libraries/src/tests/plural_base_rules.rt: example fn decimal -->
     /// ```
     /// fn decimal(alloc: Global, one: &str, number: &str) -> anyhow::Result<(PluralCategory, bool)> {
     ///     let rules = rules_of(alloc, one)?;

@@ -56,7 +56,7 @@ impl<'data> PluralRules<'data> {
 
     /// As [`PluralRules::is_exact_for`], for a number without an exponent.
     ///
-    /// <!-- snippet crates/plural_base_tests/src/tests/exact.rt: example body of fn integers_of_64_bits_are_whole -->
+    /// <!-- snippet crates/tests_libraries/src/tests/plural_base_rules.rt: example body of fn integers_of_64_bits_are_whole -->
     /// ```
     /// let rules = rules_of(alloc, "i % 3 = 2")?;
     /// let operands = PluralOperands::from(2_000_000_000_000_000_000u64);

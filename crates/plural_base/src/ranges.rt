@@ -16,7 +16,7 @@ use std::marker::Model;
 /// absent has its end's category. Tables are equal if they hold the same pairs. Of its calls only
 /// [`PluralRanges::to_json`] allocates.
 ///
-/// <!-- snippet crates/plural_base_tests/src/tests/ranges.rt:
+/// <!-- snippet crates/tests_libraries/src/tests/plural_base_ranges.rt:
 ///      example "let mut ranges" to "holds!(rt; ranges.len()" of fn a_pair_has_the_category_that_was_put_last -->
 /// ```
 /// let mut ranges = PluralRanges::new();

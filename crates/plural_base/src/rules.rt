@@ -71,7 +71,7 @@ impl<'data> PluralRules<'data> {
 
     /// The category of a number by its operands. It allocates nothing.
     ///
-    /// <!-- snippet crates/plural_base_tests/src/tests/exact.rt:
+    /// <!-- snippet crates/tests_libraries/src/tests/plural_base_rules.rt:
     ///      example "let rules" to "holds!" of fn integers_of_64_bits_are_whole -->
     /// ```
     /// let rules = rules_of(alloc, "i % 3 = 2")?;
@@ -111,7 +111,7 @@ impl<'data> PluralRules<'data> {
     /// Returns the categories that a number may have: those whose rule is present, from zero to
     /// many, then other.
     ///
-    /// <!-- snippet crates/plural_base_tests/src/tests/categories.rt:
+    /// <!-- snippet crates/tests_libraries/src/tests/plural_base_rules.rt:
     ///      example body of fn categories_are_those_with_a_rule_and_other -->
     /// ```
     /// let (zero, few) = (Some("i = 0"), Some("n = 0"));

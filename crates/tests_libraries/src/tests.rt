@@ -4,9 +4,16 @@
 mod assertion;
 mod fixed_decimal_examples;
 mod fixed_decimal_growth;
+mod packed_list_lists;
+mod plural_base_errors;
+mod plural_base_growth;
+mod plural_base_ranges;
+mod plural_base_rules;
 mod plural_reference_errors;
 mod plural_reference_examples;
 mod plural_reference_growth;
 mod plural_reference_printing;
 mod plural_reference_rules;
 mod plural_reference_trees;
+mod plural_runtime_examples;
+mod plural_runtime_rules;

@@ -52,7 +52,7 @@ impl PluralRanges {
     /// of each range that has a category to the category's name. It allocates; the only error is
     /// [`JsonError::Memory`].
     ///
-    /// <!-- snippet crates/plural_base_tests/src/tests/ranges.rt:
+    /// <!-- snippet crates/tests_libraries/src/tests/plural_base_ranges.rt:
     ///      example "let mut two" to "holds!(rt; written.as_str() == wanted" of fn a_full_table_is_written_and_read -->
     /// ```
     /// let mut two = PluralRanges::new();
@@ -81,7 +81,7 @@ impl PluralRanges {
     ///
     /// With `full`, a table that has all 36 pairs:
     ///
-    /// <!-- snippet crates/plural_base_tests/src/tests/ranges.rt: example "let written = full" to "holds!" -->
+    /// <!-- snippet crates/tests_libraries/src/tests/plural_base_ranges.rt: example "let written = full" to "holds!" -->
     /// ```
     /// let written = full.to_json(alloc)?;
     /// assert!(rt; PluralRanges::from_json(&written) == Ok(full));

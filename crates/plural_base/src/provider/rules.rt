@@ -11,7 +11,7 @@ impl<'data> PluralRules<'data> {
     /// borrowed from the provider. [`DataError::NotFound`] if and only if it has none. It allocates
     /// nothing.
     ///
-    /// <!-- snippet crates/plural_base_tests/src/tests/provider.rt: example body of fn options_say_which_rules_are_loaded -->
+    /// <!-- snippet crates/tests_libraries/src/tests/plural_base_rules.rt: example body of fn options_say_which_rules_are_loaded -->
     /// ```
     /// let provider = provider(alloc, DOCUMENT)?;
     /// let two = PluralOperands::from(2u64);

@@ -15,7 +15,7 @@ use crate::category::raw::RawPluralCategory;
 ///
 /// The order is that of the bytes.
 ///
-/// <!-- snippet crates/plural_base_tests/src/tests/ranges.rt: example body of fn keys_are_ordered_by_their_bytes -->
+/// <!-- snippet crates/tests_libraries/src/tests/plural_base_ranges.rt: example body of fn keys_are_ordered_by_their_bytes -->
 /// ```
 /// let low = UnvalidatedPluralRange::from_range(OTHER, MANY);
 /// let high = UnvalidatedPluralRange::from_range(ONE, OTHER);
@@ -29,7 +29,7 @@ impl UnvalidatedPluralRange {
     /// Returns the byte of a start and an end. With rows such as `one`, `other`, 32 and
     /// `"one--other"`:
     ///
-    /// <!-- snippet crates/plural_base_tests/src/tests/ranges.rt:
+    /// <!-- snippet crates/tests_libraries/src/tests/plural_base_ranges.rt:
     ///      example "for (start, end, byte, text)" to "}" of fn a_range_has_a_byte_and_a_text -->
     /// ```
     /// for (start, end, byte, text) in rows {

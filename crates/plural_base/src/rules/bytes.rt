@@ -27,7 +27,7 @@ impl<'data> PluralRulesData<'data> {
     /// With `read_rules`, which reads the texts of one and few, and `ONE_AND_FEW`, the bytes of
     /// these rules:
     ///
-    /// <!-- snippet crates/plural_base_tests/src/tests/rules_bytes.rt:
+    /// <!-- snippet crates/tests_libraries/src/tests/plural_base_rules.rt:
     ///      example body of fn packs_each_rule_after_its_key -->
     /// ```
     /// let rules = read_rules(alloc, Some("n = 1"), Some("n = 2"))?;
@@ -51,7 +51,7 @@ impl<'data> PluralRulesData<'data> {
 
     /// Returns the rules in these bytes, borrowed from them. It allocates nothing.
     ///
-    /// <!-- snippet crates/plural_base_tests/src/tests/rules_bytes.rt:
+    /// <!-- snippet crates/tests_libraries/src/tests/plural_base_rules.rt:
     ///      example "let rules" to "}" of fn rules_that_are_read_choose_as_before -->
     /// ```
     /// let rules = PluralRules::from_data(PluralRulesData::from_bytes(ONE_AND_FEW)?);
