@@ -3,13 +3,10 @@
 mod categories;
 mod conditions;
 mod decimals;
-<<<<<<< HEAD
-mod integer_categories;
-=======
 mod five_rules;
+mod integer_categories;
 mod lists;
 mod locales;
->>>>>>> base
 mod operands;
 mod packed_rules;
 mod range_categories;
@@ -29,34 +26,28 @@ use std::alloc::Global;
 
 /// Returns the result of the call that a kind names, as a short text.
 pub fn result(alloc: Global, kind: &str, arguments: &mut Arguments) -> Result<String, RowFault> {
-    if let Some(found) = decimals::result(alloc, kind, arguments) {
-        return found;
-    }
-    if let Some(found) = operands::result(alloc, kind, arguments) {
-        return found;
-    }
-    if let Some(found) = tokens::result(alloc, kind, arguments) {
+    if let Some(found) = categories::result(alloc, kind, arguments) {
         return found;
     }
     if let Some(found) = conditions::result(alloc, kind, arguments) {
         return found;
     }
-    if let Some(found) = samples::result(alloc, kind, arguments) {
-        return found;
-    }
-<<<<<<< HEAD
-    if let Some(found) = integer_categories::result(alloc, kind, arguments) {
-=======
-    if let Some(found) = categories::result(alloc, kind, arguments) {
+    if let Some(found) = decimals::result(alloc, kind, arguments) {
         return found;
     }
     if let Some(found) = five_rules::result(alloc, kind, arguments) {
+        return found;
+    }
+    if let Some(found) = integer_categories::result(alloc, kind, arguments) {
         return found;
     }
     if let Some(found) = lists::result(alloc, kind, arguments) {
         return found;
     }
     if let Some(found) = locales::result(alloc, kind, arguments) {
+        return found;
+    }
+    if let Some(found) = operands::result(alloc, kind, arguments) {
         return found;
     }
     if let Some(found) = packed_rules::result(alloc, kind, arguments) {
@@ -78,7 +69,12 @@ pub fn result(alloc: Global, kind: &str, arguments: &mut Arguments) -> Result<St
         return found;
     }
     if let Some(found) = rules_json::result(alloc, kind, arguments) {
->>>>>>> base
+        return found;
+    }
+    if let Some(found) = samples::result(alloc, kind, arguments) {
+        return found;
+    }
+    if let Some(found) = tokens::result(alloc, kind, arguments) {
         return found;
     }
     Err(RowFault::UnknownKind)
