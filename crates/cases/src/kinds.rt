@@ -1,0 +1,19 @@
+//! The kinds of rows: one file a subject.
+
+mod numbers;
+mod texts;
+
+use crate::arguments::Arguments;
+use crate::fault::RowFault;
+use std::alloc::Global;
+
+/// Returns the result of the call that a kind names, as a short text.
+pub fn result(alloc: Global, kind: &str, arguments: &mut Arguments) -> Result<String, RowFault> {
+    if let Some(found) = numbers::result(alloc, kind, arguments) {
+        return found;
+    }
+    if let Some(found) = texts::result(alloc, kind, arguments) {
+        return found;
+    }
+    Err(RowFault::UnknownKind)
+}

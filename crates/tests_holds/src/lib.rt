@@ -1,0 +1,37 @@
+//! An assertion for tests: it prints its condition and the row of a table, and is proved in a fraction of the time that
+//! `assert_eq!` takes.
+#![tactic(auto)]
+
+ghost use Rattle.std.specs.Prelude.{IsTrue};
+
+use std::fmt::Debug;
+use std::process::Abort;
+
+/// Ends the test and prints the condition and the row, unless the condition holds.
+pub fn fail_unless(rt: &impl Abort, holds: bool, condition: &str, row: &str)
+    ensures { IsTrue holds }
+{
+    assert!(rt; holds, "{row}: {condition}");
+}
+
+/// [`fail_unless`] for a row that isn't named by a text.
+pub fn fail_unless_at(rt: &impl Abort, holds: bool, condition: &str, row: &impl Debug)
+    ensures { IsTrue holds }
+{
+    assert!(rt; holds, "{row:?}: {condition}");
+}
+
+/// Ends the test unless the condition holds: `holds!(rt; CONDITION)`, with the text of a row after a comma, or `at` and another
+/// value.
+#[macro_export]
+macro_rules! holds {
+    ($rt:expr; $condition:expr) => {
+        $crate::fail_unless(&$rt, $condition, stringify!($condition), "")
+    };
+    ($rt:expr; $condition:expr, at $row:expr) => {
+        $crate::fail_unless_at(&$rt, $condition, stringify!($condition), &$row)
+    };
+    ($rt:expr; $condition:expr, $row:expr) => {
+        $crate::fail_unless(&$rt, $condition, stringify!($condition), $row)
+    };
+}
