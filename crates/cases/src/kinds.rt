@@ -1,7 +1,16 @@
 //! The kinds of rows: one file a subject.
 
+mod callers;
+mod checker;
+mod element_values;
+mod elements;
+mod elements_json;
+mod messages;
 mod numbers;
+mod packed_texts;
+mod packing;
 mod texts;
+mod upper;
 
 use crate::arguments::Arguments;
 use crate::fault::RowFault;
@@ -13,6 +22,9 @@ pub fn result(alloc: Global, kind: &str, arguments: &mut Arguments) -> Result<St
         return found;
     }
     if let Some(found) = texts::result(alloc, kind, arguments) {
+        return found;
+    }
+    if let Some(found) = upper::result(alloc, kind, arguments) {
         return found;
     }
     Err(RowFault::UnknownKind)
