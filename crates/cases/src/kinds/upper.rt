@@ -1,10 +1,16 @@
 //! The kinds of the upper crates: `icu_plurals`, `plural_message`, `plural_checker` and `uses`.
 
+mod callers;
+mod checker;
+mod element_values;
+mod elements;
+mod elements_json;
+mod messages;
+mod packed_texts;
+mod packing;
+
 use crate::arguments::Arguments;
 use crate::fault::RowFault;
-use crate::kinds::{
-    callers, checker, elements, elements_json, messages, packed_texts, packing,
-};
 use std::alloc::Global;
 
 /// Returns the result of a kind of these crates.

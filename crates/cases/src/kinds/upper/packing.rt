@@ -2,7 +2,7 @@
 
 use crate::arguments::Arguments;
 use crate::fault::RowFault;
-use crate::kinds::element_values::{
+use crate::kinds::upper::element_values::{
     borrowed_texts, borrowed_values, operands, push, push_value, rules, texts, values,
 };
 use crate::show;

@@ -2,7 +2,7 @@
 
 use crate::arguments::{Arguments, bytes_of};
 use crate::fault::RowFault;
-use crate::kinds::element_values::{borrowed_texts, operands, push, rules, texts, texts_of};
+use crate::kinds::upper::element_values::{borrowed_texts, operands, push, rules, texts, texts_of};
 use crate::show;
 use icu_plurals::PluralElements;
 use icu_plurals::provider::PluralElementsPackedCow;

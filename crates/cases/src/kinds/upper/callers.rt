@@ -2,8 +2,8 @@
 
 use crate::arguments::Arguments;
 use crate::fault::RowFault;
-use crate::kinds::element_values::{borrowed_texts, rules, texts};
-use crate::kinds::messages::{number, packed, shown};
+use crate::kinds::upper::element_values::{borrowed_texts, rules, texts};
+use crate::kinds::upper::messages::{number, packed, shown};
 use crate::show;
 use icu_plurals::{CompactDecimal, JsonProvider, PluralRulesWithRanges};
 use plural_message::Message;

@@ -2,7 +2,7 @@
 
 use crate::arguments::Arguments;
 use crate::fault::RowFault;
-use crate::kinds::packed_texts::Source;
+use crate::kinds::upper::packed_texts::Source;
 use crate::show;
 use icu_plurals::provider::PluralElementsPackedCow;
 use serde_json::Value;

@@ -2,7 +2,7 @@
 
 use crate::arguments::Arguments;
 use crate::fault::RowFault;
-use crate::kinds::element_values::{operands, push, push_value, rules, show_value};
+use crate::kinds::upper::element_values::{operands, push, push_value, rules, show_value};
 use crate::show;
 use icu_plurals::PluralElements;
 use icu_plurals::provider::{FourBitMetadata, PluralElementsPackedULE};

@@ -2,7 +2,7 @@
 
 use crate::arguments::Arguments;
 use crate::fault::RowFault;
-use crate::kinds::element_values::{borrowed_texts, rules, texts};
+use crate::kinds::upper::element_values::{borrowed_texts, rules, texts};
 use crate::show;
 use icu_plurals::CompactDecimal;
 use icu_plurals::provider::PluralElementsPackedCow;

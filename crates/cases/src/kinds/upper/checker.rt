@@ -2,7 +2,7 @@
 
 use crate::arguments::{Arguments, text_of};
 use crate::fault::RowFault;
-use crate::kinds::element_values::push;
+use crate::kinds::upper::element_values::push;
 use crate::show;
 use icu_plurals::PluralCategory;
 use icu_plurals::provider::rules::reference::ast::{DecimalValue, SampleRange};
