@@ -3,9 +3,7 @@
 use icu_plurals::provider::{
     FourBitMetadata, PluralElementsPackedCow, PluralElementsPackedULE, PluralRulesData,
 };
-use icu_plurals::{
-    ElementsPackError, PluralElements, PluralOperands, PluralRules,
-};
+use icu_plurals::{ElementsPackError, PluralElements, PluralOperands, PluralRules};
 use std::alloc::Global;
 use std::test::Fail;
 use tests_holds::holds;

@@ -124,6 +124,7 @@ fn ranges(
     let Ok(provider) = JsonProvider::from_value(alloc, &document) else {
         return Err(RowFault::Not("a document"));
     };
-    PluralRulesWithRanges::try_new_cardinal_unstable(&provider, locale.as_str())
-        .map_err(|_| RowFault::Not("a locale"))
+    PluralRulesWithRanges::try_new_cardinal_unstable(&provider, locale.as_str()).map_err(
+        |_| RowFault::Not("a locale"),
+    )
 }

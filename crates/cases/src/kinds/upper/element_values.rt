@@ -20,14 +20,16 @@ pub fn texts(alloc: Global, arguments: &mut Arguments) -> Result<PluralElements<
 pub fn texts_of(alloc: Global, value: &Value) -> Result<PluralElements<String>, RowFault> {
     let members = members_of(value)?;
     let other = text_of(alloc, members.get("other").ok_or(NO_ELEMENTS)?)?;
-    Ok(PluralElements::new(other)
-        .with_zero_value(text(alloc, members, "zero")?)
-        .with_one_value(text(alloc, members, "one")?)
-        .with_two_value(text(alloc, members, "two")?)
-        .with_few_value(text(alloc, members, "few")?)
-        .with_many_value(text(alloc, members, "many")?)
-        .with_explicit_zero_value(text(alloc, members, "explicit_zero")?)
-        .with_explicit_one_value(text(alloc, members, "explicit_one")?))
+    Ok(
+        PluralElements::new(other)
+            .with_zero_value(text(alloc, members, "zero")?)
+            .with_one_value(text(alloc, members, "one")?)
+            .with_two_value(text(alloc, members, "two")?)
+            .with_few_value(text(alloc, members, "few")?)
+            .with_many_value(text(alloc, members, "many")?)
+            .with_explicit_zero_value(text(alloc, members, "explicit_zero")?)
+            .with_explicit_one_value(text(alloc, members, "explicit_one")?),
+    )
 }
 
 /// Returns the next argument as values by category: an object as that of [`texts`], of lists of metadata and a text.
@@ -38,14 +40,16 @@ pub fn values(
     let object = arguments.value()?;
     let members = members_of(&object)?;
     let other = value(alloc, members.get("other").ok_or(NO_ELEMENTS)?)?;
-    Ok(PluralElements::new(other)
-        .with_zero_value(optional(alloc, members, "zero")?)
-        .with_one_value(optional(alloc, members, "one")?)
-        .with_two_value(optional(alloc, members, "two")?)
-        .with_few_value(optional(alloc, members, "few")?)
-        .with_many_value(optional(alloc, members, "many")?)
-        .with_explicit_zero_value(optional(alloc, members, "explicit_zero")?)
-        .with_explicit_one_value(optional(alloc, members, "explicit_one")?))
+    Ok(
+        PluralElements::new(other)
+            .with_zero_value(optional(alloc, members, "zero")?)
+            .with_one_value(optional(alloc, members, "one")?)
+            .with_two_value(optional(alloc, members, "two")?)
+            .with_few_value(optional(alloc, members, "few")?)
+            .with_many_value(optional(alloc, members, "many")?)
+            .with_explicit_zero_value(optional(alloc, members, "explicit_zero")?)
+            .with_explicit_one_value(optional(alloc, members, "explicit_one")?),
+    )
 }
 
 // The members of an object of elements. One with another name is a fault.
@@ -118,7 +122,10 @@ pub fn borrowed_values(
 ) -> PluralElements<(FourBitMetadata, &str)> {
     values.as_ref().map(|value| {
         let metadata = FourBitMetadata::try_from_byte(value.0);
-        (metadata.unwrap_or(FourBitMetadata::zero()), value.1.as_str())
+        (
+            metadata.unwrap_or(FourBitMetadata::zero()),
+            value.1.as_str(),
+        )
     })
 }
 

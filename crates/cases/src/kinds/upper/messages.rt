@@ -28,8 +28,9 @@ pub fn packed(
     arguments: &mut Arguments,
 ) -> Result<PluralElementsPackedCow<'static>, RowFault> {
     let texts = texts(alloc, arguments)?;
-    PluralElementsPackedCow::from_elements(alloc, &borrowed_texts(&texts))
-        .map_err(|_| RowFault::Not("texts that are packed"))
+    PluralElementsPackedCow::from_elements(alloc, &borrowed_texts(&texts)).map_err(
+        |_| RowFault::Not("texts that are packed"),
+    )
 }
 
 /// Returns the next argument as a number.

@@ -48,11 +48,13 @@ impl Source {
     /// Returns the packed elements: of texts they are owned, of bytes they are borrowed.
     pub fn packed(&self, alloc: Global) -> Result<PluralElementsPackedCow<'_>, RowFault> {
         match self {
-            Source::Bytes(bytes) => PluralElementsPackedCow::from_bytes(bytes.as_slice())
-                .map_err(|_| RowFault::Not("packed elements")),
+            Source::Bytes(bytes) => PluralElementsPackedCow::from_bytes(bytes.as_slice()).map_err(
+                |_| RowFault::Not("packed elements"),
+            ),
             Source::Texts(texts) => {
-                PluralElementsPackedCow::from_elements(alloc, &borrowed_texts(texts))
-                    .map_err(|_| RowFault::Not("texts that are packed"))
+                PluralElementsPackedCow::from_elements(alloc, &borrowed_texts(texts)).map_err(
+                    |_| RowFault::Not("texts that are packed"),
+                )
             }
         }
     }
