@@ -77,12 +77,14 @@ fn store(alloc: Global, arguments: &mut Arguments) -> Result<String, RowFault> {
 
 // The label of a range.
 fn range_label(alloc: Global, arguments: &mut Arguments) -> Result<String, RowFault> {
-    let rules = ranges(alloc, arguments)?;
+    let provider = provider(alloc, arguments)?;
+    let locale = arguments.text(alloc)?;
     let nouns = texts(alloc, arguments)?;
     let start = arguments.text(alloc)?;
     let end = arguments.text(alloc)?;
+    let rules = PluralRulesWithRanges::try_new_cardinal_unstable(&provider, locale.as_str());
     let labels = RangeLabels {
-        rules,
+        rules: rules.map_err(|_| RowFault::Not("a locale"))?,
         nouns: borrowed_texts(&nouns),
     };
     label(alloc, &labels, start.as_str(), end.as_str())
@@ -114,17 +116,8 @@ fn read(alloc: Global, text: &str) -> Result<CompactDecimal, RowFault> {
     CompactDecimal::from_str(alloc, text).map_err(|_| RowFault::Not("a number"))
 }
 
-// The cardinal rules of a locale in a document, with its ranges.
-fn ranges(
-    alloc: Global,
-    arguments: &mut Arguments,
-) -> Result<PluralRulesWithRanges<icu_plurals::PluralRules<'static>>, RowFault> {
+// The rules of the locales in a document.
+fn provider(alloc: Global, arguments: &mut Arguments) -> Result<JsonProvider, RowFault> {
     let document = arguments.value()?;
-    let locale = arguments.text(alloc)?;
-    let Ok(provider) = JsonProvider::from_value(alloc, &document) else {
-        return Err(RowFault::Not("a document"));
-    };
-    PluralRulesWithRanges::try_new_cardinal_unstable(&provider, locale.as_str()).map_err(
-        |_| RowFault::Not("a locale"),
-    )
+    JsonProvider::from_value(alloc, &document).map_err(|_| RowFault::Not("a document"))
 }

@@ -102,7 +102,9 @@ fn numbers(
     arguments: &mut Arguments,
 ) -> Result<Result<SampleNumbers, RangeFault>, RowFault> {
     let lower_val = DecimalValue(arguments.text(alloc)?);
-    let upper_val = arguments.optional_text(alloc)?.map(DecimalValue);
+    let upper_val = arguments
+        .optional_text(alloc)?
+        .map(|text| DecimalValue(text));
     let range = SampleRange {
         lower_val,
         upper_val,
