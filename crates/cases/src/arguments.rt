@@ -1,8 +1,9 @@
 //! The arguments of a row.
 
 use crate::fault::RowFault;
-use icu_plurals::provider::PluralRulesData;
-use icu_plurals::{CompactDecimal, PluralOperands, RawPluralOperands};
+use fixed_decimal::CompactDecimal;
+use plural_base::PluralRulesData;
+use plural_reference::{PluralOperands, RawPluralOperands};
 use serde_json::{Map, Number, Value};
 use std::alloc::Global;
 use std::vec::IntoIter;

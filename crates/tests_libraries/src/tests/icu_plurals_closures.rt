@@ -1,9 +1,9 @@
 //! Elements by category: which values closures are called with, how often, and what an error leaves; clones.
 
+use crate::tests::assertion::holds;
 use icu_plurals::PluralElements;
 use std::alloc::{AllocError, Global};
 use std::test::Fail;
-use tests_holds::holds;
 
 // The values that a closure was called with, and the call, from 1 on, that it refuses.
 #[derive(Debug, Drop)]

@@ -1,10 +1,10 @@
 //! The examples of the pages on elements by category.
 
+use crate::tests::assertion::holds;
 use icu_plurals::provider::{FourBitMetadata, PluralElementsPackedULE, PluralRulesData};
 use icu_plurals::{PluralElements, PluralOperands, PluralRules};
 use std::alloc::Global;
 use std::test::Fail;
-use tests_holds::holds;
 
 #[test]
 fn metadata_has_four_bits(rt: HostRuntime) {

@@ -1,10 +1,10 @@
 //! Packed elements from JSON values and back: growth that is refused, and an example of the pages.
 
+use crate::tests::assertion::holds;
 use icu_plurals::JsonError;
 use icu_plurals::provider::{PluralElementsPackedCow, PluralElementsPackedULE};
 use serde_json::Value;
 use std::test::Fail;
-use tests_holds::holds;
 
 // Elements with a value at each key.
 const EIGHT_TEXT: &str =

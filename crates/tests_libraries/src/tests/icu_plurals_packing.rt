@@ -1,12 +1,12 @@
 //! Packing of elements: growth that is refused, and the examples of the pages.
 
+use crate::tests::assertion::holds;
 use icu_plurals::provider::{
     FourBitMetadata, PluralElementsPackedCow, PluralElementsPackedULE, PluralRulesData,
 };
 use icu_plurals::{ElementsPackError, PluralElements, PluralOperands, PluralRules};
 use std::alloc::Global;
 use std::test::Fail;
-use tests_holds::holds;
 
 // Other "items", one "item", explicit one "items".
 const ITEMS: &[u8] = b"\x80\x05items\x02\0\x05\0\x10item\x60items";

@@ -1,10 +1,10 @@
 //! Types, traits, laws and functions at their paths in `icu_plurals`.
 
+use crate::tests::assertion::holds;
 use icu_plurals::provider::rules::{reference, runtime};
 use icu_plurals::*;
 use serde_json::Value;
 use std::test::Fail;
-use tests_holds::holds;
 
 // Names a type.
 fn named<T>() {}

@@ -1,9 +1,9 @@
 //! Reports on a language's texts: growth that is refused, and the example of the page.
 
+use crate::tests::assertion::holds;
 use plural_checker::{LanguageTexts, Report, check_texts};
 use std::alloc::{AllocError, Global};
 use std::test::Fail;
-use tests_holds::holds;
 
 // Returns the faults of a report, one per line.
 fn lines(alloc: Global, report: &Report) -> Result<String, AllocError> {

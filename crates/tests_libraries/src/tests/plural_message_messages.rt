@@ -1,12 +1,12 @@
 //! Messages: growth that is refused, and the examples of the pages.
 
+use crate::tests::assertion::holds;
 use fixed_decimal::DecimalError;
 use icu_plurals::provider::{PluralElementsPackedULE, PluralRulesData};
 use icu_plurals::{PluralRules, RulesTextError};
 use plural_message::{Message, MessageError};
 use std::alloc::Global;
 use std::test::Fail;
-use tests_holds::holds;
 
 // Other "{} items", one "{} item".
 const ITEMS: &[u8] = b"\x80\x08{} items\x01\0\x10{} item";
