@@ -19,6 +19,7 @@ mod runs;
 mod samples;
 mod tokens;
 mod trees;
+mod upper;
 
 use crate::arguments::Arguments;
 use crate::fault::RowFault;
@@ -75,6 +76,9 @@ pub fn result(alloc: Global, kind: &str, arguments: &mut Arguments) -> Result<St
         return found;
     }
     if let Some(found) = tokens::result(alloc, kind, arguments) {
+        return found;
+    }
+    if let Some(found) = upper::result(alloc, kind, arguments) {
         return found;
     }
     Err(RowFault::UnknownKind)

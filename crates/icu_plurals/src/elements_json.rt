@@ -28,7 +28,7 @@ impl PluralElementsPackedCow<'static> {
     ///
     /// With rows such as `{"other":[0,"abc"]}`, `b"\0abc"` and again `{"other":[0,"abc"]}`:
     ///
-    /// <!-- snippet crates/icu_plurals_tests/src/tests/elements_json.rt:
+    /// <!-- snippet crates/tests_libraries/src/tests/icu_plurals_json.rt:
     ///      example "for (text, bytes, wanted)" to "}" of fn elements_are_read_and_written -->
     /// ```
     /// for (text, bytes, wanted) in rows {
@@ -69,7 +69,7 @@ impl<'data> PluralElementsPackedCow<'data> {
     /// an object with a list of metadata and text under the key of each value that is present. It
     /// allocates; the only error is [`JsonError::Memory`].
     ///
-    /// <!-- snippet crates/icu_plurals_tests/src/tests/packing.rt: example "let value = packed.to_json" to "holds!" -->
+    /// <!-- snippet crates/tests_libraries/src/tests/icu_plurals_packing.rt: example "let value = packed.to_json" to "holds!" -->
     /// ```
     /// let value = packed.to_json(alloc)?;
     /// assert!(rt; PluralElementsPackedCow::from_json(alloc, &value)? == packed);

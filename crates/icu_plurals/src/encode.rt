@@ -23,7 +23,7 @@ impl PluralElementsPackedULE<'_> {
     /// those of the categories that differ from that of other in metadata or text; the value of
     /// other is the default.
     ///
-    /// <!-- snippet crates/icu_plurals_tests/src/tests/packing.rt:
+    /// <!-- snippet crates/tests_libraries/src/tests/icu_plurals_packing.rt:
     ///      const EIGHT; fn eight; example body of fn packs_every_key_in_order -->
     /// ```
     /// const EIGHT: &[u8] =

@@ -22,7 +22,7 @@ use plural_reference::PluralOperands;
 /// Elements as checked bytes: a default, and either nothing else or a packed list of items after
 /// it. Each value is metadata and a text. Two are equal if and only if their bytes are.
 ///
-/// <!-- snippet crates/icu_plurals_tests/src/tests/packing.rt: example body of fn packed_elements_answer_as_before -->
+/// <!-- snippet crates/tests_libraries/src/tests/icu_plurals_packing.rt: example body of fn packed_elements_answer_as_before -->
 /// ```
 /// let rules = rules(alloc)?;
 /// let elements = items();
@@ -104,12 +104,12 @@ impl<'a> PluralElementsPackedULE<'a> {
     ///
     /// With the bytes of a row, and what is `wanted` for each of four numbers:
     ///
-    /// <!-- snippet crates/icu_plurals_tests/src/tests/packed.rt:
+    /// <!-- snippet crates/tests_libraries/src/tests/icu_plurals_examples.rt:
     ///      example "let elements" to "holds!(rt; found" of fn chooses_an_item_or_the_default -->
     /// ```
     /// let elements = PluralElementsPackedULE::parse_bytes(bytes)?;
     /// assert!(rt; elements.as_bytes() == bytes);
-    /// let found = numbers().map(|number| {
+    /// let found = numbers.map(|number| {
     ///     let (metadata, text) = elements.get(number, &rules);
     ///     (metadata.get(), text)
     /// });
@@ -129,7 +129,7 @@ impl<'a> PluralElementsPackedULE<'a> {
     /// counts, and a category's value is present even if it equals the default. It allocates
     /// nothing.
     ///
-    /// <!-- snippet crates/icu_plurals_tests/src/tests/packed.rt:
+    /// <!-- snippet crates/tests_libraries/src/tests/icu_plurals_examples.rt:
     ///      example "let bytes" to "holds!(rt; shown(elements.zero())" of fn decodes_every_key -->
     /// ```
     /// let bytes =
@@ -146,8 +146,8 @@ impl<'a> PluralElementsPackedULE<'a> {
 
     /// Returns the default.
     ///
-    /// <!-- snippet crates/icu_plurals_tests/src/tests/packed.rt:
-    ///      example "let alone" to "holds!" of fn decodes_the_first_of_a_key_and_equal_values -->
+    /// <!-- snippet crates/tests_libraries/src/tests/icu_plurals_examples.rt:
+    ///      example "let alone" to "holds!" of fn the_default_stands_alone -->
     /// ```
     /// let alone = PluralElementsPackedULE::parse_bytes(b"\x07abc")?;
     /// let (metadata, text) = alone.get_default();

@@ -7,7 +7,7 @@ use std::fmt;
 
 /// Why there is no message for a number.
 ///
-/// <!-- snippet crates/plural_message/src/tests.rt: example "let rows" to "}" of fn what_is_no_number_has_no_message -->
+/// <!-- snippet crates/tests_libraries/src/tests/plural_message_messages.rt: example "let rows" to "}" of fn what_is_no_number_has_no_message -->
 /// ```
 /// let rows = [
 ///     ("x", DecimalError::Syntax),

@@ -70,7 +70,7 @@ impl<'a> Message<'a> {
     ///
     /// With elements for `{} item` and `{} items`, and others with `none` for exactly 0:
     ///
-    /// <!-- snippet crates/plural_message/src/tests.rt:
+    /// <!-- snippet crates/tests_libraries/src/tests/plural_message_messages.rt:
     ///      example "let rows" to "}" of fn the_number_chooses_the_text_that_it_stands_in -->
     /// ```
     /// let rows = [

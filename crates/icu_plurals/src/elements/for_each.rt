@@ -11,7 +11,7 @@ impl<T> PluralElements<T> {
     /// Calls the closure for other, zero, one, two, few, many, explicit zero and explicit one, in
     /// this order, if they are present. With `seen`, which notes the calls:
     ///
-    /// <!-- snippet crates/icu_plurals_tests/src/tests/elements.rt: example body of fn absent_values_are_skipped -->
+    /// <!-- snippet crates/tests_libraries/src/tests/icu_plurals_closures.rt: example body of fn absent_values_are_skipped -->
     /// ```
     /// let elements = PluralElements::new(11u8).with_one_value(Some(15));
     /// let doubled = elements.map(|value| u32::from(value) * 2);
@@ -31,7 +31,7 @@ impl<T> PluralElements<T> {
     /// result; the closure isn't called again. With `seen`, which gives `Err(refused)` at call
     /// `refused`:
     ///
-    /// <!-- snippet crates/icu_plurals_tests/src/tests/elements.rt:
+    /// <!-- snippet crates/tests_libraries/src/tests/icu_plurals_closures.rt:
     ///      example "let answer = eight().try_for_each" to "holds!(rt; seen.calls" -->
     /// ```
     /// let answer = eight().try_for_each(|value| {

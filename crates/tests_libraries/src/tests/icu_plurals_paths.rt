@@ -1,8 +1,4 @@
-mod assertion;
-mod elements;
-mod elements_json;
-mod packed;
-mod packing;
+//! Types, traits, laws and functions at their paths in `icu_plurals`.
 
 use crate::tests::assertion::holds;
 use icu_plurals::provider::rules::{reference, runtime};

@@ -1,8 +1,7 @@
-//! Elements by category.
+//! Elements by category: which values closures are called with, how often, and what an error leaves; clones.
 
 use crate::tests::assertion::holds;
-use icu_plurals::provider::PluralRulesData;
-use icu_plurals::{PluralElements, PluralOperands, PluralRules};
+use icu_plurals::PluralElements;
 use std::alloc::{AllocError, Global};
 use std::test::Fail;
 
@@ -192,74 +191,6 @@ fn without_an_error_each_value_is_passed_once(rt: HostRuntime) {
     });
     holds!(rt; answer.is_ok());
     holds!(rt; seen.calls == 8);
-}
-
-#[test]
-fn a_value_that_equals_others_is_not_kept(rt: HostRuntime) {
-    let same = PluralElements::new("abc").with_one_value(Some("abc"));
-    holds!(rt; same.try_into_other() == Some("abc"));
-    let another = PluralElements::new("abc").with_one_value(Some("def"));
-    holds!(rt; another.try_into_other() == None);
-    let none = PluralElements::new("abc")
-        .with_one_value(Some("def"))
-        .with_one_value(None);
-    holds!(rt; none.try_into_other() == Some("abc"));
-}
-
-#[test]
-fn an_explicit_value_is_kept(rt: HostRuntime) {
-    let elements = PluralElements::new(1).with_explicit_one_value(Some(1));
-    holds!(rt; elements.explicit_one() == Some(&1));
-    holds!(rt; elements.explicit_zero() == None);
-    holds!(rt; elements.try_into_other() == None);
-}
-
-#[test]
-fn equality_looks_at_every_value(rt: HostRuntime) {
-    holds!(rt; eight() == eight());
-    let others = [
-        PluralElements::new(0),
-        eight().with_zero_value(None),
-        eight().with_one_value(None),
-        eight().with_two_value(None),
-        eight().with_few_value(None),
-        eight().with_many_value(None),
-        eight().with_explicit_zero_value(None),
-        eight().with_explicit_one_value(None),
-    ];
-    for (place, other) in others.iter().enumerate() {
-        holds!(rt; *other != eight(), at place);
-    }
-}
-
-// The rule `i = 1` for one.
-fn one_rule(alloc: Global) -> Result<PluralRules<'static>, Fail> {
-    let data = PluralRulesData::from_texts(alloc, None, Some("i = 1"), None, None, None)?;
-    Ok(PluralRules::from_data(data))
-}
-
-#[test]
-fn explicit_values_come_before_the_category(rt: HostRuntime) -> Result<(), Fail> {
-    let rules = one_rule(rt.alloc())?;
-    let elements = PluralElements::new("x")
-        .with_one_value(Some("y"))
-        .with_explicit_zero_value(Some("z"));
-    for (text, want) in [
-        ("0", "z"),
-        ("1", "y"),
-        ("1.0", "y"),
-        ("2", "x"),
-        ("0.0", "x"),
-        ("0e1", "x"),
-    ] {
-        holds!(rt; elements.get(text.parse()?, &rules) == &want, text);
-    }
-    let elements = elements.with_explicit_one_value(Some("w"));
-    for (text, want) in [("1", "w"), ("-1", "w"), ("1.0", "y"), ("1e1", "y")] {
-        holds!(rt; elements.get(text.parse()?, &rules) == &want, text);
-    }
-    holds!(rt; elements.get(PluralOperands::from(0u8), &rules) == &"z");
-    Ok(())
 }
 
 // Eight values that own memory.
