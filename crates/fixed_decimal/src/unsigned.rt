@@ -175,7 +175,7 @@ impl UnsignedDecimal {
     /// Returns how many integer places and how many fraction places are written after the point has
     /// moved to the right by `exponent` places, as a compact exponent moves it.
     ///
-    /// <!-- snippet crates/fixed_decimal/src/tests.rt:
+    /// <!-- snippet crates/tests_libraries/src/tests/fixed_decimal_examples.rt:
     /// example "let rows" to "}" of fn an_exponent_moves_places_to_the_left_of_the_point -->
     /// ```
     /// let rows = [
@@ -251,7 +251,8 @@ impl UnsignedDecimal {
     /// single digit 0 takes its place. `Limit` if a side would have more than 32767 places; the
     /// number is then unchanged. It allocates nothing.
     ///
-    /// <!-- snippet crates/fixed_decimal/src/tests.rt: example "let rows" to "}" of fn a_shift_reaches_the_last_place -->
+    /// <!-- snippet crates/tests_libraries/src/tests/fixed_decimal_examples.rt:
+    /// example "let rows" to "}" of fn a_shift_reaches_the_last_place -->
     /// ```
     /// let rows = [
     ///     ("1", 32766, (0, 32766), 32766, 1),

@@ -40,7 +40,7 @@ impl<'data> Model for PluralElementsPackedCow<'data> {
 impl PluralElementsPackedCow<'static> {
     /// Packs texts with metadata 0, by one allocation.
     ///
-    /// <!-- snippet crates/icu_plurals_tests/src/tests/packing.rt:
+    /// <!-- snippet crates/tests_libraries/src/tests/icu_plurals_packing.rt:
     ///      example "let one = PluralElements::new" to "holds!(rt; one.get(PluralOperands::from(2u8)" -->
     /// ```
     /// let one = PluralElements::new("abc").with_one_value(Some("defg"));
@@ -82,7 +82,7 @@ impl PluralElementsPackedCow<'static> {
 impl<'data> PluralElementsPackedCow<'data> {
     /// Returns the packed elements in borrowed bytes. It allocates nothing.
     ///
-    /// <!-- snippet crates/icu_plurals_tests/src/tests/packing.rt:
+    /// <!-- snippet crates/tests_libraries/src/tests/icu_plurals_packing.rt:
     ///      example "let packed" to "holds!(rt; packed.as_packed().get_default" of fn lent_bytes_keep_their_metadata -->
     /// ```
     /// let packed = PluralElementsPackedCow::from_bytes(b"\x8f\x01x\x01\0\x13y")?;

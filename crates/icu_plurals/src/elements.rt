@@ -140,7 +140,7 @@ impl<T> PluralElements<T> {
 
     /// Returns the value of other, if no other value is present.
     ///
-    /// <!-- snippet crates/icu_plurals_tests/src/tests/elements.rt: example "let same" to "holds!(rt; another" -->
+    /// <!-- snippet crates/tests_libraries/src/tests/icu_plurals_examples.rt: example "let same" to "holds!(rt; another" -->
     /// ```
     /// let same = PluralElements::new("abc").with_one_value(Some("abc"));
     /// assert!(rt; same.try_into_other() == Some("abc"));
@@ -204,7 +204,7 @@ impl<T> PluralElements<T> {
     ///
     /// With the rule `i = 1` for one:
     ///
-    /// <!-- snippet crates/icu_plurals_tests/src/tests/elements.rt:
+    /// <!-- snippet crates/tests_libraries/src/tests/icu_plurals_examples.rt:
     ///      example "let elements = PluralElements::new" to "}" of fn explicit_values_come_before_the_category -->
     /// ```
     /// let elements = PluralElements::new("x")

@@ -160,8 +160,8 @@ impl<'a> PluralElementsPackedULE<'a> {
 
     /// Returns the default.
     ///
-    /// <!-- snippet crates/icu_plurals_tests/src/tests/packed.rt:
-    ///      example "let alone" to "holds!" of fn decodes_the_first_of_a_key_and_equal_values -->
+    /// <!-- snippet crates/tests_libraries/src/tests/icu_plurals_examples.rt:
+    ///      example "let alone" to "holds!" of fn the_default_stands_alone -->
     /// ```
     /// let alone = PluralElementsPackedULE::parse_bytes(b"\x07abc")?;
     /// let (metadata, text) = alone.get_default();

@@ -16,7 +16,7 @@ use std::marker::Model;
 /// each item but the first starts (at most 65535, counted from the first byte of the data), each
 /// number in two bytes with the low byte first, and then the items without gaps.
 ///
-/// <!-- snippet crates/packed_list/src/tests.rt:
+/// <!-- snippet crates/tests_libraries/src/tests/packed_list_lists.rt:
 /// const THREE_ITEMS; example "let list" to "holds!(rt; list.as_bytes()" of fn gives_the_items_and_their_starts -->
 /// ```
 /// const THREE_ITEMS: &[u8] = b"\x03\x00\x02\x00\x02\x00abcd";

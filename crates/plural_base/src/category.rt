@@ -42,7 +42,7 @@ const ALL: &[PluralCategory] = &[
 impl PluralCategory {
     /// Returns all six, in the order of their names: few, many, one, other, two, zero.
     ///
-    /// <!-- snippet crates/plural_base_tests/src/tests/categories.rt:
+    /// <!-- snippet crates/tests_libraries/src/tests/plural_base_rules.rt:
     ///      example "let mut all" to "holds!(rt; all.next() == Some(PluralCategory::Few" -->
     /// ```
     /// let mut all = PluralCategory::all();
@@ -58,7 +58,7 @@ impl PluralCategory {
 
     /// Returns the category of a name in lower case, as CLDR writes it; `None` for any other text.
     ///
-    /// <!-- snippet crates/plural_base_tests/src/tests/categories.rt:
+    /// <!-- snippet crates/tests_libraries/src/tests/plural_base_rules.rt:
     ///      example "let rows" to "}" of fn names_are_those_of_the_categories -->
     /// ```
     /// let rows = [
@@ -83,7 +83,7 @@ impl PluralCategory {
 
     /// Returns the category whose name has these bytes; `None` for any others.
     ///
-    /// <!-- snippet crates/plural_base_tests/src/tests/categories.rt:
+    /// <!-- snippet crates/tests_libraries/src/tests/plural_base_rules.rt:
     ///      example "for name in" to "}" of fn names_are_those_of_the_categories -->
     /// ```
     /// for name in ["", "Few", "other ", "ones"] {

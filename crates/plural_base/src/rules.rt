@@ -122,7 +122,7 @@ impl<'data> PluralRules<'data> {
     /// Returns the categories that a number may have: those whose rule is present, from zero to
     /// many, then other.
     ///
-    /// <!-- snippet crates/plural_base_tests/src/tests/categories.rt:
+    /// <!-- snippet crates/tests_libraries/src/tests/plural_base_rules.rt:
     ///      example body of fn categories_are_those_with_a_rule_and_other -->
     /// ```
     /// let (zero, few) = (Some("i = 0"), Some("n = 0"));

@@ -13,8 +13,6 @@ mod range_check;
 mod reading;
 mod report;
 mod sample_range;
-#[cfg(test)]
-mod tests;
 mod text_check;
 mod texts;
 

@@ -38,8 +38,6 @@ mod error;
 mod fill;
 pub mod laws;
 mod message;
-#[cfg(test)]
-mod tests;
 
 pub use error::MessageError;
 pub use message::Message;

@@ -20,9 +20,9 @@ impl<'data> Rule<'data> {
     ///
     /// Rows of refused bytes and their fault:
     ///
-    /// <!-- snippet crates/plural_runtime_tests/src/tests/bytes.rt:
-    /// example "(b"\x01\0", RuleBytesError" to "(b"\x01\0\xc8" of fn refuses_hostile_bytes; example "for (bytes"
-    /// to "}" of fn refuses_hostile_bytes -->
+    /// <!-- snippet crates/tests_libraries/src/tests/plural_runtime_examples.rt:
+    /// example "(b"\x01\0", RuleBytesError" to "(b"\x01\0\xc8" of fn refuses_bytes; example "for (bytes"
+    /// to "}" of fn refuses_bytes -->
     /// ```
     /// (b"\x01\0", RuleBytesError::ItemLength(0)),
     /// (b"\x03\0\x02\0\x02\0abcd", RuleBytesError::ItemLength(0)),

@@ -25,8 +25,8 @@ impl Rule<'static> {
     /// ([`RuleError::StartLimit`]), as one of more than 65535 relations does; out of memory
     /// ([`RuleError::Memory`]).
     ///
-    /// <!-- snippet crates/plural_runtime_tests/src/tests/bytes.rt:
-    /// example "let tree" to "holds!" of fn prints_a_last_relation_without_ranges -->
+    /// <!-- snippet crates/tests_libraries/src/tests/plural_runtime_examples.rt:
+    /// example "let tree" to "holds!" of fn a_tree_packs_again -->
     /// ```
     /// let tree = rule.to_ast(alloc)?;
     /// let again = Rule::try_from(alloc, &tree)?;

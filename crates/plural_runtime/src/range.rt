@@ -10,7 +10,7 @@ use plural_reference::{ParseError, ast};
 /// A range of values with both its ends, or one value. A range whose start is above its end holds
 /// nothing.
 ///
-/// <!-- snippet crates/plural_runtime_tests/src/tests/kinds.rt:
+/// <!-- snippet crates/tests_libraries/src/tests/plural_runtime_examples.rt:
 /// example "let equal_ends" to "holds!(rt; RangeOrValue" of fn ranges_are_those_of_trees -->
 /// ```
 /// let equal_ends = RangeOrValue::Range(2, 2);

@@ -21,7 +21,7 @@ pub struct RelationULE<'a> {
 /// A relation, with its ranges borrowed from the bytes of an item. Relations are equal if their
 /// mark, polarity, operand, modulus and ranges are.
 ///
-/// <!-- snippet crates/plural_runtime_tests/src/tests/kinds.rt:
+/// <!-- snippet crates/tests_libraries/src/tests/plural_runtime_examples.rt:
 /// example "let relation = item" to "holds!(rt; relation.range(0)" of fn a_simple_rule_is_one_relation -->
 /// ```
 /// let relation = item.as_relation();

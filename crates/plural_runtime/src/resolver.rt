@@ -24,7 +24,7 @@ use plural_reference::{PluralOperands, ast};
 /// A relation on `n` at a fraction that isn't zero is in no list: false under `=`, true under `!=`.
 /// A modulus 0 is none. It allocates nothing.
 ///
-/// <!-- snippet crates/plural_runtime_tests/src/tests/kinds.rt:
+/// <!-- snippet crates/tests_libraries/src/tests/plural_runtime_examples.rt:
 /// example "let rule" to "let rule" of fn a_simple_rule_is_one_relation; example "holds!(rt; test_rule"
 /// to "holds!(rt; test_rule" of fn a_simple_rule_is_one_relation -->
 /// ```
@@ -46,7 +46,7 @@ pub fn test_rule(rule: &Rule<'_>, operands: &PluralOperands) -> bool
 /// operand isn't `n` at a fraction that isn't zero, and no earlier range of its list holds the
 /// value.
 ///
-/// <!-- snippet crates/plural_runtime_tests/src/tests/truth.rt: example "let rule" to "}" of fn a_count_goes_on -->
+/// <!-- snippet crates/tests_libraries/src/tests/plural_runtime_examples.rt: example "let rule" to "}" of fn a_count_goes_on -->
 /// ```
 /// let rule = Rule::from_str(alloc, "i = 1..2, 4")?;
 /// let mut steps = Steps::new();

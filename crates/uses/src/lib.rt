@@ -7,8 +7,6 @@ mod formatter;
 mod range_labels;
 mod relative_time;
 mod store;
-#[cfg(test)]
-mod tests;
 
 pub use compact_units::CompactUnits;
 pub use formatter::Formatter;

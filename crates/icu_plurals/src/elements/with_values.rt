@@ -18,7 +18,7 @@ impl<T: PartialEq + Drop> PluralElements<T> {
     /// Returns the same elements with this value of one; without one, if it is `None` or equals
     /// that of other.
     ///
-    /// <!-- snippet crates/icu_plurals_tests/src/tests/elements.rt: example body of fn a_value_that_equals_others_is_not_kept -->
+    /// <!-- snippet crates/tests_libraries/src/tests/icu_plurals_examples.rt: example body of fn a_value_that_equals_others_is_not_kept -->
     /// ```
     /// let same = PluralElements::new("abc").with_one_value(Some("abc"));
     /// assert!(rt; same.try_into_other() == Some("abc"));
@@ -77,7 +77,7 @@ impl<T: PartialEq + Drop> PluralElements<T> {
     /// Returns the same elements with this value for exactly 1, even if it equals that of other;
     /// without one, if it is `None`.
     ///
-    /// <!-- snippet crates/icu_plurals_tests/src/tests/elements.rt: example body of fn an_explicit_value_is_kept -->
+    /// <!-- snippet crates/tests_libraries/src/tests/icu_plurals_examples.rt: example body of fn an_explicit_value_is_kept -->
     /// ```
     /// let elements = PluralElements::new(1).with_explicit_one_value(Some(1));
     /// assert!(rt; elements.explicit_one() == Some(&1));

@@ -4,7 +4,7 @@ ghost use Rattle.std.specs.Prelude.{◌<◌};
 
 /// Four bits beside a text of packed elements. Their meaning is up to the user.
 ///
-/// <!-- snippet crates/icu_plurals_tests/src/tests/packed.rt: example body of fn metadata_has_four_bits -->
+/// <!-- snippet crates/tests_libraries/src/tests/icu_plurals_examples.rt: example body of fn metadata_has_four_bits -->
 /// ```
 /// assert!(rt; FourBitMetadata::zero().get() == 0);
 /// assert!(rt; FourBitMetadata::try_from_byte(0) == Some(FourBitMetadata::zero()));

@@ -9,7 +9,7 @@ use crate::category::PluralCategory;
 ///
 /// The order is that of the numbers.
 ///
-/// <!-- snippet crates/plural_base_tests/src/tests/categories.rt:
+/// <!-- snippet crates/tests_libraries/src/tests/plural_base_rules.rt:
 ///      example "let rows" to "}" of fn numbers_are_those_of_the_raw_categories -->
 /// ```
 /// let rows = [

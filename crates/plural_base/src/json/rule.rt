@@ -25,7 +25,7 @@ use std::alloc::Global;
 /// else [`JsonError::Rule`] without a category if the text gives no rule. It allocates for the
 /// rule; out of memory is [`JsonError::Memory`].
 ///
-/// <!-- snippet crates/plural_base_tests/src/tests/json.rt: example body of fn a_rule_is_its_printed_text -->
+/// <!-- snippet crates/tests_libraries/src/tests/plural_base_rules.rt: example body of fn a_rule_is_its_printed_text -->
 /// ```
 /// let value = Value::from_str(alloc, "\"i%10=1 or n = 2..4 @integer 1\"")?;
 /// let rule = rule_from_json(alloc, &value)?;

@@ -30,7 +30,7 @@ impl PluralRulesData<'static> {
     /// `two`, `few` and `many`, or null or nothing if there is no rule. Other keys, `other` among
     /// them, aren't read.
     ///
-    /// <!-- snippet crates/plural_base_tests/src/tests/json.rt: example body of fn rules_are_read_and_written -->
+    /// <!-- snippet crates/tests_libraries/src/tests/plural_base_rules.rt: example body of fn rules_are_read_and_written -->
     /// ```
     /// let value = Value::from_str(alloc, "{\"one\":\"i \\u003d 1\"}")?;
     /// let rules = PluralRulesData::from_json(alloc, &value)?;

@@ -62,7 +62,7 @@ impl<'data, R: AsPluralRules<'data>> PluralRulesWithRanges<R> {
     /// Returns the category of a range of numbers, by the operands of its start and its end. It
     /// allocates nothing.
     ///
-    /// <!-- snippet crates/plural_base_tests/src/tests/ranges.rt: example fn cardinal -->
+    /// <!-- snippet crates/tests_libraries/src/tests/plural_base_ranges.rt: example fn cardinal -->
     /// ```
     /// fn cardinal(
     ///     provider: &JsonProvider,
@@ -88,7 +88,7 @@ impl<'data, R: AsPluralRules<'data>> PluralRulesWithRanges<R> {
     /// Returns the category of a range, by those of its start and its end: the pair's, if it has
     /// one, else the end's.
     ///
-    /// <!-- snippet crates/plural_base_tests/src/tests/ranges.rt:
+    /// <!-- snippet crates/tests_libraries/src/tests/plural_base_ranges.rt:
     ///      example "let resolved = ranges.resolve_range(PluralCategory::Other" to "holds!" -->
     /// ```
     /// let resolved = ranges.resolve_range(PluralCategory::Other, PluralCategory::One);
@@ -110,7 +110,7 @@ impl<'data> PluralRulesWithRanges<PluralRules<'data>> {
     /// cardinal. The rules are borrowed from the provider. [`DataError::NotFound`] if and only if
     /// the provider has no such rules or no ranges. It allocates nothing.
     ///
-    /// <!-- snippet crates/plural_base_tests/src/tests/ranges.rt: example fn zero_to_one -->
+    /// <!-- snippet crates/tests_libraries/src/tests/plural_base_ranges.rt: example fn zero_to_one -->
     /// ```
     /// fn zero_to_one(
     ///     provider: &JsonProvider,

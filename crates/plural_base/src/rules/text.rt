@@ -62,7 +62,7 @@ impl PluralRulesData<'static> {
     /// Returns the rules of texts as CLDR writes them (UTS 35 Part 3, Plural Rules Syntax), samples
     /// included, read in the order zero, one, two, few, many. It allocates for each rule.
     ///
-    /// <!-- snippet crates/plural_base_tests/src/tests/texts.rt:
+    /// <!-- snippet crates/tests_libraries/src/tests/plural_base_rules.rt:
     ///      example "let one" to "let rules" of fn rules_of_four_forms_choose_as_languages_do -->
     /// ```
     /// let one = Some("n % 10 = 1 and n % 100 != 11");
