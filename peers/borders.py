@@ -5,7 +5,7 @@ from collections import Counter
 from dataclasses import replace
 
 import rules as shared
-from exact import category, exact_number
+from exact import category, exact_number, parts
 from library import TEXT_FAULTS
 
 REFUSED = "refused"
@@ -157,7 +157,10 @@ BORDERS = {
 def number(random, groups):
     """Returns a short number, whose operands both sides hold exactly."""
     if random.random() < 0.5 and groups[-1]:
-        return shared.aimed(random, {"one": groups})
+        aimed = shared.aimed(random, {"one": groups})
+        whole, fraction, _ = parts(aimed)
+        if len(whole) + len(fraction) < 16:
+            return aimed
     return str(random.randrange(1000)) + random.choice(("", "", ".0", ".5", ".50", ".125"))
 
 
