@@ -214,12 +214,13 @@ def row(path, rules, last):
 
 
 HEAD = """\
-# The category of each integer from 0 to 200 under each set of CLDR 41's rules, as GNU gettext gives it: the expression of C that its
-# program cldr-plurals prints for the set, evaluated at each integer. Nothing here comes from this project's own programs: tools/peers
-# --rows writes the file, and docs/PEERS.md tells how. CLDR's rules are those of crates/plurals_check/stdin (ORIGIN.md beside it).
+# The category of each integer from 0 to 200 under each set of CLDR 41's rules, as GNU gettext gives
+# it: the expression of C that its program cldr-plurals prints for the set, evaluated at each
+# integer. Nothing here comes from this project's own programs. tools/peers --rows writes the file,
+# and docs/PEERS.md says how. The rules are those of crates/plurals_check/stdin (ORIGIN.md there).
 #
-# integer_categories RULES, FIRST, LAST => the categories that occur, zero to other, each with its integers from FIRST to LAST;
-#     neighbours as 2~4
+# integer_categories RULES, FIRST, LAST => the categories of the integers from FIRST to LAST, zero
+#     to other, each with its integers; neighbours as 2~4
 """
 
 

@@ -1,8 +1,10 @@
 //! The arguments of a row.
 
 use crate::fault::RowFault;
-use icu_plurals::provider::PluralRulesData;
-use serde_json::{Map, Value};
+use fixed_decimal::CompactDecimal;
+use plural_base::PluralRulesData;
+use plural_reference::{PluralOperands, RawPluralOperands};
+use serde_json::{Map, Number, Value};
 use std::alloc::Global;
 use std::vec::IntoIter;
 
@@ -90,6 +92,41 @@ impl Arguments {
             .ok_or(RowFault::Not("a signed number"))
     }
 
+    /// Returns a number from 0 to 255.
+    pub fn byte(&mut self) -> Result<u8, RowFault> {
+        u8::try_from(self.number()?).map_err(|_| RowFault::Not("at most 255"))
+    }
+
+    /// Returns a size or an index.
+    pub fn size(&mut self) -> Result<usize, RowFault> {
+        usize::try_from(self.number()?).map_err(|_| RowFault::Not("a size"))
+    }
+
+    /// Returns a number from -32768 to 32767.
+    pub fn magnitude(&mut self) -> Result<i16, RowFault> {
+        magnitude_of(&self.value()?)
+    }
+
+    /// Returns the numbers of an array, from -32768 to 32767.
+    pub fn magnitudes(&mut self, alloc: Global) -> Result<Vec<i16>, RowFault> {
+        let values = self.list()?;
+        let mut magnitudes = Vec::new(alloc);
+        for value in &values {
+            magnitudes.push(magnitude_of(value)?)?;
+        }
+        Ok(magnitudes)
+    }
+
+    /// Returns operands: those of an integer, of a text that writes a compact decimal, or the array of `i`, `v`, `w`, `f`, `t` and `c`.
+    pub fn operands(&mut self, alloc: Global) -> Result<PluralOperands, RowFault> {
+        let value = self.value()?;
+        match &value {
+            Value::Number(number) => operands_of_integer(number),
+            Value::Array(six) => operands_of_six(six.as_slice()),
+            _ => operands_of_text(alloc, &value),
+        }
+    }
+
     /// Returns whether the argument is `true`; it may also be `false`.
     pub fn flag(&mut self) -> Result<bool, RowFault> {
         self.value()?
@@ -126,6 +163,52 @@ impl Arguments {
         );
         read.map_err(|_| RowFault::Not("five rules"))
     }
+}
+
+// A number from -32768 to 32767.
+fn magnitude_of(value: &Value) -> Result<i16, RowFault> {
+    let number = value.as_i64().ok_or(RowFault::Not("a magnitude"))?;
+    i16::try_from(number).map_err(|_| RowFault::Not("a magnitude"))
+}
+
+// The operands of an integer.
+fn operands_of_integer(number: &Number) -> Result<PluralOperands, RowFault> {
+    let number = number.as_u64().ok_or(RowFault::Not("operands"))?;
+    Ok(PluralOperands::from(number))
+}
+
+// The operands of a compact decimal's text.
+fn operands_of_text(alloc: Global, value: &Value) -> Result<PluralOperands, RowFault> {
+    let text = text_of(alloc, value)?;
+    match CompactDecimal::from_str(alloc, text.as_str()) {
+        Ok(number) => Ok(PluralOperands::from(&number)),
+        Err(_) => Err(RowFault::Not("operands")),
+    }
+}
+
+// The operands i, v, w, f, t and c.
+fn operands_of_six(six: &[Value]) -> Result<PluralOperands, RowFault> {
+    let [i, v, w, f, t, c] = six else {
+        return Err(RowFault::Not("operands"));
+    };
+    Ok(PluralOperands::from(RawPluralOperands {
+        i: operand_of(i)?,
+        v: place_count_of(v)?,
+        w: place_count_of(w)?,
+        f: operand_of(f)?,
+        t: operand_of(t)?,
+        c: place_count_of(c)?,
+    }))
+}
+
+// The number of an operand.
+fn operand_of(value: &Value) -> Result<u64, RowFault> {
+    value.as_u64().ok_or(RowFault::Not("operands"))
+}
+
+// The number of an operand that counts.
+fn place_count_of(value: &Value) -> Result<usize, RowFault> {
+    usize::try_from(operand_of(value)?).map_err(|_| RowFault::Not("operands"))
 }
 
 // The fault of arguments that no value was read from.

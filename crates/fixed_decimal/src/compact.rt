@@ -13,7 +13,7 @@ use std::marker::Model;
 /// A decimal and a compact exponent: the power of ten after the `c` of its text (UTS 35 Part 3,
 /// Language Plural Rules, operands c and e).
 ///
-/// <!-- snippet crates/fixed_decimal/src/tests.rt:
+/// <!-- snippet crates/tests_libraries/src/tests/fixed_decimal_examples.rt:
 /// example "let number = CompactDecimal::from_str" to "holds!" of fn a_compact_decimal_has_its_parts -->
 /// ```
 /// let number = CompactDecimal::from_str(alloc, "-1.00000020c6")?;

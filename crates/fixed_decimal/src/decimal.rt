@@ -15,7 +15,7 @@ use std::alloc::Global;
 
 /// A written number with the sign that its text has.
 ///
-/// <!-- snippet crates/fixed_decimal/src/tests.rt:
+/// <!-- snippet crates/tests_libraries/src/tests/fixed_decimal_examples.rt:
 /// example "let number = CompactDecimal::from_parts" to "holds!(rt; number.significand().sign == Sign::P"
 /// of fn a_compact_decimal_has_its_parts -->
 /// ```

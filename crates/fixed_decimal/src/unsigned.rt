@@ -18,7 +18,7 @@ use std::marker::Model;
 /// A written number without a sign: its integer digits, at least one, and its fraction digits. All
 /// written zeros count. Only the digits from the first to the last that isn't zero are stored.
 ///
-/// <!-- snippet crates/fixed_decimal/src/tests.rt:
+/// <!-- snippet crates/tests_libraries/src/tests/fixed_decimal_examples.rt:
 /// example "let number = UnsignedDecimal::from_str" to "}" of fn outside_the_places_each_digit_is_zero -->
 /// ```
 /// let number = UnsignedDecimal::from_str(alloc, "98.76")?;
@@ -164,7 +164,7 @@ impl UnsignedDecimal {
     /// Returns how many integer places and how many fraction places are written after the point has
     /// moved to the right by `exponent` places, as a compact exponent moves it.
     ///
-    /// <!-- snippet crates/fixed_decimal/src/tests.rt:
+    /// <!-- snippet crates/tests_libraries/src/tests/fixed_decimal_examples.rt:
     /// example "let rows" to "}" of fn an_exponent_moves_places_to_the_left_of_the_point -->
     /// ```
     /// let rows = [
@@ -239,7 +239,8 @@ impl UnsignedDecimal {
     /// digit 0 takes its place. `Limit` if a side would have more than 32767 places; the number is
     /// then unchanged. It allocates nothing.
     ///
-    /// <!-- snippet crates/fixed_decimal/src/tests.rt: example "let rows" to "}" of fn a_shift_reaches_the_last_place -->
+    /// <!-- snippet crates/tests_libraries/src/tests/fixed_decimal_examples.rt:
+    /// example "let rows" to "}" of fn a_shift_reaches_the_last_place -->
     /// ```
     /// let rows = [
     ///     ("1", 32766, (0, 32766), 32766, 1),

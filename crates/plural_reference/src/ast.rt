@@ -3,7 +3,8 @@
 //! Each list is a [`Sequence`] of its parts; the fields are public, so a tree can be made by hand: `RangeList(items.into())` of a
 //! `Vec` of items.
 //!
-//! <!-- snippet crates/plural_reference_tests/src/tests/printing.rt: example fn condition_of -->
+//! <!-- snippet crates/tests_libraries/src/tests/plural_reference_printing.rt:
+//! example fn condition_of -->
 //! ```
 //! fn condition_of(alloc: Global, item: RangeListItem) -> anyhow::Result<Condition> {
 //!     let relation = Relation {
@@ -151,7 +152,7 @@ pub enum RangeListItem {
 
 /// A value of a relation. A text gives 0 to 4294967295; a tree that was made by hand may hold more.
 ///
-/// <!-- snippet crates/plural_reference_tests/src/tests/trees.rt:
+/// <!-- snippet crates/tests_libraries/src/tests/plural_reference_trees.rt:
 /// example "holds!(rt; Value::from" to "holds!(rt; u32::try_from(&Value(4294967296)" of fn turns_values_into_numbers -->
 /// ```
 /// assert!(rt; Value::from(4294967295) == Value(4294967295));

@@ -13,7 +13,7 @@ use std::marker::Model;
 /// It allocates nothing, and refuses nothing: what is no piece of a rule is [`Token::Junk`]. Contracts
 /// see the list of the remaining tokens.
 ///
-/// <!-- snippet crates/plural_reference_tests/src/tests/tokens.rt:
+/// <!-- snippet crates/tests_libraries/src/tests/plural_reference_examples.rt:
 /// example "let mut lexer" to "holds!(rt; lexer.next() == None" of fn gives_no_token_behind_the_last -->
 /// ```
 /// let mut lexer = Lexer::new(b"i 1 ");

@@ -23,8 +23,8 @@ use std::marker::Model;
 /// [`PluralOperands::from_significand_and_exponent`]. `==` compares all six; the default is 0 for each,
 /// the operands of the number 0.
 ///
-/// <!-- snippet crates/plural_reference_tests/src/tests/truth.rt:
-/// example "holds!(rt; PluralOperands" to "holds!(rt; PluralOperands" of fn tells_the_value_of_each_operand -->
+/// <!-- snippet crates/tests_libraries/src/tests/plural_reference_examples.rt:
+/// example "holds!(rt; PluralOperands" to "holds!(rt; PluralOperands" of fn a_whole_number_is_its_operand_n -->
 /// ```
 /// assert!(rt; PluralOperands::from(7u32).value(Operand::N) == Some(7));
 /// ```

@@ -33,7 +33,7 @@ use std::mem;
 /// The error is the [`ParseError`] of the first place where the condition doesn't continue, or out of
 /// memory; only the tree is allocated.
 ///
-/// <!-- snippet crates/plural_reference_tests/src/tests/reading.rt:
+/// <!-- snippet crates/tests_libraries/src/tests/plural_reference_examples.rt:
 /// example "let values" to "holds!" of fn reads_long_lists_of_values -->
 /// ```
 /// let values = [1, 5, 7, 8, 9, 10];
@@ -56,7 +56,8 @@ pub fn parse_condition(alloc: Global, text: &[u8]) -> Result<Condition, ReadErro
 /// The error is the [`ParseError`] of its condition, or else of its samples, or out of memory; only the
 /// tree is allocated.
 ///
-/// <!-- snippet crates/plural_reference_tests/src/tests/printing.rt: example fn samples_of -->
+/// <!-- snippet crates/tests_libraries/src/tests/plural_reference_printing.rt:
+/// example fn samples_of -->
 /// ```
 /// fn samples_of(alloc: Global, text: &str) -> anyhow::Result<Samples> {
 ///     let rule = parse(alloc, text.as_bytes())?;

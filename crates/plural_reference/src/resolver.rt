@@ -17,7 +17,7 @@ use crate::operands::PluralOperands;
 ///
 /// Rows of a condition, a number, and whether the one is true of the other:
 ///
-/// <!-- snippet crates/plural_reference_tests/src/tests/truth.rt:
+/// <!-- snippet crates/tests_libraries/src/tests/plural_reference_examples.rt:
 /// example "("i = 1 and v = 0", 1" to "("i = 1 and v = 0", 2" of fn tells_when_a_condition_is_true; example "for (text"
 /// to "}" of fn tells_when_a_condition_is_true -->
 /// ```

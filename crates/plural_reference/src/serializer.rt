@@ -20,7 +20,7 @@ use std::fmt;
 ///
 /// It allocates nothing. `Err` is the writer's first error: nothing more is written, and what was written stays.
 ///
-/// <!-- snippet crates/plural_reference_tests/src/tests/printing.rt:
+/// <!-- snippet crates/tests_libraries/src/tests/plural_reference_printing.rt:
 /// example "let text" to "let rule" of fn stops_at_the_first_fault_in_a_rule; example fn printed_rule -->
 /// ```
 /// let text = "i = 0 or n = 1 @integer 0, 1 @decimal 0.0~1.0, 0.00~0.04, …";

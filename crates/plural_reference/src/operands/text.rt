@@ -15,8 +15,8 @@ use std::str::FromStr;
 /// nothing is moved by the exponent. `Empty` for the empty text, `Invalid` for every other text that
 /// isn't of this form. It allocates nothing.
 ///
-/// <!-- snippet crates/plural_reference_tests/src/tests/operands.rt:
-/// example "holds!(rt; """ to "holds!(rt; """ of fn another_text_names_none -->
+/// <!-- snippet crates/tests_libraries/src/tests/plural_reference_examples.rt:
+/// example "holds!(rt; """ to "holds!(rt; """ of fn an_empty_text_names_none -->
 /// ```
 /// assert!(rt; "".parse::<PluralOperands>() == Err(OperandsError::Empty));
 /// ```

@@ -1,8 +1,8 @@
-//! The texts of errors.
+//! The texts of errors of `plural_reference`.
 
-use plural_reference::{LexerError, ParseError, ReadError};
+use crate::tests::assertion::holds;
+use plural_reference::{LexerError, OperandsError, ParseError, ReadError};
 use std::test::Fail;
-use tests_holds::holds;
 
 #[test]
 fn prints_errors(rt: HostRuntime) -> Result<(), Fail> {
@@ -26,5 +26,23 @@ fn prints_errors(rt: HostRuntime) -> Result<(), Fail> {
     holds!(rt; LexerError::UnknownToken(120)
             .to_string(rt.alloc())?
             .as_str() == "Unknown token: 120");
+    Ok(())
+}
+
+#[test]
+fn an_error_of_operands_prints_its_text(rt: HostRuntime) -> Result<(), Fail> {
+    let rows = [
+        (
+            OperandsError::Empty,
+            "Input to the Operands parsing was empty",
+        ),
+        (
+            OperandsError::Invalid,
+            "Input to the Operands parsing was invalid",
+        ),
+    ];
+    for (error, text) in rows {
+        holds!(rt; error.to_string(rt.alloc())?.as_str() == text);
+    }
     Ok(())
 }

@@ -1,14 +1,13 @@
-//! Printed texts, and writers that refuse.
+//! Printed trees that no text gives, and writers that refuse.
 
 use crate::tests::assertion::holds;
-use crate::tests::{BENGALI_ONE, FRENCH_MANY, RUSSIAN_FEW};
 use plural_reference::ast::{
     AndCondition, Condition, Expression, Operand, Operator, RangeList, RangeListItem, Relation,
     Rule, SampleList, SampleRange, Samples, Value,
 };
 use plural_reference::{
-    ParseError, ReadError, parse, parse_condition, serialize, serialize_condition,
-    serialize_decimal_value, serialize_sample_list, serialize_sample_range, serialize_samples,
+    parse, serialize, serialize_condition, serialize_decimal_value, serialize_sample_list,
+    serialize_sample_range, serialize_samples,
 };
 use std::alloc::Global;
 use std::fmt;
@@ -42,77 +41,6 @@ fn first_range_of(alloc: Global, text: &str) -> Result<SampleRange, Fail> {
     Ok(list.sample_ranges.0.into_iter().next().ok_or("no range")?)
 }
 
-#[test]
-fn prints_conditions(rt: HostRuntime) -> Result<(), Fail> {
-    let table = [
-        ("", ""),
-        ("@foo", ""),
-        ("i=01", "i = 0"),
-        ("i % 0 = 5", "i % 0 = 5"),
-        ("i = 4294967295 @integer 1", "i = 4294967295"),
-        (
-            "n%10=3..4,9and n%100!=10..19,70..79or n=0",
-            "n % 10 = 3..4, 9 and n % 100 != 10..19, 70..79 or n = 0",
-        ),
-        (
-            "n = 1 or i = 1 or v = 1 or w = 1",
-            "n = 1 or i = 1 or v = 1 or w = 1",
-        ),
-        (
-            "f = 1 and t = 1 and c = 1 and e = 1",
-            "f = 1 and t = 1 and c = 1 and e = 1",
-        ),
-    ];
-    for (text, want) in table {
-        let condition = parse_condition(rt.alloc(), text.as_bytes())?;
-        holds!(rt; printed(rt.alloc(), &condition)?.as_str() == want, text);
-    }
-    Ok(())
-}
-
-#[test]
-fn prints_what_was_read(rt: HostRuntime) -> Result<(), Fail> {
-    let table = [
-        ("", ""),
-        ("i % 0 = 5", "i % 0 = 5"),
-        (
-            "i = 0 or n = 1 @integer 0, 1 @decimal 0.0~1.0, 0.00~0.04",
-            "i = 0 or n = 1 @integer 0, 1 @decimal 0.0~1.0, 0.00~0.04",
-        ),
-        ("@integer 1 2, …", " @integer 12, …"),
-        ("@decimal 1.1c6~2.0c6, …", " @decimal 1.1c6~2.0c6, …"),
-        ("@decimal 1.5 @integer 1", " @integer 1 @decimal 1.5"),
-        ("@decimal .~e5", " @decimal .~e5"),
-        (RUSSIAN_FEW, RUSSIAN_FEW),
-        (FRENCH_MANY, FRENCH_MANY),
-        ("n = 1,5,7,8,9,10 @integer 1, 5, 7~10 ", BENGALI_ONE),
-    ];
-    for (text, want) in table {
-        let rule = parse(rt.alloc(), text.as_bytes())?;
-        let printed = printed_rule(rt.alloc(), &rule)?;
-        holds!(rt; printed.as_str() == want, text);
-        let again = parse(rt.alloc(), printed.as_str().as_bytes())?;
-        holds!(rt; again == rule, text);
-    }
-    Ok(())
-}
-
-#[test]
-fn prints_lists_of_samples(rt: HostRuntime) -> Result<(), Fail> {
-    let table = [
-        ("@integer 1 2, 3, …", "12, 3, …"),
-        ("@integer .~e5, 0.0~1.0", ".~e5, 0.0~1.0"),
-        ("@integer 1c6,1.1c6~2.0c6,…", "1c6, 1.1c6~2.0c6, …"),
-    ];
-    for (text, want) in table {
-        let list = integers_of(rt.alloc(), text)?;
-        let mut printed = String::new(rt.alloc());
-        serialize_sample_list(&list, &mut printed)?;
-        holds!(rt; printed.as_str() == want, text);
-    }
-    Ok(())
-}
-
 // The condition of one relation that compares i with an item.
 fn condition_of(alloc: Global, item: RangeListItem) -> Result<Condition, Fail> {
     let relation = Relation {
@@ -144,15 +72,6 @@ fn prints_trees_that_no_text_gives(rt: HostRuntime) -> Result<(), Fail> {
     let mut text = String::new(alloc);
     serialize_sample_list(&beyond, &mut text)?;
     holds!(rt; text.as_str() == ", …");
-    Ok(())
-}
-
-#[test]
-fn joined_digits_may_be_too_long_to_be_read_again(rt: HostRuntime) -> Result<(), Fail> {
-    let rule = parse(rt.alloc(), b"@integer 4294967295 0")?;
-    let text = printed_rule(rt.alloc(), &rule)?;
-    holds!(rt; text.as_str() == " @integer 42949672950");
-    holds!(rt; parse(rt.alloc(), text.as_bytes()) == Err(ReadError::Parse(ParseError::ExpectedValue)));
     Ok(())
 }
 

@@ -1,7 +1,7 @@
 //! Clones and values of trees.
 
 use crate::tests::assertion::holds;
-use crate::tests::{BENGALI_ONE, FRENCH_MANY, RUSSIAN_FEW};
+use crate::tests::plural_reference_rules::{BENGALI_ONE, FRENCH_MANY, RUSSIAN_FEW};
 use plural_reference::ast::{
     AndCondition, RangeList, RangeListItem, Relation, SampleList, Sequence, Value,
 };

@@ -1,7 +1,7 @@
 //! Each allocation fails in turn: these run under `rt try --test --fail-alloc N` for each N, and with memory too.
 
 use crate::tests::assertion::holds;
-use crate::tests::{BENGALI_ONE, FRENCH_MANY, RUSSIAN_FEW};
+use crate::tests::plural_reference_rules::{BENGALI_ONE, FRENCH_MANY, RUSSIAN_FEW};
 use plural_reference::ast::{Condition, Rule};
 use plural_reference::{
     ParseError, ReadError, parse, parse_condition, parse_without_samples, serialize,
