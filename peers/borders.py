@@ -11,6 +11,7 @@ from library import TEXT_FAULTS
 REFUSED = "refused"
 TRUE_OF_ALL = [[]]
 NUMBERS = 10  # of each text
+SAID = 10  # of the texts that aren't as wanted
 
 
 def with_last(groups, relation):
@@ -201,6 +202,6 @@ def compare(asked, library, random, count, say):
             is_right = is_as_wanted(ours, *of_library(library, text, numbers), numbers)
             is_right = is_as_wanted(theirs, *of_icu4c(result), numbers) and is_right
             counts[name if is_right else "unexplained"] += 1
-            if not is_right:
+            if not is_right and counts["unexplained"] <= SAID:
                 say(f"ICU4C, {name}: not as the class says: {text!r} {result[0]}")
     return counts

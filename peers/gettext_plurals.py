@@ -12,6 +12,7 @@ DOCUMENT = TOP / "crates/plurals_check/stdin"
 ORDER = "two forms, other first"
 TYPES = ("cardinal", "ordinal")
 LAST = 100_000
+SAID = 10  # of the differences of no class
 # Ends of the machine's integers and of decimal places, with their neighbours.
 EDGES = sorted(
     {10**k + near for k in range(5, 20) for near in (-1, 0, 1)}
@@ -162,7 +163,8 @@ def compare_set(path, rules, library, counts, say):
         counts["compared"] += 1
         if ours != theirs:
             counts["unexplained"] += 1
-            say(f"gettext, {dict(rules)}, {number}: {ours} by the library, {theirs} by gettext")
+            if counts["unexplained"] <= SAID:
+                say(f"gettext, {dict(rules)}, {number}: {ours} by the library, {theirs} by gettext")
 
     for number in [*range(LAST + 1), *EDGES]:
         compare_number(library.category_of_integer(block, number), number)
