@@ -1,11 +1,25 @@
 //! The kinds of rows: one file a subject.
 
+mod categories;
 mod conditions;
 mod decimals;
+mod five_rules;
 mod integer_categories;
+mod lists;
+mod locales;
 mod operands;
+mod packed_rules;
+mod range_categories;
+mod ranges;
+mod relations;
+mod rule_truths;
+mod rules_bytes;
+mod rules_json;
+mod runs;
 mod samples;
 mod tokens;
+mod trees;
+mod upper;
 
 use crate::arguments::Arguments;
 use crate::fault::RowFault;
@@ -13,22 +27,58 @@ use std::alloc::Global;
 
 /// Returns the result of the call that a kind names, as a short text.
 pub fn result(alloc: Global, kind: &str, arguments: &mut Arguments) -> Result<String, RowFault> {
-    if let Some(found) = decimals::result(alloc, kind, arguments) {
-        return found;
-    }
-    if let Some(found) = operands::result(alloc, kind, arguments) {
-        return found;
-    }
-    if let Some(found) = tokens::result(alloc, kind, arguments) {
+    if let Some(found) = categories::result(alloc, kind, arguments) {
         return found;
     }
     if let Some(found) = conditions::result(alloc, kind, arguments) {
         return found;
     }
-    if let Some(found) = samples::result(alloc, kind, arguments) {
+    if let Some(found) = decimals::result(alloc, kind, arguments) {
+        return found;
+    }
+    if let Some(found) = five_rules::result(alloc, kind, arguments) {
         return found;
     }
     if let Some(found) = integer_categories::result(alloc, kind, arguments) {
+        return found;
+    }
+    if let Some(found) = lists::result(alloc, kind, arguments) {
+        return found;
+    }
+    if let Some(found) = locales::result(alloc, kind, arguments) {
+        return found;
+    }
+    if let Some(found) = operands::result(alloc, kind, arguments) {
+        return found;
+    }
+    if let Some(found) = packed_rules::result(alloc, kind, arguments) {
+        return found;
+    }
+    if let Some(found) = range_categories::result(alloc, kind, arguments) {
+        return found;
+    }
+    if let Some(found) = ranges::result(alloc, kind, arguments) {
+        return found;
+    }
+    if let Some(found) = relations::result(alloc, kind, arguments) {
+        return found;
+    }
+    if let Some(found) = rule_truths::result(alloc, kind, arguments) {
+        return found;
+    }
+    if let Some(found) = rules_bytes::result(alloc, kind, arguments) {
+        return found;
+    }
+    if let Some(found) = rules_json::result(alloc, kind, arguments) {
+        return found;
+    }
+    if let Some(found) = samples::result(alloc, kind, arguments) {
+        return found;
+    }
+    if let Some(found) = tokens::result(alloc, kind, arguments) {
+        return found;
+    }
+    if let Some(found) = upper::result(alloc, kind, arguments) {
         return found;
     }
     Err(RowFault::UnknownKind)

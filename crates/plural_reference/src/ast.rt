@@ -1,7 +1,7 @@
 //! The tree of a plural rule (UTS 35 Part 3, Plural Rules Syntax).
 //!
-//! Each list is a [`Sequence`] of its parts; the fields are public, so a tree can be made by hand: `RangeList(items.into())` of a
-//! `Vec` of items.
+//! Each list is a [`Sequence`] of its parts; the fields are public, so a tree can be made by hand:
+//! `RangeList(items.into())` of a `Vec` of items.
 //!
 //! <!-- snippet crates/tests_libraries/src/tests/plural_reference_printing.rt:
 //! example fn condition_of -->
@@ -208,7 +208,8 @@ pub struct SampleRange {
     pub upper_val: Option<DecimalValue>,
 }
 
-/// The text of a sample, as `1.20` or `1c6`: its tokens joined, without spaces. Contracts see its bytes.
+/// The text of a sample, as `1.20` or `1c6`: its tokens joined, without spaces. Contracts see its
+/// bytes.
 #[derive(Debug, Drop)]
 pub struct DecimalValue(pub String);
 

@@ -9,8 +9,8 @@ use crate::ast::{
 };
 use crate::operands::PluralOperands;
 
-/// Returns whether the condition is true of the operands: it has no and-condition, or all relations of
-/// one of them are true (UTS 35 Part 3, Plural Rules Syntax).
+/// Returns whether the condition is true of the operands: it has no and-condition, or all relations
+/// of one of them are true (UTS 35 Part 3, Plural Rules Syntax).
 ///
 /// A relation on `n` at a fraction that isn't zero, and one by a modulus 0, is false under `=` and
 /// under `!=`. A range whose start is above its end holds nothing.

@@ -1,33 +1,10 @@
 //! The program `plurals`: plural rules from a command line.
 #![tactic(auto)]
 
-mod answer;
-mod arguments;
-mod category_command;
-mod command;
-mod condition;
-mod document;
-mod elements;
-mod error;
-mod input;
-mod integer;
-mod line;
-mod message_command;
-mod number;
-mod print_command;
-mod query;
-mod range_command;
-mod run;
-mod select_command;
-mod test_command;
-
-use arguments::arguments;
-use error::RunError;
-use run::run;
+use plural_commands::RunError;
+use plural_commands::arguments::arguments;
+use plural_commands::run::run;
 use std::process::ExitCode;
-
-#[cfg(test)]
-mod tests;
 
 // Writes the answer to the words of the command line.
 fn answer_words(rt: &HostRuntime) -> Result<(), RunError> {

@@ -1,0 +1,207 @@
+-- The answer after the input was read, or could not be read.
+use Rattle.std.proofs.Common.{◌≡◌, ◌≤◌, ℕ, List, length, Bool, true, false, cond, Option, Some, None, Result, Ok, Err, refl, sym, subst, ap}
+use Rattle.std.specs.Prelude.{is_some}
+use Rattle.std.specs.Io.KnownBytes.{IsAtEnd, Keeps}
+use Rattle.serde_json.specs.Data.{Data, Members, no_members, member}
+use Rattle.serde_json.specs.Find.{as_null, as_object, get}
+use Rattle.serde_json.specs.Written.{has_float}
+use Rattle.document_report.specs.CheckAnswer.{Answer, AnswersDocument, AnswersInput, IsAnswered, IsAnswerTo, IsInput, IsRead}
+use Rattle.document_report.specs.CheckedDocument.{◌>>=◌, document_formed, document_with, has_form, json_of, locales_formed, most_bytes}
+use Rattle.document_report.specs.CheckedDocument.{object_formed, or_fault, part_formed, parts_formed, value_in, value_of}
+use Rattle.document_report.specs.Inner.CheckCalls.{Gives, GivesAfterReading, GivesFault}
+use Rattle.document_report.specs.Inner.CheckViews.{answer_view}
+use Rattle.document_report.specs.Inner.CheckedBytes.{GivesInput}
+use Rattle.document_report.specs.Parts.{part_name}
+use Rattle.document_report.specs.declared.error.CheckError.{CheckError}
+use Rattle.document_report.specs.declared.error.CheckError.TheVariants.{Usage, Read, TooLong, Json, Float, NoObject, Write, Memory}
+use Rattle.document_report.specs.declared.place.Part.{Part}
+use Rattle.document_report.specs.declared.place.Part.TheVariants.{Cardinal, Ordinal, Ranges}
+use Rattle.document_report.specs.declared.place.Place.TheVariants as place
+use Rattle.document_report.specs.declared.report.Verdict.{Verdict}
+use Rattle.document_report.specs.declared.run.Answer.{Answer as CodeAnswer}
+use Rattle.document_report.proofs.CheckFaults.{mapped}
+use Rattle.document_report.proofs.CheckedInputs.{beyond, some_input, within}
+
+-- ---- The bytes of a document aren't too long
+
+-- two steps don't fail for length if neither step does
+steps_not_long : {A B : Type 0} (value : Result A CheckError) (next : A → Result B CheckError)
+    → (value ≡ Err TooLong → ⊥) → ((x : A) → next x ≡ Err TooLong → ⊥) → (value >>= next) ≡ Err TooLong → ⊥
+steps_not_long (Ok x) next first second h = second x h
+steps_not_long (Err e) next first second h = let same : e ≡ TooLong = cc in first (ap Err same)
+
+-- nor does a choice between two
+chosen_not_long : {A : Type 0} (b : Bool) (x y : Result A CheckError) → (x ≡ Err TooLong → ⊥) → (y ≡ Err TooLong → ⊥)
+    → cond b x y ≡ Err TooLong → ⊥
+chosen_not_long true x y first second h = first h
+chosen_not_long false x y first second h = second h
+
+-- nor the form of locales
+locales_not_long : (part : Part) (members : Members) → locales_formed part members ≡ Err TooLong → ⊥
+locales_not_long part no_members h = cc
+locales_not_long part (member locale value members) h =
+    chosen_not_long (has_form part value) (locales_formed part members) (Err (NoObject (place.Locale part locale)))
+    (locales_not_long part members) (λ none. cc) h
+
+-- nor the form of an object
+object_not_long : (part : Part) (members : Option Members) → object_formed part members ≡ Err TooLong → ⊥
+object_not_long part None h = cc
+object_not_long part (Some members) h = locales_not_long part members h
+
+-- nor the form of a part
+part_not_long : (part : Part) (value : Option Data) → part_formed part value ≡ Err TooLong → ⊥
+part_not_long part None h = cc
+part_not_long part (Some value) h =
+    chosen_not_long (is_some (as_null value)) (Ok tt) (object_formed part (as_object value))
+    (λ none. cc) (object_not_long part (as_object value)) h
+
+-- nor the form of a document
+document_not_long : (value : Data) → document_formed value ≡ Err TooLong → ⊥
+document_not_long value h =
+    chosen_not_long (has_float value) (Err Float) (cond (is_some (as_object value)) (parts_formed value) (Err (NoObject place.Document)))
+    (λ none. cc)
+    (chosen_not_long (is_some (as_object value)) (parts_formed value) (Err (NoObject place.Document)) parts_not_long (λ none. cc)) h
+  where
+    -- nor the form of its parts
+    parts_not_long : parts_formed value ≡ Err TooLong → ⊥
+    parts_not_long =
+        let cardinal = get (part_name Cardinal) value in
+        let ordinal = get (part_name Ordinal) value in
+        let ranges = get (part_name Ranges) value in
+        steps_not_long (part_formed Cardinal cardinal) (λ _. part_formed Ordinal ordinal >>= λ _. part_formed Ranges ranges)
+        (part_not_long Cardinal cardinal)
+        (λ _. steps_not_long (part_formed Ordinal ordinal) (λ _. part_formed Ranges ranges)
+        (part_not_long Ordinal ordinal) (λ _. part_not_long Ranges ranges))
+
+-- nor a text that is no JSON
+value_not_long : {A : Type 0} (o : Option A) → or_fault Json o ≡ Err TooLong → ⊥
+value_not_long None h = cc
+value_not_long (Some x) h = cc
+
+-- the value of bytes isn't refused for their length
+pub bytes_not_long : (bytes : List ℕ) → value_of bytes ≡ Err TooLong → ⊥
+bytes_not_long bytes =
+    steps_not_long (or_fault Json (json_of bytes)) document_with (value_not_long (json_of bytes))
+    (λ value. steps_not_long (document_formed value) (λ _. Ok value) (document_not_long value) (λ done h. cc))
+
+-- nor is the answer to them
+pub answer_not_long : (bytes : List ℕ) → AnswersDocument (value_of bytes) (Err TooLong) → ⊥
+answer_not_long bytes = by_value (value_of bytes) (bytes_not_long bytes)
+  where
+    by_value : (value : Result Data CheckError) → (value ≡ Err TooLong → ⊥) → AnswersDocument value (Err TooLong) → ⊥
+    by_value (Ok value) none h = h
+    by_value (Err e) none h = let same : TooLong ≡ e = cc in none (ap Err (sym same))
+
+-- ---- The answer to a document
+
+-- a fault of the document is the answer
+pub document_refused : (value : Result Data CheckError) (e : CheckError) (r : Result CodeAnswer CheckError)
+    → r ≡ Err e → GivesFault (λ fault. value ≡ Err fault) e → Gives answer_view (AnswersDocument value) r
+document_refused value e r is h =
+    rw is (mapped (λ fault. value ≡ Err fault) (λ fault. AnswersDocument value (Err fault)) (λ fault there. rw there refl) e h)
+
+-- the answer to a document is the answer to the result that holds it
+pub document_answered : (value : Result Data CheckError) (document : Data) (answer : Answer)
+    → value ≡ Ok document → IsAnswerTo document answer → AnswersDocument value (Ok answer)
+document_answered value document answer there h =
+    subst (λ (v : Result Data CheckError). AnswersDocument v (Ok answer)) (sym there) h
+
+-- without arguments, only the input matters
+pub without_words : (has_words : Bool) (input : List ℕ) (answer : Result Answer CheckError) → has_words ≡ false
+    → AnswersDocument (value_in input) answer → AnswersInput has_words input answer
+without_words has_words input answer none h = rw none h
+
+-- arguments are a fault
+pub with_words : (has_words : Bool) (input : List ℕ) → has_words ≡ true → AnswersInput has_words input (Err Usage)
+with_words has_words input some = rw some refl
+
+-- ---- The answer of a call that may read
+
+-- what a call without reading gives, a call with reading may give
+pub without_reading : (IsAnswer : Result Answer CheckError → Type 0) (r : Result CodeAnswer CheckError)
+    → Gives answer_view IsAnswer r → GivesAfterReading IsAnswer r
+without_reading IsAnswer (Ok answer) h = h
+without_reading IsAnswer (Err Usage) h = h
+without_reading IsAnswer (Err Read) h = tt
+without_reading IsAnswer (Err TooLong) h = h
+without_reading IsAnswer (Err Json) h = h
+without_reading IsAnswer (Err Float) h = h
+without_reading IsAnswer (Err (NoObject at)) h = h
+without_reading IsAnswer (Err Write) h = h
+without_reading IsAnswer (Err Memory) h = tt
+
+-- if the input is too long or can't be read, that fault is the answer
+of_input : (left : Option (List ℕ)) (e : CheckError) → GivesInput left (Err e)
+    → (input : List ℕ) × IsInput left input × GivesAfterReading (AnswersDocument (value_in input)) (Err e)
+of_input left Usage h = absurd h
+of_input left Read h = let i = some_input left in (i.0, i.1, tt)
+of_input left TooLong h =
+    (h.0, h.1, subst (λ (value : Result Data CheckError). AnswersDocument value (Err TooLong)) (sym (beyond h.0 h.2)) refl)
+of_input left Json h = absurd h
+of_input left Float h = absurd h
+of_input left (NoObject at) h = absurd h
+of_input left Write h = absurd h
+of_input left Memory h = let i = some_input left in (i.0, i.1, tt)
+
+-- `?` passes on such a fault
+pub no_input : (left : Option (List ℕ)) (e : CheckError) (r : Result CodeAnswer CheckError) → r ≡ Err e → GivesInput left (Err e)
+    → (input : List ℕ) × IsInput left input × GivesAfterReading (AnswersDocument (value_in input)) r
+no_input left e r is h = rw is (of_input left e h)
+
+-- the answer to the bytes is the answer to the input
+pub of_all : (input bytes : List ℕ) → length input ≤ most_bytes → bytes ≡ input → (r : Result CodeAnswer CheckError)
+    → Gives answer_view (AnswersDocument (value_of bytes)) r → GivesAfterReading (AnswersDocument (value_in input)) r
+of_all input bytes short same r h =
+    let all = subst (λ (read : List ℕ). Gives answer_view (AnswersDocument (value_of read)) r) same h in
+    subst (λ (value : Result Data CheckError). GivesAfterReading (AnswersDocument value) r) (sym (within input short))
+    (without_reading (AnswersDocument (value_of input)) r all)
+
+-- if no answer says that the input is too long, it was read to its end
+pub to_the_end : (IsAnswer : Result Answer CheckError → Type 0) (old new : Option (List ℕ)) → (IsAnswer (Err TooLong) → ⊥) → IsAtEnd new
+    → (r : Result CodeAnswer CheckError) → Gives answer_view IsAnswer r → IsRead old new r
+to_the_end IsAnswer old new none end (Ok answer) h = end
+to_the_end IsAnswer old new none end (Err Usage) h = end
+to_the_end IsAnswer old new none end (Err Read) h = tt
+to_the_end IsAnswer old new none end (Err TooLong) h = absurd (none h)
+to_the_end IsAnswer old new none end (Err Json) h = end
+to_the_end IsAnswer old new none end (Err Float) h = end
+to_the_end IsAnswer old new none end (Err (NoObject at)) h = end
+to_the_end IsAnswer old new none end (Err Write) h = end
+to_the_end IsAnswer old new none end (Err Memory) h = tt
+
+-- ---- Nothing is written after a fault
+
+-- what is unchanged is kept
+pub kept : (known : Option (List ℕ)) → Keeps known known
+kept None = tt
+kept (Some xs) = refl
+
+-- a fault is the answer, and nothing is written
+of_fault : (IsAnswer : Result Answer CheckError → Type 0) (known : Option (List ℕ)) (e : CheckError)
+    → GivesAfterReading IsAnswer (Err e) → IsAnswered IsAnswer known known (Err e)
+of_fault IsAnswer known Usage h = (h, kept known)
+of_fault IsAnswer known Read h = kept known
+of_fault IsAnswer known TooLong h = (h, kept known)
+of_fault IsAnswer known Json h = (h, kept known)
+of_fault IsAnswer known Float h = (h, kept known)
+of_fault IsAnswer known (NoObject at) h = (h, kept known)
+of_fault IsAnswer known Write h = absurd h
+of_fault IsAnswer known Memory h = kept known
+
+-- `?` passes on such a fault
+pub not_written : (IsAnswer : Result Answer CheckError → Type 0) (known : Option (List ℕ)) (e : CheckError) (r : Result Verdict CheckError)
+    → r ≡ Err e → GivesAfterReading IsAnswer (Err e) → IsAnswered IsAnswer known known r
+not_written IsAnswer known e r is h = rw is (of_fault IsAnswer known e h)
+
+-- a call that gives an answer of one kind also gives an answer of a wider kind
+pub implied : (P Q : Result Answer CheckError → Type 0) → ((answer : Result Answer CheckError) → P answer → Q answer)
+    → (r : Result CodeAnswer CheckError) → GivesAfterReading P r → GivesAfterReading Q r
+implied P Q f (Ok answer) h = f _ h
+implied P Q f (Err Usage) h = f _ h
+implied P Q f (Err Read) h = tt
+implied P Q f (Err TooLong) h = f _ h
+implied P Q f (Err Json) h = f _ h
+implied P Q f (Err Float) h = f _ h
+implied P Q f (Err (NoObject at)) h = f _ h
+implied P Q f (Err Write) h = h
+implied P Q f (Err Memory) h = tt

@@ -1,0 +1,22 @@
+use Rattle.std.proofs.Common.{ℕ, List, Option, get_or, ap, ◌∙◌}
+use Rattle.serde_json.specs.Data.{Data}
+use Rattle.serde_json.specs.Find.{get}
+use Rattle.serde_json.specs.View.{view}
+use Rattle.icu_plurals.specs.declared.PluralCategory.TheVariants.{Zero}
+use Rattle.document_report.specs.DocumentReport.{found_under, text_order}
+use Rattle.document_report.specs.Found.{together}
+use Rattle.document_report.proofs.FoundParts.{next_under}
+use Rattle.document_report.proofs.languages.add_texts.Goals as goal
+
+pub loop-category-preserved : goal.loop-category-preserved
+loop-category-preserved c =
+    let part = c.args.part in
+    let locale = c.args.locale.now in
+    let value = view c.args.value.now in
+    let now = c.loop-category.found in
+    let category = get_or text_order c.loop-category.category-index Zero in
+    next_under part locale value text_order c.loop-category.category-index Zero now c.add_text.new.found c.loop-category-test.true
+    (c.in_ok-add_text.ensures
+    ∙ ap (λ (under : Option Data). together now (found_under part locale category under))
+    (c.get-under.ensures ∙ ap (λ (name : List ℕ). get name value) c.name_of.ensures))
+    ∙ c.loop-category.invariant

@@ -1,0 +1,22 @@
+use Rattle.std.proofs.Common.{◌≡◌, ℕ, List, ◌++◌, codes, string_bytes, ap, sym, ◌∙◌}
+use Rattle.std.proofs.lemmas.Result.{IfOk-weaker}
+use Rattle.icu_plurals.specs.Categories.{name_of}
+use Rattle.document_report.specs.DocumentReport.{no_text_line}
+use Rattle.document_report.specs.Parts.{part_name}
+use Rattle.document_report.proofs.LineTexts.{six}
+use Rattle.document_report.proofs.languages.no_text_line.Goals as goal
+
+pub returns : goal.returns
+returns c =
+    let locale = c.args.locale.now in
+    IfOk-weaker c.format.result
+    (λ s. string_bytes s
+    ≡ c.as_str.result.now ++ (codes " " ++ (locale ++ (codes " " ++ (c.name_of-name.result.now ++ codes ": no text")))))
+    (λ s. string_bytes s ≡ no_text_line c.args.part locale c.args.category)
+    (λ s wrote. wrote
+    ∙ ap (λ (part : List ℕ). part ++ (codes " " ++ (locale ++ (codes " " ++ (c.name_of-name.result.now ++ codes ": no text")))))
+    c.as_str.ensures
+    ∙ ap (λ (name : List ℕ). part_name c.args.part ++ (codes " " ++ (locale ++ (codes " " ++ (name ++ codes ": no text")))))
+    c.name_of-name.ensures
+    ∙ sym (six (part_name c.args.part) (codes " ") locale (codes " ") (name_of c.args.category) (codes ": no text")))
+    c.format.ensures.ok

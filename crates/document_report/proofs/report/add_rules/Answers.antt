@@ -1,0 +1,14 @@
+use Rattle.std.proofs.Common.{ap, subst}
+use Rattle.std.specs.Prelude.{OnOk}
+use Rattle.serde_json.specs.Data.{Members}
+use Rattle.document_report.specs.CheckedDocument.{members_or_none}
+use Rattle.document_report.specs.DocumentReport.{IsFoundInRules}
+use Rattle.document_report.specs.Found.{IsFoundIn}
+use Rattle.document_report.specs.Inner.Additions.{Adds}
+use Rattle.document_report.proofs.report.add_rules.Goals as goal
+
+pub returns : goal.returns
+returns c =
+    subst (λ (members : Members). OnOk c.add_members.result
+    (Adds (IsFoundIn (IsFoundInRules c.args.part) members) c.args.found.now c.add_members.new.found))
+    (ap members_or_none c.members_of-members.ensures) c.add_members.ensures

@@ -1,0 +1,34 @@
+use Rattle.std.proofs.Common.{◌≡◌, ap, refl, subst, ◌∙◌}
+use Rattle.std.specs.Prelude.{Option}
+use Rattle.serde_json.specs.Data.{Data, Members}
+use Rattle.serde_json.specs.View.{view}
+use Rattle.icu_plurals.specs.DocumentJson.{value_of_locale}
+use Rattle.plural_checker.specs.LanguageTexts.{SixTexts, six_texts}
+use Rattle.document_report.specs.CheckedDocument.{members_or_none, table_in}
+use Rattle.document_report.specs.DocumentReport.{found_of_rules, texts_at, IsFoundInEntry}
+use Rattle.document_report.specs.Found.{together, IsFoundIn}
+use Rattle.document_report.specs.Parts.{part_name}
+use Rattle.document_report.specs.declared.place.Part.TheVariants.{Cardinal}
+use Rattle.document_report.proofs.FoundParts.{two_added}
+use Rattle.document_report.proofs.tables.TableCheckMemberCheck.add.Goals as goal
+
+pub returns : goal.returns
+returns c =
+    let locale = c.args.locale.now in
+    let rules = value_of_locale (part_name Cardinal) locale (view c.args.self.now.document.now) in
+    let entries = c.in_ok-add_members.ensures in
+    let texts : six_texts c.texts_at.result ≡ texts_at rules = c.texts_at.ensures ∙ ap texts_at c.value_at-rules.ensures in
+    let members = members_or_none (table_in (view c.args.value.now)) in (
+      together (found_of_rules locale rules) entries.0,
+      (
+        entries.0,
+        subst (λ (t : SixTexts). IsFoundIn (IsFoundInEntry t locale) members entries.0) texts
+            (subst (λ (m : Members). IsFoundIn (IsFoundInEntry (six_texts c.texts_at.result) locale) m entries.0)
+            (ap members_or_none c.table_in.ensures) entries.1),
+        refl,
+      ),
+      two_added c.args.found.now (found_of_rules locale rules) entries.0 c.add_rules.new.found c.add_members.new.found
+          (c.in_ok-add_rules.ensures
+          ∙ ap (λ (r : Option Data). together c.args.found.now (found_of_rules locale r)) c.value_at-rules.ensures)
+          entries.2,
+    )

@@ -1,0 +1,75 @@
+-- The program's answer to its input, and what it reads and writes.
+--     AnswersInput has_words input answer      the answer: a report's text with its verdict, or the first fault
+use Rattle.std.specs.Prelude.{◌≡◌, ℕ, ◌+◌, ◌==◌, Bool, List, length, Option, Some, None, Result, Ok, Err, ⊤, if◌then◌else◌}
+use Rattle.std.specs.Io.KnownBytes.{Appends, Consumes, IsAtEnd, Keeps}
+use Rattle.serde_json.specs.Data.{Data}
+use Rattle.document_report.specs.CheckedDocument.{most_bytes, value_in}
+use Rattle.document_report.specs.DocumentReport.{IsReportOf}
+use Rattle.document_report.specs.ReportText.{report_text}
+use Rattle.document_report.specs.declared.error.CheckError.{CheckError}
+use Rattle.document_report.specs.declared.error.CheckError.TheVariants.{Usage, Read, TooLong, Write, Memory}
+use Rattle.document_report.specs.declared.report.Report.{Report}
+use Rattle.document_report.specs.declared.report.Verdict.{Verdict}
+use Rattle.document_report.specs.declared.report.Verdict.TheVariants.{NoFaults, Faults}
+
+-- ---- The answer
+
+-- a report's text, and whether it has a fault
+pub record Answer : Type 0 where
+  pub text : List ℕ
+  pub verdict : Verdict
+
+abbrev pub verdict_of : Report → Verdict
+verdict_of report = if length report.found.lines == 0 then NoFaults else Faults
+
+abbrev pub answer_with : Report → Answer
+answer_with report = record { text = report_text report; verdict = verdict_of report }
+
+-- the answer to a document
+abbrev pub IsAnswerTo : Data → Answer → Type 0
+IsAnswerTo document answer = (report : Report) × IsReportOf document report × (answer ≡ answer_with report)
+
+-- the answer to a document, or why there is none
+abbrev pub AnswersDocument : Result Data CheckError → Result Answer CheckError → Type 0
+AnswersDocument (Ok document) (Ok answer) = IsAnswerTo document answer
+AnswersDocument (Ok document) (Err fault) = ⊥
+AnswersDocument (Err fault) answer = answer ≡ Err fault
+
+-- arguments are a fault, which comes before the faults of the input
+abbrev pub AnswersInput : Bool → List ℕ → Result Answer CheckError → Type 0
+AnswersInput has_words input = AnswersDocument (if has_words then Err Usage else value_in input)
+
+-- ---- What is read and written
+
+-- the input is what remains in the reader, if that is known
+abbrev pub IsInput : Option (List ℕ) → List ℕ → Type 0
+IsInput None input = ⊤
+IsInput (Some left) input = input ≡ left
+
+-- The result, and what the writer took: the answer's text and nothing else, or a fault and nothing at all. Out of memory, a
+-- failed read and a failed write come from outside; only after a failed write may something have been written.
+abbrev pub IsAnswered : (Result Answer CheckError → Type 0) → Option (List ℕ) → Option (List ℕ) → Result Verdict CheckError
+    → Type 0
+IsAnswered IsAnswer old new (Ok verdict) =
+    (answer : Answer) × IsAnswer (Ok answer) × (verdict ≡ answer.verdict) × Appends old new answer.text
+IsAnswered IsAnswer old new (Err Memory) = Keeps old new
+IsAnswered IsAnswer old new (Err Read) = Keeps old new
+IsAnswered IsAnswer old new (Err Write) = (answer : Answer) × IsAnswer (Ok answer)
+IsAnswered IsAnswer old new (Err fault) = IsAnswer (Err fault) × Keeps old new
+
+-- What was read: all of the input; if it is too long, one byte more than the limit. If the reader failed or memory ran out, it
+-- may be anything.
+abbrev pub IsRead : {A : Type 0} → Option (List ℕ) → Option (List ℕ) → Result A CheckError → Type 0
+IsRead old new (Err Read) = ⊤
+IsRead old new (Err Memory) = ⊤
+IsRead old new (Err TooLong) = (bytes : List ℕ) × Consumes old new bytes × (length bytes ≡ most_bytes + 1)
+IsRead old new result = IsAtEnd new
+
+-- the exit status of the program
+abbrev pub status_of : CheckError → ℕ
+status_of Usage = 2
+status_of fault = 1
+
+abbrev pub verdict_status : Verdict → ℕ
+verdict_status NoFaults = 0
+verdict_status Faults = 1

@@ -1,0 +1,104 @@
+-- The JSON value of an input whose parts and locales are objects, or the first reason why it has none (docs/JSON.md).
+--     value_in input      the value, or the first fault
+--     members_at part value      the members of a part, by locale
+use Rattle.std.specs.Prelude.{ℕ, List, length, Option, Some, None, is_some, Bool, Result, Ok, Err, ⊤, nat_lt, codes}
+use Rattle.std.specs.Prelude.{if◌then◌else◌}
+use Rattle.std.specs.Option.{option_and_then}
+use Rattle.std.specs.Str.{is_utf8}
+use Rattle.serde_json.specs.Data.{Data, Members, no_members, member}
+use Rattle.serde_json.specs.Find.{get, as_null, as_object}
+use Rattle.serde_json.specs.Read.{read}
+use Rattle.serde_json.specs.Written.{has_float}
+use Rattle.document_report.specs.Parts.{part_name}
+use Rattle.document_report.specs.declared.error.CheckError.{CheckError}
+use Rattle.document_report.specs.declared.error.CheckError.TheVariants.{TooLong, Json, Float, NoObject}
+use Rattle.document_report.specs.declared.place.Part.{Part}
+use Rattle.document_report.specs.declared.place.Part.TheVariants.{Cardinal, Ordinal, Ranges}
+use Rattle.document_report.specs.declared.place.Place.TheVariants as place
+
+-- ---- One step after another: a fault of the first is the result
+
+-- the second after the first
+infixl 10 ◌>>=◌
+abbrev pub ◌>>=◌ : {A B : Type 0} → Result A CheckError → (A → Result B CheckError) → Result B CheckError
+(Ok x) >>= next = next x
+(Err fault) >>= next = Err fault
+
+-- the value, or this fault if there is none
+abbrev pub or_fault : {A : Type 0} → CheckError → Option A → Result A CheckError
+or_fault fault None = Err fault
+or_fault fault (Some x) = Ok x
+
+-- ---- Objects
+
+-- the value of `ranges` in a locale's value, if it is an object
+abbrev pub table_in : Data → Option Members
+table_in value = option_and_then as_object (get (codes "ranges") value)
+
+-- the value of a locale is an object; in the part `ranges`, it has an object under `ranges`
+abbrev pub has_form : Part → Data → Bool
+has_form Cardinal value = is_some (as_object value)
+has_form Ordinal value = is_some (as_object value)
+has_form Ranges value = is_some (table_in value)
+
+-- all locales have the form of the part, or the fault names the first one that hasn't
+abbrev pub locales_formed : Part → Members → Result ⊤ CheckError
+locales_formed part no_members = Ok tt
+locales_formed part (member locale value members) =
+    if has_form part value then locales_formed part members else Err (NoObject (place.Locale part locale))
+
+-- the object of a part
+abbrev pub object_formed : Part → Option Members → Result ⊤ CheckError
+object_formed part None = Err (NoObject (place.Part part))
+object_formed part (Some members) = locales_formed part members
+
+-- a part is absent, null or an object
+abbrev pub part_formed : Part → Option Data → Result ⊤ CheckError
+part_formed part None = Ok tt
+part_formed part (Some value) = if is_some (as_null value) then Ok tt else object_formed part (as_object value)
+
+-- the parts of a document, in this order
+abbrev pub parts_formed : Data → Result ⊤ CheckError
+parts_formed value =
+    part_formed Cardinal (get (part_name Cardinal) value)
+    >>= λ _. part_formed Ordinal (get (part_name Ordinal) value)
+    >>= λ _. part_formed Ranges (get (part_name Ranges) value)
+
+-- a document has no float; it, its parts and the value of each locale are objects
+abbrev pub document_formed : Data → Result ⊤ CheckError
+document_formed value =
+    if has_float value then Err Float
+    else (if is_some (as_object value) then parts_formed value else Err (NoObject place.Document))
+
+-- ---- The value of an input
+
+-- the JSON value that the bytes write
+abbrev pub json_of : List ℕ → Option Data
+json_of bytes = if is_utf8 bytes then read bytes else None
+
+-- the value, if it is a document
+abbrev pub document_with : Data → Result Data CheckError
+document_with value = document_formed value >>= λ _. Ok value
+
+-- the value of the bytes
+abbrev pub value_of : List ℕ → Result Data CheckError
+value_of bytes = or_fault Json (json_of bytes) >>= document_with
+
+-- the most bytes that an input may have
+abbrev pub most_bytes : ℕ
+most_bytes = 4194304
+
+-- the value of an input; its length is checked first
+abbrev pub value_in : List ℕ → Result Data CheckError
+value_in input = if nat_lt most_bytes (length input) then Err TooLong else value_of input
+
+-- ---- What a document has
+
+-- the members, or no members if there is no object
+abbrev pub members_or_none : Option Members → Members
+members_or_none None = no_members
+members_or_none (Some members) = members
+
+-- the members of a part, by locale
+abbrev pub members_at : Part → Data → Members
+members_at part value = members_or_none (option_and_then as_object (get (part_name part) value))

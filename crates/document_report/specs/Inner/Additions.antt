@@ -1,0 +1,11 @@
+-- Not a definition of the subject: what is added to what was found.
+use Rattle.std.specs.Prelude.{◌≡◌, ℕ, List}
+use Rattle.document_report.specs.Found.{Found, together}
+
+-- what was found has grown by something of this kind
+abbrev pub Adds : (Found → Type 0) → Found → Found → Type 0
+Adds Is old new = (more : Found) × Is more × (new ≡ together old more)
+
+-- only lines
+abbrev pub lines_alone : List (List ℕ) → Found
+lines_alone lines = record { lines = lines; rules = 0; numbers = 0 }

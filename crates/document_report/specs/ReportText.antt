@@ -1,0 +1,21 @@
+-- The text of a report: a line for each fault, and one with the counts.
+use Rattle.std.specs.Prelude.{ℕ, List, [], ◌∷◌, ◌++◌, length, codes}
+use Rattle.std.specs.Fmt.{decimal}
+use Rattle.std.specs.List.{flat_map}
+use Rattle.document_report.specs.declared.report.Report.{Report}
+
+-- a text and a newline
+abbrev pub ended_line : List ℕ → List ℕ
+ended_line text = text ++ 10 ∷ []
+
+-- `locales: 218, rules: 652, numbers: 14395, faults: 0`
+abbrev pub counts_line : ℕ → ℕ → ℕ → ℕ → List ℕ
+counts_line locales rules numbers faults =
+    codes "locales: " ++ decimal locales ++ codes ", rules: " ++ decimal rules ++ codes ", numbers: " ++ decimal numbers
+    ++ codes ", faults: " ++ decimal faults ++ codes "\n"
+
+abbrev pub counts_of : Report → List ℕ
+counts_of report = counts_line report.locales report.found.rules report.found.numbers (length report.found.lines)
+
+abbrev pub report_text : Report → List ℕ
+report_text report = flat_map ended_line report.found.lines ++ counts_of report

@@ -1,0 +1,56 @@
+//! The JSON value of an input, and the members of a document.
+
+ghost use Rattle.std.specs.Prelude.{◌≡◌, option_map};
+ghost use Rattle.std.specs.Option.{option_and_then};
+ghost use Rattle.serde_json.specs.Find.{as_object, get};
+ghost use Rattle.serde_json.specs.View.{members_view, view};
+ghost use Rattle.document_report.specs.CheckedDocument.{json_of, or_fault, value_of};
+ghost use Rattle.document_report.specs.Inner.CheckCalls.{GivesValue};
+ghost use Rattle.document_report.specs.Parts.{part_name};
+ghost use Rattle.document_report.specs.declared.error.CheckError.TheVariants.{Json};
+
+use crate::error::CheckError;
+use crate::form::check_document;
+use crate::place::Part;
+use serde_json::{Map, Value};
+use std::alloc::Global;
+
+// Returns the document that the bytes write: a value whose parts and locales are objects.
+pub(crate) fn value_of(alloc: Global, bytes: &[u8]) -> Result<Value, CheckError>
+    ensures { GivesValue view (value_of bytes.now) result }
+{
+    let value = json_of(alloc, bytes)?;
+    check_document(alloc, &value)?;
+    Ok(value)
+}
+
+// Returns the JSON value that the bytes write.
+fn json_of(alloc: Global, bytes: &[u8]) -> Result<Value, CheckError>
+    ensures { GivesValue view (or_fault Json (json_of bytes.now)) result }
+{
+    match Value::from_slice(alloc, bytes) {
+        Ok(value) => Ok(value),
+        Err(fault) => {
+            if fault.is_memory() {
+                Err(CheckError::Memory)
+            } else {
+                Err(CheckError::Json)
+            }
+        }
+    }
+}
+
+// Returns the members of a part of a document, by locale.
+pub(crate) fn members_of(document: &Value, part: Part) -> Option<&Map<String, Value>>
+    ensures { option_map (λ m. members_view m.now.entries) result
+        ≡ option_and_then as_object (get (part_name part) (view document.now)) }
+{
+    document.get(part.as_str())?.as_object()
+}
+
+// Returns the value of a locale in a part of a document.
+pub(crate) fn value_at<'a>(document: &'a Value, part: Part, locale: &str) -> Option<&'a Value>
+    ensures { option_map (λ v. view v.now) result ≡ option_and_then (get locale.now) (get (part_name part) (view document.now)) }
+{
+    document.get(part.as_str())?.get(locale)
+}

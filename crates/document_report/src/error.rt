@@ -1,0 +1,56 @@
+//! Why there is no report.
+
+ghost use Rattle.document_report.specs.CheckAnswer.{status_of};
+ghost use Rattle.std.specs.Prelude.{◌≡◌};
+
+use crate::place::Place;
+use thiserror::Error;
+
+const USAGE: &str = "usage: plurals_check < DOCUMENT";
+
+/// Why there is no report. The program checks for these in this order.
+#[derive(Debug, Drop, Error)]
+pub enum CheckError {
+    /// There are command-line arguments; the program takes none.
+    #[error("{}", USAGE)]
+    Usage,
+    /// The reader failed.
+    #[error("cannot read input")]
+    Read,
+    /// The input has more than 4194304 bytes.
+    #[error("input too long")]
+    TooLong,
+    /// The input is no JSON text.
+    #[error("input is not JSON")]
+    Json,
+    /// The document contains a number that is no 64-bit integer.
+    #[error("document: float")]
+    Float,
+    /// There is no object at this place, where one is expected; it is the first such place.
+    #[error("{0}: no object")]
+    NoObject(Place),
+    /// The writer failed; how much was written isn't known.
+    #[error("cannot write output")]
+    Write,
+    /// Memory ran out. Nothing was written.
+    #[error("out of memory")]
+    Memory,
+}
+
+impl CheckError {
+    /// Returns the exit status of the program: 2 for [`Usage`](CheckError::Usage), otherwise 1.
+    pub fn status(&self) -> u8
+        ensures { result ≡ status_of self.now }
+    {
+        match self {
+            CheckError::Usage => 2,
+            CheckError::Read
+            | CheckError::TooLong
+            | CheckError::Json
+            | CheckError::Float
+            | CheckError::NoObject(_)
+            | CheckError::Write
+            | CheckError::Memory => 1,
+        }
+    }
+}

@@ -1,0 +1,22 @@
+//! The report of a document of plural rules and ranges, over any reader and writer.
+#![tactic(auto)]
+
+pub mod arguments;
+mod document;
+mod entry;
+mod error;
+mod form;
+mod found;
+mod input;
+mod languages;
+mod locales;
+mod place;
+mod report;
+pub mod run;
+mod tables;
+#[cfg(test)]
+mod tests;
+
+pub use error::CheckError;
+pub use place::{Locale, Part, Place};
+pub use report::Verdict;

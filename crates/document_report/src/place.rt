@@ -1,0 +1,87 @@
+//! The parts of a document, and the places where an object is expected.
+
+ghost use Rattle.std.specs.Prelude.{◌≡◌, Some, IfOk};
+ghost use Rattle.document_report.specs.Parts.{part_name, place_text};
+
+use std::alloc::{AllocError, Global};
+use std::fmt;
+use std::marker::Model;
+
+/// A part of a document.
+#[derive(Clone, Copy, Debug, PartialEq, Eq)]
+pub enum Part {
+    /// `cardinal`: rules for cardinal numbers, by locale.
+    Cardinal,
+    /// `ordinal`: rules for ordinal numbers, by locale.
+    Ordinal,
+    /// `ranges`: categories of ranges, by locale.
+    Ranges,
+}
+
+impl Part {
+    /// Returns the part's key in a document.
+    pub fn as_str(self) -> &'static str
+        ensures { result.now ≡ part_name self }
+    {
+        match self {
+            Part::Cardinal => "cardinal",
+            Part::Ordinal => "ordinal",
+            Part::Ranges => "ranges",
+        }
+    }
+}
+
+/// A locale's key, with its own copy of the text.
+#[derive(Debug, Drop)]
+pub struct Locale {
+    text: String,
+}
+
+impl Model for Locale {
+    ghost use Rattle.std.specs.Prelude.{List, ℕ, string_bytes};
+
+    ghost Value = { List ℕ };
+
+    ghost view = { λ locale. string_bytes locale.text };
+}
+
+impl Locale {
+    /// Copies the key of a locale. It takes memory; the only error is out of memory.
+    pub fn from_str(alloc: Global, key: &str) -> Result<Locale, AllocError>
+        ensures { IfOk result (λ locale. locale ≡ key.now) }
+    {
+        Ok(Locale {
+            text: String::from_str(alloc, key)?,
+        })
+    }
+
+    /// Returns the text of the key.
+    pub fn as_str(&self) -> &str
+        ensures { result.now ≡ self.now }
+    {
+        self.text.as_str()
+    }
+}
+
+/// A place where an object is expected.
+#[derive(Debug, Drop)]
+pub enum Place {
+    /// The document itself.
+    Document,
+    /// The value of a part.
+    Part(Part),
+    /// The value of a locale in a part.
+    Locale(Part, Locale),
+}
+
+impl fmt::Display for Place {
+    ghost output = { λ place. Some (place_text place) };
+
+    fn fmt<W: fmt::Write>(&self, f: &mut fmt::Formatter<W>) -> fmt::Result {
+        match self {
+            Place::Document => f.write_str("document"),
+            Place::Part(part) => f.write_str(part.as_str()),
+            Place::Locale(part, locale) => write!(f, "{} {}", part.as_str(), locale.as_str()),
+        }
+    }
+}

@@ -1,0 +1,143 @@
+//! The report of a document.
+
+ghost use Rattle.std.specs.Prelude.{◌≡◌, ◌++◌, IfOk, OnOk, map, string_bytes};
+ghost use Rattle.std.specs.List.{flat_map};
+ghost use Rattle.document_report.specs.CheckAnswer.{verdict_of, verdict_status};
+ghost use Rattle.document_report.specs.DocumentReport.{IsFoundInDocument, IsFoundInRules, IsReportOf};
+ghost use Rattle.document_report.specs.CheckedDocument.{members_at};
+ghost use Rattle.document_report.specs.Found.{IsFoundIn};
+ghost use Rattle.document_report.specs.Inner.Additions.{Adds};
+ghost use Rattle.document_report.specs.ReportText.{counts_line, counts_of, ended_line, report_text};
+ghost use Rattle.serde_json.specs.View.{view};
+
+use crate::document::members_of;
+use crate::found::{Found, add_members};
+use crate::languages::LanguageCheck;
+use crate::locales::locale_count;
+use crate::place::Part;
+use crate::tables::TableCheck;
+use serde_json::Value;
+use std::alloc::{AllocError, Global};
+
+/// The report of a document: how many locales it has, and what was found.
+#[derive(Debug, Drop)]
+pub struct Report {
+    pub(crate) locales: u64,
+    pub(crate) found: Found,
+}
+
+/// Whether a document has a fault.
+#[derive(Clone, Copy, Debug, PartialEq, Eq)]
+pub enum Verdict {
+    /// The document has no fault.
+    NoFaults,
+    /// The document has at least one fault.
+    Faults,
+}
+
+impl Verdict {
+    /// Returns the exit status of the program: 0 without faults, 1 with some.
+    pub fn status(self) -> u8
+        ensures { result ≡ verdict_status self }
+    {
+        match self {
+            Verdict::NoFaults => 0,
+            Verdict::Faults => 1,
+        }
+    }
+}
+
+// Returns the report of a document.
+pub(crate) fn report_of(alloc: Global, document: &Value) -> Result<Report, AllocError>
+    ensures { IfOk result (λ report. IsReportOf (view document.now) report) }
+{
+    let locales = locale_count(document)?;
+    let found = found_in(alloc, document)?;
+    Ok(Report { locales, found })
+}
+
+// Returns what is found in the three parts.
+fn found_in(alloc: Global, document: &Value) -> Result<Found, AllocError>
+    ensures { IfOk result (λ found. IsFoundInDocument (view document.now) found) }
+{
+    let mut found = Found::new(alloc);
+    add_rules(alloc, document, Part::Cardinal, &mut found)?;
+    add_rules(alloc, document, Part::Ordinal, &mut found)?;
+    let ranges = members_of(document, Part::Ranges);
+    add_members(alloc, &TableCheck { document }, ranges, &mut found)?;
+    Ok(found)
+}
+
+// Adds what is found in the rules of a part.
+fn add_rules(
+    alloc: Global,
+    document: &Value,
+    part: Part,
+    found: &mut Found,
+) -> Result<(), AllocError>
+    ensures { OnOk result (Adds (IsFoundIn (IsFoundInRules part) (members_at part (view document.now))) found.old found.new) }
+{
+    let members = members_of(document, part);
+    add_members(alloc, &LanguageCheck { part }, members, found)
+}
+
+impl Report {
+    // Returns whether the document has a fault.
+    pub(crate) fn verdict(&self) -> Verdict
+        ensures { result ≡ verdict_of self.now }
+    {
+        if self.found.lines().is_empty() {
+            Verdict::NoFaults
+        } else {
+            Verdict::Faults
+        }
+    }
+
+    // Returns the text of the report: a line for each fault, and a line with the counts.
+    pub(crate) fn text(&self, alloc: Global) -> Result<String, AllocError>
+        ensures { IfOk result (λ text. string_bytes text ≡ report_text self.now) }
+    {
+        let mut text = String::new(alloc);
+        push_lines(&mut text, self.found.lines())?;
+        text.push_str(self.counts(alloc)?.as_str())?;
+        Ok(text)
+    }
+
+    // Returns the line with the counts of the report.
+    fn counts(&self, alloc: Global) -> Result<String, AllocError>
+        ensures { IfOk result (λ line. string_bytes line ≡ counts_of self.now) }
+    {
+        let found = &self.found;
+        counts_line(
+            alloc,
+            self.locales,
+            found.rules(),
+            found.numbers(),
+            found.len(),
+        )
+    }
+}
+
+// Returns the line with these counts.
+fn counts_line(
+    alloc: Global,
+    locales: u64,
+    rules: u64,
+    numbers: u64,
+    faults: usize,
+) -> Result<String, AllocError>
+    ensures { IfOk result (λ line. string_bytes line ≡ counts_line locales rules numbers faults) }
+{
+    format!(in alloc; "locales: {locales}, rules: {rules}, numbers: {numbers}, faults: {faults}\n")
+}
+
+// Appends the lines, each followed by a newline.
+fn push_lines(text: &mut String, lines: &[String]) -> Result<(), AllocError>
+    ensures { OnOk result (string_bytes text.new ≡ string_bytes text.old ++ flat_map ended_line (map string_bytes lines.now)) }
+{
+    for line in lines {
+        text.push_str(line.as_str())?;
+        text.push_str("\n")?;
+    }
+    Ok(())
+}

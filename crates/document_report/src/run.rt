@@ -1,0 +1,93 @@
+//! Reads an input and writes the answer to it.
+
+ghost use Rattle.std.specs.Prelude.{◌≡◌, Err, IfOk, List, ℕ, IsFalse, IsTrue};
+ghost use Rattle.document_report.specs.CheckAnswer.{AnswersDocument, AnswersInput, IsAnswered, IsAnswerTo, IsInput, IsRead};
+ghost use Rattle.document_report.specs.CheckedDocument.{value_in, value_of};
+ghost use Rattle.document_report.specs.Inner.CheckCalls.{Gives, GivesAfterReading};
+ghost use Rattle.document_report.specs.Inner.CheckViews.{answer_view};
+ghost use Rattle.document_report.specs.declared.error.CheckError.TheVariants.{Usage};
+ghost use Rattle.serde_json.specs.View.{view};
+
+use crate::document::value_of;
+use crate::error::CheckError;
+use crate::input::read_input;
+use crate::report::{Verdict, report_of};
+use serde_json::Value;
+use std::alloc::{AllocError, Global};
+use std::io::{Read, Write};
+
+// The text that is written for a document, and whether the document has a fault.
+#[derive(Drop)]
+pub(crate) struct Answer {
+    pub(crate) text: String,
+    pub(crate) verdict: Verdict,
+}
+
+/// Writes the report of a document, and nothing else.
+///
+/// The input is read to its end, or to the first byte past the limit, as a JSON document: rules of
+/// locales for cardinal and for ordinal numbers, and categories of ranges (UTS 35 Part 3, Language
+/// Plural Rules). The report has a line for each fault: in the texts of rules and in their samples, as
+/// reported by `plural_checker`, and in the entries of ranges; and then a line with the counts of
+/// locales, rule texts, numbers and faults. It takes memory.
+///
+/// The errors, in the order in which they are checked: [`CheckError::Usage`] if there are arguments;
+/// [`CheckError::Read`] if the reader failed, [`CheckError::TooLong`] above 4194304 bytes,
+/// [`CheckError::Json`] if the input is no JSON text, [`CheckError::Float`] if it has a float, and
+/// [`CheckError::NoObject`] if the document, one of its parts or the value of a locale is no
+/// object; [`CheckError::Write`] if the writer failed; [`CheckError::Memory`] if memory ran out.
+/// After an error other than a failed write, nothing was written.
+pub fn run<R: Read, W: Write>(
+    alloc: Global,
+    has_words: bool,
+    reader: &mut R,
+    writer: &mut W,
+) -> Result<Verdict, CheckError>
+    // The answer is that of some input: what remained in the reader, if that is known.
+    ensures answers { (input : List ℕ) × IsInput (R.remaining reader.old) input
+        × IsAnswered (AnswersInput has_words input) (W.contents writer.old) (W.contents writer.new) result }
+    ensures reads { IsFalse has_words → IsRead (R.remaining reader.old) (R.remaining reader.new) result }
+    ensures reads_nothing { IsTrue has_words → (reader.new ≡ reader.old) × (result ≡ Err Usage) }
+{
+    if has_words {
+        return Err(CheckError::Usage);
+    }
+    let answer = answer_to_reader(alloc, reader)?;
+    match writer.write_all(answer.text.as_str().as_bytes()) {
+        Ok(()) => Ok(answer.verdict),
+        Err(_) => Err(CheckError::Write),
+    }
+}
+
+// Returns the answer to the input of a reader.
+fn answer_to_reader<R: Read>(alloc: Global, reader: &mut R) -> Result<Answer, CheckError>
+    ensures answers { (input : List ℕ) × IsInput (R.remaining reader.old) input
+        × GivesAfterReading (AnswersDocument (value_in input)) result }
+    ensures reads { IsRead (R.remaining reader.old) (R.remaining reader.new) result }
+{
+    let input = read_input(alloc, reader)?;
+    answer_to(alloc, input.as_slice())
+}
+
+// Returns the answer to the bytes of an input.
+pub(crate) fn answer_to(alloc: Global, bytes: &[u8]) -> Result<Answer, CheckError>
+    ensures { Gives answer_view (AnswersDocument (value_of bytes.now)) result }
+{
+    let document = value_of(alloc, bytes)?;
+    match answer_of(alloc, &document) {
+        Ok(answer) => Ok(answer),
+        Err(_) => Err(CheckError::Memory),
+    }
+}
+
+// Returns the answer to a document.
+fn answer_of(alloc: Global, document: &Value) -> Result<Answer, AllocError>
+    ensures { IfOk result (λ answer. IsAnswerTo (view document.now) (answer_view answer)) }
+{
+    let report = report_of(alloc, document)?;
+    let text = report.text(alloc)?;
+    Ok(Answer {
+        text,
+        verdict: report.verdict(),
+    })
+}

@@ -1,0 +1,114 @@
+//! What is found in the ranges of a document.
+
+ghost use Rattle.std.specs.Prelude.{◌≡◌, IfOk, OnOk, option_map, string_bytes};
+ghost use Rattle.plural_checker.specs.LanguageTexts.{six_texts};
+ghost use Rattle.document_report.specs.DocumentReport.{entry_line, found_of_rules, texts_at, IsFoundInEntry, IsFoundInRanges};
+ghost use Rattle.document_report.specs.Found.{together};
+ghost use Rattle.serde_json.specs.View.{view};
+
+use crate::document::value_at;
+use crate::entry::{EntryFault, entry_fault};
+use crate::form::table_in;
+use crate::found::{Found, MemberCheck, add_members};
+use crate::languages::texts_of;
+use crate::place::Part;
+use plural_checker::LanguageTexts;
+use serde_json::Value;
+use std::alloc::{AllocError, Global};
+
+// Checks a locale's ranges, in a document.
+#[derive(Clone, Copy)]
+pub(crate) struct TableCheck<'a> {
+    pub(crate) document: &'a Value,
+}
+
+impl<'a> MemberCheck for TableCheck<'a> {
+    ghost finds = { λ check. IsFoundInRanges (view check.document.now) };
+
+    fn add(
+        &self,
+        alloc: Global,
+        locale: &str,
+        value: &Value,
+        found: &mut Found,
+    ) -> Result<(), AllocError> {
+        let rules = value_at(self.document, Part::Cardinal, locale);
+        add_rules(alloc, locale, rules, found)?;
+        let entries = EntryCheck {
+            texts: texts_at(rules),
+            locale,
+        };
+        add_members(alloc, &entries, table_in(value), found)?;
+        Ok(())
+    }
+}
+
+// Checks an entry of a locale's ranges, under the texts of its cardinal rules.
+#[derive(Clone, Copy)]
+struct EntryCheck<'a> {
+    texts: LanguageTexts<'a>,
+    locale: &'a str,
+}
+
+impl<'a> MemberCheck for EntryCheck<'a> {
+    ghost finds = { λ check. IsFoundInEntry (six_texts check.texts) check.locale.now };
+
+    fn add(
+        &self,
+        alloc: Global,
+        key: &str,
+        value: &Value,
+        found: &mut Found,
+    ) -> Result<(), AllocError> {
+        match entry_fault(&self.texts, key, value) {
+            Some(fault) => found.add_line(entry_line(alloc, self.locale, key, fault)?),
+            None => Ok(()),
+        }
+    }
+}
+
+// Returns the line for a fault of an entry.
+fn entry_line(
+    alloc: Global,
+    locale: &str,
+    key: &str,
+    fault: EntryFault,
+) -> Result<String, AllocError>
+    ensures { IfOk result (λ line. string_bytes line ≡ entry_line locale.now key.now fault) }
+{
+    let part = Part::Ranges.as_str();
+    format!(in alloc; "{} {} {}: {}", part, locale, key, fault)
+}
+
+// Returns the texts of cardinal rules, if there are any.
+fn texts_at(rules: Option<&Value>) -> LanguageTexts<'_>
+    ensures { six_texts result ≡ texts_at (option_map (λ v. view v.now) rules.entry) }
+{
+    match rules {
+        Some(rules) => texts_of(rules),
+        None => LanguageTexts {
+            zero: None,
+            one: None,
+            two: None,
+            few: None,
+            many: None,
+            other: None,
+        },
+    }
+}
+
+// Adds a line if a locale has no cardinal rules.
+fn add_rules(
+    alloc: Global,
+    locale: &str,
+    rules: Option<&Value>,
+    found: &mut Found,
+) -> Result<(), AllocError>
+    ensures { OnOk result (found.new
+        ≡ together found.old (found_of_rules locale.now (option_map (λ v. view v.now) rules.entry))) }
+{
+    if rules.is_some() {
+        return Ok(());
+    }
+    found.add_line(format!(in alloc; "{} {}: no cardinal rules", Part::Ranges.as_str(), locale)?)
+}

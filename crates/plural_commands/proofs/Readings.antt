@@ -1,0 +1,149 @@
+-- The answer after the input was read, or could not be read.
+use Rattle.std.proofs.Common.{◌≡◌, ◌≤◌, ℕ, List, length, Option, Some, None, Result, Ok, Err, refl, sym, subst}
+use Rattle.std.specs.Prelude.{⊤}
+use Rattle.std.specs.Io.KnownBytes.{IsAtEnd, Keeps}
+use Rattle.plural_commands.specs.Answer.{IsAnswered, IsInput, IsNotRead, IsRead}
+use Rattle.plural_commands.specs.Inner.CallAnswers.{GivesAfterReading, GivesFault, GivesText, Text}
+use Rattle.plural_commands.specs.Inner.InputBytes.{GivesInput}
+use Rattle.plural_commands.specs.Input.{WholeDocument, document_in, document_of, most_bytes}
+use Rattle.plural_commands.specs.Steps.{After}
+use Rattle.plural_commands.specs.declared.error.RunError.{RunError}
+use Rattle.plural_commands.specs.declared.error.RunError.TheVariants.{Usage, Condition, Number, Read, TooLong}
+use Rattle.plural_commands.specs.declared.error.RunError.TheVariants.{Json, Document, Locale, Write, Memory}
+use Rattle.plural_commands.proofs.Inputs.{beyond, some_input, within}
+
+-- ---- The answer of a call that may read
+
+-- what a call without reading gives, a call with reading may give
+pub without_reading : (IsAnswer : Result (List ℕ) RunError → Type 0) (r : Result Text RunError)
+    → GivesText IsAnswer r → GivesAfterReading IsAnswer r
+without_reading IsAnswer (Ok text) h = h
+without_reading IsAnswer (Err Usage) h = h
+without_reading IsAnswer (Err (Condition k)) h = h
+without_reading IsAnswer (Err (Number k)) h = h
+without_reading IsAnswer (Err Read) h = tt
+without_reading IsAnswer (Err TooLong) h = h
+without_reading IsAnswer (Err Json) h = h
+without_reading IsAnswer (Err (Document k)) h = h
+without_reading IsAnswer (Err Locale) h = h
+without_reading IsAnswer (Err Write) h = h
+without_reading IsAnswer (Err Memory) h = tt
+
+-- a call that gives an answer of one kind also gives an answer of a wider kind
+pub implied : (P Q : Result (List ℕ) RunError → Type 0) → ((a : Result (List ℕ) RunError) → P a → Q a)
+    → (r : Result Text RunError) → GivesAfterReading P r → GivesAfterReading Q r
+implied P Q f (Ok text) h = f _ h
+implied P Q f (Err Usage) h = f _ h
+implied P Q f (Err (Condition k)) h = f _ h
+implied P Q f (Err (Number k)) h = f _ h
+implied P Q f (Err Read) h = tt
+implied P Q f (Err TooLong) h = f _ h
+implied P Q f (Err Json) h = f _ h
+implied P Q f (Err (Document k)) h = f _ h
+implied P Q f (Err Locale) h = f _ h
+implied P Q f (Err Write) h = h
+implied P Q f (Err Memory) h = tt
+
+-- ---- The input can't be read
+
+-- if the input is too long or can't be read, that fault is the answer
+of_input : (Next : WholeDocument → Result (List ℕ) RunError → Type 0) (left : Option (List ℕ)) (e : RunError)
+    → GivesInput left (Err e) → (input : List ℕ) × IsInput left input × GivesAfterReading (After Next (document_in input)) (Err e)
+of_input Next left Usage h = absurd h
+of_input Next left (Condition k) h = absurd h
+of_input Next left (Number k) h = absurd h
+of_input Next left Read h = let i = some_input left in (i.0, i.1, tt)
+of_input Next left TooLong h =
+    (h.0, h.1, subst (λ (document : Result WholeDocument RunError). After Next document (Err TooLong)) (sym (beyond h.0 h.2)) refl)
+of_input Next left Json h = absurd h
+of_input Next left (Document k) h = absurd h
+of_input Next left Locale h = absurd h
+of_input Next left Write h = absurd h
+of_input Next left Memory h = let i = some_input left in (i.0, i.1, tt)
+
+-- `?` passes on such a fault
+pub no_input : (Next : WholeDocument → Result (List ℕ) RunError → Type 0) (left : Option (List ℕ)) (e : RunError)
+    (r : Result Text RunError) → r ≡ Err e → GivesInput left (Err e)
+    → (input : List ℕ) × IsInput left input × GivesAfterReading (After Next (document_in input)) r
+no_input Next left e r is h = rw is (of_input Next left e h)
+
+-- ---- The input was read to its end
+
+-- the answer to the bytes is the answer to the input
+pub of_all : (Next : WholeDocument → Result (List ℕ) RunError → Type 0) (input bytes : List ℕ)
+    → length input ≤ most_bytes → bytes ≡ input → (r : Result Text RunError)
+    → GivesText (After Next (document_of bytes)) r → GivesAfterReading (After Next (document_in input)) r
+of_all Next input bytes short same r h =
+    let all = subst (λ (read : List ℕ). GivesText (After Next (document_of read)) r) same h in
+    subst (λ (document : Result WholeDocument RunError). GivesAfterReading (After Next document) r) (sym (within input short))
+    (without_reading (After Next (document_of input)) r all)
+
+-- if no answer says that the input is too long, it was read to its end
+pub to_the_end : (IsAnswer : Result (List ℕ) RunError → Type 0) (old new : Option (List ℕ)) → (IsAnswer (Err TooLong) → ⊥) → IsAtEnd new
+    → (r : Result Text RunError) → GivesText IsAnswer r → IsRead old new r
+to_the_end IsAnswer old new none end (Ok text) h = end
+to_the_end IsAnswer old new none end (Err Usage) h = end
+to_the_end IsAnswer old new none end (Err (Condition k)) h = end
+to_the_end IsAnswer old new none end (Err (Number k)) h = end
+to_the_end IsAnswer old new none end (Err Read) h = tt
+to_the_end IsAnswer old new none end (Err TooLong) h = absurd (none h)
+to_the_end IsAnswer old new none end (Err Json) h = end
+to_the_end IsAnswer old new none end (Err (Document k)) h = end
+to_the_end IsAnswer old new none end (Err Locale) h = end
+to_the_end IsAnswer old new none end (Err Write) h = end
+to_the_end IsAnswer old new none end (Err Memory) h = tt
+
+-- ---- Nothing is read
+
+-- if the words have no fault, the only error is out of memory, after which anything may have been read
+pub faultless : (A : Type 0) (IsFault : RunError → Type 0) (old new : Option (List ℕ)) → ((fault : RunError) → ¬ (IsFault fault))
+    → (e : RunError) → GivesFault IsFault e → IsRead {A = A} old new (Err e)
+faultless A IsFault old new none Usage h = absurd (none _ h)
+faultless A IsFault old new none (Condition k) h = absurd (none _ h)
+faultless A IsFault old new none (Number k) h = absurd (none _ h)
+faultless A IsFault old new none Read h = tt
+faultless A IsFault old new none TooLong h = absurd (none _ h)
+faultless A IsFault old new none Json h = absurd (none _ h)
+faultless A IsFault old new none (Document k) h = absurd (none _ h)
+faultless A IsFault old new none Locale h = absurd (none _ h)
+faultless A IsFault old new none Write h = absurd h
+faultless A IsFault old new none Memory h = tt
+
+-- a fault of words is no read error
+pub not_blamed : (A : Type 0) (IsFault : RunError → Type 0) (e : RunError) → GivesFault IsFault e → IsNotRead {A = A} (Err e)
+not_blamed A IsFault Usage h = tt
+not_blamed A IsFault (Condition k) h = tt
+not_blamed A IsFault (Number k) h = tt
+not_blamed A IsFault Read h = absurd h
+not_blamed A IsFault TooLong h = tt
+not_blamed A IsFault Json h = tt
+not_blamed A IsFault (Document k) h = tt
+not_blamed A IsFault Locale h = tt
+not_blamed A IsFault Write h = tt
+not_blamed A IsFault Memory h = tt
+
+-- ---- Nothing is written after a fault
+
+-- what is unchanged is kept
+pub kept : (known : Option (List ℕ)) → Keeps known known
+kept None = tt
+kept (Some xs) = refl
+
+-- a fault is the answer, and nothing is written
+of_fault : (IsAnswer : Result (List ℕ) RunError → Type 0) (known : Option (List ℕ)) (e : RunError)
+    → GivesAfterReading IsAnswer (Err e) → IsAnswered IsAnswer known known (Err e)
+of_fault IsAnswer known Usage h = (h, kept known)
+of_fault IsAnswer known (Condition k) h = (h, kept known)
+of_fault IsAnswer known (Number k) h = (h, kept known)
+of_fault IsAnswer known Read h = kept known
+of_fault IsAnswer known TooLong h = (h, kept known)
+of_fault IsAnswer known Json h = (h, kept known)
+of_fault IsAnswer known (Document k) h = (h, kept known)
+of_fault IsAnswer known Locale h = (h, kept known)
+of_fault IsAnswer known Write h = absurd h
+of_fault IsAnswer known Memory h = kept known
+
+-- `?` passes on such a fault
+pub not_written : (IsAnswer : Result (List ℕ) RunError → Type 0) (known : Option (List ℕ)) (e : RunError) (r : Result ⊤ RunError)
+    → r ≡ Err e → GivesAfterReading IsAnswer (Err e) → IsAnswered IsAnswer known known r
+not_written IsAnswer known e r is h = rw is (of_fault IsAnswer known e h)

@@ -1,0 +1,12 @@
+use Rattle.std.proofs.lemmas.Result.{err_from_is_err_and}
+use Rattle.plural_commands.specs.Input.{rules_for}
+use Rattle.plural_commands.specs.Inner.PrivateViews.{document_view}
+use Rattle.plural_commands.specs.Lines.{AreRuleLines}
+use Rattle.plural_commands.proofs.Faults.{handed_on, nothing_given}
+use Rattle.plural_commands.proofs.print_command.rule_lines.Goals as goal
+
+pub returns-in_err-rules : goal.returns-in_err-rules
+returns-in_err-rules c =
+    nothing_given AreRuleLines (rules_for c.args.rule_type c.args.locale.now (document_view c.args.document.now))
+    c.in_err-rules.field-0.0 c.from_residual.result
+    (handed_on _ _ (err_from_is_err_and c.from_residual.result c.from_residual.ensures.1)) c.in_err-rules.ensures

@@ -1,0 +1,77 @@
+-- The program's answer to the words of its command line and its input, and what it reads and writes.
+--     AnswersQuery query input answer      the answer to a query
+--     AnswersWords words input answer      the answer to the words and the input
+use Rattle.std.specs.Prelude.{◌≡◌, ℕ, ◌+◌, List, [], ◌∷◌, ◌++◌, Bool, Option, Some, None, Result, Ok, Err, ⊤, codes, if◌then◌else◌, length}
+use Rattle.std.specs.Io.KnownBytes.{Appends, Consumes, IsAtEnd, Keeps}
+use Rattle.icu_plurals.specs.Operands.{of_whole}
+use Rattle.icu_plurals.specs.Truth.{tree_truth}
+use Rattle.plural_commands.specs.Input.{WholeDocument, document_in, elements_for, most_bytes, ranged_for, rules_for}
+use Rattle.plural_commands.specs.Lines.{AreRuleLines, IsCategoryLine, IsElementLine, IsMessageLine, IsRangeLine}
+use Rattle.plural_commands.specs.Queries.{Asks, Lookup, number_category, range_category, printed_rules, number_element, number_message}
+use Rattle.plural_commands.specs.Queries.{Query, of_document, truth}
+use Rattle.plural_commands.specs.Steps.{After, Then}
+use Rattle.plural_commands.specs.declared.error.RunError.{RunError}
+use Rattle.plural_commands.specs.declared.error.RunError.TheVariants.{Usage, Read, TooLong, Write, Memory}
+
+-- ---- The answer
+
+-- a line with the name of a truth value
+abbrev pub truth_line : Bool → List ℕ
+truth_line holds = (if holds then codes "true" else codes "false") ++ 10 ∷ []
+
+-- a text for the given value, or the fault in its place
+abbrev pub AnswersFrom : {A : Type 0} → (A → List ℕ → Type 0) → Result A RunError → Result (List ℕ) RunError → Type 0
+AnswersFrom IsText (Ok given) (Ok text) = IsText given text
+AnswersFrom IsText (Ok given) (Err fault) = ⊥
+AnswersFrom IsText (Err fault) answer = answer ≡ Err fault
+
+-- the answer to a query of a document: a line, or the fault of what the document has for the locale
+abbrev pub AnswersLookup : Lookup → WholeDocument → Result (List ℕ) RunError → Type 0
+AnswersLookup (number_category locale type x) document = AnswersFrom (IsCategoryLine x) (rules_for type locale document)
+AnswersLookup (range_category locale type x y) document = AnswersFrom (IsRangeLine x y) (ranged_for type locale document)
+AnswersLookup (printed_rules locale type) document = AnswersFrom AreRuleLines (rules_for type locale document)
+AnswersLookup (number_element locale type x) document = AnswersFrom (IsElementLine x) (elements_for type locale document)
+AnswersLookup (number_message locale type x word) document = AnswersFrom (IsMessageLine x word) (elements_for type locale document)
+
+-- The answer to a query: a truth value needs no input, and a fault of the input comes before those of the lookup.
+abbrev pub AnswersQuery : Query → List ℕ → Result (List ℕ) RunError → Type 0
+AnswersQuery (truth condition n) input answer = answer ≡ Ok (truth_line (tree_truth (of_whole n) condition))
+AnswersQuery (of_document lookup) input answer = After (AnswersLookup lookup) (document_in input) answer
+
+-- the answer to the words and the input: a text, or the first fault
+abbrev pub AnswersWords : List (List ℕ) → List ℕ → Result (List ℕ) RunError → Type 0
+AnswersWords words input = Then (Asks words) (λ query. AnswersQuery query input)
+
+-- ---- What is read and written
+
+-- the input is what remains in the reader, if that is known
+abbrev pub IsInput : Option (List ℕ) → List ℕ → Type 0
+IsInput None input = ⊤
+IsInput (Some left) input = input ≡ left
+
+-- The result, and what the writer took: the answer's text and nothing else, or the answer's fault and nothing at all. Out of
+-- memory, a failed read and a failed write come from outside; only after a failed write may something have been written.
+abbrev pub IsAnswered : (Result (List ℕ) RunError → Type 0) → Option (List ℕ) → Option (List ℕ) → Result ⊤ RunError → Type 0
+IsAnswered IsAnswer old new (Ok _) = (text : List ℕ) × IsAnswer (Ok text) × Appends old new text
+IsAnswered IsAnswer old new (Err Memory) = Keeps old new
+IsAnswered IsAnswer old new (Err Read) = Keeps old new
+IsAnswered IsAnswer old new (Err Write) = (text : List ℕ) × IsAnswer (Ok text)
+IsAnswered IsAnswer old new (Err fault) = IsAnswer (Err fault) × Keeps old new
+
+-- What was read: all of the input; if it is too long, one byte more than the limit. If the reader failed or memory ran out, it
+-- may be anything.
+abbrev pub IsRead : {A : Type 0} → Option (List ℕ) → Option (List ℕ) → Result A RunError → Type 0
+IsRead old new (Err Read) = ⊤
+IsRead old new (Err Memory) = ⊤
+IsRead old new (Err TooLong) = (bytes : List ℕ) × Consumes old new bytes × (length bytes ≡ most_bytes + 1)
+IsRead old new result = IsAtEnd new
+
+-- no read error is returned
+abbrev pub IsNotRead : {A : Type 0} → Result A RunError → Type 0
+IsNotRead (Err Read) = ⊥
+IsNotRead result = ⊤
+
+-- the exit status of the program
+abbrev pub status_of : RunError → ℕ
+status_of Usage = 2
+status_of fault = 1

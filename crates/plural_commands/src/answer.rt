@@ -1,0 +1,55 @@
+//! The answer to a query of a document.
+
+ghost use Rattle.plural_commands.specs.Answer.{AnswersLookup};
+ghost use Rattle.plural_commands.specs.Input.{document_of};
+ghost use Rattle.plural_commands.specs.Inner.CallAnswers.{GivesText};
+ghost use Rattle.plural_commands.specs.Inner.PrivateViews.{document_view, lookup_view};
+ghost use Rattle.plural_commands.specs.Steps.{After};
+
+use crate::category_command::category_line;
+use crate::document::{Document, document_of};
+use crate::error::RunError;
+use crate::message_command::message_line;
+use crate::print_command::rule_lines;
+use crate::query::Lookup;
+use crate::range_command::range_line;
+use crate::select_command::element_line;
+use std::alloc::Global;
+use std::borrow::CowStr;
+
+// Returns the answer to a query of the document that the bytes write.
+pub(crate) fn text_in(
+    alloc: Global,
+    bytes: &[u8],
+    lookup: &Lookup<'_>,
+) -> Result<CowStr<'static>, RunError>
+    ensures { GivesText (After (AnswersLookup (lookup_view lookup.now)) (document_of bytes.now)) result }
+{
+    let document = document_of(alloc, bytes)?;
+    text_of(alloc, &document, lookup)
+}
+
+// Returns the answer to a query of a document.
+fn text_of(
+    alloc: Global,
+    document: &Document,
+    lookup: &Lookup<'_>,
+) -> Result<CowStr<'static>, RunError>
+    ensures { GivesText (AnswersLookup (lookup_view lookup.now) (document_view document.now)) result }
+{
+    match lookup {
+        Lookup::Category(locale, rule_type, number) => {
+            category_line(document, locale, *rule_type, number)
+        }
+        Lookup::Range(locale, rule_type, start, end) => {
+            range_line(document, locale, *rule_type, start, end)
+        }
+        Lookup::Print(locale, rule_type) => rule_lines(alloc, document, locale, *rule_type),
+        Lookup::Select(locale, rule_type, number) => {
+            element_line(alloc, document, locale, *rule_type, number)
+        }
+        Lookup::Message(locale, rule_type, number, word) => {
+            message_line(alloc, document, locale, *rule_type, number, word)
+        }
+    }
+}

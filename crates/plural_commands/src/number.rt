@@ -1,0 +1,19 @@
+//! The word NUMBER of a command.
+
+ghost use Rattle.plural_commands.specs.Inner.CallAnswers.{GivesNumber};
+
+use crate::error::RunError;
+use icu_plurals::{CompactDecimal, DecimalError};
+use std::alloc::Global;
+
+// The number that a word writes.
+pub(crate) fn number(alloc: Global, word: &str) -> Result<CompactDecimal, RunError>
+    ensures { GivesNumber word.now result }
+{
+    match CompactDecimal::from_str(alloc, word) {
+        Ok(number) => Ok(number),
+        Err(DecimalError::Syntax) => Err(RunError::Number(DecimalError::Syntax)),
+        Err(DecimalError::Limit) => Err(RunError::Number(DecimalError::Limit)),
+        Err(DecimalError::Memory) => Err(RunError::Memory),
+    }
+}

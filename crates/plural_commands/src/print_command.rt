@@ -1,0 +1,66 @@
+//! The command `print`.
+
+ghost use Rattle.std.specs.Prelude.{◌≡◌, ◌++◌, OnOk, IfOk, string_bytes};
+ghost use Rattle.icu_plurals.specs.FiveRules.{rules_of as data_of};
+ghost use Rattle.plural_commands.specs.Answer.{AnswersFrom};
+ghost use Rattle.plural_commands.specs.Input.{rules_for};
+ghost use Rattle.plural_commands.specs.Inner.CallAnswers.{GivesText};
+ghost use Rattle.plural_commands.specs.Inner.PrivateViews.{document_view};
+ghost use Rattle.plural_commands.specs.Lines.{AreRuleLines, rule_line, rule_lines};
+
+use crate::document::{Document, rules_for};
+use crate::error::RunError;
+use icu_plurals::provider::rules::runtime::ast::Rule;
+use icu_plurals::provider::{PluralRulesData, RawPluralCategory};
+use icu_plurals::{PluralCategory, PluralRuleType};
+use std::alloc::{AllocError, Global};
+use std::borrow::CowStr;
+
+// The lines of the rules that a document has for a locale.
+pub(crate) fn rule_lines(
+    alloc: Global,
+    document: &Document,
+    locale: &str,
+    rule_type: PluralRuleType,
+) -> Result<CowStr<'static>, RunError>
+    ensures { GivesText (AnswersFrom AreRuleLines
+        (rules_for rule_type locale.now (document_view document.now))) result }
+{
+    let rules = rules_for(document, locale, rule_type)?;
+    match lines_of(alloc, &rules) {
+        Ok(lines) => Ok(CowStr::Owned(lines)),
+        Err(_) => Err(RunError::Memory),
+    }
+}
+
+// The lines of the rules that are present, from zero to many.
+fn lines_of(alloc: Global, rules: &PluralRulesData<'_>) -> Result<String, AllocError>
+    ensures { IfOk result (λ lines. string_bytes lines ≡ rule_lines (data_of rules.now)) }
+{
+    let mut lines = String::new(alloc);
+    push_rule(alloc, &mut lines, PluralCategory::Zero, &rules.zero)?;
+    push_rule(alloc, &mut lines, PluralCategory::One, &rules.one)?;
+    push_rule(alloc, &mut lines, PluralCategory::Two, &rules.two)?;
+    push_rule(alloc, &mut lines, PluralCategory::Few, &rules.few)?;
+    push_rule(alloc, &mut lines, PluralCategory::Many, &rules.many)?;
+    Ok(lines)
+}
+
+// Appends the line of a rule, if present.
+fn push_rule(
+    alloc: Global,
+    lines: &mut String,
+    category: PluralCategory,
+    rule: &Option<Rule<'_>>,
+) -> Result<(), AllocError>
+    ensures { OnOk result (string_bytes lines.new ≡ string_bytes lines.old ++ rule_line category rule.now) }
+{
+    let Some(rule) = rule else {
+        return Ok(());
+    };
+    let text = rule.to_string(alloc)?;
+    lines.push_str(RawPluralCategory::from(category).as_str())?;
+    lines.push_str(": ")?;
+    lines.push_str(text.as_str())?;
+    lines.push_str("\n")
+}

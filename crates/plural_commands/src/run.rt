@@ -1,0 +1,90 @@
+//! Runs the words of a command line.
+
+ghost use Rattle.std.specs.Prelude.{◌≡◌, List, ℕ, map};
+ghost use Rattle.plural_commands.specs.Answer.{AnswersQuery, AnswersWords, IsAnswered, IsInput, IsNotRead, IsRead};
+ghost use Rattle.plural_commands.specs.Inner.CallAnswers.{GivesAfterReading, IsOfDocument};
+ghost use Rattle.plural_commands.specs.Inner.PrivateViews.{lookup_view, query_view};
+ghost use Rattle.plural_commands.specs.Queries.{NeedsInput, of_document};
+
+use crate::answer::text_in;
+use crate::error::RunError;
+use crate::input::read_input;
+use crate::query::{Lookup, Query, query_of};
+use crate::test_command::truth_line;
+use std::alloc::Global;
+use std::borrow::CowStr;
+use std::io::{Read, Write};
+
+/// Writes the answer to the words of a command, and nothing else.
+///
+/// | Words | Answer |
+/// |---|---|
+/// | `test CONDITION INTEGER` | whether the condition is true of the integer (UTS 35 Part 3, Plural Rules Syntax) |
+/// | `category LOCALE TYPE NUMBER` | the name of the number's category (Language Plural Rules) |
+/// | `range LOCALE TYPE START END` | the name of the category of the numbers' range (Plural Ranges) |
+/// | `print LOCALE TYPE` | a line for each rule |
+/// | `select LOCALE TYPE NUMBER` | the text of the element that the number chooses |
+/// | `message LOCALE TYPE NUMBER` | this text with the word of the number in place of each `{}` |
+///
+/// `test` reads nothing. The others take the rules and ranges of the locale and the type, and the
+/// elements, from the input, a JSON document; they read it to its end, or to one byte past the limit.
+/// All take memory.
+///
+/// The errors, in the order in which they are checked: [`RunError::Usage`] if the words are no
+/// command; [`RunError::Condition`] if the condition can't be read; [`RunError::Number`] if the integer
+/// or the number is out of form, or above its limit; of the input [`RunError::Read`] if the reader
+/// failed, [`RunError::TooLong`] above 4194304 bytes, [`RunError::Json`] if it is no JSON text,
+/// [`RunError::Document`] if it is no document, or lacks the elements that are needed, and
+/// [`RunError::Locale`] if the locale lacks the rules of the type, or the ranges that are needed;
+/// [`RunError::Write`] if the writer failed; [`RunError::Memory`] if memory ran out. After an error
+/// nothing was written, except by a failed write.
+pub fn run<R: Read, W: Write>(
+    alloc: Global,
+    words: &[&str],
+    reader: &mut R,
+    writer: &mut W,
+) -> Result<(), RunError>
+    // The answer is that of some input: what remained in the reader, if that is known.
+    ensures answers { (input : List ℕ) × IsInput (R.remaining reader.old) input
+        × IsAnswered (AnswersWords (map (λ w. w.now) words.now) input) (W.contents writer.old) (W.contents writer.new) result }
+    ensures reads { NeedsInput (map (λ w. w.now) words.now) → IsRead (R.remaining reader.old) (R.remaining reader.new) result }
+    ensures reads_nothing { ¬ (NeedsInput (map (λ w. w.now) words.now)) → (reader.new ≡ reader.old) × IsNotRead result }
+{
+    let query = query_of(alloc, words)?;
+    let text = answer(alloc, &query, reader)?;
+    match writer.write_all(text.as_str().as_bytes()) {
+        Ok(()) => Ok(()),
+        Err(_) => Err(RunError::Write),
+    }
+}
+
+// Returns the answer to a query. A truth value needs no input.
+fn answer<R: Read>(
+    alloc: Global,
+    query: &Query<'_>,
+    reader: &mut R,
+) -> Result<CowStr<'static>, RunError>
+    ensures answers { (input : List ℕ) × IsInput (R.remaining reader.old) input
+        × GivesAfterReading (AnswersQuery (query_view query.now) input) result }
+    ensures reads { IsOfDocument (query_view query.now) → IsRead (R.remaining reader.old) (R.remaining reader.new) result }
+    ensures reads_nothing { ¬ (IsOfDocument (query_view query.now)) → (reader.new ≡ reader.old) × IsNotRead result }
+{
+    match query {
+        Query::Test(condition, integer) => Ok(CowStr::Borrowed(truth_line(condition, *integer))),
+        Query::Document(lookup) => looked_up(alloc, lookup, reader),
+    }
+}
+
+// Returns the answer to a query of the document in the reader.
+fn looked_up<R: Read>(
+    alloc: Global,
+    lookup: &Lookup<'_>,
+    reader: &mut R,
+) -> Result<CowStr<'static>, RunError>
+    ensures answers { (input : List ℕ) × IsInput (R.remaining reader.old) input
+        × GivesAfterReading (AnswersQuery (of_document (lookup_view lookup.now)) input) result }
+    ensures reads { IsRead (R.remaining reader.old) (R.remaining reader.new) result }
+{
+    let input = read_input(alloc, reader)?;
+    text_in(alloc, input.as_slice(), lookup)
+}
