@@ -1,6 +1,6 @@
 //! Categories that are sure to be those of the number itself.
 
-ghost use Rattle.std.specs.Prelude.{◌≡◌, ◌↔◌, ◌≢◌, IfOk, IfErr, IfSome, IsSome, MatchResult, Some, ⊥, ◌⊎◌};
+ghost use Rattle.std.specs.Prelude.{◌≡◌, ◌↔◌, ◌≢◌, IfOk, IfErr, IfSome, IsSome, MatchResult, Some, ◌⊎◌};
 ghost use Rattle.plural_reference.specs.Exactness.{IsWithinBound};
 ghost use Rattle.plural_base.specs.DecimalChoice.{IsExactChoice};
 ghost use Rattle.plural_base.specs.FiveRules.{moduli_of};
