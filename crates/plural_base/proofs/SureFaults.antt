@@ -1,11 +1,11 @@
 -- Of the reasons why there is no sure category a text has at most one.
-use Rattle.std.proofs.Common.{◌≡◌, inl, inr, ℕ, List, Option, Some, None, Ok, Err, refl, sym, ap, ◌∙◌, subst, arith}
-use Rattle.std.specs.Prelude.{◌⊎◌, ◌↔◌, ◌≤◌}
+use Rattle.std.proofs.Common.{◌≡◌, inl, inr, ℕ, List, Option, Some, None, Result, Ok, Err, refl, sym, ap, ◌∙◌, subst, arith}
+use Rattle.std.specs.Prelude.{◌⊎◌, ◌↔◌, ◌≤◌, IsSome}
 use Rattle.fixed_decimal.specs.Places.{IsOverLimit, IsWithinLimit, Places}
-use Rattle.fixed_decimal.specs.Written.{CompactNumber, IsCompactOverLimit, OneCompact}
+use Rattle.fixed_decimal.specs.Written.{CompactNumber, IsCompactOverLimit, OneCompact, WritesCompact}
 use Rattle.fixed_decimal.specs.declared.error.DecimalError.{DecimalError}
 use Rattle.fixed_decimal.specs.declared.error.DecimalError.TheVariants as number_fault
-use Rattle.plural_base.specs.FiveRules.{Five, FiveRules}
+use Rattle.plural_base.specs.FiveRules.{Five, FiveRules, five}
 use Rattle.plural_base.specs.RuleTexts.{AreRulesOf, IsFirstRefused, IsRefused, IsRuleOf, IsTaken}
 use Rattle.plural_base.specs.SureChoice.{HasSureFault, IsNumberFault, IsOutOfMemory, IsSure, WritesWithin}
 use Rattle.plural_base.specs.declared.category.PluralCategory.{PluralCategory}
@@ -17,6 +17,11 @@ use Rattle.plural_runtime.specs.PackedRelations.{PackedRelation}
 use Rattle.plural_runtime.specs.RuleOfText.{RuleAnswer, TextsGiveOneAnswer, rule_of_text}
 use Rattle.plural_runtime.specs.declared.error.RuleError.{RuleError}
 use Rattle.plural_runtime.specs.declared.error.RuleError.TheVariants as rule_fault
+
+-- no category isn't one
+pub no_category : (found : Option PluralCategory) → found ≡ None → IsSome found → ⊥
+no_category None is h = absurd cc
+no_category (Some category) is h = absurd cc
 
 -- ---- One text
 
@@ -59,16 +64,20 @@ same_rule one (Some text) (Some a) (Some b) g h =
 
 -- ---- Five texts
 
+-- five are equal if each of them is
+same_five : {A : Type 0} (a b : Five A) → a.zero ≡ b.zero → a.one ≡ b.one → a.two ≡ b.two → a.few ≡ b.few → a.many ≡ b.many → a ≡ b
+same_five a b zero one two few many =
+    ap (λ it. five it a.one a.two a.few a.many) zero ∙ ap (λ it. five b.zero it a.two a.few a.many) one
+    ∙ ap (λ it. five b.zero b.one it a.few a.many) two ∙ ap (λ it. five b.zero b.one b.two it a.many) few
+    ∙ ap (λ it. five b.zero b.one b.two b.few it) many
+
 -- five texts give the same rules
 pub same_rules : TextsGiveOneAnswer → (texts : Five (Option (List ℕ))) (a b : FiveRules)
     → AreRulesOf texts a → AreRulesOf texts b → a ≡ b
 same_rules one texts a b g h =
-    let zero = same_rule one texts.zero a.zero b.zero g.zero h.zero in
-    let one_rule = same_rule one texts.one a.one b.one g.one h.one in
-    let two = same_rule one texts.two a.two b.two g.two h.two in
-    let few = same_rule one texts.few a.few b.few g.few h.few in
-    let many = same_rule one texts.many a.many b.many g.many h.many in
-    cc
+    same_five a b (same_rule one texts.zero a.zero b.zero g.zero h.zero) (same_rule one texts.one a.one b.one g.one h.one)
+    (same_rule one texts.two a.two b.two g.two h.two) (same_rule one texts.few a.few b.few g.few h.few)
+    (same_rule one texts.many a.many b.many g.many h.many)
 
 -- the first refusal of texts that all give rules is out of memory
 pub rules_leave_memory : TextsGiveOneAnswer → (texts : Five (Option (List ℕ))) (rules : FiveRules) (category : PluralCategory)
@@ -140,6 +149,16 @@ within_leaves_memory one text x number_fault.Limit within is =
     let same : is.0 ≡ x = one text is.0 x is.1 within.0 in
     absurd (within_is_not_over x within.1 within.2 (subst IsCompactOverLimit same is.2))
 within_leaves_memory one text x number_fault.Memory within is = refl
+
+-- the fault of a refused text
+pub refused_number : {A : Type 0} (text : List ℕ) (error : DecimalError)
+    → (◌≡◌ {A = Result A DecimalError} (Err error) (Err number_fault.Syntax)) ↔ ((x : CompactNumber) → ¬ (WritesCompact text x))
+    → (◌≡◌ {A = Result A DecimalError} (Err error) (Err number_fault.Limit))
+        ↔ ((x : CompactNumber) × WritesCompact text x × IsCompactOverLimit x)
+    → IsNumberFault text error
+refused_number text number_fault.Syntax syntax limit = syntax.0 refl
+refused_number text number_fault.Limit syntax limit = limit.0 refl
+refused_number text number_fault.Memory syntax limit = tt
 
 -- a text has one fault, but for memory
 one_number_fault : (text : List ℕ) (found fault : DecimalError) → IsNumberFault text found → IsNumberFault text fault

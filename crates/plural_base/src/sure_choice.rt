@@ -9,10 +9,11 @@ ghost use Rattle.plural_base.specs.RuleTexts.{texts_of};
 ghost use Rattle.plural_base.specs.SureChoice.{IsSureCategory, IsSure, HasSureFault, IsOutOfMemory};
 
 use crate::category::PluralCategory;
-use crate::laws::rules_have_every_reading;
+use crate::laws::{rules_have_every_reading, texts_give_one_answer};
 use crate::rules::PluralRules;
 use crate::rules::data::PluralRulesData;
 use crate::rules::text::RulesTextError;
+use fixed_decimal::laws::texts_write_one_number;
 use fixed_decimal::{CompactDecimal, DecimalError};
 use std::alloc::Global;
 use std::error::Error;
@@ -76,6 +77,8 @@ pub fn sure_category(
         IsSure texts number.now → IfErr result (λ found. IsOutOfMemory found) }
 {
     rules_have_every_reading();
+    texts_give_one_answer();
+    texts_write_one_number();
     let data = match PluralRulesData::from_texts(alloc, zero, one, two, few, many) {
         Ok(data) => data,
         Err(error) => return Err(SureCategoryError::Rules(error)),
