@@ -22,3 +22,4 @@ pub mod RangeMembers
 pub mod RangesAgain
 pub mod OneRulesEncoding
 pub mod RuleItemFaults
+pub mod SureFaults

@@ -29,6 +29,7 @@ pub mod RangesJson
 pub mod Providers
 pub mod DocumentJson
 pub mod DecimalChoice
+pub mod SureChoice
 pub mod ChoiceLaws
 -- not definitions of the subject
 pub mod Inner

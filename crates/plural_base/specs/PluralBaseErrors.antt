@@ -1,7 +1,8 @@
--- The texts of the errors of JSON values (docs/JSON.md), of rules as bytes (docs/FORMATS.md) and of
--- packing elements.
+-- The texts of the errors of JSON values (docs/JSON.md), of rules as bytes (docs/FORMATS.md), of
+-- packing elements and of sure categories.
 use Rattle.std.specs.Prelude.{ℕ, List, ◌++◌, codes, Option, Some, None}
 use Rattle.std.specs.Fmt.{decimal}
+use Rattle.fixed_decimal.specs.FixedDecimalErrors.{error_text}
 use Rattle.packed_list.specs.PackedListErrors.{list_error_text}
 use Rattle.plural_runtime.specs.PluralRuntimeErrors.{rule_error_text, rule_bytes_error_text}
 use Rattle.plural_base.specs.declared.category.PluralCategory.{PluralCategory}
@@ -14,6 +15,8 @@ use Rattle.plural_base.specs.declared.rules.bytes.error.RulesPackError.{RulesPac
 use Rattle.plural_base.specs.declared.rules.bytes.error.RulesPackError.TheVariants as limits
 use Rattle.plural_base.specs.declared.json.error.JsonError.{JsonError}
 use Rattle.plural_base.specs.declared.json.error.JsonError.TheVariants.{Float, Shape, Rule, RangeKey, RangeValue, Pack, Memory}
+use Rattle.plural_base.specs.declared.sure_choice.SureCategoryError.{SureCategoryError}
+use Rattle.plural_base.specs.declared.sure_choice.SureCategoryError.TheVariants as sure
 
 -- why elements can't be packed
 abbrev pub elements_pack_error_text : ElementsPackError → List ℕ
@@ -47,3 +50,9 @@ json_error_text RangeKey = codes "range key"
 json_error_text RangeValue = codes "range value"
 json_error_text (Pack fault) = elements_pack_error_text fault
 json_error_text Memory = codes "out of memory"
+
+-- why there is no sure category
+abbrev pub sure_category_error_text : SureCategoryError → List ℕ
+sure_category_error_text (sure.Rules fault) = codes "rule " ++ name_of fault.category ++ codes ": " ++ rule_error_text fault.error
+sure_category_error_text (sure.Number fault) = error_text fault
+sure_category_error_text sure.OutsideBound = codes "outside the exactness bound"

@@ -21,6 +21,7 @@ pub mod laws;
 mod provider;
 mod ranges;
 mod rules;
+mod sure_choice;
 
 pub use category::raw::RawPluralCategory;
 pub use category::{AllCategories, PluralCategory};
@@ -40,3 +41,4 @@ pub use rules::bytes::error::{RulesBytesError, RulesPackError};
 pub use rules::categories::Categories;
 pub use rules::data::PluralRulesData;
 pub use rules::text::RulesTextError;
+pub use sure_choice::{SureCategoryError, sure_category};
