@@ -70,22 +70,19 @@ fn integers_of(
     found: &[PluralCategory],
 ) -> Result<String, RowFault> {
     let mut shown = String::new(alloc);
-    let mut run = None;
+    let mut start = None;
     let mut number = first;
     for other in found {
         if *other == category {
-            run = match run {
-                Some((begun, _)) => Some((begun, number)),
-                None => Some((number, number)),
-            };
-        } else if let Some((begun, ended)) = run {
-            push_run(alloc, &mut shown, begun, ended)?;
-            run = None;
+            start = start.or(Some(number));
+        } else if let Some(begun) = start {
+            push_run(alloc, &mut shown, begun, number.saturating_sub(1))?;
+            start = None;
         }
         number = number.saturating_add(1);
     }
-    if let Some((begun, ended)) = run {
-        push_run(alloc, &mut shown, begun, ended)?;
+    if let Some(begun) = start {
+        push_run(alloc, &mut shown, begun, number.saturating_sub(1))?;
     }
     Ok(shown)
 }
