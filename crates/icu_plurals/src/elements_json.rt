@@ -1,6 +1,6 @@
 //! Packed elements as JSON.
 
-ghost use Rattle.std.specs.Prelude.{◌≡◌, ◌≢◌, ◌↔◌, Err, IfErr, IfOk, IsFalse, IsTrue, None, OnOk, option_map};
+ghost use Rattle.std.specs.Prelude.{◌≡◌, ◌≢◌, ◌↔◌, Err, IfErr, IfOk, IsFalse, IsTrue, None, OnOk, codes, option_map};
 ghost use Rattle.std.specs.Option.{option_and_then};
 ghost use Rattle.plural_base.specs.Json.{Answers};
 ghost use Rattle.serde_json.specs.Find.{as_str};
@@ -211,11 +211,7 @@ fn written(
     let mut members = Map::new(alloc);
     let other = value_of(alloc, &elements.other)?;
     serde_json::put(&mut members, alloc, "other", other)?;
-    put_value(alloc, &mut members, "zero", &elements.zero)?;
-    put_value(alloc, &mut members, "one", &elements.one)?;
-    put_value(alloc, &mut members, "two", &elements.two)?;
-    put_value(alloc, &mut members, "few", &elements.few)?;
-    put_value(alloc, &mut members, "many", &elements.many)?;
+    put_categories(alloc, &mut members, elements)?;
     put_value(
         alloc,
         &mut members,
@@ -224,6 +220,23 @@ fn written(
     )?;
     put_value(alloc, &mut members, "explicit_one", &elements.explicit_one)?;
     Ok(Value::Object(members))
+}
+
+// Puts the values of the categories but other under their keys.
+fn put_categories(
+    alloc: Global,
+    members: &mut Map<String, Value>,
+    elements: &PluralElements<(FourBitMetadata, &str)>,
+) -> Result<(), AllocError>
+    ensures { let values = each_by lent_value elements.now in OnOk result (members_view members.new.entries
+        ≡ with_value (codes "many") values.many (with_value (codes "few") values.few (with_value (codes "two") values.two
+        (with_value (codes "one") values.one (with_value (codes "zero") values.zero (members_view members.old.entries)))))) }
+{
+    put_value(alloc, members, "zero", &elements.zero)?;
+    put_value(alloc, members, "one", &elements.one)?;
+    put_value(alloc, members, "two", &elements.two)?;
+    put_value(alloc, members, "few", &elements.few)?;
+    put_value(alloc, members, "many", &elements.many)
 }
 
 // Puts a value that is present under its key.
