@@ -1,6 +1,6 @@
 //! Decimals with a compact exponent.
 
-ghost use Rattle.std.specs.Prelude.{◌≡◌, ◌≤◌, ◌↔◌, IfOk};
+ghost use Rattle.std.specs.Prelude.{◌≡◌, ◌≢◌, ◌≤◌, ◌↔◌, length, Err, IfOk};
 ghost use Rattle.fixed_decimal.specs.Places.{IsWithinLimit};
 ghost use Rattle.fixed_decimal.specs.Written.{CompactNumber, WritesCompact, IsCompactOverLimit};
 
@@ -52,6 +52,7 @@ impl CompactDecimal {
             ↔ ((x : CompactNumber) → ¬ (WritesCompact text.now x)) }
         ensures limit { (result ≡ Err DecimalError.Limit)
             ↔ ((x : CompactNumber) × WritesCompact text.now x × IsCompactOverLimit x) }
+        ensures inline { length text.now ≤ 16 → result ≢ Err DecimalError.Memory }
     {
         let Some((front, exponent)) = split_exponent(text.as_bytes()) else {
             return Err(DecimalError::Syntax);

@@ -1,6 +1,6 @@
 //! The digits that a text writes before and after its point, and the span of those that are stored.
 
-ghost use Rattle.std.specs.Prelude.{◌≡◌, ◌≢◌, ◌+◌, ◌-◌, ◌<◌, ◌≤◌, ◌++◌, length, take, drop, slice_index, IfOk};
+ghost use Rattle.std.specs.Prelude.{◌≡◌, ◌≢◌, ◌+◌, ◌-◌, ◌<◌, ◌≤◌, ◌++◌, length, take, drop, slice_index, IfOk, IsOk};
 ghost use Rattle.smallvec.specs.SmallVec.{small_vec_len, HasRoomFor};
 ghost use Rattle.fixed_decimal.specs.Inner.TextParts.{AllDigitBytes, AreZeroBytes, AreZeros, written_digits, digits_in};
 
@@ -63,7 +63,8 @@ pub(crate) fn digits_between(
     requires order { from ≤ end }
     requires inside { end ≤ length (written_digits whole.now fraction.now) }
     requires no_digit { length whole.now ≡ 0 → 0 < from }
-    ensures { IfOk result (λ v. v.items ≡ drop from (take end (written_digits whole.now fraction.now))) }
+    ensures digits { IfOk result (λ v. v.items ≡ drop from (take end (written_digits whole.now fraction.now))) }
+    ensures inline { end - from ≤ INLINE_DIGITS → IsOk result }
 {
     let mut digits = SmallVec::with_capacity(alloc, end - from)?;
     let places = whole.len();

@@ -1,6 +1,6 @@
 //! Decimals without a sign.
 
-ghost use Rattle.std.specs.Prelude.{◌≡◌, ◌+◌, ◌-◌, ◌*◌, ◌^◌, ◌<◌, ◌≤◌, ◌++◌, ◌↔◌, pos, neg_ℤ, [], length, slice_index, IfOk, IfErr, OnOk, OnErr, IsTrue};
+ghost use Rattle.std.specs.Prelude.{◌≡◌, ◌+◌, ◌-◌, ◌*◌, ◌^◌, ◌<◌, ◌≤◌, ◌++◌, ◌↔◌, pos, neg_ℤ, [], length, slice_index, IfOk, IsOk, IfErr, OnOk, OnErr, IsTrue};
 ghost use Rattle.fixed_decimal.specs.Digits.{IsNumeral, value_of};
 ghost use Rattle.fixed_decimal.specs.Written.{WritesUnsigned};
 ghost use Rattle.fixed_decimal.specs.Inner.TextParts.{AllDigitBytes, HasPointWithin, places_of_sides, places_around};
@@ -96,7 +96,8 @@ impl UnsignedDecimal {
         requires fraction { AllDigitBytes fraction.now }
         requires whole_within { length whole.now ≤ MOST_PLACES }
         requires fraction_within { length fraction.now ≤ MOST_PLACES }
-        ensures { IfOk result (λ x. x ≡ places_of_sides whole.now fraction.now) }
+        ensures places { IfOk result (λ x. x ≡ places_of_sides whole.now fraction.now) }
+        ensures inline { length whole.now + length fraction.now ≤ INLINE_DIGITS → IsOk result }
     {
         let whole_places = whole.len().max(1);
         let from = zeros_before(whole, fraction);
@@ -117,7 +118,8 @@ impl UnsignedDecimal {
         point: usize,
     ) -> Result<UnsignedDecimal, AllocError>
         requires { HasPointWithin text.now point }
-        ensures { IfOk result (λ x. x ≡ places_around text.now point) }
+        ensures places { IfOk result (λ x. x ≡ places_around text.now point) }
+        ensures inline { length text.now ≤ INLINE_DIGITS → IsOk result }
     {
         let (whole, rest) = text.split_at(point);
         let fraction = &rest[rest.len().min(1)..];

@@ -3,8 +3,8 @@ use Rattle.fixed_decimal.proofs.Making.{length-written}
 use Rattle.fixed_decimal.proofs.Sides.{two_parts, between_parts, on_a_side}
 use Rattle.fixed_decimal.proofs.span.digits_between.Goals as goal
 
-pub returns : goal.returns
-returns c =
+pub returns-clause-digits : goal.returns-clause-digits
+returns-clause-digits c =
     two_parts c.in_ok-digits.digits.items c.push_digits.new.digits.items c.push_digits-2.new.digits.items _ _
     c.in_ok-digits.ensures.items c.push_digits.ensures.items c.push_digits-2.ensures.items
     ∙ sym (between_parts c.args.whole.now c.args.fraction.now c.args.from c.args.end

@@ -99,7 +99,7 @@ returns-clause-number c =
     let x = c.in_ok-absolute.absolute in
     let parts = c.in_ok-sign.ensures.parts in
     let read : WritesUnsigned c.in_ok-sign.digits.now x × IsWithinLimit x
-    = reads_at c.in_ok-sign.digits.now c.in_ok-sign.point x parts.1 c.in_ok-absolute.ensures in
+    = reads_at c.in_ok-sign.digits.now c.in_ok-sign.point x parts.1 c.in_ok-absolute.ensures.places in
     let f = c.in-Some.ensures.found in
     let same : c.in-Some.exponent ≡ c.in-Ok.exponent = sym c.in-Ok.ensures.1 in (
       (

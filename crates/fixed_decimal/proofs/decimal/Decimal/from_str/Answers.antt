@@ -34,7 +34,7 @@ returns-clause-number c =
     let x = c.in_ok-from_point.field-0 in
     let parts = c.in_ok-sign.ensures.parts in
     let read : WritesUnsigned c.in_ok-sign.digits.now x × IsWithinLimit x
-    = reads_at c.in_ok-sign.digits.now c.in_ok-sign.point x parts.1 c.in_ok-from_point.ensures in
+    = reads_at c.in_ok-sign.digits.now c.in_ok-sign.point x parts.1 c.in_ok-from_point.ensures.places in
     ((c.in_ok-sign.digits.now, read.0, sym c.as_bytes.ensures.value ∙ parts.0), read.1)
 
 pub returns-clause-syntax : goal.returns-clause-syntax

@@ -12,12 +12,12 @@ invariant_of-result c =
     let fraction = c.args.fraction.now in
     let l : length (written_digits whole fraction) ≡ max (length whole) 1 + length fraction = length-written whole fraction in
     spans _ (written_digits whole fraction) c.end_before_zeros-end.result (omega arith) (omega arith)
-    (omega arith) c.in_ok-digits_between.ensures
+    (omega arith) c.in_ok-digits_between.ensures.digits
     (omega arith) (omega arith) (omega arith) (written_are_digits whole fraction c.requires.whole c.requires.fraction)
     (λ h. c.zeros_before-from.ensures.other (omega arith)) c.end_before_zeros-end.ensures.other
 
-pub returns : goal.returns
-returns c =
+pub returns-clause-places : goal.returns-clause-places
+returns-clause-places c =
     let whole = c.args.whole.now in
     let fraction = c.args.fraction.now in
     let w : length (or_zero (digits_in whole)) ≡ max (length whole) 1 = length-whole_digits whole in
@@ -30,5 +30,5 @@ returns c =
       span = c.in_ok-digits_between.field-0;
     } in
     places_of_all made (or_zero (digits_in whole)) (digits_in fraction) c.end_before_zeros-end.result (omega arith)
-    (sym (length-digits_in fraction)) (omega arith) (omega arith) c.in_ok-digits_between.ensures
+    (sym (length-digits_in fraction)) (omega arith) (omega arith) c.in_ok-digits_between.ensures.digits
     c.zeros_before-from.ensures.zeros c.end_before_zeros-end.ensures.zeros

@@ -11,8 +11,8 @@ tail text rest n m e one =
     let least : m ≡ min 1 (length rest) = omega arith in
     take_rest rest m ∙ ap (λ k. drop k rest) least ∙ drop_min 1 rest ∙ ap (λ xs. drop 1 xs) e ∙ drop-drop 1 n text
 
-pub returns : goal.returns
-returns c =
+pub returns-clause-places : goal.returns-clause-places
+returns-clause-places c =
     let text = c.args.text.now in
     let n = c.args.point in
     let whole = c.split_at.result.0.now in
@@ -21,4 +21,4 @@ returns c =
     let front : whole ≡ take n text = c.split_at.ensures.front in
     let behind : fraction ≡ drop (n + 1) text = tail text rest n c.min.result c.split_at.ensures.back c.min.ensures in
     IfOk-weaker c.from_digits.result (λ x. x ≡ places_of_sides whole fraction) (λ x. x ≡ places_around text n)
-    (λ x e. e ∙ ap (λ w. places_of_sides w fraction) front ∙ ap (λ f. places_of_sides (take n text) f) behind) c.from_digits.ensures
+    (λ x e. e ∙ ap (λ w. places_of_sides w fraction) front ∙ ap (λ f. places_of_sides (take n text) f) behind) c.from_digits.ensures.places

@@ -8,4 +8,4 @@ pub returns-clause-number : goal.returns-clause-number
 returns-clause-number c =
     let x = c.in_ok-from_point.field-0 in
     subst (λ (t : List ℕ). WritesUnsigned t x × IsWithinLimit x) c.as_bytes-digits.ensures.value
-    (reads_at c.as_bytes-digits.result.now c.in_ok-point.point x c.in_ok-point.ensures.point c.in_ok-from_point.ensures)
+    (reads_at c.as_bytes-digits.result.now c.in_ok-point.point x c.in_ok-point.ensures.point c.in_ok-from_point.ensures.places)

@@ -23,7 +23,7 @@ returns-clause-digits c =
     let x = c.in_ok-from_digits.field-0 in
     let made : x ≡ places_of_sides (decimal c.args.number) []
     =
-    c.in_ok-from_digits.ensures
+    c.in_ok-from_digits.ensures.places
     ∙ ap (λ (t : List ℕ). places_of_sides t []) (bytes (goal.at.returns-clause-digits c).After-as_bytes-digits)
     in
     subst (λ (y : Places). IsNumeral y.whole c.args.number × (y.fraction ≡ [])) (sym made) (decimal_numeral c.args.number small, refl)
