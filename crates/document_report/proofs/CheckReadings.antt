@@ -20,7 +20,7 @@ use Rattle.document_report.specs.declared.place.Place.TheVariants as place
 use Rattle.document_report.specs.declared.report.Verdict.{Verdict}
 use Rattle.document_report.specs.declared.run.Answer.{Answer as CodeAnswer}
 use Rattle.document_report.proofs.CheckFaults.{mapped}
-use Rattle.plural_documents.specs.Inputs.{GivesInput, IsInput, IsRead, input_origin, most_bytes}
+use Rattle.plural_documents.specs.Inputs.{GivesInput, IsInput, IsRead, IsReadAfter, input_origin, most_bytes}
 use Rattle.plural_documents.specs.JsonTexts.{json_of}
 use Rattle.plural_documents.specs.declared.InputError.{InputError}
 use Rattle.plural_documents.specs.declared.InputError.TheVariants as cause
@@ -152,16 +152,16 @@ pub no_input : (left : Option (List ℕ)) (e : InputError) (r : Result CodeAnswe
 no_input left e r is h = rw is (of_input left e h)
 
 -- what was read at an error of the input was read at its fault
-read_at : {A B : Type 0} (old new : Option (List ℕ)) (e : InputError)
-    → IsRead {A = A} input_origin old new (Err e) → IsRead {A = B} check_origin old new (Err (input_fault e))
+read_at : (old new : Option (List ℕ)) (e : InputError)
+    → IsReadAfter (input_origin e) old new → IsReadAfter (check_origin (input_fault e)) old new
 read_at old new cause.Read h = tt
 read_at old new cause.TooLong h = h
 read_at old new cause.Memory h = tt
 
 -- `?` passes on such a fault
-pub read_on : {A B : Type 0} (old new : Option (List ℕ)) (e : InputError) (r : Result B CheckError)
-    → r ≡ Err (input_fault e) → IsRead {A = A} input_origin old new (Err e) → IsRead check_origin old new r
-read_on {A} {B} old new e r is h = rw is (read_at {A = A} {B = B} old new e h)
+pub read_on : {B : Type 0} (old new : Option (List ℕ)) (e : InputError) (r : Result B CheckError)
+    → r ≡ Err (input_fault e) → IsReadAfter (input_origin e) old new → IsRead check_origin old new r
+read_on old new e r is h = rw is (read_at old new e h)
 
 -- the answer to the bytes is the answer to the input
 pub of_all : (whole bytes : List ℕ) → length whole ≤ most_bytes → bytes ≡ whole → (r : Result CodeAnswer CheckError)

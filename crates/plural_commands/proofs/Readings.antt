@@ -10,7 +10,7 @@ use Rattle.plural_commands.specs.Steps.{After}
 use Rattle.plural_commands.specs.declared.error.RunError.{RunError}
 use Rattle.plural_commands.specs.declared.error.RunError.TheVariants.{Usage, Condition, Number, Read, TooLong}
 use Rattle.plural_commands.specs.declared.error.RunError.TheVariants.{Json, Document, Locale, Write, Memory}
-use Rattle.plural_documents.specs.Inputs.{GivesInput, IsInput, IsRead, input_origin, most_bytes}
+use Rattle.plural_documents.specs.Inputs.{GivesInput, IsInput, IsRead, IsReadAfter, input_origin, most_bytes}
 use Rattle.plural_documents.specs.declared.InputError.{InputError}
 use Rattle.plural_documents.specs.declared.InputError.TheVariants as cause
 use Rattle.plural_documents.proofs.InputLemmas.{beyond, some_input, within}
@@ -69,16 +69,16 @@ pub no_input : (Next : WholeDocument → Result (List ℕ) RunError → Type 0) 
 no_input Next left e r is h = rw is (of_input Next left e h)
 
 -- what was read at an error of the input was read at its fault
-read_at : {A B : Type 0} (old new : Option (List ℕ)) (e : InputError)
-    → IsRead {A = A} input_origin old new (Err e) → IsRead {A = B} run_origin old new (Err (input_fault e))
+read_at : (old new : Option (List ℕ)) (e : InputError)
+    → IsReadAfter (input_origin e) old new → IsReadAfter (run_origin (input_fault e)) old new
 read_at old new cause.Read h = tt
 read_at old new cause.TooLong h = h
 read_at old new cause.Memory h = tt
 
 -- `?` passes on such a fault
-pub read_on : {A B : Type 0} (old new : Option (List ℕ)) (e : InputError) (r : Result B RunError)
-    → r ≡ Err (input_fault e) → IsRead {A = A} input_origin old new (Err e) → IsRead run_origin old new r
-read_on {A} {B} old new e r is h = rw is (read_at {A = A} {B = B} old new e h)
+pub read_on : {B : Type 0} (old new : Option (List ℕ)) (e : InputError) (r : Result B RunError)
+    → r ≡ Err (input_fault e) → IsReadAfter (input_origin e) old new → IsRead run_origin old new r
+read_on old new e r is h = rw is (read_at old new e h)
 
 -- ---- The input was read to its end
 

@@ -1,6 +1,6 @@
 //! The words of the command line.
 
-ghost use Rattle.std.specs.Prelude.{◌≡◌, ◌⊎◌, OnErr};
+ghost use Rattle.std.specs.Prelude.{◌≡◌, ◌⊎◌, IfErr};
 ghost use Rattle.plural_commands.specs.declared.error.RunError.TheVariants.{Memory, Usage};
 
 use crate::error::RunError;
@@ -38,7 +38,7 @@ impl<'a, E: Env> Env for AfterName<'a, E> {
 /// It allocates. The error is [`RunError::Usage`] if a word isn't UTF-8, since no command has such a
 /// word, and [`RunError::Memory`] if memory ran out.
 pub fn arguments<E: Env>(alloc: Global, all: &E) -> Result<Vec<String>, RunError>
-    ensures errors { OnErr result (λ fault. (fault ≡ Usage) ⊎ (fault ≡ Memory)) }
+    ensures errors { IfErr result (λ fault. (fault ≡ Usage) ⊎ (fault ≡ Memory)) }
 {
     match env::args(&(AfterName { all }, alloc)) {
         Ok(found) => match found.collect::<Vec<String>>(alloc) {
