@@ -1,4 +1,5 @@
-/* Which form of a message does a number take? The plural rules of Fonuresse, for C and C++.
+/* Which form of a message does a number take? The plural rules of Fonuresse, for C. In C++ the type of
+ * a category is `enum plurals_category`, since plurals_category is a function too.
  *
  * A language's rules are one block of bytes, and so are the elements of a message, which are its texts by category. A
  * program makes the blocks once and asks with them as often as it likes:

@@ -141,17 +141,18 @@ module _ (bytes t front : List ℕ) (e : ℕ) (same : bytes ≡ t) (found : (res
   compact_from : (x : Decimal) → WritesDecimal front x → WritesCompact t (record { significand = x; exponent = e })
   compact_from x h = (front, found.0, h, found.1, sym same ∙ found.2)
 
-  -- The decimal of such a number is written by the part before the exponent, and its exponent is the one that was found.
+  -- The decimal of such a number is written by the part before the exponent, and its exponent is
+  -- the one that was found.
   decimal_from : (y : CompactNumber) → WritesCompact t y → WritesDecimal front y.significand × (e ≡ y.exponent)
   decimal_from y h =
       let here : (front ≡ h.0) × (e ≡ y.exponent) = only h.0 h.1 y.significand y.exponent h.2 h.3 (same ∙ h.4) in
       (subst (λ (s : List ℕ). WritesDecimal s y.significand) (sym here.0) h.2, here.1)
 
-  -- Where the front is no decimal, the text is no compact number.
+  -- Where the front isn't a decimal, the text isn't a compact number.
   pub none_compact : ((x : Decimal) → ¬ (WritesDecimal front x)) → (y : CompactNumber) → ¬ (WritesCompact t y)
   none_compact none y h = none y.significand (decimal_from y h).0
 
-  -- Where the text is no compact number, its front is no decimal.
+  -- Where the text isn't a compact number, its front isn't a decimal.
   pub none_decimal : ((y : CompactNumber) → ¬ (WritesCompact t y)) → (x : Decimal) → ¬ (WritesDecimal front x)
   none_decimal none x h = none (record { significand = x; exponent = e }) (compact_from x h)
 

@@ -10,7 +10,8 @@ use Rattle.fixed_decimal.specs.Inner.UnsignedInside.{digits_of, places_of, IsSpa
 use Rattle.fixed_decimal.specs.declared.unsigned.UnsignedDecimal.TheInside.{Inside}
 use Rattle.fixed_decimal.proofs.Spans.{digit_before, digit_after, digit_at_index, length-whole, negative_place, whole_place}
 
--- with these integer places, the digit after these leading zeros stands at this power of ten or above
+-- with these integer places, the digit after these leading zeros stands at this power of ten or
+-- above
 abbrev pub Reaches : ℕ → ℕ → ℤ → Type 0
 Reaches places leading (pos n) = leading + n < places
 Reaches places leading (negsuc n) = leading < places + suc n
@@ -69,7 +70,8 @@ digit_reaches a (negsuc m) h some =
     = in_span a (length (places_of a).whole + suc m - 1) (subst (λ d. 0 < d) (sym e) some) in
     (let l : a.leading_zeros ≤ length (places_of a).whole + suc m - 1 = r.0 in omega arith, r.1)
 
--- A digit that isn't 0 from a place on is one of the span, whose first digit then stands there or above.
+-- A digit that isn't 0 from a place on is one of the span, whose first digit then stands there or
+-- above.
 pub reached : (a : Inside) (k : ℤ) → IsSpan a → HasDigitFrom (places_of a) k
     → Reaches a.whole_places a.leading_zeros k × (0 < length a.span.items)
 reached a k h p =

@@ -1,4 +1,5 @@
--- The span that is cut out of all written digits: without the zeros at both ends, it gives them back.
+-- The span that is cut out of all written digits: without the zeros at both ends, it gives them
+-- back.
 use Rattle.std.proofs.Common.{◌≡◌, ◌≢◌, ℕ, zero, suc, ◌+◌, ◌-◌, ◌<◌, ◌≤◌, max, List, [], ◌∷◌, ◌++◌, refl, sym, ◌∙◌, ap, length, take}
 use Rattle.std.proofs.Common.{drop, arith, get_or, replicate, length-append, length-drop}
 use Rattle.std.proofs.lemmas.List.{length-take-le, get_or-take, get_or-drop, take-append-drop, take_all, take_at, drop_at, take-take}
@@ -23,7 +24,7 @@ written_are_digits whole fraction h k =
 pub length-whole_digits : (whole : List ℕ) → length (or_zero (digits_in whole)) ≡ max (length whole) 1
 length-whole_digits whole = length-or_zero (digits_in whole) ∙ ap (λ n. max n 1) (length-digits_in whole)
 
--- The written digits are those of both sides.
+-- The written digits are the digits of both sides.
 pub length-written : (whole fraction : List ℕ) → length (written_digits whole fraction) ≡ max (length whole) 1 + length fraction
 length-written whole fraction =
     length-append (or_zero (digits_in whole)) (digits_in fraction) ∙ omega (arith, length-whole_digits whole, length-digits_in fraction)
@@ -57,7 +58,8 @@ length-between from end ds h = length-drop from (take end ds) ∙ ap (λ n. n - 
 get_or-between : (from end k : ℕ) (ds : List ℕ) → from + k < end → get_or (between from end ds) k 0 ≡ get_or ds (from + k) 0
 get_or-between from end k ds h = get_or-drop from (take end ds) k 0 ∙ get_or-take end ds (from + k) 0 h
 
--- Zeros up to one index and from another on, put around what stands between them, give all digits back.
+-- Zeros up to one index and from another on, put around what stands between them, give all digits
+-- back.
 zeros_around : (from end : ℕ) (ds : List ℕ) → from ≤ end → end ≤ length ds → AreZeros ds 0 from
     → AreZeros ds end (length ds) → replicate from 0 ++ between from end ds ++ replicate (length ds - end) 0 ≡ ds
 zeros_around from end ds h k a b =

@@ -3,7 +3,8 @@ use Rattle.std.proofs.Common.{◌≡◌, ◌≢◌, ◌↔◌, Result, Ok, Err}
 use Rattle.fixed_decimal.specs.declared.error.DecimalError.{DecimalError}
 use Rattle.fixed_decimal.specs.declared.error.DecimalError.TheVariants.{Syntax, Limit, Memory}
 
--- the caller returns the callee's error, and what it says of the callee's input it says of the caller's
+-- the caller returns the callee's error, and what it says of the callee's input it says of the
+-- caller's
 pub carried : {T U P Q : Type 0} (r : Result T DecimalError) (q : Result U DecimalError) (e k : DecimalError)
     → r ≡ Err e → q ≡ Err e → (r ≡ Err k) ↔ P → (P → Q) → (Q → P) → (q ≡ Err k) ↔ Q
 carried r q e k a b i f g = (λ h. f (i.0 cc), λ h. (let j : r ≡ Err k = i.1 (g h) in cc))

@@ -57,7 +57,7 @@ value_of-padded n ds m =
     ∙ ap (λ k. value_of ds * 10 ^ m + k) (value_of-zeros m)
     ∙ omega arith
 
--- ---- the stored digits of a run: those of the span from `start` to `stop`
+-- ---- the stored digits of a run: the digits of the span from `start` to `stop`
 
 -- `before` of the run's digits are zeros that stand before the span.
 module _ (a : Inside) (place count before start stop end : ℕ) (b : before ≡ min count (a.leading_zeros - place))

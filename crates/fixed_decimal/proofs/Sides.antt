@@ -24,7 +24,7 @@ whole_digit (c ∷ cs) fraction k h =
     get_or-append (digits_in (c ∷ cs)) (digits_in fraction) 0 k (omega (arith, length-digits_in (c ∷ cs)))
     ∙ digit_of_byte (c ∷ cs) k
 
--- Behind it stand those of the second.
+-- Behind it stand the second one's digits.
 pub fraction_digit : (whole fraction : List ℕ) (k : ℕ) → max (length whole) 1 ≤ k
     → get_or (written_digits whole fraction) k 0 ≡ get_or fraction (k - max (length whole) 1) 0 - 48
 fraction_digit whole fraction k h =
@@ -129,7 +129,7 @@ module _ (whole fraction : List ℕ) (from end p q m i places : ℕ) (order : fr
           ∙ sym (digit_of_part fraction i q (k - p) short)
           ∙ sym (get_or-append_right (digits_in (take p (drop m whole))) (digits_in (take q (drop i fraction))) p k 0 length-front past)
 
-  -- The digits between two indices are those of the two parts.
+  -- The digits between two indices come from the two parts.
   pub between_parts : drop from (take end (written_digits whole fraction))
       ≡ digits_in (take p (drop m whole)) ++ digits_in (take q (drop i fraction))
   between_parts =

@@ -8,7 +8,7 @@ use Rattle.fixed_decimal.specs.declared.sign.Sign.TheVariants as sign
 use Rattle.fixed_decimal.specs.declared.decimal.Decimal.{Decimal}
 use Rattle.fixed_decimal.proofs.Texts.{no_sign, no_letter, one_unsigned}
 
--- the sign and the digits after it are those of the text
+-- the sign and the digits after it are the text's
 same_sign : (s r : Sign) (ds es : List ℕ) → HasNoSign ds → HasNoSign es → sign_text s ++ ds ≡ sign_text r ++ es → (s ≡ r) × (ds ≡ es)
 same_sign sign.None sign.None ds es h k e = (refl, e)
 same_sign sign.None sign.Negative ds es h k e = absurd (h.not_negative (ap (λ xs. get_or xs 0 0) e))

@@ -1,4 +1,5 @@
--- What an unsigned decimal's text says of its number: there is one, and its bytes are digits and a point.
+-- What an unsigned decimal's text says of its number: there is one, and its bytes are digits and a
+-- point.
 use Rattle.std.proofs.Common.{◌≡◌, ◌≢◌, ℕ, ◌+◌, ◌-◌, ◌<◌, ◌≤◌, inl, inr, List, [], ◌∷◌, ◌++◌, refl, sym, ◌∙◌, ap, subst, length, take}
 use Rattle.std.proofs.Common.{drop, arith, get_or, length-append, append_assoc}
 use Rattle.std.proofs.lemmas.Bool.{cases_lt}

@@ -1,6 +1,6 @@
 -- Texts and the numbers that they write. A text is a list of bytes.
---     WritesUnsigned text x      digits, digits `.` digits, or `.` digits; with no digit before the point, the
---                                integer digit is 0
+--     WritesUnsigned text x      digits, digits `.` digits, or `.` digits; with no digit before the
+--         point, the integer digit is 0
 --     WritesDecimal text x      an unsigned decimal, after a sign or none
 --     WritesCompact text x      a decimal, then nothing, or `c` and one to three digits
 use Rattle.std.specs.Prelude.{ℕ, ◌≡◌, ◌<◌, ◌≤◌, ◌⊎◌, List, [], ◌∷◌, ◌++◌, length, codes}
@@ -65,7 +65,8 @@ abbrev pub IsCompactOverLimit : CompactNumber → Type 0
 IsCompactOverLimit x = IsOverLimit x.significand.absolute ⊎ (255 < x.exponent)
 
 -- ---- The statements of the law `texts_write_one_number`: a text writes at most one number.
---     OneUnsigned, OneSigned, OneCompact      as an unsigned decimal, as a decimal, as a compact decimal
+--     OneUnsigned, OneSigned, OneCompact      as an unsigned decimal, as a decimal, as a compact
+--         decimal
 
 abbrev pub OneUnsigned : Type 0
 OneUnsigned = (text : List ℕ) (x y : Places) → WritesUnsigned text x → WritesUnsigned text y → x ≡ y

@@ -13,7 +13,7 @@ use std::marker::Model;
 /// A decimal and a compact exponent: the power of ten after the `c` of its text (UTS 35 Part 3,
 /// Language Plural Rules, operands c and e).
 ///
-/// <!-- snippet crates/fixed_decimal/src/tests.rt:
+/// <!-- snippet crates/tests_libraries/src/tests/fixed_decimal_examples.rt:
 /// example "let number = CompactDecimal::from_str" to "holds!" of fn a_compact_decimal_has_its_parts -->
 /// ```
 /// let number = CompactDecimal::from_str(alloc, "-1.00000020c6")?;
@@ -32,10 +32,10 @@ impl Model for CompactDecimal {
 }
 
 impl CompactDecimal {
-    /// Returns the number that a text writes: a decimal, then nothing, or `c` and one to three digits.
-    /// The whole text is judged before anything is allocated: `Syntax` if it isn't of this form,
-    /// `Limit` if it has more than 32767 places on a side or an exponent above 255, and `Memory` if
-    /// the digits can't be allocated.
+    /// Returns the number that a text writes: a decimal, then nothing, or `c` and one to three
+    /// digits. The whole text is judged before anything is allocated: `Syntax` if it isn't of this
+    /// form, `Limit` if it has more than 32767 places on a side or an exponent above 255, and
+    /// `Memory` if the digits can't be allocated.
     pub fn from_str(alloc: Global, text: &str) -> Result<CompactDecimal, DecimalError>
         ensures number { IfOk result (λ x.
             WritesCompact text.now x

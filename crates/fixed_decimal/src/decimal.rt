@@ -15,7 +15,7 @@ use std::alloc::Global;
 
 /// A written number with the sign that its text has.
 ///
-/// <!-- snippet crates/fixed_decimal/src/tests.rt:
+/// <!-- snippet crates/tests_libraries/src/tests/fixed_decimal_examples.rt:
 /// example "let number = CompactDecimal::from_parts" to "holds!(rt; number.significand().sign == Sign::P"
 /// of fn a_compact_decimal_has_its_parts -->
 /// ```
@@ -32,8 +32,8 @@ pub struct Decimal {
 }
 
 impl Decimal {
-    /// Returns the number that a text writes: an unsigned decimal, after `+`, `-` or no sign. The errors
-    /// are those of [`UnsignedDecimal::from_str`].
+    /// Returns the number that a text writes: an unsigned decimal, after `+`, `-` or no sign. The
+    /// errors are those of [`UnsignedDecimal::from_str`].
     // Inlined, it isn't returned through memory: a tenth of the instructions that read a decimal.
     #[inline(always)]
     pub fn from_str(alloc: Global, text: &str) -> Result<Decimal, DecimalError>
@@ -50,8 +50,8 @@ impl Decimal {
         })
     }
 
-    /// Returns the number without leading zeros, and 0 as one digit, without a fraction; its sign is
-    /// `Negative` below 0, else `None`. `Memory` if the digits can't be allocated.
+    /// Returns the number without leading zeros, and 0 as one digit, without a fraction; its sign
+    /// is `Negative` below 0, else `None`. `Memory` if the digits can't be allocated.
     pub fn from_i128(alloc: Global, number: i128) -> Result<Decimal, DecimalError>
         ensures digits { IfOk result (λ x.
             IsNumeral x.absolute.whole (nat_abs number) × (x.absolute.fraction ≡ [])) }

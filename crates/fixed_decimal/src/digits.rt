@@ -22,7 +22,8 @@ pub(crate) fn run_end(text: &[u8], from: usize) -> usize
     at
 }
 
-// Returns the number that at most 18 digits write. They are mostly few: inlined, the unrolled loop took longer to begin than to run.
+// Returns the number that at most 18 digits write. They are mostly few: inlined, the unrolled loop
+// took longer to begin than to run.
 #[inline(never)]
 pub(crate) fn number_of_digits(digits: &[u8]) -> u64
     requires digits { AreDigits digits.now }

@@ -10,8 +10,6 @@ pub mod laws;
 mod point;
 mod sign;
 mod span;
-#[cfg(test)]
-mod tests;
 mod unsigned;
 
 pub use compact::CompactDecimal;

@@ -18,7 +18,7 @@ use std::marker::Model;
 /// A written number without a sign: its integer digits, at least one, and its fraction digits. All
 /// written zeros count. Only the digits from the first to the last that isn't zero are stored.
 ///
-/// <!-- snippet crates/fixed_decimal/src/tests.rt:
+/// <!-- snippet crates/tests_libraries/src/tests/fixed_decimal_examples.rt:
 /// example "let number = UnsignedDecimal::from_str" to "}" of fn outside_the_places_each_digit_is_zero -->
 /// ```
 /// let number = UnsignedDecimal::from_str(alloc, "98.76")?;
@@ -46,10 +46,10 @@ impl Model for UnsignedDecimal {
 }
 
 impl UnsignedDecimal {
-    /// Returns the number that a text without a sign writes: digits, digits `.` digits, or `.` digits.
-    /// The whole text is judged before anything is allocated: `Syntax` if it isn't of this form,
-    /// `Limit` if it has more than 32767 places on a side, and `Memory` if the digits can't be
-    /// allocated.
+    /// Returns the number that a text without a sign writes: digits, digits `.` digits, or `.`
+    /// digits. The whole text is judged before anything is allocated: `Syntax` if it isn't of this
+    /// form, `Limit` if it has more than 32767 places on a side, and `Memory` if the digits can't
+    /// be allocated.
     pub fn from_str(alloc: Global, text: &str) -> Result<UnsignedDecimal, DecimalError>
         ensures number { IfOk result (λ x. WritesUnsigned text.now x × IsWithinLimit x) }
         ensures syntax { (result ≡ Err DecimalError.Syntax)
@@ -62,8 +62,8 @@ impl UnsignedDecimal {
         Ok(UnsignedDecimal::from_point(alloc, digits, point)?)
     }
 
-    /// Returns the number without leading zeros, and 0 as one digit; it has no fraction. `Memory` if
-    /// the digits can't be allocated.
+    /// Returns the number without leading zeros, and 0 as one digit; it has no fraction. `Memory`
+    /// if the digits can't be allocated.
     pub fn from_u128(alloc: Global, number: u128) -> Result<UnsignedDecimal, DecimalError>
         ensures digits { IfOk result (λ x. IsNumeral x.whole number × (x.fraction ≡ [])) }
         ensures only_memory { IfErr result (λ e. e ≡ DecimalError.Memory) }
@@ -164,7 +164,7 @@ impl UnsignedDecimal {
     /// Returns how many integer places and how many fraction places are written after the point has
     /// moved to the right by `exponent` places, as a compact exponent moves it.
     ///
-    /// <!-- snippet crates/fixed_decimal/src/tests.rt:
+    /// <!-- snippet crates/tests_libraries/src/tests/fixed_decimal_examples.rt:
     /// example "let rows" to "}" of fn an_exponent_moves_places_to_the_left_of_the_point -->
     /// ```
     /// let rows = [
@@ -191,10 +191,11 @@ impl UnsignedDecimal {
         )
     }
 
-    /// Returns the number that up to 18 digits write, from a place on, as a number and the power of ten
-    /// that it is multiplied by. Places count from the first integer digit at 0, and after the last
-    /// written place each digit is 0. The zeros after the stored digits aren't read but counted: the
-    /// clauses fix the product, and leave open which of its last zeros are in the power.
+    /// Returns the number that up to 18 digits write, from a place on, as a number and the power of
+    /// ten that it is multiplied by. Places count from the first integer digit at 0, and after the
+    /// last written place each digit is 0. The zeros after the stored digits aren't read but
+    /// counted: the clauses fix the product, and leave open which of its last zeros are in the
+    /// power.
     #[inline]
     pub fn number_from(&self, place: usize, count: usize) -> (u64, usize)
         requires few { count ≤ 18 }
@@ -215,8 +216,8 @@ impl UnsignedDecimal {
         )
     }
 
-    /// Returns whether a digit at `10^magnitude` or above isn't 0. It reads no digit: the stored digits
-    /// begin with one that isn't 0.
+    /// Returns whether a digit at `10^magnitude` or above isn't 0. It reads no digit: the stored
+    /// digits begin with one that isn't 0.
     #[inline]
     pub fn has_digit_from(&self, magnitude: i16) -> bool
         ensures { IsTrue result ↔ HasDigitFrom self.now magnitude }
@@ -235,11 +236,12 @@ impl UnsignedDecimal {
     }
 
     /// Moves the point to the right by `places`, or to the left if that is negative. If no fraction
-    /// digit is left, a 0 is added after the integer digits; if no integer digit is left, the single
-    /// digit 0 takes its place. `Limit` if a side would have more than 32767 places; the number is
-    /// then unchanged. It allocates nothing.
+    /// digit is left, a 0 is added after the integer digits; if no integer digit is left, the
+    /// single digit 0 takes its place. `Limit` if a side would have more than 32767 places; the
+    /// number is then unchanged. It allocates nothing.
     ///
-    /// <!-- snippet crates/fixed_decimal/src/tests.rt: example "let rows" to "}" of fn a_shift_reaches_the_last_place -->
+    /// <!-- snippet crates/tests_libraries/src/tests/fixed_decimal_examples.rt:
+    /// example "let rows" to "}" of fn a_shift_reaches_the_last_place -->
     /// ```
     /// let rows = [
     ///     ("1", 32766, (0, 32766), 32766, 1),

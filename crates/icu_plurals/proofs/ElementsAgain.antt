@@ -39,7 +39,7 @@ packed_is_item item is =
     let key : (16 * item.key + item.value.metadata) / 16 ≤ 6 = omega (arith, is.value.metadata, is.key) in
     rw (le-leb _ 6 key, is.value.text) refl
 
--- the bytes of packed items are those of good items
+-- the bytes of packed items encode good items
 pub packed_are_items : (items : List PackedItem) → AllByRecursion IsPackedItem items → list_all is_item (map item_bytes items) ≡ true
 packed_are_items [] are = refl
 packed_are_items (item ∷ items) are = rw (packed_is_item item are.0, packed_are_items items are.1) refl
@@ -61,7 +61,7 @@ items_spelled (item ∷ items) h =
           (second_so (is_item item) (list_all is_item items) h),
     ) refl
 
--- good bytes are those of an item: its key is one of the seven, and its text UTF-8
+-- good bytes encode an item: its key is one of the seven, and its text UTF-8
 pub item-fits : (item : List ℕ) → is_item item ≡ true → IsPackedItem (read_item item)
 item-fits [] h = cc
 item-fits (byte ∷ text) h = record {
@@ -175,7 +175,7 @@ unfolding read_elements
 read_with law default None is are can = behind_alone default.metadata default.text is.metadata
 read_with law default (Some items) is are can = behind_items law default items is are can.list
 
--- bytes are those of at most one value of packed elements
+-- bytes encode at most one value of packed elements
 pub elements_in_one : PackedItems → (packed : PackedElements) (bytes : List ℕ) → ElementsBytes packed bytes → read_elements bytes ≡ packed
 elements_in_one law packed bytes h = ap read_elements h.spelled ∙ read_with law packed.default packed.items h.default h.items h.can_pack
 
@@ -257,7 +257,7 @@ first_element_fault-none place (item ∷ items) h =
 no_padding : (first : ℕ) → ¬ (HasPadding first) → first % 128 < 16
 no_padding first n = lt_of_not-le n
 
--- bytes that are made of good parts are those of some packed elements
+-- bytes that are made of good parts encode some packed elements
 good_with : (first : ℕ) (text : List ℕ) (rest : Option (List ℕ)) (bytes : List ℕ) → AreBytes bytes
     → PartsWith first text rest bytes → first % 128 < 16 → IsTrue (is_utf8 text) → IsGoodRest rest
     → (packed : PackedElements) × ElementsBytes packed bytes
@@ -287,7 +287,7 @@ good_with first text (Some rest) bytes are parts low utf8 good =
       },
     )
 
--- bytes with good parts are those of the packed elements that they hold
+-- bytes with good parts encode the packed elements that they hold
 pub good_are_elements : PackedItems → (parts : ElementsParts) (bytes : List ℕ) → AreBytes bytes → ArePartsOf parts bytes
     → AreGoodParts parts → AreElements bytes
 good_are_elements law parts bytes are of good =

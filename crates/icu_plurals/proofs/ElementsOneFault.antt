@@ -1,4 +1,4 @@
--- Bytes have at most one fault, and none if they are those of packed elements.
+-- Bytes have at most one fault, and none if they encode packed elements.
 use Rattle.std.proofs.Common.{◌≡◌, ℕ, ◌+◌, ◌/◌, ◌<◌, List, [], ◌∷◌, ◌++◌, length, refl, sym, ap, ◌∙◌, subst}
 use Rattle.std.proofs.Common.{arith, Bool, true, false, Some, None, inl, inr, ◌⊎◌}
 use Rattle.std.specs.Prelude.{Option, Result, Ok, Err, nat_lt, if◌then◌else◌, IsTrue, MatchResult, ⊤, is_some}

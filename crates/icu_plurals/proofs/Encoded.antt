@@ -1,4 +1,4 @@
--- The bytes that are written are those of the packed elements.
+-- The bytes that are written encode the packed elements.
 use Rattle.std.proofs.Common.{◌≡◌, ◌↔◌, ℕ, ◌<◌, ◌≤◌, List, [], ◌∷◌, length, Bool, true, false, cond, Option, Some, None}
 use Rattle.std.proofs.Common.{refl, sym, ap, subst, ◌∙◌, arith, append-nil}
 use Rattle.std.specs.Prelude.{IsTrue, map, nat_lt, unwrap_or}
@@ -77,7 +77,7 @@ all_items : (items : List PackedItem) → AllByRecursion IsPackedItem items → 
 all_items [] are = tt
 all_items (item ∷ items) are = are
 
--- the bytes that are written are those of the packed elements
+-- the bytes that are written encode the packed elements
 pub encoded : (e : Elements PackedValue) (lent : List Item) (bytes : List ℕ)
     → lent_bytes lent ≡ map item_bytes (packed_items e) → AllByRecursion IsPackedItem (packed_items e)
     → IsPackedValue e.other → (0 < length lent → length e.other.text ≤ 255) → CanPack (lent_bytes lent)

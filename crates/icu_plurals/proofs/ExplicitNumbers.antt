@@ -1,4 +1,5 @@
--- Within the bound, the kept operands of a number are exactly 0, or exactly 1, if the exact operands are.
+-- Within the bound, the kept operands of a number are exactly 0, or exactly 1, if the exact
+-- operands are.
 use Rattle.std.proofs.Common.{◌≡◌, ℕ, ◌<◌, List, [], ◌∷◌, false, arith, sym, ◌∙◌, lit<}
 use Rattle.std.specs.Prelude.{◌==◌, ◌&&◌, ◌||◌, nat_le, None, if◌then◌else◌}
 use Rattle.std.proofs.lemmas.Bool.Decides.{nat_tests}

@@ -1,4 +1,5 @@
--- One walk over items, in which each item sets the value of its key unless an earlier item did, finds the first item of each key.
+-- One walk over items, in which each item sets the value of its key unless an earlier item did,
+-- finds the first item of each key.
 use Rattle.std.proofs.Common.{◌≡◌, ℕ, List, [], ◌∷◌, Bool, true, false, Option, Some, None, refl, sym, ◌∙◌}
 use Rattle.std.specs.Prelude.{◌==◌, find, option_map, if◌then◌else◌}
 use Rattle.std.specs.Option.{option_or}

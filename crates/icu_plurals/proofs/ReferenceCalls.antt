@@ -23,7 +23,8 @@ lent_ok g f b left (Ok y) f' called =
     (left.now, refl, (y, record { shown = b; shows = refl; left = left; called = called; leaves = refl }))
 lent_ok g f b left (Err e) f' called = tt
 
--- a call with a value that it may change and that returns `Err` refuses its place and leaves it changed
+-- a call with a value that it may change and that returns `Err` refuses its place and leaves it
+-- changed
 pub lent_err : {F A B E : Type 0} (g : Mut F (MutBor A × Unit {0}) (Result B E × (MutBor A × Unit {0}))) (f : F)
     (b left : MutBor A) (r : Result B E) (f' : F)
     → Called g f (b, tt) (r, (left, tt)) f' → IfErr r (λ e. RefusesChanging (CalledAtMut g) f (Some b.now) (Some left.now) e f')

@@ -21,7 +21,8 @@ items_bytes : elements_bytes
     ∷ 109 ∷ 115 ∷ []
 items_bytes = refl
 
--- a value that equals other's is left out, but an explicit one isn't; values with different metadata differ
+-- a value that equals other's is left out, but an explicit one isn't; values with different
+-- metadata differ
 equal_bytes : elements_bytes (packed_of (record (only_other (plain (codes "x"))) { two = Some (plain (codes "x")) })) ≡ 0 ∷ 120 ∷ []
 equal_bytes = refl
 
@@ -31,7 +32,7 @@ marked_bytes : elements_bytes
     ∷ 120 ∷ 1 ∷ 0 ∷ 17 ∷ 120 ∷ []
 marked_bytes = refl
 
--- a category's value that equals other's is no value of its own
+-- a category's value that equals other's isn't a value of its own
 equal_is_no_repeat : without_repeats (record items { two = Some (plain (codes "items")) }) ≡ items
 equal_is_no_repeat = refl
 

@@ -1,9 +1,12 @@
--- Calls of a closure with values that may be absent, one after another. `call f x y g` says that a call of the closure f with x
--- may return y and leave the closure as g.
---     CallsEach call f xs ys last      one call with each value of xs that is present, in order; ys has the results at their keys
+-- Calls of a closure with values that may be absent, one after another. `call f x y g` says that a
+-- call of the closure f with x may return y and leave the closure as g.
+--     CallsEach call f xs ys last      one call with each value of xs that is present, in order; ys
+--         has the results at their keys
 --     VisitsEach call f xs last      the same calls, with any results
---     StopsAt call f xs e last      calls in order, all return Ok, up to the first that returns an Err, Err e, and leaves last
---     StopsAtChanging call f xs ys e last      such calls, which may change their values: ys has what is left at the places of xs
+--     StopsAt call f xs e last      calls in order, all return Ok, up to the first that returns an
+--         Err, Err e, and leaves last
+--     StopsAtChanging call f xs ys e last      such calls, which may change their values: ys has
+--         what is left at the places of xs
 use Rattle.std.specs.Prelude.{◌≡◌, List, [], ◌∷◌, ◌++◌, Option, Some, None, Result, Ok, Err}
 
 -- one place: one call if a value is present, and its result; else no call and no result

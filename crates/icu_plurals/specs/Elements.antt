@@ -1,10 +1,12 @@
--- A value for each plural category, and for exactly 0 and exactly 1 (UTS 35 Part 3, Plural Rules and Explicit 0 and 1 Rules). The
--- value of other is always present; each of the seven others is present or absent.
+-- A value for each plural category, and for exactly 0 and exactly 1 (UTS 35 Part 3, Plural Rules
+-- and Explicit 0 and 1 Rules). The value of other is always present; each of the seven others is
+-- present or absent.
 --     Elements T      the values by key
 --     values_in_order e      the eight places in the order in which closures are called
 --     AreClones IsClone e copy      each value of the copy is a clone of the one at its key
 --     of_category e c      the value of a category, or that of other
---     element_at e op rules      the value for operands: the explicit one, else that of the category by the rules, else of other
+--     element_at e op rules      the value for operands: the explicit one, else that of the
+--         category by the rules, else of other
 use Rattle.std.specs.Prelude.{ℕ, ◌==◌, ◌&&◌, List, [], ◌∷◌, Bool, Option, Some, None, option_map, unwrap_or, if◌then◌else◌, ◌≡◌}
 use Rattle.plural_reference.specs.Operands.{Operands, AreKept, AreExact}
 use Rattle.plural_runtime.specs.PackedTruth.{packed_truth}
@@ -87,14 +89,16 @@ element_at e op rules = unwrap_or (explicit_at e op) (of_category e (first_categ
 --     IsExactElement      within the bound: the one that the number itself has, whatever its length
 --     IsKeptElement      within the bound or not: the one that its kept operands choose
 
--- The value of the exact number: the explicit one if the number is exactly 0 or 1 and it is present, else that of the first of
--- zero, one, two, few, many whose condition is present and true of the number, else that of other.
+-- The value of the exact number: the explicit one if the number is exactly 0 or 1 and it is
+-- present, else that of the first of zero, one, two, few, many whose condition is present and true
+-- of the number, else that of other.
 abbrev pub exact_element_at : {T : Type 0} → Elements T → Operands → Five (Option Condition) → T
 exact_element_at e exact conditions =
     unwrap_or (explicit_at e exact) (of_category e (first_category (exact_truth exact) conditions))
 
--- For any five texts that the rules are read from: if the number, with its compact exponent, is within the bound, the value is
--- that of the exact number. A modulus 0 is no modulus in exact truth.
+-- For any five texts that the rules are read from: if the number, with its compact exponent, is
+-- within the bound, the value is that of the exact number. Exact truth treats a modulus 0 as if it
+-- weren't written.
 abbrev pub IsExactElement : {T : Type 0} → Elements T → FiveRules → Places → ℕ → T → Type 0
 IsExactElement e rules number exponent value =
     (texts : Five (Option (List ℕ))) (conditions : Five (Option Condition)) (exact : Operands)

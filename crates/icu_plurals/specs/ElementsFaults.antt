@@ -1,4 +1,5 @@
--- What is wrong with bytes that are no packed elements, in the order in which faults are looked for.
+-- What is wrong with bytes that aren't packed elements, in the order in which faults are looked
+-- for.
 use Rattle.std.specs.Prelude.{◌≡◌, ℕ, ◌+◌, ◌/◌, ◌%◌, ◌<◌, ◌≤◌, List, [], ◌∷◌, ◌++◌, length, if◌then◌else◌, nat_lt, IsTrue, IsFalse}
 use Rattle.std.specs.Prelude.{Option, Some, None}
 use Rattle.std.specs.Option.{option_or}
@@ -9,7 +10,8 @@ use Rattle.icu_plurals.specs.declared.packed.error.ElementsBytesError.TheVariant
 
 -- ---- the parts
 
--- the first byte, the default's text, and what is left after it if bit 7 of the first byte says that items follow
+-- the first byte, the default's text, and what is left after it if bit 7 of the first byte says
+-- that items follow
 pub record ElementsParts : Type 0 where
   pub first : ℕ
   pub text : List ℕ
@@ -32,20 +34,20 @@ IsShort (first ∷ len ∷ bytes) = (128 ≤ first) × (length bytes < len)
 
 -- ---- the items
 
--- what is wrong with the item at a place: no byte, a key above 6, or a text that isn't UTF-8
+-- the fault of the item at a place: no byte, a key above 6, or a text that isn't UTF-8
 abbrev pub element_fault : ℕ → List ℕ → Option ElementsBytesError
 element_fault place [] = Some (errors.ItemEmpty place)
 element_fault place (byte ∷ text) =
     if nat_lt 6 (byte / 16) then Some (errors.Key place) else (if is_utf8 text then None else Some (errors.ItemText place))
 
--- what is wrong with the first bad item, if any; the first item is at the given place
+-- the fault of the first bad item, if any; the first item is at the given place
 abbrev pub first_element_fault : ℕ → List (List ℕ) → Option ElementsBytesError
 first_element_fault place [] = None
 first_element_fault place (item ∷ items) = option_or (element_fault place item) (first_element_fault (place + 1) items)
 
 -- ---- the faults
 
--- what is left is no list, or a list with a bad item
+-- what is left isn't a list, or a list with a bad item
 abbrev pub HasItemsFault : List ℕ → ElementsBytesError → Type 0
 HasItemsFault rest (errors.List fault) = HasFault rest fault
 HasItemsFault rest fault = (items : List (List ℕ)) × ListBytes items rest × (first_element_fault 0 items ≡ Some fault)
@@ -59,7 +61,7 @@ HasRestFault (Some rest) fault = HasItemsFault rest fault
 abbrev pub HasPadding : ℕ → Type 0
 HasPadding first = 16 ≤ first % 128
 
--- what is wrong with the parts: first the padding, then the default's text, then what is left
+-- the fault of the parts: first the padding, then the default's text, then what is left
 abbrev pub HasPartsFault : ElementsParts → ElementsBytesError → Type 0
 HasPartsFault parts errors.Padding = HasPadding parts.first
 HasPartsFault parts errors.DefaultText = (¬ (HasPadding parts.first)) × IsFalse (is_utf8 parts.text)

@@ -1,5 +1,5 @@
--- What a JSON value means as packed elements, or why it is refused, and the one JSON value that is written for elements
--- (docs/JSON.md). Values are what serde_json's accessors show of them.
+-- What a JSON value means as packed elements, or why it is refused, and the one JSON value that is
+-- written for elements (docs/JSON.md). Values are what serde_json's accessors show of them.
 use Rattle.std.specs.Prelude.{ℕ, List, codes, Option, Some, None, is_some, option_map, Ok, Err, nat_lt, if◌then◌else◌}
 use Rattle.std.specs.Option.{option_and_then}
 use Rattle.serde_json.specs.Data.{Data, number, unsigned, string, array, item, no_items, object, Members, no_members, put}
@@ -50,7 +50,8 @@ all_eight (Some other) (Some zero) (Some one) (Some two) (Some few) (Some many) 
     })
 all_eight _ _ _ _ _ _ _ _ = None
 
--- elements are an object with the value of other under its key, and the seven others under theirs; its other keys aren't read
+-- elements are an object with the value of other under its key, and the seven others under theirs;
+-- its other keys aren't read
 abbrev pub elements_in_json : Data → Option (Elements PackedValue)
 elements_in_json value =
     all_eight (option_and_then value_in (get (codes "other") value)) (optional_in (get (codes "zero") value))
@@ -70,7 +71,8 @@ abbrev pub packed_shape : Option (Elements PackedValue) → Stands PackedElement
 packed_shape None = Err Shape
 packed_shape (Some values) = packs values
 
--- the packed elements of a value: a part of another form is refused before elements that can't be packed
+-- the packed elements of a value: a part of another form is refused before elements that can't be
+-- packed
 abbrev pub packed_of_json : Data → Stands PackedElements
 packed_of_json = unless_float (λ value. packed_shape (elements_in_json value))
 

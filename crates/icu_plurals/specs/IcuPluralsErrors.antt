@@ -6,7 +6,7 @@ use Rattle.icu_plurals.specs.declared.packed.error.ElementsBytesError.{ElementsB
 use Rattle.icu_plurals.specs.declared.packed.error.ElementsBytesError.TheVariants.{Empty, Short, Padding, DefaultText}
 use Rattle.icu_plurals.specs.declared.packed.error.ElementsBytesError.TheVariants.{List as InList, ItemEmpty, Key, ItemText}
 
--- why bytes are no packed elements
+-- why bytes aren't packed elements
 abbrev pub elements_bytes_error_text : ElementsBytesError → List ℕ
 elements_bytes_error_text Empty = codes "elements without a byte"
 elements_bytes_error_text Short = codes "default of elements too short"

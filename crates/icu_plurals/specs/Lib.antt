@@ -7,7 +7,8 @@ pub mod ElementsFaults
 pub mod ElementsJson
 -- the texts of errors
 pub mod IcuPluralsErrors
--- no definitions of the subject: the reader of bytes, steps, and what contracts see of borrowed values
+-- no definitions of the subject: the reader of bytes, steps, and what contracts see of borrowed
+-- values
 pub mod Inner
 -- ---- Definitions of the crates below, passed on so that a crate above needs only this one
 

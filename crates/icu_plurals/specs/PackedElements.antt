@@ -1,6 +1,7 @@
--- Packed elements: a default, and either nothing else or a list of items after it. A value is four bits of metadata and a text.
+-- Packed elements: a default, and either nothing else or a list of items after it. A value is four
+-- bits of metadata and a text.
 --     PackedElements      the default and its items
---     ElementsBytes packed bytes      the bytes are those of packed elements
+--     ElementsBytes packed bytes      the bytes encode packed elements
 --     elements_of packed      the values by key: if a key occurs twice, that of its first item
 --     packed_of elements      what elements are packed as
 use Rattle.std.specs.Prelude.{◌≡◌, ℕ, ◌+◌, ◌*◌, ◌<◌, ◌≤◌, ◌==◌, ◌&&◌, List, [], ◌∷◌, ◌++◌, length, map, Bool, IsTrue, Option, Some}
@@ -20,7 +21,8 @@ pub record PackedValue : Type 0 where
   pub metadata : ℕ
   pub text : List ℕ
 
--- a value after the default, and its key: 0 zero, 1 one, 2 two, 3 few, 4 many, 5 exactly 0, 6 exactly 1
+-- a value after the default, and its key: 0 zero, 1 one, 2 two, 3 few, 4 many, 5 exactly 0, 6
+-- exactly 1
 pub record PackedItem : Type 0 where
   pub key : ℕ
   pub value : PackedValue
@@ -59,8 +61,8 @@ CanPackItems default (Some items) = CanStandBeside default items
 abbrev pub items_of : PackedElements → List PackedItem
 items_of packed = unwrap_or packed.items []
 
--- without items the default's metadata and text; else bit 7 with the metadata, the length of the text, the text, and the packed
--- list of the items
+-- without items the default's metadata and text; else bit 7 with the metadata, the length of the
+-- text, the text, and the packed list of the items
 abbrev pub bytes_with : PackedValue → Option (List PackedItem) → List ℕ
 bytes_with default None = default.metadata ∷ default.text
 bytes_with default (Some items) = (128 + default.metadata) ∷ length default.text ∷ (default.text ++ list_bytes (map item_bytes items))
@@ -68,7 +70,7 @@ bytes_with default (Some items) = (128 + default.metadata) ∷ length default.te
 abbrev pub elements_bytes : PackedElements → List ℕ
 elements_bytes packed = bytes_with packed.default packed.items
 
--- the bytes are those of the packed elements
+-- the bytes encode the packed elements
 pub record ElementsBytes (packed : PackedElements) (bytes : List ℕ) : Type 0 where
   pub default : IsPackedValue packed.default
   pub items : AllByRecursion IsPackedItem (items_of packed)
@@ -108,7 +110,8 @@ item_at key (Some value) = record { key = key; value = value } ∷ []
 abbrev pub category_item : ℕ → PackedValue → Option PackedValue → List PackedItem
 category_item key other value = item_at key (unless_equal is_same_value other value)
 
--- in the order of the keys, the category values that differ from that of other, and the explicit values
+-- in the order of the keys, the category values that differ from that of other, and the explicit
+-- values
 abbrev pub packed_items : Elements PackedValue → List PackedItem
 packed_items e =
     category_item 0 e.other e.zero
@@ -135,10 +138,12 @@ plain_value text = record { metadata = 0; text = text.now }
 
 -- ---- Which elements can't be packed, and what packing preserves (docs/FORMATS.md).
 --     pack_fault packed      why packed elements have no bytes
---     AnswersAs values bytes      every number gets the same value from the bytes as from the elements, under all rules
+--     AnswersAs values bytes      every number gets the same value from the bytes as from the
+--         elements, under all rules
 --     without_repeats values      the elements without the category values that equal that of other
 
--- items can't be packed after a default: its text has more than 255 bytes, or else an item starts after place 65535
+-- items can't be packed after a default: its text has more than 255 bytes, or else an item starts
+-- after place 65535
 abbrev pub fault_beside : PackedValue → Option (List PackedItem) → Option ElementsPackError
 fault_beside default None = None
 fault_beside default (Some items) =
@@ -147,13 +152,14 @@ fault_beside default (Some items) =
 abbrev pub pack_fault : PackedElements → Option ElementsPackError
 pack_fault packed = fault_beside packed.default packed.items
 
--- the bytes encode packed elements, and what they encode gives all operands, under all rules, the same value as the elements
+-- the bytes encode packed elements, and what they encode gives all operands, under all rules, the
+-- same value as the elements
 abbrev pub AnswersAs : Elements PackedValue → List ℕ → Type 0
 AnswersAs values bytes =
     ((packed : PackedElements) × ElementsBytes packed bytes) × ((packed : PackedElements) → ElementsBytes packed bytes
     → (op : Operands) (rules : FiveRules) → element_at (elements_of packed) op rules ≡ element_at values op rules)
 
--- the values without those of the five categories that equal that of other
+-- the values, without the category values that equal the value of other
 abbrev pub without_repeats : Elements PackedValue → Elements PackedValue
 without_repeats e = record {
   other = e.other;

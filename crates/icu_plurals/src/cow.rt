@@ -40,7 +40,7 @@ impl<'data> Model for PluralElementsPackedCow<'data> {
 impl PluralElementsPackedCow<'static> {
     /// Packs texts with metadata 0, by one allocation.
     ///
-    /// <!-- snippet crates/icu_plurals_tests/src/tests/packing.rt:
+    /// <!-- snippet crates/tests_libraries/src/tests/icu_plurals_packing.rt:
     ///      example "let one = PluralElements::new" to "holds!(rt; one.get(PluralOperands::from(2u8)" -->
     /// ```
     /// let one = PluralElements::new("abc").with_one_value(Some("defg"));
@@ -50,9 +50,9 @@ impl PluralElementsPackedCow<'static> {
     /// assert!(rt; one.get(PluralOperands::from(2u8), &rules) == "abc");
     /// ```
     ///
-    /// [`ElementsPackError::DefaultLimit`] if the text of other has more than 255 bytes and isn't the only one that is
-    /// packed, else [`ElementsPackError::StartLimit`] if another one would start after place 65535 of the data; out of
-    /// memory is [`ElementsPackError::Memory`].
+    /// [`ElementsPackError::DefaultLimit`] if the text of other has more than 255 bytes and isn't
+    /// the only one that is packed, else [`ElementsPackError::StartLimit`] if another one would
+    /// start after place 65535 of the data; out of memory is [`ElementsPackError::Memory`].
     pub fn from_elements(
         alloc: Global,
         elements: &PluralElements<&str>,
@@ -80,9 +80,9 @@ impl PluralElementsPackedCow<'static> {
 }
 
 impl<'data> PluralElementsPackedCow<'data> {
-    /// Packed elements in borrowed bytes. It takes no memory.
+    /// Returns the packed elements in borrowed bytes. It allocates nothing.
     ///
-    /// <!-- snippet crates/icu_plurals_tests/src/tests/packing.rt:
+    /// <!-- snippet crates/tests_libraries/src/tests/icu_plurals_packing.rt:
     ///      example "let packed" to "holds!(rt; packed.as_packed().get_default" of fn lent_bytes_keep_their_metadata -->
     /// ```
     /// let packed = PluralElementsPackedCow::from_bytes(b"\x8f\x01x\x01\0\x13y")?;
@@ -116,7 +116,7 @@ impl<'data> PluralElementsPackedCow<'data> {
         }
     }
 
-    /// The same elements, borrowed from these.
+    /// Returns the same elements, borrowed from these.
     #[inline]
     pub fn as_packed(&self) -> PluralElementsPackedULE<'_>
         ensures { lent_elements result ≡ self.now }
@@ -125,7 +125,8 @@ impl<'data> PluralElementsPackedCow<'data> {
         PluralElementsPackedULE::from_checked(self.bytes.as_slice())
     }
 
-    /// The text for a number, as [`PluralElementsPackedULE::get`] returns it. It takes no memory.
+    /// Returns the text for a number, as [`PluralElementsPackedULE::get`] returns it. It allocates
+    /// nothing.
     pub fn get(&self, op: PluralOperands, rules: &PluralRules<'_>) -> &str
         ensures { result.now ≡ (element_at (elements_of self.now) op rules.now).text }
     {
@@ -133,7 +134,8 @@ impl<'data> PluralElementsPackedCow<'data> {
         text
     }
 
-    /// Packed elements of the same bytes: borrowed if these are borrowed, else a copy. The only error is out of memory.
+    /// Returns packed elements of the same bytes: borrowed if these are borrowed, else a copy. The
+    /// only error is out of memory.
     pub fn try_clone(&self) -> Result<PluralElementsPackedCow<'data>, AllocError>
         ensures { IfOk result (λ packed. packed ≡ self.now) }
     {

@@ -13,8 +13,8 @@ use plural_base::{PluralCategory, PluralRules};
 use plural_reference::PluralOperands;
 use std::marker::Model;
 
-/// A value for each plural category, and for exactly 0 and exactly 1 (UTS 35 Part 3, Plural Rules and
-/// Explicit 0 and 1 Rules). The value of other is always present.
+/// A value for each plural category, and for exactly 0 and exactly 1 (UTS 35 Part 3, Plural Rules
+/// and Explicit 0 and 1 Rules). The value of other is always present.
 ///
 /// [`get`] chooses among them by the operands of a number: in English
 ///
@@ -80,7 +80,7 @@ impl<T> Model for PluralElements<T> {
 }
 
 impl<T> PluralElements<T> {
-    /// Elements with the value of other alone.
+    /// Returns elements with the value of other alone.
     pub fn new(other: T) -> PluralElements<T>
         ensures { result ≡ only_other other }
     {
@@ -96,51 +96,51 @@ impl<T> PluralElements<T> {
         }
     }
 
-    /// The value of [`PluralCategory::Zero`], or that of other.
+    /// Returns the value of [`PluralCategory::Zero`], or that of other.
     pub fn zero(&self) -> &T
         ensures { result.now ≡ unwrap_or self.now.zero self.now.other }
     {
         self.zero.as_ref().unwrap_or(&self.other)
     }
 
-    /// The value of [`PluralCategory::One`], or that of other.
+    /// Returns the value of [`PluralCategory::One`], or that of other.
     pub fn one(&self) -> &T
         ensures { result.now ≡ unwrap_or self.now.one self.now.other }
     {
         self.one.as_ref().unwrap_or(&self.other)
     }
 
-    /// The value of [`PluralCategory::Two`], or that of other.
+    /// Returns the value of [`PluralCategory::Two`], or that of other.
     pub fn two(&self) -> &T
         ensures { result.now ≡ unwrap_or self.now.two self.now.other }
     {
         self.two.as_ref().unwrap_or(&self.other)
     }
 
-    /// The value of [`PluralCategory::Few`], or that of other.
+    /// Returns the value of [`PluralCategory::Few`], or that of other.
     pub fn few(&self) -> &T
         ensures { result.now ≡ unwrap_or self.now.few self.now.other }
     {
         self.few.as_ref().unwrap_or(&self.other)
     }
 
-    /// The value of [`PluralCategory::Many`], or that of other.
+    /// Returns the value of [`PluralCategory::Many`], or that of other.
     pub fn many(&self) -> &T
         ensures { result.now ≡ unwrap_or self.now.many self.now.other }
     {
         self.many.as_ref().unwrap_or(&self.other)
     }
 
-    /// The value of [`PluralCategory::Other`].
+    /// Returns the value of [`PluralCategory::Other`].
     pub fn other(&self) -> &T
         ensures { result.now ≡ self.now.other }
     {
         &self.other
     }
 
-    /// The value of other, if no other value is present.
+    /// Returns the value of other, if no other value is present.
     ///
-    /// <!-- snippet crates/icu_plurals_tests/src/tests/elements.rt: example "let same" to "holds!(rt; another" -->
+    /// <!-- snippet crates/tests_libraries/src/tests/icu_plurals_examples.rt: example "let same" to "holds!(rt; another" -->
     /// ```
     /// let same = PluralElements::new("abc").with_one_value(Some("abc"));
     /// assert!(rt; same.try_into_other() == Some("abc"));
@@ -168,21 +168,21 @@ impl<T> PluralElements<T> {
         }
     }
 
-    /// The value for exactly 0, if present.
+    /// Returns the value for exactly 0, if present.
     pub fn explicit_zero(&self) -> Option<&T>
         ensures { option_map (λ x. x.now) result ≡ self.now.explicit_zero }
     {
         self.explicit_zero.as_ref()
     }
 
-    /// The value for exactly 1, if present.
+    /// Returns the value for exactly 1, if present.
     pub fn explicit_one(&self) -> Option<&T>
         ensures { option_map (λ x. x.now) result ≡ self.now.explicit_one }
     {
         self.explicit_one.as_ref()
     }
 
-    /// The same values, borrowed.
+    /// Returns the same values, borrowed.
     pub fn as_ref(&self) -> PluralElements<&T>
         ensures { each_by (λ x. x.now) result ≡ self.now }
     {
@@ -198,12 +198,13 @@ impl<T> PluralElements<T> {
         }
     }
 
-    /// The value for a number: the explicit one if the operands are exactly 0 or 1 and it is present,
-    /// else that of the category that the rules choose, else that of other. It takes no memory.
+    /// Returns the value for a number: the explicit one if the operands are exactly 0 or 1 and it
+    /// is present, else that of the category that the rules choose, else that of other. It
+    /// allocates nothing.
     ///
     /// With the rule `i = 1` for one:
     ///
-    /// <!-- snippet crates/icu_plurals_tests/src/tests/elements.rt:
+    /// <!-- snippet crates/tests_libraries/src/tests/icu_plurals_examples.rt:
     ///      example "let elements = PluralElements::new" to "}" of fn explicit_values_come_before_the_category -->
     /// ```
     /// let elements = PluralElements::new("x")

@@ -21,13 +21,14 @@ use serde_json::{Map, Value, json};
 use std::alloc::{AllocError, Global};
 
 impl PluralElementsPackedCow<'static> {
-    /// The packed elements of a JSON value: an object with a list of metadata, from 0 to 15, and a text under `other`,
-    /// and such a list, null or nothing under each of `zero`, `one`, `two`, `few`, `many`, `explicit_zero` and
-    /// `explicit_one`. Other keys aren't read. A category's value that equals that of other isn't packed.
+    /// Returns the packed elements of a JSON value: an object with a list of metadata, from 0 to
+    /// 15, and a text under `other`, and such a list, null or nothing under each of `zero`, `one`,
+    /// `two`, `few`, `many`, `explicit_zero` and `explicit_one`. Other keys aren't read. A
+    /// category's value that equals that of other isn't packed.
     ///
     /// With rows such as `{"other":[0,"abc"]}`, `b"\0abc"` and again `{"other":[0,"abc"]}`:
     ///
-    /// <!-- snippet crates/icu_plurals_tests/src/tests/elements_json.rt:
+    /// <!-- snippet crates/tests_libraries/src/tests/icu_plurals_json.rt:
     ///      example "for (text, bytes, wanted)" to "}" of fn elements_are_read_and_written -->
     /// ```
     /// for (text, bytes, wanted) in rows {
@@ -40,15 +41,15 @@ impl PluralElementsPackedCow<'static> {
     /// }
     /// ```
     ///
-    /// [`JsonError::Float`] if the value holds a float, else [`JsonError::Shape`] if a part has another form, else
-    /// [`JsonError::Pack`] if the elements can't be packed. It takes memory for the bytes; out of memory is
-    /// [`JsonError::Memory`].
+    /// [`JsonError::Float`] if the value holds a float, else [`JsonError::Shape`] if a part has
+    /// another form, else [`JsonError::Pack`] if the elements can't be packed. It allocates for the
+    /// bytes; out of memory is [`JsonError::Memory`].
     pub fn from_json(
         alloc: Global,
         value: &Value,
     ) -> Result<PluralElementsPackedCow<'static>, JsonError>
         ensures answers { Answers (λ packed. packed) result (packed_of_json (view value.now)) }
-        // Both are checked before memory is taken.
+        // Both are checked before anything is allocated.
         ensures float { (result ≡ Err JsonError.Float) ↔ IsTrue (has_float (view value.now)) }
         ensures shape { (result ≡ Err JsonError.Shape) ↔ (IsFalse (has_float (view value.now)) × (elements_in_json (view value.now) ≡ None)) }
         ensures memory { result ≢ Err (JsonError.Pack ElementsPackError.Memory) }
@@ -64,11 +65,11 @@ impl PluralElementsPackedCow<'static> {
 }
 
 impl<'data> PluralElementsPackedCow<'data> {
-    /// The JSON value of the elements, as [`PluralElementsPackedULE::decode`] returns them: an object with a list of
-    /// metadata and text under the key of each value that is present. It takes memory; the only error is
-    /// [`JsonError::Memory`].
+    /// Returns the JSON value of the elements, as [`PluralElementsPackedULE::decode`] returns them:
+    /// an object with a list of metadata and text under the key of each value that is present. It
+    /// allocates; the only error is [`JsonError::Memory`].
     ///
-    /// <!-- snippet crates/icu_plurals_tests/src/tests/packing.rt: example "let value = packed.to_json" to "holds!" -->
+    /// <!-- snippet crates/tests_libraries/src/tests/icu_plurals_packing.rt: example "let value = packed.to_json" to "holds!" -->
     /// ```
     /// let value = packed.to_json(alloc)?;
     /// assert!(rt; PluralElementsPackedCow::from_json(alloc, &value)? == packed);

@@ -19,10 +19,11 @@ use plural_base::ElementsPackError;
 use std::alloc::{AllocError, Global};
 
 impl PluralElementsPackedULE<'_> {
-    /// The bytes of elements, made by one allocation. The explicit values are packed, and those of the categories that
-    /// differ from that of other in metadata or text; the value of other is the default.
+    /// Returns the bytes of elements, made by one allocation. The explicit values are packed, and
+    /// those of the categories that differ from that of other in metadata or text; the value of
+    /// other is the default.
     ///
-    /// <!-- snippet crates/icu_plurals_tests/src/tests/packing.rt:
+    /// <!-- snippet crates/tests_libraries/src/tests/icu_plurals_packing.rt:
     ///      const EIGHT; fn eight; example body of fn packs_every_key_in_order -->
     /// ```
     /// const EIGHT: &[u8] =
@@ -43,9 +44,10 @@ impl PluralElementsPackedULE<'_> {
     /// assert!(rt; bytes.as_slice() == EIGHT);
     /// ```
     ///
-    /// The errors, in the order in which they are looked for: the default has more than 255 bytes, and an item is packed
-    /// too ([`ElementsPackError::DefaultLimit`]); an item would start after place 65535 of the data
-    /// ([`ElementsPackError::StartLimit`]); out of memory ([`ElementsPackError::Memory`]).
+    /// The errors, in the order in which they are looked for: the default has more than 255 bytes,
+    /// and an item is packed too ([`ElementsPackError::DefaultLimit`]); an item would start after
+    /// place 65535 of the data ([`ElementsPackError::StartLimit`]); out of memory
+    /// ([`ElementsPackError::Memory`]).
     pub fn encode(
         alloc: Global,
         elements: &PluralElements<(FourBitMetadata, &str)>,

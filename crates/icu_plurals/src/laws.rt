@@ -28,13 +28,14 @@ pub fn elements_read_again()
     read_again();
 }
 
-/// Packed elements have the values that were packed, without those of the five categories that equal the value of other
-/// in metadata and text.
+/// Packed elements have the values that were packed, without the category values that equal the
+/// value of other in metadata and text.
 pub fn packed_values_again()
     ensures { (e : Elements PackedValue) → elements_of (packed_of e) ≡ without_repeats e }
 {}
 
-/// Packed elements give every number the same value as the elements that were packed, under all rules.
+/// Packed elements give every number the same value as the elements that were packed, under all
+/// rules.
 pub fn packed_elements_answer()
     ensures { (e : Elements PackedValue) (op : Operands) (rules : FiveRules) → element_at (elements_of (packed_of e)) op rules ≡ element_at e op rules }
 {}

@@ -1,7 +1,7 @@
 //! Plural rules of languages: the category that a number has, and when it is exact.
 //!
-//! The crates below are found here under the paths of the original: the rules' data in [`provider`],
-//! their text and tree in [`provider::rules::reference`], their packed form in
+//! The crates below are found here under the paths of the original: the rules' data in
+//! [`provider`], their text and tree in [`provider::rules::reference`], their packed form in
 //! [`provider::rules::runtime`], and all else at the root. In the examples `rt` is the runtime that
 //! `main` gets, and `alloc` is `rt.alloc()`.
 //!
@@ -61,8 +61,8 @@
 //! ```
 //!
 //! A number with zeros, with an exponent or of any length is a [`CompactDecimal`].
-//! [`PluralRules::is_exact_for`] returns whether its category is that of the number itself, and not only
-//! of what is kept of it: with the rules of French
+//! [`PluralRules::is_exact_for`] returns whether its category is that of the number itself, and not
+//! only of what is kept of it: with the rules of French
 //!
 //! <!-- snippet crates/using/src/numbers.rt: body of fn print_exactness -->
 //! ```

@@ -19,10 +19,10 @@ use parts::{check_parts, parts_of};
 use plural_base::PluralRules;
 use plural_reference::PluralOperands;
 
-/// Elements as checked bytes: a default, and either nothing else or a packed list of items after it. Each value is
-/// metadata and a text. Two are equal if and only if their bytes are.
+/// Elements as checked bytes: a default, and either nothing else or a packed list of items after
+/// it. Each value is metadata and a text. Two are equal if and only if their bytes are.
 ///
-/// <!-- snippet crates/icu_plurals_tests/src/tests/packing.rt: example body of fn packed_elements_answer_as_before -->
+/// <!-- snippet crates/tests_libraries/src/tests/icu_plurals_packing.rt: example body of fn packed_elements_answer_as_before -->
 /// ```
 /// let rules = rules(alloc)?;
 /// let elements = items();
@@ -50,7 +50,7 @@ impl<'a> PluralElementsPackedULE<'a> {
     ghost use Rattle.icu_plurals.specs.Inner.ElementsReading.{AreElements};
     ghost use Rattle.icu_plurals.specs.Inner.ElementsViews.{lent_value, lent_elements};
 
-    /// Reads bytes as packed elements. It takes no memory.
+    /// Reads bytes as packed elements. It allocates nothing.
     ///
     /// <!-- snippet crates/using/src/elements.rt: "let stored" to "println" of fn print_stored_texts -->
     /// ```
@@ -59,13 +59,14 @@ impl<'a> PluralElementsPackedULE<'a> {
     /// println!(rt; "{text}")?;
     /// ```
     ///
-    /// The faults, in the order in which they are looked for: no byte ([`ElementsBytesError::Empty`]); items are to
-    /// follow, but the length of the default's text is missing or more than the bytes left
-    /// ([`ElementsBytesError::Short`]); one of the bits 4 to 6 of the first byte is set
-    /// ([`ElementsBytesError::Padding`]); the default isn't UTF-8 ([`ElementsBytesError::DefaultText`]); what follows it
-    /// is no packed list ([`ElementsBytesError::List`]). Then the first bad item: it has no byte
-    /// ([`ElementsBytesError::ItemEmpty`]), its key is above 6 ([`ElementsBytesError::Key`]), or its text isn't UTF-8
-    /// ([`ElementsBytesError::ItemText`]).
+    /// The faults, in the order in which they are looked for: no byte
+    /// ([`ElementsBytesError::Empty`]); items are to follow, but the length of the default's text
+    /// is missing or more than the bytes left ([`ElementsBytesError::Short`]); one of the bits 4 to
+    /// 6 of the first byte is set ([`ElementsBytesError::Padding`]); the default isn't UTF-8
+    /// ([`ElementsBytesError::DefaultText`]); what follows it isn't a packed list
+    /// ([`ElementsBytesError::List`]). Then the first bad item: it has no byte
+    /// ([`ElementsBytesError::ItemEmpty`]), its key is above 6 ([`ElementsBytesError::Key`]), or
+    /// its text isn't UTF-8 ([`ElementsBytesError::ItemText`]).
     pub fn parse_bytes(bytes: &'a [u8]) -> Result<PluralElementsPackedULE<'a>, ElementsBytesError>
         ensures ok { IfOk result (λ elements. ElementsBytes (lent_elements elements) bytes.now) }
         ensures accepted { (elements : PackedElements) → ElementsBytes elements bytes.now
@@ -89,7 +90,7 @@ impl<'a> PluralElementsPackedULE<'a> {
         PluralElementsPackedULE { bytes }
     }
 
-    /// The bytes of the elements.
+    /// Returns the bytes of the elements.
     #[inline]
     pub fn as_bytes(&self) -> &'a [u8]
         ensures { ElementsBytes (lent_elements self.now) result.now }
@@ -97,18 +98,18 @@ impl<'a> PluralElementsPackedULE<'a> {
         self.bytes
     }
 
-    /// The value for a number: the explicit one if the operands are exactly 0 or 1 and it is present, else that of
-    /// the category that the rules choose, else the default. If a key occurs twice, its first item counts. The item
-    /// is looked up in the bytes; no memory is taken.
+    /// Returns the value for a number: the explicit one if the operands are exactly 0 or 1 and it
+    /// is present, else that of the category that the rules choose, else the default. If a key
+    /// occurs twice, its first item counts. The item is looked up in the bytes; no memory is taken.
     ///
     /// With the bytes of a row, and what is `wanted` for each of four numbers:
     ///
-    /// <!-- snippet crates/icu_plurals_tests/src/tests/packed.rt:
+    /// <!-- snippet crates/tests_libraries/src/tests/icu_plurals_examples.rt:
     ///      example "let elements" to "holds!(rt; found" of fn chooses_an_item_or_the_default -->
     /// ```
     /// let elements = PluralElementsPackedULE::parse_bytes(bytes)?;
     /// assert!(rt; elements.as_bytes() == bytes);
-    /// let found = numbers().map(|number| {
+    /// let found = numbers.map(|number| {
     ///     let (metadata, text) = elements.get(number, &rules);
     ///     (metadata.get(), text)
     /// });
@@ -124,10 +125,11 @@ impl<'a> PluralElementsPackedULE<'a> {
         }
     }
 
-    /// All values by key, borrowed from the bytes. If a key occurs twice, its first item counts, and a category's value
-    /// is present even if it equals the default. It takes no memory.
+    /// Returns all values by key, borrowed from the bytes. If a key occurs twice, its first item
+    /// counts, and a category's value is present even if it equals the default. It allocates
+    /// nothing.
     ///
-    /// <!-- snippet crates/icu_plurals_tests/src/tests/packed.rt:
+    /// <!-- snippet crates/tests_libraries/src/tests/icu_plurals_examples.rt:
     ///      example "let bytes" to "holds!(rt; shown(elements.zero())" of fn decodes_every_key -->
     /// ```
     /// let bytes =
@@ -142,10 +144,10 @@ impl<'a> PluralElementsPackedULE<'a> {
         Values::of_checked(self.bytes).by_key()
     }
 
-    /// The default.
+    /// Returns the default.
     ///
-    /// <!-- snippet crates/icu_plurals_tests/src/tests/packed.rt:
-    ///      example "let alone" to "holds!" of fn decodes_the_first_of_a_key_and_equal_values -->
+    /// <!-- snippet crates/tests_libraries/src/tests/icu_plurals_examples.rt:
+    ///      example "let alone" to "holds!" of fn the_default_stands_alone -->
     /// ```
     /// let alone = PluralElementsPackedULE::parse_bytes(b"\x07abc")?;
     /// let (metadata, text) = alone.get_default();

@@ -1,4 +1,4 @@
--- Bytes are those of at most one list.
+-- Bytes encode at most one list.
 use Rattle.std.proofs.Common.{◌≡◌, ℕ, suc, ◌+◌, ◌-◌, ◌*◌, ◌<◌, List, [], ◌∷◌, length, drop, take, get_or, refl, sym, ap, ◌∙◌, arith}
 use Rattle.std.proofs.Common.{append-nil, subst, inl, inr, ◌↔◌}
 use Rattle.std.proofs.lemmas.List.{get_or_append_left, get_or_past, get_or-append-add, get_or-drop, drop-drop, take_at, drop_at}
@@ -22,7 +22,7 @@ pieces-concat from item (next ∷ items) bytes h =
     let rest = pieces-concat (from + length item) next items bytes d in
     rw (first, rest) refl
 
--- bytes are those of at most one list
+-- bytes encode at most one list
 pub items_in_one : (items : List (List ℕ)) (bytes : List ℕ) → bytes ≡ list_bytes items → items_in bytes ≡ items
 unfolding items_in
 items_in_one [] bytes h = ap items_in h

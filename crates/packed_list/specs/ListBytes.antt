@@ -1,4 +1,5 @@
--- The bytes of a list of byte items: the count, the starts of all items but the first, and the items.
+-- The bytes of a list of byte items: the count, the starts of all items but the first, and the
+-- items.
 use Rattle.std.specs.Prelude.{◌≡◌, ℕ, ◌+◌, ◌/◌, ◌%◌, ◌≤◌, List, [], ◌∷◌, ◌++◌, length, drop, flat_map, map, Bool, nat_lt, IsFalse}
 use Rattle.std.specs.Prelude.{◌⊎◌, zero, suc, ◌*◌, ◌<◌, slice_index}
 use Rattle.std.specs.List.{concat, list_any}
@@ -23,7 +24,8 @@ starts_from place (item ∷ items) = place ∷ starts_from (place + length item)
 abbrev pub item_starts : List (List ℕ) → List ℕ
 item_starts items = starts_from 0 items
 
--- no item is no byte; else the count, the starts of all items but the first, and the items without gaps
+-- no item is no byte; else the count, the starts of all items but the first, and the items without
+-- gaps
 abbrev pub list_bytes : List (List ℕ) → List ℕ
 list_bytes [] = []
 list_bytes (item ∷ items) = two_bytes (length (item ∷ items))
@@ -38,12 +40,12 @@ pub record CanPack (items : List (List ℕ)) : Type 0 where
   pub count : length items ≤ 65535
   pub starts : IsFalse (has_high_start items)
 
--- the bytes are those of the items
+-- the bytes encode the items
 pub record ListBytes (items : List (List ℕ)) (bytes : List ℕ) : Type 0 where
   pub can_pack : CanPack items
   pub spelled : bytes ≡ list_bytes items
 
--- ---- What is wrong with bytes that are no list, in the order in which it is looked for.
+-- ---- What is wrong with bytes that aren't a list, in the order in which it is looked for.
 
 -- the number in the two bytes at a place, low byte first
 abbrev pub two_byte_number : List ℕ → ℕ → ℕ

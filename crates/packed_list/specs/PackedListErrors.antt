@@ -5,7 +5,7 @@ use Rattle.packed_list.specs.declared.error.ListError.TheVariants.{Header, ZeroC
 use Rattle.packed_list.specs.declared.error.PackError.{PackError}
 use Rattle.packed_list.specs.declared.error.PackError.TheVariants.{CountLimit, StartLimit, Memory}
 
--- why bytes are no list
+-- why bytes aren't a list
 abbrev pub list_error_text : ListError → List ℕ
 list_error_text Header = codes "list header too short"
 list_error_text ZeroCount = codes "list without items"

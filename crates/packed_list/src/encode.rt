@@ -15,7 +15,7 @@ impl<'a> PackedList<'a> {
     /// ([`PackError::CountLimit`]); an item that would start after place 65535
     /// ([`PackError::StartLimit`]); out of memory ([`PackError::Memory`]).
     ///
-    /// <!-- snippet crates/packed_list/src/tests.rt: "match PackedList::encode" to "}" of fn packs_three -->
+    /// <!-- snippet crates/tests_libraries/src/tests/packed_list_lists.rt: "match PackedList::encode" to "}" of fn packs_three -->
     /// ```
     /// match PackedList::encode(alloc, &[b"ab", b"", b"cd"]) {
     ///     Ok(bytes) => Some(bytes.as_slice() == THREE_ITEMS),

@@ -4,7 +4,7 @@ use std::alloc::AllocError;
 use std::error::Error;
 use std::fmt;
 
-/// Why bytes are no packed list.
+/// Why bytes aren't a packed list.
 #[derive(Clone, Copy, Debug, PartialEq, Eq)]
 pub enum ListError {
     /// There is one byte, or fewer bytes than the count of items needs.

@@ -21,8 +21,8 @@ pub trait ByteItem: Copy {
         ensures { OnOk result (bytes.new.items ≡ bytes.old.items ++ item_bytes self.now) };
 }
 
-/// Items that are taken from the front, one after another. A copy gives the same items again, since a list is written by
-/// more than one walk over its items.
+/// Items that are taken from the front, one after another. A copy gives the same items again, since
+/// a list is written by more than one walk over its items.
 pub trait ByteItems: Copy {
     ghost use Rattle.std.specs.Prelude.{ℕ, List};
 

@@ -8,8 +8,6 @@ mod items_to_pack;
 pub mod laws;
 mod list;
 mod starts;
-#[cfg(test)]
-mod tests;
 mod writer;
 
 pub use error::{ListError, PackError};

@@ -12,11 +12,11 @@ use std::marker::Model;
 
 /// A list of byte items, borrowed from the bytes that it is packed in.
 ///
-/// The empty list has no bytes. Otherwise the bytes are the count of items (at most 65535), where each item
-/// but the first starts (at most 65535, counted from the first byte of the data), each number in two bytes
-/// with the low byte first, and then the items without gaps.
+/// The empty list has no bytes. Otherwise the bytes are the count of items (at most 65535), where
+/// each item but the first starts (at most 65535, counted from the first byte of the data), each
+/// number in two bytes with the low byte first, and then the items without gaps.
 ///
-/// <!-- snippet crates/packed_list/src/tests.rt:
+/// <!-- snippet crates/tests_libraries/src/tests/packed_list_lists.rt:
 /// const THREE_ITEMS; example "let list" to "holds!(rt; list.as_bytes()" of fn gives_the_items_and_their_starts -->
 /// ```
 /// const THREE_ITEMS: &[u8] = b"\x03\x00\x02\x00\x02\x00abcd";
@@ -44,11 +44,11 @@ impl<'a> Model for PackedList<'a> {
 impl<'a> PackedList<'a> {
     /// Reads bytes as a packed list. It allocates nothing.
     ///
-    /// The errors, in the order in which they are looked for: one byte, or fewer bytes than the count and the
-    /// starts take ([`ListError::Header`]); a count of 0 ([`ListError::ZeroCount`]); a start that is below the
-    /// previous one or after the data ([`ListError::Start`]).
+    /// The errors, in the order in which they are looked for: one byte, or fewer bytes than the
+    /// count and the starts take ([`ListError::Header`]); a count of 0 ([`ListError::ZeroCount`]);
+    /// a start that is below the previous one or after the data ([`ListError::Start`]).
     ///
-    /// <!-- snippet crates/packed_list/src/tests.rt:
+    /// <!-- snippet crates/tests_libraries/src/tests/packed_list_lists.rt:
     /// example "let list" to "}" of fn the_last_items_of_a_beginning_are_empty -->
     /// ```
     /// let list = PackedList::parse_bytes(&THREE_ITEMS[..8])?;
@@ -82,8 +82,8 @@ impl<'a> PackedList<'a> {
         Ok(PackedList::from_checked(bytes))
     }
 
-    /// Returns the list in bytes that are known to be one, without reading them. Such bytes were taken by [`parse_bytes`],
-    /// or returned by [`as_bytes`] or [`encode`] ([`read_again`]).
+    /// Returns the list in bytes that are known to be one, without reading them. Such bytes were
+    /// taken by [`parse_bytes`], or returned by [`as_bytes`] or [`encode`] ([`read_again`]).
     ///
     /// [`parse_bytes`]: PackedList::parse_bytes
     /// [`as_bytes`]: PackedList::as_bytes
@@ -125,7 +125,8 @@ impl<'a> PackedList<'a> {
         self.len() == 0
     }
 
-    /// Returns where the item at a place starts, counted from the first byte of the data; the first one starts at 0.
+    /// Returns where the item at a place starts, counted from the first byte of the data; the first
+    /// one starts at 0.
     #[inline]
     pub fn start(&self, index: usize) -> Option<usize>
         ensures { result ≡ slice_get (item_starts self.now) index }

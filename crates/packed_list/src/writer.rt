@@ -39,8 +39,9 @@ impl<I: ByteItems> Model for ListWriter<I> {
 impl<I: ByteItems> ListWriter<I> {
     /// Adds up the lengths of the items. It allocates nothing.
     ///
-    /// The errors, in the order in which they are looked for: more than 65535 items ([`PackError::CountLimit`]); an item
-    /// that would start after place 65535 of the data ([`PackError::StartLimit`]).
+    /// The errors, in the order in which they are looked for: more than 65535 items
+    /// ([`PackError::CountLimit`]); an item that would start after place 65535 of the data
+    /// ([`PackError::StartLimit`]).
     pub fn new(items: I) -> Result<ListWriter<I>, PackError>
         ensures ok { IfOk result (λ list. list ≡ I.items items) }
         ensures can_pack { IfOk result (λ _. CanPack (I.items items)) }
@@ -150,7 +151,8 @@ fn push_number(bytes: &mut Vec<u8>, n: usize)
     bytes.push_reserved((n / 256) as u8);
 }
 
-// Writes where each item starts, if the first one starts at a given place. There is room for two bytes each.
+// Writes where each item starts, if the first one starts at a given place. There is room for two
+// bytes each.
 fn push_starts<I: ByteItems>(bytes: &mut Vec<u8>, place: usize, items: I)
     requires low { IsFalse (list_any (λ start. nat_lt 65535 start) (starts_from place (I.items items))) }
     requires room { vec_len bytes.old + 2 * length (I.items items) ≤ vec_capacity bytes.old }

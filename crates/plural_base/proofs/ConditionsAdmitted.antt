@@ -1,5 +1,5 @@
--- What is read and packed is what the agreement of kept and exact operands asks for: its moduli are listed, and its ranges end
--- below 10 ^ 18.
+-- What is read and packed is what the agreement of kept and exact operands asks for: its moduli are
+-- listed, and its ranges end below 10 ^ 18.
 use Rattle.std.proofs.Common.{◌≡◌, ℕ, ◌^◌, ◌<◌, List, [], ◌∷◌, ◌++◌, map, flat_map, Bool, true, false, refl, sym, ap, ◌∙◌, arith}
 use Rattle.std.specs.Prelude.{◌||◌, Contains}
 use Rattle.std.specs.List.{list_any, AllByRecursion}
@@ -183,7 +183,8 @@ groups_both : (moduli : List ℕ) (gs : List (List Relation)) → AllByRecursion
 groups_both moduli [] listed ends = tt
 groups_both moduli (group ∷ gs) listed ends = (group_both moduli group listed.0 ends.0, groups_both moduli gs listed.1 ends.1)
 
--- each relation of a condition without large values is admitted, if the moduli of its packed relations are listed
+-- each relation of a condition without large values is admitted, if the moduli of its packed
+-- relations are listed
 pub condition_admitted : (moduli : List ℕ) (condition : Condition) → has_large_value condition ≡ false
     → Covers moduli (flat_map moduli_of_relation (packed condition))
     → AllByRecursion (AllByRecursion (λ relation. IsAdmitted moduli (meaning_of relation))) (groups_of condition)

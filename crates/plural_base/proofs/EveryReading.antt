@@ -30,7 +30,8 @@ condition_of_rule text condition h =
     let read = h.2.1 in
     subst P h.2.2 (h.0, h.1, (read.0, read.1))
 
--- the condition that is read from a text that gives a rule is the rule's condition, which packs to the rule
+-- the condition that is read from a text that gives a rule is the rule's condition, which packs to
+-- the rule
 rule_again : HaveOneListOfTokens → HaveOneReading → (text : List ℕ) (condition : Condition) (rule : List PackedRelation)
     → IsPackedFrom text (Ok rule) → TextReads Reads text condition → TextReads ReadsCondition text condition × (packing condition ≡ Ok rule)
 rule_again one_list one_reading text condition rule known reading =

@@ -54,7 +54,8 @@ packed_from : TextsGiveOneAnswer → (text : List ℕ) (condition : Condition) (
 packed_from one_answer text condition rule gives reads =
     (one_answer text (packing condition)).0 (inl (condition, reads, refl)) ∙ sym ((one_answer text (Ok rule)).0 (inl gives))
 
--- a rule is true of the kept operands exactly if the condition of its text is true of the exact ones
+-- a rule is true of the kept operands exactly if the condition of its text is true of the exact
+-- ones
 rule_alike : ConditionsAgree → TextsGiveOneAnswer → (x : Places) (e : ℕ) (moduli : List ℕ) (cut exact : Operands)
     → IsKept x e moduli cut exact → (text : Option (List ℕ)) (condition : Option Condition) (rule : Option (List PackedRelation))
     → IsRuleOf text rule → Paired (TextReads ReadsCondition) text condition → Covers moduli (moduli_of_rule rule)

@@ -62,7 +62,7 @@ packed_groups_are group gs filled =
 abbrev pub test_of : Operands → Relation → Bool
 test_of number relation = relation_truth number (meaning_of relation)
 
--- relations marked And have the same truth as those of the tree
+-- relations marked And have the same truth as the tree's
 marked_alike : (number : Operands) (relations : List Relation)
     → list_all (is_true_at number) (map (packed_relation And) relations) ≡ list_all (test_of number) relations
 marked_alike number [] = refl

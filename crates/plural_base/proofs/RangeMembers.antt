@@ -216,7 +216,7 @@ module _ (ranges : PluralRanges) where
   unfolding IsStrictlySortedBy
   none_in_order = tt
 
-  -- the members that are put are those of the ranges
+  -- the members that are put come from the ranges
   pub are_members : AreMembersOf ranges (range_members ranges)
   are_members =
       record { under = under_all; ordered = fold_keeps InOrder (put_row ranges) row_order all_raw_categories no_members none_in_order }

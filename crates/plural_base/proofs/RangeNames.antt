@@ -42,7 +42,7 @@ category_named_as = by_category (λ c. category_named (raw_name_of c) ≡ Some c
 pub named_category : (text : List ℕ) (c : RawPluralCategory) → text ≡ raw_name_of c → Some c ≡ category_named text
 named_category text c is = rw is (sym (category_named_as c))
 
--- a text that is no category's name names none
+-- a text that isn't a category's name names none
 pub category_named_none : (text : List ℕ) → ((c : RawPluralCategory) → text ≡ raw_name_of c → ⊥) → category_named text ≡ None
 category_named_none text never = none_there (category_named text) (λ c found. never c (category_named_is text c found))
 
@@ -81,6 +81,6 @@ range_named_as =
 pub named_range : (text : List ℕ) (start end : RawPluralCategory) → text ≡ range_text start end → Some (start, end) ≡ range_named text
 named_range text start end is = rw is (sym (range_named_as start end))
 
--- a text that is no range's names none
+-- a text that isn't a range's names none
 pub range_named_none : (text : List ℕ) → ((start end : RawPluralCategory) → text ≡ range_text start end → ⊥) → range_named text ≡ None
 range_named_none text never = none_there (range_named text) (λ range found. never range.0 range.1 (range_named_is text range found))

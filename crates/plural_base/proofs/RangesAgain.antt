@@ -134,7 +134,8 @@ module _ (acc : PluralRanges) (start end category : RawPluralCategory) where
         (in_row (category_number e == category_number end) refl (same_number s start (eqb-true _ _ is)))
     at_row false is = other
 
-    -- what holds of the new category at its pair, and of what was there at the others, holds everywhere
+    -- what holds of the new category at its pair, and of what was there at the others, holds
+    -- everywhere
     with_any : P (category_at (with_range acc start end category) s e)
     with_any =
         subst (λ row. P (at row e)) (sym (at-put_at acc start (put_at (at acc start) end (Some category)) s))

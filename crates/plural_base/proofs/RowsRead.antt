@@ -43,7 +43,7 @@ module _ {A : Type 0} (rows new : Rows A) (k : List ℕ) (first : A) (keys : Lis
   pub order_kept : new ≡ insert_entry (slice_cmp nat_cmp) rows k first → Ascend (keys_of rows ++ k ∷ keys) → Ascend (keys_of new ++ keys)
   order_kept put h = rw (put_behind put h) (ascend_push rows k first keys h)
 
-  -- and the rows are those of the members so far
+  -- and the rows are the rows of the members so far
   pub rows_kept : (meant : Data → Stands A) (d : Data) (ms : Members) → new ≡ insert_entry (slice_cmp nat_cmp) rows k first
       → Ascend (keys_of rows ++ k ∷ keys)
       → meant d ≡ Ok first → behind rows (rows_meant meant (member k d ms)) ≡ behind new (rows_meant meant ms)

@@ -237,7 +237,7 @@ items_refused bytes items read list one no_fault tells (errors.Key place) = item
 items_refused bytes items read list one no_fault tells (errors.Rule place fault) =
     item_refused bytes items read (errors.Rule place fault) list one tells
 
--- rules that are read are those of the bytes
+-- rules that are read are in the bytes
 pub are_read : (bytes : List ℕ) (items : List (List ℕ)) (read : Read) → ListBytes items bytes
     → IfOk read (λ rules. CanPackRules (rules_of rules)) → IfOk read (λ rules. items ≡ rule_items (rules_of rules))
     → IfOk read (λ rules. RulesBytes (rules_of rules) bytes)

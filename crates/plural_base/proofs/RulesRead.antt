@@ -1,4 +1,4 @@
--- Rules that a value stands for are those of the texts in it.
+-- Rules that a value stands for come from the texts in it.
 use Rattle.std.proofs.Common.{◌≡◌, ℕ, List, ◌∷◌, Bool, true, false, cond, Option, Some, None, is_some, Result, Ok, Err, codes}
 use Rattle.std.proofs.Common.{if◌then◌else◌, IfOk, inl, inr, refl, subst, Ordering, Less, Equal, Greater, is_eq, nat_cmp}
 use Rattle.std.proofs.lemmas.Map.Text.{is_eq-slice_cmp}
@@ -80,7 +80,7 @@ are_five (Ok z) (Ok o) (Ok t) (Ok f) (Ok m) all h =
     subst (AreFive (Ok z) (Ok o) (Ok t) (Ok f) (Ok m)) (same_ok _ _ h)
     (record { zero_is = refl; one_is = refl; two_is = refl; few_is = refl; many_is = refl })
 
--- five rules that are present are those of the texts under the five names
+-- five rules that are present come from the texts under the five names
 taken_members : AreGiven → (value : Data) (rules : FiveRules)
     → AreFive (member_meant Zero value) (member_meant One value) (member_meant Two value) (member_meant Few value)
     (member_meant Many value) rules
@@ -98,7 +98,7 @@ if_read : {A : Type 0} (b : Bool) (e : JsonError) (read : Stands A) (x : A) → 
 if_read true e read x h = h
 if_read false e read x h = absurd cc
 
--- the rules that a value stands for are those of the texts in it
+-- the rules that a value stands for come from the texts in it
 pub rules_taken : AreGiven → (value : Data) (rules : FiveRules) → rules_meant value ≡ Ok rules → AreRulesOf (texts_in value) rules
 rules_taken given value rules h =
     taken_members given value rules (are_five _ _ _ _ _ rules (if_read (is_some (as_object value)) Shape _ rules h))
@@ -107,7 +107,8 @@ rules_taken given value rules h =
 
 module _ {A : Type 0} (meant : Data → Stands A) (Reads : Data → A → Type 0)
     (taken : (value : Data) (thing : A) → meant value ≡ Ok thing → Reads value thing) (locale : List ℕ) where
-  -- under the key of a row is what is read from its value, under another key what the other rows have
+  -- under the key of a row is what is read from its value, under another key what the other rows
+  -- have
   at_key : (o : Ordering) (value : Data) (thing : A) (there : Option Data) (there' : Option A) → Reads value thing
       → Paired Reads there there'
       → Paired Reads (match_ordering o there (Some value) there) (cond (is_eq o) (Some thing) there')
@@ -169,7 +170,7 @@ module _ (given : AreGiven) (value : Data) where
       (map_meant ranges_meant (get (codes "ranges") value)) document
   maps_of document h = are_maps _ _ _ document (if_read (is_some (as_object value)) Shape _ document h)
 
-  -- the rules for cardinal numbers of a locale are those of the texts under it
+  -- the rules for cardinal numbers of a locale come from the texts under it
   pub cardinal_read : (read : Result Document JsonError) → Answers (λ d. d) read (document_meant value)
       → IfOk read (λ d. (locale : List ℕ) → IsReadAt (value_of_locale (codes "cardinal") locale value) (found locale d.cardinal))
   cardinal_read (Err e) h = tt

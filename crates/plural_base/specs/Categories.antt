@@ -1,4 +1,5 @@
--- The six plural categories (UTS 35 Part 3, Language Plural Rules): their names, their orders and their numbers.
+-- The six plural categories (UTS 35 Part 3, Language Plural Rules): their names, their orders and
+-- their numbers.
 use Rattle.std.specs.Prelude.{ℕ, List, [], ◌∷◌, codes}
 use Rattle.plural_base.specs.declared.category.PluralCategory.{PluralCategory}
 use Rattle.plural_base.specs.declared.category.PluralCategory.TheVariants.{Zero, One, Two, Few, Many, Other}

@@ -1,4 +1,5 @@
--- The choice of a category by the kept operands of a number: within the bound it is exact, and no wider bound on moduli would do.
+-- The choice of a category by the kept operands of a number: within the bound it is exact, and no
+-- wider bound on moduli would do.
 use Rattle.std.specs.Prelude.{◌≡◌, ℕ, ◌*◌, ◌%◌, ◌^◌, ◌<◌, List, [], ◌∷◌, Option, Some, None, Ok}
 use Rattle.std.specs.Int.{◌∣◌}
 use Rattle.fixed_decimal.specs.Places.{Places, IsWritten}
@@ -44,15 +45,16 @@ leaves m r = record {
 abbrev pub alone : Relation → Condition
 alone relation = condition_of_groups ((relation ∷ []) ∷ [])
 
--- the condition packs to the rule; as the only rule, that of one, the condition chooses one for the exact number, and the packed
--- rule other for the kept operands
+-- the condition packs to the rule; as the only rule, that of one, the condition chooses one for the
+-- exact number, and the packed rule other for the kept operands
 pub record TellsApart (condition : Condition) (rule : List PackedRelation) (kept exact : Operands) : Type 0 where
   pub packs : packing condition ≡ Ok rule
   pub for_exact : first_category (exact_truth exact) (only_one condition) ≡ One
   pub for_kept : first_category (packed_truth kept) (only_one rule) ≡ Other
 
--- Each modulus m up to 4294967295 that doesn't divide 10 ^ 18 is in rules that tell the exact number 2 * 10 ^ 18 from what is
--- kept of it: those whose only rule, that of one, is `i % m = r`, where r is 2 * 10 ^ 18 mod m.
+-- Each modulus m up to 4294967295 that doesn't divide 10 ^ 18 is in rules that tell the exact
+-- number 2 * 10 ^ 18 from what is kept of it: those whose only rule, that of one, is `i % m = r`,
+-- where r is 2 * 10 ^ 18 mod m.
 abbrev pub BoundIsWidestForChoice : Type 0
 BoundIsWidestForChoice =
     (m : ℕ) (x : Places) (kept exact : Operands) → 0 < m → m < 2 ^ 32 → ¬ (m ∣ 10 ^ 18)

@@ -11,10 +11,10 @@ use Rattle.plural_base.specs.declared.category.PluralCategory.{PluralCategory}
 use Rattle.plural_base.specs.FiveRules.{Five, FiveRules, first_category, moduli_of}
 use Rattle.plural_base.specs.RuleTexts.{AreRulesOf, AreReadAs}
 
--- For any five texts that the rules are those of, and any conditions that these are read as: if the number, with its compact
--- exponent, is within the bound, the category is the first of zero, one, two, few, many whose condition is present and true of
--- the exact number, else other.
--- The standard doesn't say what a modulus 0 means: in exact truth it is no modulus, as in packed rules.
+-- For any five texts that the rules come from, and any conditions that these are read as: if the
+-- number, with its compact exponent, is within the bound, the category is the first of zero, one,
+-- two, few, many whose condition is present and true of the exact number, else other. The standard
+-- gives `% 0` no meaning: exact truth treats it as if it weren't written, as packed rules do.
 abbrev pub IsExactChoice : FiveRules → Places → ℕ → PluralCategory → Type 0
 IsExactChoice rules number exponent category =
     (texts : Five (Option (List ℕ))) (conditions : Five (Option Condition)) (exact : Operands)
@@ -22,7 +22,8 @@ IsExactChoice rules number exponent category =
     → IsWithinBound number exponent (moduli_of rules) → AreExact number exponent exact
     → category ≡ first_category (exact_truth exact) conditions
 
--- The category is the first whose rule is present and true of the kept operands of the number, else other.
+-- The category is the first whose rule is present and true of the kept operands of the number, else
+-- other.
 abbrev pub IsKeptChoice : FiveRules → Places → ℕ → PluralCategory → Type 0
 IsKeptChoice rules number exponent category =
     (kept : Operands) × AreKept number exponent kept × (category ≡ first_category (packed_truth kept) rules)

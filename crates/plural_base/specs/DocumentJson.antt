@@ -1,7 +1,7 @@
 -- What a JSON document means: maps from locales to rules and to ranges (docs/JSON.md).
 --     found locale rows      what the first row of the locale has
 --     document_of_json value      the maps of a document, or its first refusal
---     IsReadAt value rules      both are absent, or the rules are those of the texts in the value
+--     IsReadAt value rules      both are absent, or the rules come from the texts in the value
 --     AreRangesAt value ranges      both are absent, or the ranges are those that the value means
 use Rattle.std.specs.Prelude.{◌≡◌, ℕ, List, [], ◌∷◌, codes, Option, Some, None, is_some, Ok, Err, bytes_eq, if◌then◌else◌}
 use Rattle.std.specs.Map.{lookup}
@@ -33,7 +33,8 @@ pub record Document : Type 0 where
 
 -- ---- Reading
 
--- each member is the row of its key; the members are in the order of the keys' bytes, and the first refusal is the result
+-- each member is the row of its key; the members are in the order of the keys' bytes, and the first
+-- refusal is the result
 abbrev pub rows_meant : {A : Type 0} → (Data → Stands A) → Members → Stands (Rows A)
 rows_meant meant no_members = Ok []
 rows_meant meant (member locale value members) = do
@@ -75,7 +76,7 @@ document_of_json = unless_float document_meant
 abbrev pub value_of_locale : List ℕ → List ℕ → Data → Option Data
 value_of_locale key locale value = option_and_then (get locale) (get key value)
 
--- the rules are those of the texts in the value, or both are absent
+-- the rules come from the texts in the value, or both are absent
 abbrev pub IsReadAt : Option Data → Option FiveRules → Type 0
 IsReadAt = Paired (λ value rules. AreRulesOf (texts_in value) rules)
 

@@ -1,6 +1,8 @@
--- Five rules, one for each category but other, and the category that they choose (UTS 35 Part 3, Language Plural Rules).
+-- Five rules, one for each category but other, and the category that they choose (UTS 35 Part 3,
+-- Language Plural Rules).
 --     Five A      a value for each of zero, one, two, few and many
---     first_category test things      the first of zero, one, two, few, many whose value is present and passes, else other
+--     first_category test things      the first of zero, one, two, few, many whose value is present
+--         and passes, else other
 --     categories_of things      those whose value is present, in this order, then other
 use Rattle.std.specs.Prelude.{List, [], ◌∷◌, ◌++◌, Bool, false, Option, Some, None, is_some, if◌then◌else◌, ℕ, flat_map}
 use Rattle.plural_base.specs.declared.category.PluralCategory.{PluralCategory}
@@ -86,12 +88,12 @@ modulus_on E modulus = []
 abbrev pub moduli_of_relation : PackedRelation → List ℕ
 moduli_of_relation relation = modulus_on relation.meaning.operand relation.meaning.modulus
 
--- those of the relations of a rule, if present
+-- the moduli of the relations of a rule, if present
 abbrev pub moduli_of_rule : Option (List PackedRelation) → List ℕ
 moduli_of_rule None = []
 moduli_of_rule (Some relations) = flat_map moduli_of_relation relations
 
--- those of all five rules
+-- the moduli of all five rules
 abbrev pub moduli_of : FiveRules → List ℕ
 moduli_of rules =
     moduli_of_rule rules.zero ++ moduli_of_rule rules.one ++ moduli_of_rule rules.two ++ moduli_of_rule rules.few

@@ -1,8 +1,10 @@
--- The machinery of what JSON values mean (docs/JSON.md): the meaning of a value or its first refusal, the order of refusals, and
--- what a call returns. Values are what serde_json's accessors show of them.
+-- The machinery of what JSON values mean (docs/JSON.md): the meaning of a value or its first
+-- refusal, the order of refusals, and what a call returns. Values are what serde_json's accessors
+-- show of them.
 --     Stands A      what a value means, or its refusal
 --     unless_float meant      floats are refused before all else
---     Answers seen result stands      the call returns what the value means, or its refusal, or runs out of memory
+--     Answers seen result stands      the call returns what the value means, or its refusal, or
+--         runs out of memory
 use Rattle.std.specs.Prelude.{◌≡◌, ⊤, Option, Some, None, Result, Ok, Err, if◌then◌else◌}
 use Rattle.plural_base.specs.declared.json.error.JsonError.{JsonError}
 use Rattle.plural_base.specs.declared.json.error.JsonError.TheVariants.{Float, Memory}
@@ -37,7 +39,8 @@ all_five zero one two few many = do
   many' ← many
   Ok (five zero' one' two' few' many')
 
--- A number for which `as_u64` and `as_i64` both return None, wherever it is, is refused before all else.
+-- A number for which `as_u64` and `as_i64` both return None, wherever it is, is refused before all
+-- else.
 abbrev pub unless_float : {A : Type 0} → (Data → Stands A) → Data → Stands A
 unless_float meant value = if has_float value then Err Float else meant value
 

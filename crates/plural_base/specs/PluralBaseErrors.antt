@@ -1,4 +1,5 @@
--- The texts of the errors of JSON values (docs/JSON.md), of rules as bytes (docs/FORMATS.md) and of packing elements.
+-- The texts of the errors of JSON values (docs/JSON.md), of rules as bytes (docs/FORMATS.md) and of
+-- packing elements.
 use Rattle.std.specs.Prelude.{ℕ, List, ◌++◌, codes, Option, Some, None}
 use Rattle.std.specs.Fmt.{decimal}
 use Rattle.packed_list.specs.PackedListErrors.{list_error_text}
@@ -20,7 +21,7 @@ elements_pack_error_text packing.DefaultLimit = codes "default too long"
 elements_pack_error_text packing.StartLimit = codes "elements too long"
 elements_pack_error_text packing.Memory = codes "out of memory"
 
--- why bytes are no rules
+-- why bytes aren't rules
 abbrev pub rules_bytes_error_text : RulesBytesError → List ℕ
 rules_bytes_error_text (errors.List fault) = list_error_text fault
 rules_bytes_error_text (errors.ItemEmpty place) = codes "rule " ++ decimal place ++ codes " without a byte"

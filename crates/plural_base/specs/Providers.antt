@@ -1,5 +1,5 @@
--- What a provider returns, by three maps from locales: to cardinal rules, to ordinal rules and to ranges. A locale is a text,
--- compared byte by byte.
+-- What a provider returns, by three maps from locales: to cardinal rules, to ordinal rules and to
+-- ranges. A locale is a text, compared byte by byte.
 use Rattle.std.specs.Prelude.{◌≡◌, Option, Some, None, Result, Ok, Err, ◌⊎◌}
 use Rattle.plural_base.specs.declared.provider.options.PluralRuleType.{PluralRuleType}
 use Rattle.plural_base.specs.declared.provider.options.PluralRuleType.TheVariants.{Cardinal, Ordinal}
@@ -33,7 +33,8 @@ of_type (Some Ordinal) cardinal ordinal = ordinal
 -- ---- Rules with the categories of ranges, made from a provider's.
 --     WithRanges R      rules of some kind, and ranges
 --     MakesBoth rules ranges result      both if both are present, else NotFound
---     MakesWith rules ranges result      these rules and the ranges if these are present, else NotFound
+--     MakesWith rules ranges result      these rules and the ranges if these are present, else
+--         NotFound
 
 pub record WithRanges (R : Type 0) : Type 0 where
   pub rules : R

@@ -1,4 +1,7 @@
--- A value for each of the six plural categories.
+-- The categories of ranges of numbers (UTS 35 Part 3, Plural Ranges): tables of pairs, the bytes
+-- and the texts of ranges.
+--
+-- A value for each of the six plural categories:
 --     each f      the value that f gives for each
 --     at things category      the value of a category
 --     put_at things category thing      the same values, but for this one
@@ -30,7 +33,8 @@ put_at things category thing = each (λ c. if category_number c == category_numb
 --     range_key start end      the byte: 16 times the start's number, plus the end's number
 --     range_text start end      the text: the start's name, two hyphens, the end's name
 --     IsKeyOfText text key      the text and the byte are those of one range
---     range_named text, category_named text      the range, or the category, whose text this is, if there is one
+--     range_named text, category_named text      the range, or the category, whose text this is, if
+--         there is one
 
 -- a start and an end
 abbrev pub Range : Type 0
@@ -76,7 +80,8 @@ category_named text = find (λ category. bytes_eq text (raw_name_of category)) a
 --     no_ranges      no pair has a category
 --     with_range ranges start end category      the same ranges, but this pair has this category
 --     size_of ranges      how many pairs have a category
---     resolved ranges start end      the category of a range: the pair's, if it has one, else the end's
+--     resolved ranges start end      the category of a range: the pair's, if it has one, else the
+--         end's
 
 abbrev pub category_at : PluralRanges → RawPluralCategory → RawPluralCategory → Option RawPluralCategory
 category_at ranges start end = at (at ranges start) end

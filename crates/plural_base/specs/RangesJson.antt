@@ -1,5 +1,6 @@
--- What a JSON value means as a range or as the categories of ranges, or why it is refused, and the one JSON value that is written
--- for them (docs/JSON.md). Values are what serde_json's accessors show of them.
+-- What a JSON value means as a range or as the categories of ranges, or why it is refused, and the
+-- one JSON value that is written for them (docs/JSON.md). Values are what serde_json's accessors
+-- show of them.
 use Rattle.std.specs.Prelude.{◌≡◌, ℕ, List, [], ◌∷◌, codes, Option, option_map, Ok}
 use Rattle.std.specs.Cmp.Lexicographic.{slice_cmp}
 use Rattle.std.specs.List.Sorted.{IsStrictlySortedBy}
@@ -30,7 +31,8 @@ category_meant value = do
   text ← there_or Shape (as_str value)
   there_or RangeValue (category_named text)
 
--- each member gives its range its category; the members are in the order of the keys' bytes, a key is checked before its value
+-- each member gives its range its category; the members are in the order of the keys' bytes, a key
+-- is checked before its value
 abbrev pub members_meant : PluralRanges → Members → Stands PluralRanges
 members_meant ranges no_members = Ok ranges
 members_meant ranges (member key value members) = do
@@ -68,7 +70,8 @@ abbrev pub keys_in : Members → List (List ℕ)
 keys_in no_members = []
 keys_in (member key value members) = key ∷ keys_in members
 
--- under a pair's text is its category, and there is no other key; no key occurs twice, and they are in the order of their bytes
+-- under a pair's text is its category, and there is no other key; no key occurs twice, and they are
+-- in the order of their bytes
 pub record AreMembersOf (ranges : PluralRanges) (members : Members) : Type 0 where
   pub under : (text : List ℕ) → get_member text members ≡ option_map name_json (category_under text ranges)
   pub ordered : IsStrictlySortedBy (slice_cmp nat_cmp) (keys_in members)

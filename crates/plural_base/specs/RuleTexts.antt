@@ -1,8 +1,11 @@
--- Five rules and the texts that they come from. What one text gives is said by `IsPackedFrom` and `TextGives` of plural_runtime.
+-- Five rules and the texts that they come from. What one text gives is said by `IsPackedFrom` and
+-- `TextGives` of plural_runtime.
 --     AreRulesOf texts rules      each text gives its rule, and an absent text none
 --     AreReadAs texts conditions      each text is read as a rule with its condition
---     IsFirstRefused texts category error      the category's text gives no rule for this reason, and those before it give some
---     HaveEveryReading Read      rules of texts are those of every reading of these texts (`laws::rules_have_every_reading`)
+--     IsFirstRefused texts category error      the category's text gives no rule for this reason,
+--         and those before it give some
+--     HaveEveryReading Read      rules of texts are those of every reading of these texts
+--         (`laws::rules_have_every_reading`)
 --     texts_of zero one two few many      the texts of five references
 use Rattle.std.specs.Prelude.{◌≡◌, ℕ, List, Option, Some, None, Ok, Err, ◌⊎◌}
 use Rattle.std.specs.Borrow.{Bor}
@@ -70,8 +73,8 @@ IsAnswerFor text condition = (tokens : List Token) → AreTokensOf text tokens �
 abbrev pub ArePackingsOf : Five (Option Condition) → FiveRules → Type 0
 ArePackingsOf = ArePaired (λ condition rule. packing condition ≡ Ok rule)
 
--- for all conditions that the texts of rules are read as by this relation, the texts are those of rules with these conditions,
--- and the rules are their packings
+-- for all conditions that the texts of rules are read as by this relation, the texts give rules
+-- with these conditions, and the rules are their packings
 abbrev pub HaveEveryReading : (List ℕ → Condition → Type 0) → Type 0
 HaveEveryReading Read =
     (texts : Five (Option (List ℕ))) (conditions : Five (Option Condition)) (rules : FiveRules)

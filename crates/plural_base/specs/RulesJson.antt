@@ -1,5 +1,5 @@
--- What a JSON value means as rules, or why it is refused, and the one JSON value that is written for rules (docs/JSON.md). Values
--- are what serde_json's accessors show of them.
+-- What a JSON value means as rules, or why it is refused, and the one JSON value that is written
+-- for rules (docs/JSON.md). Values are what serde_json's accessors show of them.
 use Rattle.std.specs.Prelude.{ℕ, List, Option, Some, None, is_some, Ok, Err, if◌then◌else◌}
 use Rattle.std.specs.Option.{option_and_then}
 use Rattle.plural_reference.specs.Serializer.{condition_text}

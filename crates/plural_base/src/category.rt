@@ -40,9 +40,9 @@ const ALL: &[PluralCategory] = &[
 ];
 
 impl PluralCategory {
-    /// All six, in the order of their names: few, many, one, other, two, zero.
+    /// Returns all six, in the order of their names: few, many, one, other, two, zero.
     ///
-    /// <!-- snippet crates/plural_base_tests/src/tests/categories.rt:
+    /// <!-- snippet crates/tests_libraries/src/tests/plural_base_rules.rt:
     ///      example "let mut all" to "holds!(rt; all.next() == Some(PluralCategory::Few" -->
     /// ```
     /// let mut all = PluralCategory::all();
@@ -56,9 +56,9 @@ impl PluralCategory {
         AllCategories { left: ALL }
     }
 
-    /// The category of a name in lower case, as CLDR writes it; `None` for any other text.
+    /// Returns the category of a name in lower case, as CLDR writes it; `None` for any other text.
     ///
-    /// <!-- snippet crates/plural_base_tests/src/tests/categories.rt:
+    /// <!-- snippet crates/tests_libraries/src/tests/plural_base_rules.rt:
     ///      example "let rows" to "}" of fn names_are_those_of_the_categories -->
     /// ```
     /// let rows = [
@@ -81,9 +81,9 @@ impl PluralCategory {
         PluralCategory::get_for_cldr_bytes(name.as_bytes())
     }
 
-    /// The category whose name has these bytes; `None` for any others.
+    /// Returns the category whose name has these bytes; `None` for any others.
     ///
-    /// <!-- snippet crates/plural_base_tests/src/tests/categories.rt:
+    /// <!-- snippet crates/tests_libraries/src/tests/plural_base_rules.rt:
     ///      example "for name in" to "}" of fn names_are_those_of_the_categories -->
     /// ```
     /// for name in ["", "Few", "other ", "ones"] {

@@ -10,11 +10,11 @@ use plural_reference::laws::exactness::kept_operands_agree;
 use plural_runtime::laws::texts_give_one_answer;
 
 impl<'data> PluralRules<'data> {
-    /// The category of a decimal by its kept operands. If [`PluralRules::is_exact_for_decimal`] holds
-    /// and the rules come from texts, it is the category of the number itself, whatever its length.
-    /// It takes no memory.
+    /// Returns the category of a decimal by its kept operands. If
+    /// [`PluralRules::is_exact_for_decimal`] holds and the rules come from texts, it is the
+    /// category of the number itself, whatever its length. It allocates nothing.
     ///
-    /// <!-- snippet crates/plural_base_tests/src/tests/exact.rt: example fn decimal -->
+    /// <!-- snippet crates/tests_libraries/src/tests/plural_base_rules.rt: example fn decimal -->
     /// ```
     /// fn decimal(alloc: Global, one: &str, number: &str) -> anyhow::Result<(PluralCategory, bool)> {
     ///     let rules = rules_of(alloc, one)?;
@@ -32,9 +32,9 @@ impl<'data> PluralRules<'data> {
         self.category_for(PluralOperands::from(number))
     }
 
-    /// The category of a compact decimal by its kept operands, after the point has moved by the
-    /// exponent. If [`PluralRules::is_exact_for`] holds and the rules come from texts, it is the
-    /// category of the number itself, whatever its length. It takes no memory.
+    /// Returns the category of a compact decimal by its kept operands, after the point has moved by
+    /// the exponent. If [`PluralRules::is_exact_for`] holds and the rules come from texts, it is
+    /// the category of the number itself, whatever its length. It allocates nothing.
     ///
     /// In French, whose rules `french` returns,
     ///

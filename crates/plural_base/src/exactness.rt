@@ -16,13 +16,13 @@ use plural_reference::{KEPT_LIMIT, KEPT_PLACES};
 use plural_runtime::{Operand, Relation, Rule};
 
 impl<'data> PluralRules<'data> {
-    /// Whether the number is within the exactness bound of the rules. If they are read from texts, its
-    /// category is then that of the number itself, and not only of what is kept of it.
+    /// Returns whether the number is within the exactness bound of the rules. If they are read from
+    /// texts, its category is then that of the number itself, and not only of what is kept of it.
     ///
     /// This holds if, after the point has moved by the exponent, the number has at most 18 fraction
     /// places; and either at most 18 integer places, or an integer part of at least `10^18` under
     /// rules whose moduli on `n` and `i` all divide `10^18`. Places count as they are written, with
-    /// leading and trailing zeros. It takes no memory.
+    /// leading and trailing zeros. It allocates nothing.
     ///
     /// <!-- snippet crates/using/src/numbers.rt: body of fn print_exactness -->
     /// ```
@@ -56,7 +56,7 @@ impl<'data> PluralRules<'data> {
 
     /// As [`PluralRules::is_exact_for`], for a number without an exponent.
     ///
-    /// <!-- snippet crates/plural_base_tests/src/tests/exact.rt: example body of fn integers_of_64_bits_are_whole -->
+    /// <!-- snippet crates/tests_libraries/src/tests/plural_base_rules.rt: example body of fn integers_of_64_bits_are_whole -->
     /// ```
     /// let rules = rules_of(alloc, "i % 3 = 2")?;
     /// let operands = PluralOperands::from(2_000_000_000_000_000_000u64);
@@ -148,7 +148,7 @@ fn relation_divides(relation: Relation<'_>) -> bool
     }
 }
 
-// Whether a modulus is 0, which is no modulus, or divides 10 to the power 18.
+// Whether a modulus is 0, which doesn't count, or divides 10 to the power 18.
 fn divides_ten_to_18(modulus: u32) -> bool
     ensures { result ≡ divides_ten_to_18 modulus }
 {

@@ -14,8 +14,8 @@ use plural_reference::laws::exactness;
 use plural_reference::laws::reading::{one_list_of_tokens, one_reading};
 use plural_runtime::laws as runtime;
 
-/// Within the bound, under rules that are read from texts, the category that a number's kept operands
-/// choose is exact.
+/// Within the bound, under rules that are read from texts, the category that a number's kept
+/// operands choose is exact.
 pub fn kept_choice_is_exact()
     ensures { KeptChoiceIsExact }
 {
@@ -32,8 +32,8 @@ pub fn bound_is_widest()
     exactness::bound_is_widest();
 }
 
-/// Every text has exactly one result as a rule: the relations that its condition is packed to, or the
-/// reason why it gives none.
+/// Every text has exactly one result as a rule: the relations that its condition is packed to, or
+/// the reason why it gives none.
 pub fn texts_give_one_answer()
     ensures { TextsGiveOneAnswer }
 {
@@ -41,9 +41,9 @@ pub fn texts_give_one_answer()
 }
 
 /// Rules of texts are those of every reading of these texts, be they read as rules (`rules`), as
-/// conditions (`conditions`), or by [`plural_reference::parse_condition`] (`answers`). So the clause
-/// `exact` of [`PluralRules::category_for_decimal`] is about any conditions that a caller has read
-/// from the texts itself.
+/// conditions (`conditions`), or by [`plural_reference::parse_condition`] (`answers`). So the
+/// clause `exact` of [`PluralRules::category_for_decimal`] is about any conditions that a caller
+/// has read from the texts itself.
 ///
 /// [`PluralRules::category_for_decimal`]: crate::PluralRules::category_for_decimal
 pub fn rules_have_every_reading()

@@ -1,9 +1,9 @@
 //! Plural categories, the rules that choose them, and when the choice is exact.
 //!
-//! In the examples `rt` is the runtime that `main` or a test gets, `alloc` is `rt.alloc()`, and `rules_of`
-//! gives rules that have a rule for one alone:
+//! In the examples `rt` is the runtime that `main` or a test gets, `alloc` is `rt.alloc()`, and
+//! `rules_of` gives rules that have a rule for one alone:
 //!
-//! <!-- snippet crates/plural_base_tests/src/tests/exact.rt: example fn rules_of -->
+//! <!-- snippet crates/tests_libraries/src/tests/plural_base_rules.rt: example fn rules_of -->
 //! ```
 //! fn rules_of(alloc: Global, one: &str) -> Result<PluralRules<'static>, RulesTextError> {
 //!     let data = PluralRulesData::from_texts(alloc, None, Some(one), None, None, None)?;

@@ -27,13 +27,14 @@ impl fmt::Display for DataError {
 
 impl Error for DataError {}
 
-/// Rules and ranges by locale: a map for cardinal numbers, one for ordinal numbers and one for ranges. A
-/// locale is a text, compared byte by byte; no other locale stands in for one that is absent.
+/// Rules and ranges by locale: a map for cardinal numbers, one for ordinal numbers and one for
+/// ranges. A locale is a text, compared byte by byte; no other locale stands in for one that is
+/// absent.
 ///
-/// An implementation names its maps by three ghost members, `cardinal`, `ordinal` and `ranges`: functions
-/// from the provider and a locale's bytes to the five rules or the ranges, or `None`. Each call returns
-/// what the map of its name says. So a provider of English alone, with no ordinal numbers and no ranges,
-/// is
+/// An implementation names its maps by three ghost members, `cardinal`, `ordinal` and `ranges`:
+/// functions from the provider and a locale's bytes to the five rules or the ranges, or `None`.
+/// Each call returns what the map of its name says. So a provider of English alone, with no ordinal
+/// numbers and no ranges, is
 ///
 /// <!-- snippet crates/using/src/english.rt: struct English; impl PluralsProvider for English -->
 /// ```
@@ -85,18 +86,18 @@ pub trait PluralsProvider {
     // The categories of ranges of a locale.
     ghost ranges: { Self → List ℕ → Option Ranges };
 
-    /// The locale's rules for cardinal numbers, borrowed; [`DataError::NotFound`] if and only if there
-    /// are none. It takes no memory.
+    /// Returns the locale's rules for cardinal numbers, borrowed; [`DataError::NotFound`] if and
+    /// only if there are none. It allocates nothing.
     fn load_cardinal(&self, locale: &str) -> Result<PluralRulesData<'_>, DataError>
         ensures { Loads (cardinal self.now locale.now) result };
 
-    /// The locale's rules for ordinal numbers, borrowed; [`DataError::NotFound`] if and only if there
-    /// are none. It takes no memory.
+    /// Returns the locale's rules for ordinal numbers, borrowed; [`DataError::NotFound`] if and
+    /// only if there are none. It allocates nothing.
     fn load_ordinal(&self, locale: &str) -> Result<PluralRulesData<'_>, DataError>
         ensures { Loads (ordinal self.now locale.now) result };
 
-    /// The locale's categories of ranges; [`DataError::NotFound`] if and only if there are none. It
-    /// takes no memory.
+    /// Returns the locale's categories of ranges; [`DataError::NotFound`] if and only if there are
+    /// none. It allocates nothing.
     fn load_ranges(&self, locale: &str) -> Result<PluralRanges, DataError>
         ensures { LoadsRanges (ranges self.now locale.now) result };
 }

@@ -11,12 +11,12 @@ use crate::category::by_category::ByCategory;
 use crate::category::raw::{ALL, RawPluralCategory};
 use std::marker::Model;
 
-/// The categories that ranges of numbers have, by the categories of their starts and their ends (UTS 35
-/// Part 3, Plural Ranges): a map from pairs of categories to categories. A pair that is absent has its
-/// end's category. Tables are equal if they hold the same pairs. Of its calls only
-/// [`PluralRanges::to_json`] takes memory.
+/// The categories that ranges of numbers have, by the categories of their starts and their ends
+/// (UTS 35 Part 3, Plural Ranges): a map from pairs of categories to categories. A pair that is
+/// absent has its end's category. Tables are equal if they hold the same pairs. Of its calls only
+/// [`PluralRanges::to_json`] allocates.
 ///
-/// <!-- snippet crates/plural_base_tests/src/tests/ranges.rt:
+/// <!-- snippet crates/tests_libraries/src/tests/plural_base_ranges.rt:
 ///      example "let mut ranges" to "holds!(rt; ranges.len()" of fn a_pair_has_the_category_that_was_put_last -->
 /// ```
 /// let mut ranges = PluralRanges::new();
@@ -49,7 +49,7 @@ impl Model for PluralRanges {
 }
 
 impl PluralRanges {
-    /// The table without pairs.
+    /// Returns the table without pairs.
     pub fn new() -> PluralRanges
         ensures { result ≡ no_ranges }
     {
@@ -58,7 +58,7 @@ impl PluralRanges {
         }
     }
 
-    /// The category of a pair, if it has one.
+    /// Returns the category of a pair, if it has one.
     #[inline]
     pub fn get(&self, start: RawPluralCategory, end: RawPluralCategory) -> Option<RawPluralCategory>
         ensures { result ≡ category_at self.now start end }
@@ -86,7 +86,7 @@ impl PluralRanges {
         before
     }
 
-    /// How many pairs have a category; at most 36.
+    /// Returns how many pairs have a category; at most 36.
     pub fn len(&self) -> usize
         ensures value { result ≡ size_of self.now }
         ensures bound { result ≤ 36 }
@@ -99,7 +99,7 @@ impl PluralRanges {
             + self.row_len(RawPluralCategory::Many)
     }
 
-    /// Whether no pair has a category.
+    /// Returns whether no pair has a category.
     pub fn is_empty(&self) -> bool
         ensures { result ≡ (size_of self.now == 0) }
     {

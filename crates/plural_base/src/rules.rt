@@ -18,8 +18,9 @@ use plural_reference::PluralOperands;
 use plural_runtime::{Rule, test_rule};
 use std::marker::Model;
 
-/// The rules of one language and type (UTS 35 Part 3, Language Plural Rules), which choose a number's
-/// category: the first of zero, one, two, few and many whose rule is present and true, else other.
+/// The rules of one language and type (UTS 35 Part 3, Language Plural Rules), which choose a
+/// number's category: the first of zero, one, two, few and many whose rule is present and true,
+/// else other.
 ///
 /// <!-- snippet crates/using/src/texts.rt: "let one" to "}" of fn print_czech -->
 /// ```
@@ -60,7 +61,7 @@ impl<'data> Model for PluralRules<'data> {
 impl<'data> PluralRules<'data> {
     ghost use Rattle.plural_base.specs.FiveRules.{rules_of};
 
-    /// The rules of this data.
+    /// Returns the rules of this data.
     #[inline]
     pub fn from_data(rules: PluralRulesData<'data>) -> PluralRules<'data>
         ensures { result ≡ rules_of rules.entry }
@@ -68,16 +69,17 @@ impl<'data> PluralRules<'data> {
         PluralRules { data: rules }
     }
 
-    /// The category of a number by its operands. It takes no memory.
+    /// The category of a number by its operands. It allocates nothing.
     ///
-    /// <!-- snippet crates/plural_base_tests/src/tests/exact.rt:
+    /// <!-- snippet crates/tests_libraries/src/tests/plural_base_rules.rt:
     ///      example "let rules" to "holds!" of fn integers_of_64_bits_are_whole -->
     /// ```
     /// let rules = rules_of(alloc, "i % 3 = 2")?;
     /// let operands = PluralOperands::from(2_000_000_000_000_000_000u64);
     /// assert!(rt; rules.category_for(operands) == ONE);
     /// ```
-    // Inlined with the two below, the operands of an integer stay constants: a sixth of the instructions less.
+    // Inlined with the two below, the operands of an integer stay constants: a sixth of the
+    // instructions less.
     #[inline(always)]
     pub fn category_for(&self, operands: PluralOperands) -> PluralCategory
         ensures first { result ≡ first_category (packed_truth operands) self.now }
@@ -106,10 +108,10 @@ impl<'data> PluralRules<'data> {
         }
     }
 
-    /// The categories that a number may have: those whose rule is present, from zero to many, then
-    /// other.
+    /// Returns the categories that a number may have: those whose rule is present, from zero to
+    /// many, then other.
     ///
-    /// <!-- snippet crates/plural_base_tests/src/tests/categories.rt:
+    /// <!-- snippet crates/tests_libraries/src/tests/plural_base_rules.rt:
     ///      example body of fn categories_are_those_with_a_rule_and_other -->
     /// ```
     /// let (zero, few) = (Some("i = 0"), Some("n = 0"));

@@ -1,5 +1,5 @@
--- Which categories have an element in a message, and which have a rule. Other is left out: a message always has it, and it needs no
--- rule.
+-- Which categories have an element in a message, and which have a rule. Other is left out: a
+-- message always has it, and it needs no rule.
 --     categories_with_rule rules      the categories that have a rule
 --     without set others      the categories of one set that are not in another
 use Rattle.std.specs.Prelude.{not, ◌&&◌, is_some}

@@ -1,7 +1,8 @@
 -- What a check finds: faults in their order, and how many numbers were checked.
 --     nothing      no fault and no number
 --     Then First Second found      what two checks find, the first's findings before the second's
---     EachFinds Finds things found      what a check finds in each thing of a list, in the order of the list
+--     EachFinds Finds things found      what a check finds in each thing of a list, in the order of
+--         the list
 --     Adds Finds old new      the report has grown by what a check finds
 use Rattle.std.specs.Prelude.{◌≡◌, ◌⊎◌, ℕ, ◌+◌, ◌-◌, ◌^◌, ◌≤◌, List, [], ◌∷◌, ◌++◌}
 use Rattle.plural_checker.specs.declared.fault.Fault.{Fault}

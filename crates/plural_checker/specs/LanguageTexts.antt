@@ -1,4 +1,5 @@
--- The texts of a language's rules of one type: those of the five rules, and that of other, which has only samples.
+-- The texts of a language's rules of one type: for the five rules, and for other, which has only
+-- samples.
 --     six_texts texts      the texts that the references refer to
 --     has_rule texts category      the category is other, or its text is present
 use Rattle.std.specs.Prelude.{ℕ, Bool, true, List, Option, is_some}

@@ -1,4 +1,4 @@
--- the numbers of samples, and what is wrong with them
+-- the numbers of samples, and their faults
 pub mod SampleNumbers
 pub mod NumberChecks
 -- findings, and the findings of texts

@@ -1,10 +1,11 @@
--- What is wrong with the numbers of a sample that is listed under a category. The rules are those of the language's five texts;
--- if one of these gives none, categories aren't checked, and only a range without numbers is wrong, and a text that writes no
--- number or one over a limit.
+-- What is wrong with the numbers of a sample that is listed under a category. The rules come from
+-- the language's five texts; if one of these gives none, categories aren't checked, and only a
+-- range without numbers is wrong, and a text that writes no number or one over a limit.
 --     IsCheckedNumber rules category x fault      a number
 --     IsCheckedText rules category text fault      a text
 --     AreCheckedNumbers rules category numbers fault      the first wrong number
---     IsCheckedRange rules category range fault count      a range of samples, and the count of its numbers
+--     IsCheckedRange rules category range fault count      a range of samples, and the count of its
+--         numbers
 use Rattle.std.specs.Prelude.{◌≡◌, ◌≢◌, ◌⊎◌, ℕ, ◌<◌, List, Option, Some, None, Ok, Err}
 use Rattle.icu_plurals.specs.declared.DecimalError.{DecimalError}
 use Rattle.icu_plurals.specs.declared.PluralCategory.{PluralCategory}
@@ -25,7 +26,8 @@ use Rattle.plural_checker.specs.declared.sample_range.SampleNumbers.{SampleNumbe
 abbrev pub IsBounded : FiveRules → CompactNumber → Type 0
 IsBounded rules x = IsWithinBound x.significand.absolute x.exponent (moduli_of rules)
 
--- the rules choose this category for the number: for what is kept of it, and, within the bound, for the number itself
+-- the rules choose this category for the number: for what is kept of it, and, within the bound, for
+-- the number itself
 abbrev pub HasCategory : FiveRules → CompactNumber → PluralCategory → Type 0
 HasCategory rules x category =
     IsKeptChoice rules x.significand.absolute x.exponent category × IsExactChoice rules x.significand.absolute x.exponent category

@@ -26,7 +26,7 @@ number_fault_text (Text error) = codes ": " ++ error_text error
 number_fault_text Outside = codes " is outside the exactness bound"
 number_fault_text (Category category) = codes " is " ++ name_of category
 
--- the range or the number, and what is wrong with it
+-- the range or the number, and its fault
 abbrev pub sample_fault_text : SampleFault → List ℕ
 sample_fault_text (Range range fault) = sample_range_text range ++ range_fault_text fault
 sample_fault_text (Number number fault) = number ++ number_fault_text fault

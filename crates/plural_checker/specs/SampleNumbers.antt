@@ -2,9 +2,11 @@
 --     compact_text sample      the sample's text, with `c` in place of an `e`
 --     GivesNumber text answer      the number that a text writes, or why it writes none
 --     number_text places parts exponent      the text of parts / 10 ^ places, with an exponent
---     numbers_between a b      those from a to b in steps of the last visible digit, or why there are none
+--     numbers_between a b      those from a to b in steps of the last visible digit, or why there
+--         are none
 --     AreNumbersOf range answer      the numbers of a range, or why it has none
---     count_of numbers, text_at numbers k      how many there are, and the text of each, counted from 0
+--     count_of numbers, text_at numbers k      how many there are, and the text of each, counted
+--         from 0
 use Rattle.std.specs.Prelude.{◌≡◌, ◌⊎◌, ◌≤◌, ℕ, zero, suc, ◌+◌, ◌-◌, ◌/◌, ◌%◌, ◌==◌, nat_lt, Bool, not, if◌then◌else◌, ◌&&◌, ◌||◌}
 use Rattle.std.specs.Prelude.{List, [], ◌∷◌, ◌++◌, length, Option, Some, None, Result, Ok, Err, codes}
 use Rattle.std.specs.Fmt.{decimal}
@@ -53,7 +55,8 @@ abbrev pub point_at : ℕ → List ℕ
 point_at zero = codes "."
 point_at (suc places) = []
 
--- this many parts, with this many fraction digits: the text of the digits before the last, and then the last digit
+-- this many parts, with this many fraction digits: the text of the digits before the last, and then
+-- the last digit
 abbrev pub parts_text : ℕ → ℕ → List ℕ
 parts_text zero parts = decimal parts
 parts_text (suc places) parts = parts_text places (parts / 10) ++ point_at places ++ digit_text (parts % 10)
@@ -99,7 +102,8 @@ numbers_between a b =
     else (if nat_lt (parts_of b) (parts_of a) then Err Down
     else (if nat_lt (parts_of b - parts_of a) most_numbers then Ok (stepped a b) else Err Wide)))
 
--- the numbers between two ends that both write a number, or the fault of the first end that writes none
+-- the numbers between two ends that both write a number, or the fault of the first end that writes
+-- none
 abbrev pub AreNumbersBetween : DecimalValue → DecimalValue → Result SampleNumbers RangeFault → Type 0
 AreNumbersBetween lower upper answer =
     ((e : DecimalError) × GivesNumber (compact_text lower) (Err e) × (answer ≡ Err (End e)))

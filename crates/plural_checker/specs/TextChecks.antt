@@ -1,7 +1,8 @@
 -- What is wrong with the texts of a language's rules.
 --     AreRulesIfRead texts rules      the rules of the five texts, if each text gives its rule
---     IsFoundInText rules category text found      what is wrong with one text
---     AreFindingsOf texts report      what is wrong with all six, in the order zero, one, two, few, many, other
+--     IsFoundInText rules category text found      the faults of one text
+--     AreFindingsOf texts report      the faults of all six, in the order zero, one, two, few,
+--         many, other
 use Rattle.std.specs.Prelude.{◌≡◌, ◌≢◌, ◌⊎◌, ℕ, List, [], ◌∷◌, Option, Some, None, Result, Ok, Err}
 use Rattle.icu_plurals.specs.declared.PluralCategory.{PluralCategory}
 use Rattle.icu_plurals.specs.declared.PluralCategory.TheVariants.{Zero, One, Two, Few, Many, Other}

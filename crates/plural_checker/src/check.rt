@@ -13,16 +13,19 @@ use icu_plurals::provider::rules::runtime::ast::RuleError;
 use icu_plurals::{PluralCategory, PluralRules};
 use std::alloc::{AllocError, Global};
 
-/// Returns what is wrong with the texts of a language's rules of one type, and how many numbers their samples have.
+/// Returns the faults of the texts of a language's rules of one type, and how many numbers their
+/// samples have.
 ///
-/// The faults are in the order of the texts: zero, one, two, few, many, other. A text that gives no rule has one fault,
-/// [`TextFault::Unread`]. Otherwise, [`TextFault::Partly`] comes first if part of the text isn't read; then the faults of its
-/// samples ([`TextFault::Sample`]), the list of integers before that of decimals, each from left to right: for a range of
-/// samples, that it has no numbers, or the first of its numbers that is wrong. A number is wrong if its text writes no number, if
-/// it is outside the exactness bound, or if the five rules choose another category for it than the one whose text lists
-/// it. If one of the five texts gives no rule, categories aren't checked.
+/// The faults are in the order of the texts: zero, one, two, few, many, other. A text that gives no
+/// rule has one fault, [`TextFault::Unread`]. Otherwise, [`TextFault::Partly`] comes first if part
+/// of the text isn't read; then the faults of its samples ([`TextFault::Sample`]), the list of
+/// integers before that of decimals, each from left to right: for a range of samples, that it has
+/// no numbers, or the first of its numbers that is wrong. A number is wrong if its text writes no
+/// number, if it is outside the exactness bound, or if the five rules choose another category for
+/// it than the one whose text lists it. If one of the five texts gives no rule, categories aren't
+/// checked.
 ///
-/// It takes memory; the only error is out of memory.
+/// It allocates; the only error is out of memory.
 ///
 /// [`TextFault::Unread`]: crate::TextFault::Unread
 /// [`TextFault::Partly`]: crate::TextFault::Partly
@@ -34,7 +37,7 @@ pub fn check_texts(alloc: Global, texts: &LanguageTexts<'_>) -> Result<Report, A
     check_all(alloc, rules.as_ref(), texts)
 }
 
-// Returns what is wrong with the texts under these rules.
+// Returns the faults of the texts under these rules.
 fn check_all(
     alloc: Global,
     rules: Option<&PluralRules<'_>>,

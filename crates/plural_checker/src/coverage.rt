@@ -49,10 +49,12 @@ impl CategorySet {
     }
 }
 
-/// How the categories of a translated message match a language's rules (UTS 35 Part 3, Language Plural Rules).
+/// How the categories of a translated message match a language's rules (UTS 35 Part 3, Language
+/// Plural Rules).
 #[derive(Clone, Copy, Debug, PartialEq, Eq)]
 pub struct Coverage {
-    /// The categories that have a rule and that the message lacks: their numbers use the element of other.
+    /// The categories that have a rule and that the message lacks: their numbers use the element of
+    /// other.
     pub lacking: CategorySet,
     /// The categories that the message has and that have no rule: no number uses their element.
     pub unused: CategorySet,

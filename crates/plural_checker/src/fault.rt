@@ -28,7 +28,8 @@ pub struct Fault {
 pub enum TextFault {
     /// It can't be read as a rule. The reason is never out of memory.
     Unread(RuleError),
-    /// Part of it isn't read: it has other tokens than the printed text of the rule that was read, which is kept here.
+    /// Part of it isn't read: it has other tokens than the printed text of the rule that was read,
+    /// which is kept here.
     Partly(PrintedRule),
     /// Something is wrong with a sample in the list of this type.
     Sample(SampleType, SampleFault),

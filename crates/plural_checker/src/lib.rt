@@ -1,5 +1,6 @@
-//! Checks the texts of a language's plural rules against their samples (UTS 35 Part 3, Samples). Reports what can't be read, what
-//! isn't read, and each sample that is listed under a category other than its own.
+//! Checks the texts of a language's plural rules against their samples (UTS 35 Part 3, Samples).
+//! Reports what can't be read, what isn't read, and each sample that is listed under a category
+//! other than its own.
 #![tactic(auto)]
 
 mod check;
@@ -12,8 +13,6 @@ mod range_check;
 mod reading;
 mod report;
 mod sample_range;
-#[cfg(test)]
-mod tests;
 mod text_check;
 mod texts;
 

@@ -20,7 +20,8 @@ pub(crate) fn number_text(
     Ok(DecimalValue(text))
 }
 
-// Returns the text of `parts / 10^places`: the text of the digits before the last, and then the last digit.
+// Returns the text of `parts / 10^places`: the text of the digits before the last, and then the
+// last digit.
 fn parts_text(alloc: Global, places: usize, parts: u128) -> Result<String, AllocError>
     ensures { IfOk result (λ text. string_bytes text ≡ parts_text places parts) }
 {

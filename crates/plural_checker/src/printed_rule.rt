@@ -22,8 +22,8 @@ impl Model for PrintedRule {
 }
 
 impl PrintedRule {
-    /// Returns the text of a rule (UTS 35 Part 3, Plural Rules Syntax and Samples). It takes memory; the only error is out of
-    /// memory.
+    /// Returns the text of a rule (UTS 35 Part 3, Plural Rules Syntax and Samples). It allocates;
+    /// the only error is out of memory.
     pub fn of(alloc: Global, rule: &Rule) -> Result<PrintedRule, AllocError>
         ensures { IfOk result (λ printed. printed ≡ rule_text rule.now) }
     {

@@ -14,7 +14,7 @@ use icu_plurals::provider::rules::reference::ast::{SampleList, SampleRange, Samp
 use icu_plurals::{PluralCategory, PluralRules};
 use std::alloc::{AllocError, Global};
 
-// Adds what is wrong with the samples of a category's text.
+// Adds the faults of the samples of a category's text.
 pub(crate) fn check_samples(
     alloc: Global,
     rules: Option<&PluralRules<'_>>,
@@ -45,7 +45,7 @@ pub(crate) fn check_samples(
     )
 }
 
-// Adds what is wrong with a list of samples, if it is present.
+// Adds the faults of a list of samples, if it is present.
 fn check_list(
     alloc: Global,
     rules: Option<&PluralRules<'_>>,
@@ -69,7 +69,7 @@ fn check_list(
     )
 }
 
-// Adds what is wrong with ranges of samples.
+// Adds the faults of ranges of samples.
 fn check_ranges(
     alloc: Global,
     rules: Option<&PluralRules<'_>>,

@@ -13,8 +13,8 @@ use std::alloc::{AllocError, Global};
 // The most numbers that a range may have.
 const MOST_NUMBERS: u64 = 100;
 
-/// The numbers of a range of samples: a first number and a count. Each number after the first is `1 / 10^places` more than the
-/// number before it.
+/// The numbers of a range of samples: a first number and a count. Each number after the first is
+/// `1 / 10^places` more than the number before it.
 #[derive(Clone, Copy, Debug, PartialEq, Eq)]
 pub struct Steps {
     /// How many fraction digits each number shows.
@@ -37,14 +37,16 @@ pub enum SampleNumbers {
 }
 
 impl SampleNumbers {
-    /// Returns the numbers of a range: for a single sample its own text, for `a~b` those from a to b in steps of the last visible
-    /// digit.
+    /// Returns the numbers of a range: for a single sample its own text, for `a~b` those from a to
+    /// b in steps of the last visible digit.
     ///
-    /// The inner error says why `a~b` has none; the first of these that applies: [`RangeFault::End`] if an end writes no number, or
-    /// one over a limit; [`RangeFault::Uneven`] if the ends have different counts of fraction digits, or different exponents;
-    /// [`RangeFault::Long`] if one has more than 18 digits, counting the 0 of an absent integer part; [`RangeFault::Down`] if b is
-    /// less than a; [`RangeFault::Wide`] if there would be more than 100. Signs are ignored: no sample that is read from a text has one. The
-    /// outer error is out of memory.
+    /// The inner error says why `a~b` has none; the first of these that applies:
+    /// [`RangeFault::End`] if an end writes no number, or one over a limit; [`RangeFault::Uneven`]
+    /// if the ends have different counts of fraction digits, or different exponents;
+    /// [`RangeFault::Long`] if one has more than 18 digits, counting the 0 of an absent integer
+    /// part; [`RangeFault::Down`] if b is less than a; [`RangeFault::Wide`] if there would be more
+    /// than 100. Signs are ignored: no sample that is read from a text has one. The outer error is
+    /// out of memory.
     pub fn of(
         alloc: Global,
         range: &SampleRange,
@@ -70,7 +72,7 @@ impl SampleNumbers {
         }
     }
 
-    /// Returns the text of a number, counted from 0. It takes memory; the only error is out of memory.
+    /// Returns the text of a number, counted from 0. It allocates; the only error is out of memory.
     pub fn text(&self, alloc: Global, index: u64) -> Result<DecimalValue, AllocError>
         ensures { IfOk result (λ text. text ≡ text_at self.now index) }
     {

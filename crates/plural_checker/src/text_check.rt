@@ -18,7 +18,7 @@ use icu_plurals::provider::rules::runtime::ast::{Rule as PackedRule, RuleError};
 use icu_plurals::{PluralCategory, PluralRules};
 use std::alloc::{AllocError, Global};
 
-// Adds what is wrong with a category's text, if it is present.
+// Adds the faults of a category's text, if it is present.
 pub(crate) fn check_if_there(
     alloc: Global,
     rules: Option<&PluralRules<'_>>,
@@ -35,7 +35,7 @@ pub(crate) fn check_if_there(
     }
 }
 
-// Adds what is wrong with a category's text.
+// Adds the faults of a category's text.
 fn check_text(
     alloc: Global,
     rules: Option<&PluralRules<'_>>,

@@ -5,8 +5,8 @@ ghost use Rattle.plural_checker.specs.LanguageTexts.{has_rule, six_texts};
 
 use icu_plurals::PluralCategory;
 
-/// The texts of a language's rules of one type, as in CLDR (UTS 35 Part 3, Plural Rules Syntax and Samples): at most one for
-/// each category. The text of other has only samples.
+/// The texts of a language's rules of one type, as in CLDR (UTS 35 Part 3, Plural Rules Syntax and
+/// Samples): at most one for each category. The text of other has only samples.
 #[derive(Clone, Copy, Debug, Default)]
 pub struct LanguageTexts<'a> {
     /// The text of `zero`.
@@ -24,7 +24,8 @@ pub struct LanguageTexts<'a> {
 }
 
 impl<'a> LanguageTexts<'a> {
-    /// Returns whether numbers can have the category: it is other, or it has a text. The same holds for ranges of numbers.
+    /// Returns whether numbers can have the category: it is other, or it has a text. The same holds
+    /// for ranges of numbers.
     pub fn has_rule(&self, category: PluralCategory) -> bool
         ensures { result ≡ has_rule (six_texts self.now) category }
     {

@@ -101,7 +101,8 @@ filling-front number (x ∷ front) text filled behind filling =
 
 -- ---- The pieces that `split_inclusive` cuts at each `}`
 
--- a piece at the front of its text: it has no `}` before its end, and it ends with a `}`, or with the text
+-- a piece at the front of its text: it has no `}` before its end, and it ends with a `}`, or with
+-- the text
 record IsPiece (text piece : List ℕ) : Type 0 where
   least : (k : ℕ) → k < length text → get_or text k 0 ≡ 125 → length piece ≤ k + 1
   ends : length piece < length text → get_or text (length piece - 1) 0 ≡ 125

@@ -1,4 +1,5 @@
--- The text of a message: an element's text with a number's text in the place of each `{}`. There is no escape for `{}`.
+-- The text of a message: an element's text with a number's text in the place of each `{}`. There is
+-- no escape for `{}`.
 --     IsFilling number text filled      the text, cut at its `{}`, is joined by the number's text
 use Rattle.std.specs.Prelude.{◌≡◌, ℕ, List, codes}
 use Rattle.std.specs.List.{AllByRecursion, join_by}
@@ -15,7 +16,8 @@ placeholder = codes "{}"
 abbrev pub joined_by : List ℕ → List (List ℕ) → List ℕ
 joined_by separator pieces = join_by (λ piece. piece) separator pieces
 
--- The text is cut at its `{}` into pieces without one, and the pieces are joined by the number's text.
+-- The text is cut at its `{}` into pieces without one, and the pieces are joined by the number's
+-- text.
 pub record IsFilling (number text filled : List ℕ) : Type 0 where
   pub pieces : List (List ℕ)
   pub uncut : AllByRecursion (λ piece. ¬ (HasSubslice piece placeholder)) pieces
@@ -31,10 +33,13 @@ OneFilling =
     × ((other : List ℕ) → IsFilling number text other → other ≡ filled)
 
 -- ---- The message of a number: the text of the element that the number has, filled by a text for the number.
---     IsMessageWith IsChosen x text message      the filling by this text of the element that the number x has
---     IsMessageOf IsChosen number message      the filling by the number's own text, which writes the number
+--     IsMessageWith IsChosen x text message      the filling by this text of the element that the
+--         number x has
+--     IsMessageOf IsChosen number message      the filling by the number's own text, which writes
+--         the number
 
--- An element is chosen for the number's digits and its exponent, and the message is the element's text, filled by the given text.
+-- An element is chosen for the number's digits and its exponent, and the message is the element's
+-- text, filled by the given text.
 abbrev pub IsMessageWith : (Places → ℕ → PackedValue → Type 0) → CompactNumber → List ℕ → List ℕ → Type 0
 IsMessageWith IsChosen x text message =
     (element : PackedValue) × IsChosen x.significand.absolute x.exponent element × IsFilling text element.text message

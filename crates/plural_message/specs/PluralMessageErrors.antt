@@ -6,7 +6,7 @@ use Rattle.fixed_decimal.specs.declared.error.DecimalError.TheVariants as decima
 use Rattle.plural_message.specs.declared.error.MessageError.{MessageError}
 use Rattle.plural_message.specs.declared.error.MessageError.TheVariants.{Number, Memory}
 
--- the message error that a number error becomes: out of memory is no fault of the text
+-- the message error that a number error becomes: out of memory isn't a fault of the text
 abbrev pub number_error : DecimalError → MessageError
 number_error decimal.Syntax = Number decimal.Syntax
 number_error decimal.Limit = Number decimal.Limit

@@ -7,7 +7,7 @@ use std::fmt;
 
 /// Why there is no message for a number.
 ///
-/// <!-- snippet crates/plural_message/src/tests.rt: example "let rows" to "}" of fn what_is_no_number_has_no_message -->
+/// <!-- snippet crates/tests_libraries/src/tests/plural_message_messages.rt: example "let rows" to "}" of fn what_is_no_number_has_no_message -->
 /// ```
 /// let rows = [
 ///     ("x", DecimalError::Syntax),
@@ -22,7 +22,7 @@ use std::fmt;
 /// ```
 #[derive(Clone, Copy, Debug, PartialEq, Eq)]
 pub enum MessageError {
-    /// The text is no number, or is over a limit. It is never out of memory.
+    /// The text isn't a number, or is over a limit. It is never out of memory.
     Number(DecimalError),
     /// Out of memory, for the number or for the message.
     Memory,

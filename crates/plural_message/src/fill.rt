@@ -9,9 +9,11 @@ use std::alloc::{AllocError, Global};
 pub(crate) fn fill(alloc: Global, text: &str, number: &str) -> Result<String, AllocError>
     ensures { IfOk result (λ filled. IsFilling number.now text.now (string_bytes filled)) }
 {
-    // Room for one number, all that most texts need: it is made once, and only more of them let the text grow again.
+    // Room for one number, all that most texts need: it is made once, and only more of them let the
+    // text grow again.
     let mut filled = String::with_capacity(alloc, text.len() + number.len())?;
-    // A placeholder ends a piece, since each piece but the last ends at a `}`: one character is sought faster than two.
+    // A placeholder ends a piece, since each piece but the last ends at a `}`: one character is
+    // sought faster than two.
     for piece in text.split_inclusive('}') {
         match piece.strip_suffix("{}") {
             Some(before) => {

@@ -1,5 +1,5 @@
-//! Messages with a number in them: the text for the number's plural category, with the number in the place
-//! of each `{}`.
+//! Messages with a number in them: the text for the number's plural category, with the number in
+//! the place of each `{}`.
 //!
 //! <!-- snippet crates/hello_plurals/src/main.rt: imports; fn main -->
 //! ```
@@ -38,8 +38,6 @@ mod error;
 mod fill;
 pub mod laws;
 mod message;
-#[cfg(test)]
-mod tests;
 
 pub use error::MessageError;
 pub use message::Message;

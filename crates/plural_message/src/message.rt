@@ -16,7 +16,8 @@ use icu_plurals::{PluralOperands, PluralRules};
 use std::alloc::{AllocError, Global};
 use std::marker::Model;
 
-/// A text for each plural category, and for exactly 0 and exactly 1, in which `{}` marks the number's place.
+/// A text for each plural category, and for exactly 0 and exactly 1, in which `{}` marks the
+/// number's place.
 ///
 /// <!-- snippet crates/using/src/messages.rt: body of fn print_messages -->
 /// ```
@@ -55,21 +56,21 @@ impl<'a> Model for Message<'a> {
 }
 
 impl<'a> Message<'a> {
-    /// The message with these texts. Their metadata isn't used.
+    /// Returns the message with these texts. Their metadata isn't used.
     pub fn new(elements: PluralElementsPackedULE<'a>) -> Message<'a>
         ensures { result ≡ elements_of (lent_elements elements.entry) }
     {
         Message { elements }
     }
 
-    /// The message for a number, which is given as a text: a decimal, with a compact exponent or not. Its
-    /// operands and the rules choose an element (UTS 35 Part 3, Language Plural Rules), and in the element's
-    /// text each `{}`, from the left, is replaced by the number's text as it was given. There is no escape
-    /// for `{}`. The message takes memory.
+    /// Returns the message for a number, which is given as a text: a decimal, with a compact
+    /// exponent or not. Its operands and the rules choose an element (UTS 35 Part 3, Language
+    /// Plural Rules), and in the element's text each `{}`, from the left, is replaced by the
+    /// number's text as it was given. There is no escape for `{}`. It allocates the message.
     ///
     /// With elements for `{} item` and `{} items`, and others with `none` for exactly 0:
     ///
-    /// <!-- snippet crates/plural_message/src/tests.rt:
+    /// <!-- snippet crates/tests_libraries/src/tests/plural_message_messages.rt:
     ///      example "let rows" to "}" of fn the_number_chooses_the_text_that_it_stands_in -->
     /// ```
     /// let rows = [
@@ -87,8 +88,8 @@ impl<'a> Message<'a> {
     /// }
     /// ```
     ///
-    /// The errors: [`MessageError::Number`] with `Syntax` if the text is no number, and with `Limit` if it is
-    /// over a limit; [`MessageError::Memory`] if memory ran out.
+    /// The errors: [`MessageError::Number`] with `Syntax` if the text isn't a number, and with
+    /// `Limit` if it is over a limit; [`MessageError::Memory`] if memory ran out.
     pub fn format(
         &self,
         alloc: Global,
@@ -107,11 +108,11 @@ impl<'a> Message<'a> {
         Ok(self.format_number(alloc, &compact, number, rules)?)
     }
 
-    /// The message for a number that was read already, with a text to show for it: as it was written, or in
-    /// the digits and marks of a locale. The number's operands and the rules choose an element, as for
-    /// [`Message::format`], and in the element's text each `{}`, from the left, is replaced by the given text.
-    /// Whether the text writes the number isn't checked. The message takes memory; the only error is out of
-    /// memory.
+    /// Returns the message for a number that was read already, with a text to show for it: as it
+    /// was written, or in the digits and marks of a locale. The number's operands and the rules
+    /// choose an element, as for [`Message::format`], and in the element's text each `{}`, from the
+    /// left, is replaced by the given text. Whether the text writes the number isn't checked. It
+    /// allocates the message; the only error is out of memory.
     ///
     /// <!-- snippet crates/using/src/messages.rt: "let number" to "println" of fn print_marks -->
     /// ```

@@ -1,4 +1,5 @@
--- The operands of a number: how they are computed from its digits or read from a text, and the laws on them.
+-- The operands of a number: how they are computed from its digits or read from a text, and the laws
+-- on them.
 pub mod Numbers
 pub mod Fractions
 pub mod Conversion

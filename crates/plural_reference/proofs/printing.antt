@@ -1,4 +1,5 @@
--- The texts that are printed, their tokens, and that what is printed is read as what it was printed from.
+-- The texts that are printed, their tokens, and that what is printed is read as what it was printed
+-- from.
 pub mod Writes
 pub mod SpellableConditions
 pub mod PrintedTokens

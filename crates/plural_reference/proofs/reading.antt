@@ -1,5 +1,5 @@
--- What is read of tokens: the reader of conditions and the grammar agree, of every list of tokens one thing is read or it
--- has one fault, and the parser takes the steps of the readers.
+-- What is read of tokens: the reader of conditions and the grammar agree, of every list of tokens
+-- one thing is read or it has one fault, and the parser takes the steps of the readers.
 pub mod ReaderComplete
 pub mod ReaderSound
 pub mod Readings

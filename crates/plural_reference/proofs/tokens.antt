@@ -1,4 +1,5 @@
--- How a text is cut into pieces and tokens: the scan of its bytes and the pieces of the grammar agree.
+-- How a text is cut into pieces and tokens: the scan of its bytes and the pieces of the grammar
+-- agree.
 pub mod ScanComplete
 pub mod ScanSound
 pub mod ScanSize

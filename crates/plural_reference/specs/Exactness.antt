@@ -1,4 +1,5 @@
--- When a condition is true of an exact number (UTS 35 Part 3, Plural Rules Syntax: relations), whatever its length.
+-- When a condition is true of an exact number (UTS 35 Part 3, Plural Rules Syntax: relations),
+-- whatever its length.
 use Rattle.std.specs.Prelude.{ℕ, ◌+◌, ◌*◌, ◌/◌, ◌%◌, ◌^◌, ◌==◌, Bool, if◌then◌else◌, Option, Some, None, ◌<◌, ◌≤◌, ◌⊎◌, List}
 use Rattle.std.specs.Prelude.{length, Contains}
 use Rattle.plural_reference.specs.declared.ast.Condition.{Condition}
@@ -19,8 +20,8 @@ parts number = number.i * 10 ^ number.v + number.f
 abbrev pub whole_of : ℕ → ℕ → Option ℕ
 whole_of unit count = if count % unit == 0 then Some (count / unit) else None
 
--- The value of an operand by a modulus, 0 being none. n has one if the number, or its remainder by the modulus, is
--- whole; the others are whole numbers.
+-- The value of an operand by a modulus, 0 being none. n has one if the number, or its remainder by
+-- the modulus, is whole; the others are whole numbers.
 abbrev pub exact_value : Operand → ℕ → Operands → Option ℕ
 exact_value N modulus number = whole_of (10 ^ number.v) (remainder (modulus * 10 ^ number.v) (parts number))
 exact_value I modulus number = Some (remainder modulus number.i)
@@ -41,15 +42,16 @@ abbrev pub exact_truth : Operands → Condition → Bool
 exact_truth number condition = is_true_of (λ relation. exact_relation_truth number (meaning_of relation)) (groups_of condition)
 
 -- ---- When the kept operands of a number decide a rule as the number itself does.
---     IsWithinBound x e moduli      the number x with the compact exponent e, under rules with these moduli on i and n
+--     IsWithinBound x e moduli      the number x with the compact exponent e, under rules with
+--         these moduli on i and n
 --     IsAdmitted moduli relation      what such a rule's relation looks like
 
--- each number of the list divides n; 0 is no modulus and doesn't count
+-- each number of the list but 0 divides n
 abbrev pub AllDivide : List ℕ → ℕ → Type 0
 AllDivide moduli n = (m : ℕ) → Contains moduli m → 0 < m → m ∣ n
 
--- The digits have at most 18 fraction places; and either at most 18 integer places, or integer digits that write at least
--- 10 ^ 18 and no modulus but divisors of 10 ^ 18.
+-- The digits have at most 18 fraction places; and either at most 18 integer places, or integer
+-- digits that write at least 10 ^ 18 and no modulus but divisors of 10 ^ 18.
 pub record IsBoundedAt (y : Places) (moduli : List ℕ) : Type 0 where
   pub fraction : length y.fraction ≤ kept_places
   pub whole : (length y.whole ≤ kept_places) ⊎ ((kept_limit ≤ value_of y.whole) × AllDivide moduli kept_limit)
@@ -58,7 +60,7 @@ pub record IsBoundedAt (y : Places) (moduli : List ℕ) : Type 0 where
 abbrev pub IsWithinBound : Places → ℕ → List ℕ → Type 0
 IsWithinBound x e moduli = IsBoundedAt (shift_right e x) moduli
 
--- a modulus on n or i is one of these; 0 is no modulus
+-- a modulus on n or i is one of these, or 0
 abbrev pub IsListed : Operand → ℕ → List ℕ → Type 0
 IsListed N modulus moduli = 0 < modulus → Contains moduli modulus
 IsListed I modulus moduli = 0 < modulus → Contains moduli modulus

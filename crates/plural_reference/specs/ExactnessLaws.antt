@@ -45,8 +45,8 @@ ConditionsAgree =
 
 -- ---- Whole numbers
 
--- The exact value of n is in ranges if and only if some whole number of the ranges is the number, or its remainder by the
--- modulus. Both are compared in parts of 10 ^ v.
+-- The exact value of n is in ranges if and only if some whole number of the ranges is the number,
+-- or its remainder by the modulus. Both are compared in parts of 10 ^ v.
 abbrev pub HoldsWholeNumbers : Type 0
 HoldsWholeNumbers =
     (ranges : List (ℕ × ℕ)) (modulus : ℕ) (o : Operands)
@@ -61,7 +61,8 @@ ShiftedPlaces =
     (x : Places) (e : ℕ)
     → (length (shift_right e x).whole ≡ length x.whole + e) × (length (shift_right e x).fraction ≡ length x.fraction - e)
 
--- the integer digits then write at least 10 ^ n if and only if some digit at 10 ^ (n - e) or above isn't 0
+-- the integer digits then write at least 10 ^ n if and only if some digit at 10 ^ (n - e) or above
+-- isn't 0
 abbrev pub LongValue : Type 0
 LongValue =
     (x : Places) (e n : ℕ) → IsWritten x → (10 ^ n ≤ value_of (shift_right e x).whole) ↔ HasDigitFrom x (pos n -ℤ pos e)
@@ -74,7 +75,8 @@ IsTwice x = IsNumeral x.whole (2 * kept_limit) × (x.fraction ≡ [])
 abbrev pub left_of_twice : ℕ → RelationMeaning
 left_of_twice m = let r = 2 * kept_limit % m in record { operand = I; modulus = m; operator = Eq; ranges = (r, r) ∷ [] }
 
--- for a modulus that doesn't divide 10 ^ 18, a relation is true of the exact 2 * 10 ^ 18 and false of its kept part
+-- for a modulus that doesn't divide 10 ^ 18, a relation is true of the exact 2 * 10 ^ 18 and false
+-- of its kept part
 abbrev pub BoundIsWidest : Type 0
 BoundIsWidest =
     (m : ℕ) (x : Places) (kept exact : Operands) → 0 < m → ¬ (m ∣ kept_limit)

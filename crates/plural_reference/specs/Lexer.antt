@@ -1,5 +1,5 @@
--- How a text is cut into pieces, and the tokens of the pieces (UTS 35 Part 3, Plural Rules Syntax; what is no piece of a
--- rule is one token Junk, so that every text has tokens).
+-- How a text is cut into pieces, and the tokens of the pieces (UTS 35 Part 3, Plural Rules Syntax;
+-- what isn't a piece of a rule is one token Junk, so that every text has tokens).
 use Rattle.std.specs.Prelude.{List, [], ◌∷◌, Option, Some, None, ◌≡◌, ◌≢◌, ◌≤◌, ◌<◌, ℕ, ◌++◌, IfSome, All, Contains, codes}
 use Rattle.std.specs.List.{filter_map}
 use Rattle.std.specs.Char.{IsAsciiDigit}

@@ -1,7 +1,9 @@
 -- Texts that name operands.
---     WritesOperands text o      an optional `-`; a count; optionally `.` and digits; optionally `e` and a count
+--     WritesOperands text o      an optional `-`; a count; optionally `.` and digits; optionally
+--         `e` and a count
 --     ReadsOperands text r      the result of reading the text
--- A count is digits, which may follow a `+`. All of the integer part is kept, and nothing is moved by the exponent.
+-- A count is digits, which may follow a `+`. All of the integer part is kept, and nothing is moved
+-- by the exponent.
 use Rattle.std.specs.Prelude.{◌≡◌, ◌≢◌, ℕ, ◌<◌, ◌^◌, ◌⊎◌, List, [], ◌++◌, length, codes, Result, Ok, Err}
 use Rattle.fixed_decimal.specs.Digits.{AreDigits, value_of, text_of}
 use Rattle.plural_reference.specs.Operands.{Operands, HasFraction}
@@ -40,7 +42,8 @@ WritesOperands text o =
     WritesUnsignedOperands text o
     ⊎ ((rest : List ℕ) × WritesUnsignedOperands rest o × (text ≡ codes "-" ++ rest))
 
--- Empty is the fault of the empty text alone, Invalid that of every other text that names no operands.
+-- Empty is the fault of the empty text alone, Invalid that of every other text that names no
+-- operands.
 abbrev pub FailsOperands : List ℕ → OperandsError → Type 0
 FailsOperands text Empty = text ≡ []
 FailsOperands text Invalid = (text ≢ []) × ((o : Operands) → ¬ (WritesOperands text o))

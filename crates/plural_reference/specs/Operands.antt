@@ -1,7 +1,8 @@
--- The operands of a number (UTS 35 Part 3, Plural Operand Meanings): i its integer part; v and w how many fraction digits
--- it shows, with and without trailing zeros; f and t those digits as a number, with and without trailing zeros; and c the
--- compact exponent, which e names too.
---     of_whole n      those of a whole number: no fraction, no exponent
+-- The operands of a number (UTS 35 Part 3, Plural Operand Meanings). i is its integer part; v and w
+-- count the fraction digits that it shows, with and without trailing zeros; f and t are these
+-- digits as a number, with and without trailing zeros; c is the compact exponent, which e names
+-- too.
+--     of_whole n      the operands of a whole number: no fraction, no exponent
 --     of_wide n      those that are kept of an integer of 128 bits
 --     kept_places, kept_limit      18 and 10 ^ 18: what is kept of a longer number
 use Rattle.std.specs.Prelude.{ℕ, ◌+◌, ◌%◌, ◌^◌, nat_lt, if◌then◌else◌, ◌≡◌, ◌-◌, ◌/◌, ◌≤◌, List, ◌++◌, length, take, drop, nat_le}
@@ -17,7 +18,7 @@ pub record Operands : Type 0 where
   pub t : ℕ
   pub c : ℕ
 
--- those of a whole number without a fraction or an exponent
+-- the operands of a whole number without a fraction or an exponent
 abbrev pub of_whole : ℕ → Operands
 of_whole n = record { i = n; v = 0; w = 0; f = 0; t = 0; c = 0 }
 
@@ -36,10 +37,11 @@ of_wide n = of_whole (if nat_lt n kept_limit then n else n % kept_limit + kept_l
 -- ---- Which operands a written number has (UTS 35 Part 3, Plural Operand Meanings). The number is given by its digits x and its
 -- compact exponent e: the point goes e places to the right before the digits count.
 --     AreExact x e o      the exact operands, whatever the number's length
---     AreKept x e o      the kept operands: the last 18 integer digits and the first 18 fraction digits count
+--     AreKept x e o      the kept operands: the last 18 integer digits and the first 18 fraction
+--         digits count
 
--- The count of the fraction digits that are shown, and the number that they write. w is the least count of them with the number
--- divisible by 10 ^ (shown - w), and t is the quotient.
+-- The count of the fraction digits that are shown, and the number that they write. w is the least
+-- count of them with the number divisible by 10 ^ (shown - w), and t is the quotient.
 pub record HasFraction (o : Operands) (shown written : ℕ) : Type 0 where
   pub v : o.v ≡ shown
   pub f : o.f ≡ written
@@ -49,7 +51,8 @@ pub record HasFraction (o : Operands) (shown written : ℕ) : Type 0 where
 
 -- ---- Exact operands
 
--- the whole number that all digits write: the number itself is that many parts of 10 ^ (count of its fraction digits)
+-- the whole number that all digits write: the number itself is that many parts of 10 ^ (count of
+-- its fraction digits)
 abbrev pub all_digits_value : Places → ℕ
 all_digits_value y = value_of (y.whole ++ y.fraction)
 

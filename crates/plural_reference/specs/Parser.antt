@@ -1,5 +1,5 @@
--- The grammar of conditions over tokens (UTS 35 Part 3, Plural Rules Syntax), what is read from a list of tokens, and which
--- fault it has.
+-- The grammar of conditions over tokens (UTS 35 Part 3, Plural Rules Syntax), what is read from a
+-- list of tokens, and which fault it has.
 use Rattle.std.specs.Prelude.{◌≡◌, ◌⊎◌, List, [], ◌∷◌, ◌++◌, Option, Some, None, IfSome, is_some, if◌then◌else◌}
 use Rattle.std.specs.Option.{option_and_then}
 use Rattle.plural_reference.specs.declared.ast.AndCondition.{AndCondition}

@@ -35,7 +35,8 @@ IsSpellableRelation r = IfSome r.expression.modulus FitsToken × (r.range_list.0
 abbrev pub IsSpellableGroup : AndCondition → Type 0
 IsSpellableGroup group = (group.0 ≢ []) × All IsSpellableRelation group.0
 
--- a condition that some text spells: no group and no list of ranges is empty, and tokens hold all numbers
+-- a condition that some text spells: no group and no list of ranges is empty, and tokens hold all
+-- numbers
 abbrev pub IsSpellable : Condition → Type 0
 IsSpellable c = All IsSpellableGroup c.0
 
@@ -75,6 +76,7 @@ ListHasSmallRuns l = All (λ r. HasSmallRuns r.lower_val × IfSome r.upper_val H
 abbrev pub RuleHasSmallRuns : Rule → Type 0
 RuleHasSmallRuns r = IfSome r.samples (λ s. IfSome s.integer ListHasSmallRuns × IfSome s.decimal ListHasSmallRuns)
 
--- a rule that was read from a text, and whose samples have small runs, is read from its printed text
+-- a rule that was read from a text, and whose samples have small runs, is read from its printed
+-- text
 abbrev pub RulesPrintBack : Type 0
 RulesPrintBack = (text : List ℕ) (r : Rule) → TextReads ReadsRule text r → RuleHasSmallRuns r → TextReads ReadsRule (rule_text r) r

@@ -1,4 +1,4 @@
--- What a call that reads may return.
+-- What a call that reads may return: what its definition says, or out of memory.
 use Rattle.std.specs.Prelude.{◌≡◌, ◌⊎◌, List, ℕ, Result, Ok, Err}
 use Rattle.plural_reference.specs.declared.error.ParseError.{ParseError}
 use Rattle.plural_reference.specs.declared.error.ReadError.{ReadError}
@@ -20,7 +20,8 @@ abbrev pub IsAnswer : {A : Type 0} → (A → Type 0) → (ParseError → Type 0
 IsAnswer Read Fault (Ok x) = Read x
 IsAnswer Read Fault (Err e) = IsFault Fault e
 
--- x is returned if and only if it is read from the tokens, and a fault if and only if they have it, out of memory aside
+-- x is returned if and only if it is read from the tokens, and a fault if and only if they have it,
+-- out of memory aside
 pub record AnswersExactly {A : Type 0} (Read : List Token → A → Type 0) (Fault : List Token → ParseError → Type 0)
     (text : List ℕ) (r : Result A ReadError) : Type 0 where
   pub only : (tokens : List Token) → AreTokensOf text tokens → IsAnswer (Read tokens) (Fault tokens) r

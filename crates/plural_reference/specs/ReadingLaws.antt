@@ -20,7 +20,8 @@ HaveOneCut = (text : List ℕ) → ThereIsOne (IsCut text)
 abbrev pub HaveOneListOfTokens : Type 0
 HaveOneListOfTokens = (text : List ℕ) → ThereIsOne (AreTokensOf text)
 
--- one value is read from the tokens and they have no fault, or they have one fault and nothing is read
+-- one value is read from the tokens and they have no fault, or they have one fault and nothing is
+-- read
 abbrev pub HasOneReading : {A : Type 0} → (List Token → A → Type 0) → (List Token → ParseError → Type 0) → List Token → Type 0
 HasOneReading {A = A} Read Fault tokens =
     (ThereIsOne (Read tokens) × ((kind : ParseError) → ¬ (Fault tokens kind)))
@@ -34,7 +35,8 @@ HaveOneReading = (tokens : List Token) → HasOneReading Reads Faulty tokens
 abbrev pub HaveOneRule : Type 0
 HaveOneRule = (tokens : List Token) → HasOneReading ReadsRule FaultyRule tokens
 
--- of every text, the reader of rules gives the condition that is read, and the fault that the text has
+-- of every text, the reader of rules gives the condition that is read, and the fault that the text
+-- has
 abbrev pub TextsAreRead : Type 0
 TextsAreRead =
     (text : List ℕ)

@@ -1,5 +1,5 @@
--- The grammar of samples over tokens (UTS 35 Part 3, Samples), what is read from the tokens after a condition, and which
--- fault they have.
+-- The grammar of samples over tokens (UTS 35 Part 3, Samples), what is read from the tokens after a
+-- condition, and which fault they have.
 use Rattle.std.specs.Prelude.{◌≡◌, ◌≢◌, ◌⊎◌, ℕ, List, [], ◌∷◌, ◌++◌, Bool, true, false, Option, Some, None, IfSome, IsSome}
 use Rattle.std.specs.Prelude.{IsSomeAnd, fold, unwrap_or, ◌==◌, ◌||◌, if◌then◌else◌, codes}
 use Rattle.std.specs.Option.{option_and_then}

@@ -1,4 +1,5 @@
--- The printed text of a rule and of its parts, in the syntax of UTS 35 Part 3, Plural Rules Syntax and Samples.
+-- The printed text of a rule and of its parts, in the syntax of UTS 35 Part 3, Plural Rules Syntax
+-- and Samples.
 use Rattle.std.specs.Prelude.{ℕ, List, [], ◌∷◌, ◌++◌, Bool, true, false, Option, Some, None, codes}
 use Rattle.std.specs.Fmt.{decimal}
 use Rattle.plural_reference.specs.declared.ast.AndCondition.{AndCondition}
@@ -20,8 +21,8 @@ use Rattle.plural_reference.specs.declared.ast.Samples.{Samples}
 use Rattle.plural_reference.specs.declared.ast.Value.{Value}
 use Rattle.plural_reference.specs.Lexer.{ellipsis}
 
--- the texts of the parts, with the separator between neighbours (`join_by` of std, but one part and its separator at a time,
--- as the proofs over texts go)
+-- the texts of the parts, with the separator between neighbours (`join_by` of std, but one part and
+-- its separator at a time, as the proofs over texts go)
 abbrev pub joined : {A : Type 0} → List ℕ → (A → List ℕ) → List A → List ℕ
 joined separator text [] = []
 joined separator text (x ∷ []) = text x

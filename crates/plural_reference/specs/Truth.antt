@@ -1,5 +1,5 @@
--- When a relation holds and when a condition is true (UTS 35 Part 3, Plural Rules Syntax), in words that serve every
--- form of a rule: a tree, packed relations, and the exact number.
+-- When a relation holds and when a condition is true (UTS 35 Part 3, Plural Rules Syntax), in words
+-- that serve every form of a rule: a tree, packed relations, and the exact number.
 use Rattle.std.specs.Prelude.{ℕ, ◌%◌, ◌==◌, ◌&&◌, List, [], ◌∷◌, map, Bool, true, false, not, nat_le, if◌then◌else◌, Option, Some}
 use Rattle.std.specs.Prelude.{None, option_map}
 use Rattle.std.specs.List.{list_any, list_all}
@@ -18,7 +18,8 @@ use Rattle.plural_reference.specs.declared.ast.Expression.{Expression}
 
 -- ---- A value in ranges
 
--- a range holds the values between its ends, the ends included; none, if the first end is above the second
+-- a range holds the values between its ends, the ends included; none, if the first end is above the
+-- second
 abbrev pub range_holds : ℕ → ℕ × ℕ → Bool
 range_holds value range = nat_le range.0 value && nat_le value range.1
 
@@ -44,13 +45,14 @@ operand_value T number = Some number.t
 operand_value C number = Some number.c
 operand_value E number = Some number.c
 
--- the remainder of a value by a modulus; 0 is no modulus
+-- the remainder of a value by a modulus; there is none by 0
 abbrev pub remainder : ℕ → ℕ → ℕ
 remainder modulus value = if modulus == 0 then value else (value % modulus)
 
 -- ---- A relation
 
--- what a relation says, in whichever form it is written: a single value is a range of equal ends, and no modulus is 0
+-- what a relation says, in whichever form it is written: a single value is a range of equal ends,
+-- and no modulus is 0
 pub record RelationMeaning : Type 0 where
   pub operand : Operand
   pub modulus : ℕ

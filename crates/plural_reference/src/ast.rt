@@ -1,9 +1,10 @@
 //! The tree of a plural rule (UTS 35 Part 3, Plural Rules Syntax).
 //!
-//! Each list is a [`Sequence`] of its parts; the fields are public, so a tree can be made by hand: `RangeList(items.into())` of a
-//! `Vec` of items.
+//! Each list is a [`Sequence`] of its parts; the fields are public, so a tree can be made by hand:
+//! `RangeList(items.into())` of a `Vec` of items.
 //!
-//! <!-- snippet crates/plural_reference_tests/src/tests/printing.rt: example fn condition_of -->
+//! <!-- snippet crates/tests_libraries/src/tests/plural_reference_printing.rt:
+//! example fn condition_of -->
 //! ```
 //! fn condition_of(alloc: Global, item: RangeListItem) -> anyhow::Result<Condition> {
 //!     let relation = Relation {
@@ -151,7 +152,7 @@ pub enum RangeListItem {
 
 /// A value of a relation. A text gives 0 to 4294967295; a tree that was made by hand may hold more.
 ///
-/// <!-- snippet crates/plural_reference_tests/src/tests/trees.rt:
+/// <!-- snippet crates/tests_libraries/src/tests/plural_reference_trees.rt:
 /// example "holds!(rt; Value::from" to "holds!(rt; u32::try_from(&Value(4294967296)" of fn turns_values_into_numbers -->
 /// ```
 /// assert!(rt; Value::from(4294967295) == Value(4294967295));
@@ -207,7 +208,8 @@ pub struct SampleRange {
     pub upper_val: Option<DecimalValue>,
 }
 
-/// The text of a sample, as `1.20` or `1c6`: its tokens joined, without spaces. Contracts see its bytes.
+/// The text of a sample, as `1.20` or `1c6`: its tokens joined, without spaces. Contracts see its
+/// bytes.
 #[derive(Debug, Drop)]
 pub struct DecimalValue(pub String);
 

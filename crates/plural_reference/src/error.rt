@@ -8,8 +8,8 @@ use std::alloc::{AllocError, AllocFailed};
 use std::error::Error;
 use std::fmt;
 
-/// Why a text is no rule: what is expected at the first place where the text doesn't continue as a
-/// rule (UTS 35 Part 3, Plural Rules Syntax).
+/// Why a text isn't a rule: what is expected at the first place where the text doesn't continue as
+/// a rule (UTS 35 Part 3, Plural Rules Syntax).
 #[derive(Clone, Copy, Debug, PartialEq, Eq)]
 pub enum ParseError {
     /// An and-condition after `or`, if the text or the condition ends.
@@ -51,7 +51,7 @@ impl Error for ParseError {}
 /// [`parse_condition`](crate::parse_condition) return no tree.
 #[derive(Clone, Copy, Debug, PartialEq, Eq)]
 pub enum ReadError {
-    /// The text is no rule.
+    /// The text isn't a rule.
     Parse(ParseError),
     /// An allocation failed.
     Memory,

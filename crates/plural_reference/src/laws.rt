@@ -1,4 +1,5 @@
-//! Laws on the definitions and the calls of this crate, by subject: each is the contract of a function.
+//! Laws on the definitions and the calls of this crate, by subject: each is the contract of a
+//! function.
 
 pub mod exactness;
 pub mod operands;

@@ -9,11 +9,11 @@ use crate::ast;
 use crate::token::Token;
 use std::marker::Model;
 
-/// The tokens of a text, one at a time: at most one for each byte, and after the last always `None`.
-/// It allocates nothing, and refuses nothing: what is no piece of a rule is [`Token::Junk`]. Contracts
-/// see the list of the remaining tokens.
+/// The tokens of a text, one at a time: at most one for each byte, and after the last always
+/// `None`. It allocates nothing, and refuses nothing: what isn't a piece of a rule is
+/// [`Token::Junk`]. Contracts see the list of the remaining tokens.
 ///
-/// <!-- snippet crates/plural_reference_tests/src/tests/tokens.rt:
+/// <!-- snippet crates/tests_libraries/src/tests/plural_reference_examples.rt:
 /// example "let mut lexer" to "holds!(rt; lexer.next() == None" of fn gives_no_token_behind_the_last -->
 /// ```
 /// let mut lexer = Lexer::new(b"i 1 ");
@@ -37,8 +37,9 @@ impl<'l> Model for Lexer<'l> {
 }
 
 impl<'l> Lexer<'l> {
-    /// Returns the tokens of a text. Spaces give no token. A number takes all digits that follow, and is
-    /// Junk above 4294967295; a keyword that breaks off is one Junk with the byte that doesn't fit.
+    /// Returns the tokens of a text. Spaces give no token. A number takes all digits that follow,
+    /// and is Junk above 4294967295; a keyword that breaks off is one Junk with the byte that
+    /// doesn't fit.
     #[inline]
     pub fn new(text: &'l [u8]) -> Self
         ensures tokens { AreTokensOf text.now result }
@@ -69,7 +70,8 @@ impl<'l> Iterator for Lexer<'l> {
     }
 }
 
-// The bytes after the space that mostly follows a token: so it isn't looked up in the table of pieces.
+// The bytes after the space that mostly follows a token: so it isn't looked up in the table of
+// pieces.
 #[inline]
 #[tactic(auto, unfolding(crate::specs::Inner::Scan::tokens_from))]
 fn behind_space(text: &[u8]) -> &[u8]
@@ -120,8 +122,8 @@ fn token_at(first: u8, rest: &[u8]) -> (Token, &[u8])
     }
 }
 
-// The bytes after the first, if that is the byte. (`strip_prefix` says so by a comparison of lists, which `token_at` would
-// have to open for each of its bytes.)
+// The bytes after the first, if that is the byte. (`strip_prefix` says so by a comparison of lists,
+// which `token_at` would have to open for each of its bytes.)
 #[inline]
 fn strip_byte(text: &[u8], byte: u8) -> Option<&[u8]>
     ensures { MatchOption result (first text.now ≢ Some byte) (λ after. text.now ≡ byte ∷ after.now) }

@@ -1,4 +1,5 @@
-//! Plural rules as text, and the operands of numbers: tokens, the tree of a rule, reading, printing and truth.
+//! Plural rules as text, and the operands of numbers: tokens, the tree of a rule, reading, printing
+//! and truth.
 #![tactic(auto)]
 
 pub mod ast;

@@ -7,8 +7,8 @@ use crate::ast::Operand;
 use crate::operands::PluralOperands;
 
 impl PluralOperands {
-    /// Returns the value of an operand (UTS 35 Part 3, Plural Operand Meanings), or `None` for `n` if the fraction isn't
-    /// zero. It allocates nothing.
+    /// Returns the value of an operand (UTS 35 Part 3, Plural Operand Meanings), or `None` for `n`
+    /// if the fraction isn't zero. It allocates nothing.
     #[inline]
     pub fn value(&self, operand: Operand) -> Option<u64>
         ensures { result ≡ operand_value operand self.now }

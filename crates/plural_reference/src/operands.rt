@@ -14,17 +14,17 @@ pub use error::OperandsError;
 pub use kept::{KEPT_LIMIT, KEPT_PLACES};
 use std::marker::Model;
 
-/// The operands of a number (UTS 35 Part 3, Plural Operand Meanings): `i`, its integer part; `v` and
-/// `w`, how many fraction digits it shows, with and without the trailing zeros; `f` and `t`, those
-/// digits as a number, with and without the trailing zeros; and `c`, the compact exponent.
+/// The operands of a number (UTS 35 Part 3, Plural Operand Meanings): `i`, its integer part; `v`
+/// and `w`, how many fraction digits it shows, with and without the trailing zeros; `f` and `t`,
+/// those digits as a number, with and without the trailing zeros; and `c`, the compact exponent.
 ///
 /// They come from integers, from decimals, from texts and from [`RawPluralOperands`]. No conversion
 /// allocates. Of a decimal at most 18 places on each side of the point are kept, as described at
-/// [`PluralOperands::from_significand_and_exponent`]. `==` compares all six; the default is 0 for each,
-/// the operands of the number 0.
+/// [`PluralOperands::from_significand_and_exponent`]. `==` compares all six; the default is 0 for
+/// each, the operands of the number 0.
 ///
-/// <!-- snippet crates/plural_reference_tests/src/tests/truth.rt:
-/// example "holds!(rt; PluralOperands" to "holds!(rt; PluralOperands" of fn tells_the_value_of_each_operand -->
+/// <!-- snippet crates/tests_libraries/src/tests/plural_reference_examples.rt:
+/// example "holds!(rt; PluralOperands" to "holds!(rt; PluralOperands" of fn a_whole_number_is_its_operand_n -->
 /// ```
 /// assert!(rt; PluralOperands::from(7u32).value(Operand::N) == Some(7));
 /// ```
@@ -51,8 +51,8 @@ impl Model for PluralOperands {
 }
 
 impl PluralOperands {
-    /// Returns whether they are those of the whole number 0: no fraction digit is shown, and there is no
-    /// exponent.
+    /// Returns whether they are those of the whole number 0: no fraction digit is shown, and there
+    /// is no exponent.
     #[inline]
     pub fn is_exactly_zero(self) -> bool
         ensures { IsTrue result ↔ (self ≡ of_whole 0) }
@@ -60,8 +60,8 @@ impl PluralOperands {
         self == PluralOperands::from(0u64)
     }
 
-    /// Returns whether they are those of the whole number 1: no fraction digit is shown, and there is no
-    /// exponent.
+    /// Returns whether they are those of the whole number 1: no fraction digit is shown, and there
+    /// is no exponent.
     #[inline]
     pub fn is_exactly_one(self) -> bool
         ensures { IsTrue result ↔ (self ≡ of_whole 1) }

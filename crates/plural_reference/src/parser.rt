@@ -26,14 +26,14 @@ use std::alloc::{AllocError, Global};
 use std::marker::Model;
 use std::mem;
 
-/// Reads the condition of a rule (UTS 35 Part 3, Plural Rules Syntax) from the longest beginning of the text
-/// that is one; what follows it is ignored, samples too. A text that is empty or begins with `@` is the
-/// empty condition.
+/// Reads the condition of a rule (UTS 35 Part 3, Plural Rules Syntax) from the longest beginning of
+/// the text that is one; what follows it is ignored, samples too. A text that is empty or begins
+/// with `@` is the empty condition.
 ///
-/// The error is the [`ParseError`] of the first place where the condition doesn't continue, or out of
-/// memory; only the tree is allocated.
+/// The error is the [`ParseError`] of the first place where the condition doesn't continue, or out
+/// of memory; only the tree is allocated.
 ///
-/// <!-- snippet crates/plural_reference_tests/src/tests/reading.rt:
+/// <!-- snippet crates/tests_libraries/src/tests/plural_reference_examples.rt:
 /// example "let values" to "holds!" of fn reads_long_lists_of_values -->
 /// ```
 /// let values = [1, 5, 7, 8, 9, 10];
@@ -50,13 +50,14 @@ pub fn parse_condition(alloc: Global, text: &[u8]) -> Result<Condition, ReadErro
     parser.condition(alloc)
 }
 
-/// Reads a rule: its condition as by [`parse_condition`], and the samples after it (UTS 35 Part 3, Samples).
-/// Of several lists of one type the last counts, and what follows the samples is ignored.
+/// Reads a rule: its condition as by [`parse_condition`], and the samples after it (UTS 35 Part 3,
+/// Samples). Of several lists of one type the last counts, and what follows the samples is ignored.
 ///
-/// The error is the [`ParseError`] of its condition, or else of its samples, or out of memory; only the
-/// tree is allocated.
+/// The error is the [`ParseError`] of its condition, or else of its samples, or out of memory; only
+/// the tree is allocated.
 ///
-/// <!-- snippet crates/plural_reference_tests/src/tests/printing.rt: example fn samples_of -->
+/// <!-- snippet crates/tests_libraries/src/tests/plural_reference_printing.rt:
+/// example fn samples_of -->
 /// ```
 /// fn samples_of(alloc: Global, text: &str) -> anyhow::Result<Samples> {
 ///     let rule = parse(alloc, text.as_bytes())?;
@@ -290,7 +291,8 @@ impl<'p> Parser<'p> {
 // How many items a list has room for at first: all that most lists have.
 const ROOM: usize = 4;
 
-// A list that begins with an item. Room is made once, by less work than for a list that grows from none.
+// A list that begins with an item. Room is made once, by less work than for a list that grows from
+// none.
 #[inline]
 fn begun<T: Drop>(alloc: Global, first: T) -> Result<Vec<T>, AllocError>
     ensures { IfOk result (λ list. list.items ≡ first ∷ []) }

@@ -7,7 +7,7 @@ use crate::operands::PluralOperands;
 /// The operands of a number (UTS 35 Part 3, Plural Operand Meanings), each to be set by hand: any
 /// values are allowed, also those of no number.
 ///
-/// <!-- snippet crates/plural_reference_tests/src/tests/truth.rt:
+/// <!-- snippet crates/tests_libraries/src/tests/plural_reference_examples.rt:
 /// "let half" to "});" of fn knows_no_whole_number_at_a_fraction -->
 /// ```
 /// let half = PluralOperands::from(RawPluralOperands {

@@ -9,15 +9,15 @@ use crate::ast::{
 };
 use crate::operands::PluralOperands;
 
-/// Returns whether the condition is true of the operands: it has no and-condition, or all relations of
-/// one of them are true (UTS 35 Part 3, Plural Rules Syntax).
+/// Returns whether the condition is true of the operands: it has no and-condition, or all relations
+/// of one of them are true (UTS 35 Part 3, Plural Rules Syntax).
 ///
 /// A relation on `n` at a fraction that isn't zero, and one by a modulus 0, is false under `=` and
 /// under `!=`. A range whose start is above its end holds nothing.
 ///
 /// Rows of a condition, a number, and whether the one is true of the other:
 ///
-/// <!-- snippet crates/plural_reference_tests/src/tests/truth.rt:
+/// <!-- snippet crates/tests_libraries/src/tests/plural_reference_examples.rt:
 /// example "("i = 1 and v = 0", 1" to "("i = 1 and v = 0", 2" of fn tells_when_a_condition_is_true; example "for (text"
 /// to "}" of fn tells_when_a_condition_is_true -->
 /// ```

@@ -14,10 +14,10 @@ use std::ops::Index;
 use std::slice::Iter;
 use std::vec::IntoIter;
 
-/// A `Vec`, seen by contracts as the list of its elements. `From` makes it from a `Vec` and gives the `Vec` back, without
-/// an allocation.
+/// A `Vec`, seen by contracts as the list of its elements. `From` makes it from a `Vec` and gives
+/// the `Vec` back, without an allocation.
 ///
-/// <!-- snippet crates/plural_reference_tests/src/tests/trees.rt:
+/// <!-- snippet crates/tests_libraries/src/tests/plural_reference_trees.rt:
 /// example "let list = RangeList" to "holds!(rt; list.0[1]" of fn lists_of_a_tree_are_read_like_a_vec -->
 /// ```
 /// let list = RangeList(vec![in alloc;

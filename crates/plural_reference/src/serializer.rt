@@ -1,6 +1,7 @@
 //! Printing rules (UTS 35 Part 3, Plural Rules Syntax and Samples).
 //!
-//! Each call writes the text of one part to any writer, piece by piece and without an allocation of its own.
+//! Each call writes the text of one part to any writer, piece by piece and without an allocation of
+//! its own.
 #![tactic(auto, using(crate::proofs::printing::Writes::one_call, crate::proofs::printing::Writes::then_writes))]
 
 ghost use Rattle.std.specs.Prelude.{◌≡◌, OnOk};
@@ -18,9 +19,10 @@ use std::fmt;
 /// Writes a rule: its condition, then its samples if it has any, as `i = 1 and v = 0 @integer 1`.
 /// A rule without a condition and without samples has the empty text.
 ///
-/// It allocates nothing. `Err` is the writer's first error: nothing more is written, and what was written stays.
+/// It allocates nothing. `Err` is the writer's first error: nothing more is written, and what was
+/// written stays.
 ///
-/// <!-- snippet crates/plural_reference_tests/src/tests/printing.rt:
+/// <!-- snippet crates/tests_libraries/src/tests/plural_reference_printing.rt:
 /// example "let text" to "let rule" of fn stops_at_the_first_fault_in_a_rule; example fn printed_rule -->
 /// ```
 /// let text = "i = 0 or n = 1 @integer 0, 1 @decimal 0.0~1.0, 0.00~0.04, …";
@@ -42,20 +44,23 @@ pub fn serialize<W: fmt::Write>(rule: &ast::Rule, w: &mut W) -> fmt::Result
     }
 }
 
-/// Writes a condition: its and-conditions with ` or ` between them, the relations of each with ` and ` between them,
-/// as `n % 10 = 3..4, 9 and n % 100 != 10..19`. The condition without and-conditions has the empty text.
+/// Writes a condition: its and-conditions with ` or ` between them, the relations of each with
+/// ` and ` between them, as `n % 10 = 3..4, 9 and n % 100 != 10..19`. The condition without
+/// and-conditions has the empty text.
 ///
-/// It allocates nothing. `Err` is the writer's first error: nothing more is written, and what was written stays.
+/// It allocates nothing. `Err` is the writer's first error: nothing more is written, and what was
+/// written stays.
 pub fn serialize_condition<W: fmt::Write>(condition: &ast::Condition, w: &mut W) -> fmt::Result
     ensures { OnOk result (WritesInCalls W.write_str_gives w.old (condition_text condition.now) w.new) }
 {
     serialize_joined(condition.0.as_slice(), " or ", w)
 }
 
-/// Writes samples: ` @integer ` and its list, if there is one, then ` @decimal ` and its list, if there is one.
-/// The text begins with a space, so that it may follow a condition.
+/// Writes samples: ` @integer ` and its list, if there is one, then ` @decimal ` and its list, if
+/// there is one. The text begins with a space, so that it may follow a condition.
 ///
-/// It allocates nothing. `Err` is the writer's first error: nothing more is written, and what was written stays.
+/// It allocates nothing. `Err` is the writer's first error: nothing more is written, and what was
+/// written stays.
 pub fn serialize_samples<W: fmt::Write>(samples: &ast::Samples, w: &mut W) -> fmt::Result
     ensures { OnOk result (WritesInCalls W.write_str_gives w.old (samples_text samples.now) w.new) }
 {
@@ -63,10 +68,11 @@ pub fn serialize_samples<W: fmt::Write>(samples: &ast::Samples, w: &mut W) -> fm
     serialize_prefixed(" @decimal ", samples.decimal.as_ref(), w)
 }
 
-/// Writes a list of samples: its ranges with `, ` between them, then `, …` if the list has an ellipsis, as
-/// `0, 2~16, …`.
+/// Writes a list of samples: its ranges with `, ` between them, then `, …` if the list has an
+/// ellipsis, as `0, 2~16, …`.
 ///
-/// It allocates nothing. `Err` is the writer's first error: nothing more is written, and what was written stays.
+/// It allocates nothing. `Err` is the writer's first error: nothing more is written, and what was
+/// written stays.
 pub fn serialize_sample_list<W: fmt::Write>(samples: &ast::SampleList, w: &mut W) -> fmt::Result
     ensures { OnOk result (WritesInCalls W.write_str_gives w.old (sample_list_text samples.now) w.new) }
 {
@@ -79,7 +85,8 @@ pub fn serialize_sample_list<W: fmt::Write>(samples: &ast::SampleList, w: &mut W
 
 /// Writes a range of samples: one sample, or two with `~` between them, as `0.1~1.6`.
 ///
-/// It allocates nothing. `Err` is the writer's first error: nothing more is written, and what was written stays.
+/// It allocates nothing. `Err` is the writer's first error: nothing more is written, and what was
+/// written stays.
 pub fn serialize_sample_range<W: fmt::Write>(range: &ast::SampleRange, w: &mut W) -> fmt::Result
     ensures { OnOk result (WritesInCalls W.write_str_gives w.old (sample_range_text range.now) w.new) }
 {
@@ -89,7 +96,8 @@ pub fn serialize_sample_range<W: fmt::Write>(range: &ast::SampleRange, w: &mut W
 
 /// Writes a sample: its text as it is, in one piece.
 ///
-/// It allocates nothing. `Err` is the writer's first error: nothing more is written, and what was written stays.
+/// It allocates nothing. `Err` is the writer's first error: nothing more is written, and what was
+/// written stays.
 pub fn serialize_decimal_value<W: fmt::Write>(value: &ast::DecimalValue, w: &mut W) -> fmt::Result
     ensures { OnOk result (WritesInCalls W.write_str_gives w.old (sample_text value.now) w.new) }
 {

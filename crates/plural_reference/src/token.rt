@@ -5,7 +5,8 @@ use crate::ast;
 /// A token of a plural rule's text (UTS 35 Part 3, Plural Rules Syntax).
 #[derive(Debug, PartialEq, Drop)]
 pub enum Token {
-    /// `n`, `i`, `v`, `w`, `f`, `t` or `c`; `e` is [`Token::E`]. `c` also marks an exponent in a sample.
+    /// `n`, `i`, `v`, `w`, `f`, `t` or `c`; `e` is [`Token::E`]. `c` also marks an exponent in a
+    /// sample.
     Operand(ast::Operand),
     /// `=` or `!=`.
     Operator(ast::Operator),
@@ -25,7 +26,8 @@ pub enum Token {
     And,
     /// `%`.
     Modulo,
-    /// What is no piece of a rule: an unknown byte, a broken keyword, or a number above 4294967295.
+    /// What isn't a piece of a rule: an unknown byte, a broken keyword, or a number above
+    /// 4294967295.
     Junk,
     /// `@`.
     At,

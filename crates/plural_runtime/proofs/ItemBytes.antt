@@ -135,7 +135,7 @@ operator_byte byte = elim (cases_lt (byte % 128) 64) [
   | inr high ↦ let e = le-ltb (byte % 128) 64 high in rw e (omega arith)
 ]
 
--- four bytes are those of the number that they hold
+-- four bytes encode the number that they hold
 pub four_bytes : (a b c d : ℕ) → a < 256 → b < 256 → c < 256 → d < 256 → to_le_bytes w32 (four_byte_number a b c d) ≡ a ∷ b ∷ c ∷ d ∷ []
 four_bytes a b c d ha hb hc hd =
     let e : four_byte_number a b c d % 256 ≡ a = omega arith in
@@ -144,7 +144,7 @@ four_bytes a b c d ha hb hc hd =
     let h : four_byte_number a b c d / 16777216 % 256 ≡ d = omega arith in
     rw (e, f, g, h) refl
 
--- bytes of whole ranges are those of the ranges that they hold
+-- bytes of whole ranges encode the ranges that they hold
 pub ranges_spelled : (bytes : List ℕ) → AreBytes bytes → length bytes % 8 ≡ 0 → flat_map range_bytes (ranges_in bytes) ≡ bytes
 ranges_spelled [] is h = refl
 ranges_spelled (a ∷ []) is h = absurd (omega arith)
@@ -163,7 +163,7 @@ ranges_spelled (a ∷ b ∷ c ∷ d ∷ e ∷ f ∷ g ∷ i ∷ bytes) is h =
     ∙ ap (λ p. a ∷ b ∷ c ∷ d ∷ (p ++ flat_map range_bytes (ranges_in bytes))) y
     ∙ ap (λ p. a ∷ b ∷ c ∷ d ∷ e ∷ f ∷ g ∷ i ∷ p) again
 
--- eight bytes are those of the range that they hold
+-- eight bytes encode the range that they hold
 pub range_spelled : (bytes : List ℕ) → AreBytes bytes → length bytes ≡ 8 → range_bytes (range_in bytes) ≡ bytes
 range_spelled [] is h = absurd (omega arith)
 range_spelled (a ∷ []) is h = absurd (omega arith)

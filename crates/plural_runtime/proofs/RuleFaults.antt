@@ -7,7 +7,7 @@ use Rattle.plural_runtime.specs.declared.error.RuleBytesError.{RuleBytesError}
 use Rattle.plural_runtime.specs.declared.error.RuleBytesError.TheVariants as errors
 use Rattle.plural_runtime.proofs.RuleItems.{first_relation_fault-list}
 
--- bytes that are no packed list have the list's fault alone
+-- bytes that aren't a packed list have the list's fault alone
 pub list_refused : (bytes : List ℕ) (found : ListError) → ((items : List (List ℕ)) → ListBytes items bytes → ⊥)
     → ((fault : ListError) → (found ≡ fault) ↔ HasFault bytes fault)
     → (fault : RuleBytesError) → (errors.List found ≡ fault) ↔ HasRuleFault bytes fault

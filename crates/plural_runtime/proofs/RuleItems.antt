@@ -1,4 +1,4 @@
--- The items of a rule, and what is wrong with the first bad one.
+-- The items of a rule, and the fault of the first bad one.
 use Rattle.std.proofs.Common.{◌≡◌, ℕ, zero, suc, ◌+◌, ◌%◌, ◌<◌, List, [], ◌∷◌, length, drop, get_or, map, refl, sym, ap, ◌∙◌, subst}
 use Rattle.std.proofs.Common.{Bool, true, false, Some, None, inl, inr, ◌⊎◌}
 use Rattle.std.specs.Prelude.{Option, nat_le, nat_lt, if◌then◌else◌, not, slice_get, is_some}

@@ -109,7 +109,8 @@ open_step Or done group relation (g ∷ gs) = append_assoc done (group ∷ []) _
     ∙ ap (λ p. done ++ p ∷ (unpacked_relation relation ∷ map unpacked_relation g) ∷ map (map unpacked_relation) gs)
     (sym (append-nil group))
 
--- gluing relations to groups that are done and to an open one appends the groups of the relations to these
+-- gluing relations to groups that are done and to an open one appends the groups of the relations
+-- to these
 glued-groups : (done : List (List Relation)) (group : List Relation) (relations : List PackedRelation)
     → glued done group relations ≡ done ++ with_open group (map (map unpacked_relation) (groups relations))
 glued-groups done group [] = ap (λ p. done ++ p ∷ []) (sym (append-nil group))

@@ -46,7 +46,8 @@ same_value : (number : Operands) (relation : RelationMeaning)
     ≡ option_map (remainder relation.modulus) (operand_value relation.operand number)
 same_value number relation = rw (modulus_not_zero relation.modulus, modulus_again relation.modulus) refl
 
--- at a value, or none, a relation and its tree have the same truth, if the operator is `=` without a value
+-- at a value, or none, a relation and its tree have the same truth, if the operator is `=` without
+-- a value
 same_at : (relation : RelationMeaning) (value : Option ℕ) → (value ≡ None → relation.operator ≡ Eq) →
     holds_by (unpacked_meaning relation) value ≡ under relation.operator (holds_value relation.ranges value)
 same_at relation None h = sym (ap (λ operator. under operator false) (h refl))
@@ -83,7 +84,8 @@ same_groups number (group ∷ gs) ok =
     ap (λ b. b || some_group (tree_relation_truth number) (map (map unpacked_relation) gs)) (same_group number group ok.0)
     ∙ ap (λ b. group_truth number group || b) (same_groups number gs ok.1)
 
--- what holds of a relation and of all relations of groups also holds with the relation put before the groups
+-- what holds of a relation and of all relations of groups also holds with the relation put before
+-- the groups
 groups_ok : (P : PackedRelation → Type 0) (mark : AndOr) (relation : PackedRelation) (gs : List (List PackedRelation)) → P relation
     → AllByRecursion (AllByRecursion P) gs → AllByRecursion (AllByRecursion P) (cut_before mark (at_front relation gs))
 groups_ok P And relation [] h ok = ((h, tt), tt)
@@ -114,7 +116,7 @@ agree number (relation ∷ relations) (inr never) =
     not_true true h = cc
     not_true false h = refl
 
--- the groups of the tree have the same truth as those of the relations
+-- the groups of the tree have the same truth as the relations' groups
 groups_alike : (number : Operands) (relations : List PackedRelation) → (number.w ≡ 0) ⊎ IsTrue (has_no_negated_n relations)
     → is_true_of (tree_relation_truth number) (unpacked_groups relations) ≡ some_group (is_true_at number) (groups relations)
 groups_alike number [] ok = refl
@@ -125,7 +127,8 @@ groups_alike number (relation ∷ relations) ok =
     ∙ ap (λ gs. some_group (tree_relation_truth number) (map (map unpacked_relation) gs)) (sym f.is)
     ∙ same_groups number (groups all) (all_groups_ok (Agrees number) all (agree number all ok))
 
--- the tree of relations has the same truth as the relations, if the fraction is zero or no `!=` tests n
+-- the tree of relations has the same truth as the relations, if the fraction is zero or no `!=`
+-- tests n
 pub tree_truth-unpacked : (number : Operands) (relations : List PackedRelation)
     → (number.w ≡ 0) ⊎ IsTrue (has_no_negated_n relations) → tree_truth number (unpacked relations) ≡ packed_truth number relations
 unfolding unpacked packed_truth

@@ -1,4 +1,5 @@
--- The walk that keeps no more than the relation that it reads next: its result, and what it still needs.
+-- The walk that keeps no more than the relation that it reads next: its result, and what it still
+-- needs.
 use Rattle.std.proofs.Common.{◌≡◌, ℕ, ◌+◌, List, [], ◌∷◌, ◌++◌, map, refl, sym, ap, subst, ◌∙◌, append_assoc, append-nil}
 use Rattle.std.proofs.Common.{Bool, true, false, IsTrue}
 use Rattle.std.specs.Cmp.{first_so, second_so}

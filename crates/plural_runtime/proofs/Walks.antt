@@ -183,7 +183,8 @@ needed_left-is number relations =
     needed_left-groups number true relations ∙ ap (groups_need number true) f.is
     ∙ sym (groups-behind number [] (groups relations) false refl ∙ ap (needed_in_groups number) f.is)
 
--- a relation is read in a new group if the group before it is false, and in the same group if that is true so far
+-- a relation is read in a new group if the group before it is false, and in the same group if that
+-- is true so far
 abbrev pub is_read : AndOr → Bool → Bool
 is_read And holds = holds
 is_read Or holds = not holds

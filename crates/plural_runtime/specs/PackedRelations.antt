@@ -1,4 +1,5 @@
--- The relations of a packed rule, and its groups (UTS 35 Part 3, Plural Rules Syntax: and-conditions joined by `or`).
+-- The relations of a packed rule, and its groups (UTS 35 Part 3, Plural Rules Syntax:
+-- and-conditions joined by `or`).
 use Rattle.std.specs.Prelude.{◌≡◌, ◌<◌, ◌^◌, List, [], ◌∷◌, ℕ, ◌+◌, ◌++◌, map, flat_map, ◌-◌, ◌%◌, length, slice_index, Bool}
 use Rattle.std.specs.Prelude.{if◌then◌else◌, ◌==◌, ◌&&◌, nat_lt, nat_le, not, Option, Some, None, nat_eq}
 use Rattle.std.specs.List.{AllByRecursion}
@@ -35,7 +36,8 @@ abbrev pub cut_before : AndOr → List (List PackedRelation) → List (List Pack
 cut_before And groups = groups
 cut_before Or groups = [] ∷ groups
 
--- the relations cut before each one marked Or: the first group is what is before the first of these, and may be empty
+-- the relations cut before each one marked Or: the first group is what is before the first of
+-- these, and may be empty
 abbrev pub groups : List PackedRelation → List (List PackedRelation)
 groups [] = [] ∷ []
 groups (relation ∷ relations) = cut_before relation.and_or (at_front relation (groups relations))
@@ -88,12 +90,12 @@ relation_bytes relation =
 abbrev pub packed_bytes : List PackedRelation → List ℕ
 packed_bytes relations = list_bytes (map relation_bytes relations)
 
--- the bytes are those of the relations
+-- the bytes encode the relations
 pub record RuleBytes (relations : List PackedRelation) (bytes : List ℕ) : Type 0 where
   pub fit : AllByRecursion FitsBytes relations
   pub packed : ListBytes (map relation_bytes relations) bytes
 
--- ---- What is wrong with the items of a packed list that is no rule.
+-- ---- What is wrong with the items of a packed list that isn't a rule.
 
 -- a count of bytes is that of whole ranges
 abbrev pub is_whole : ℕ → Bool
@@ -107,7 +109,7 @@ is_item_length n = nat_le head_length n && is_whole (n - head_length)
 abbrev pub is_relation : List ℕ → Bool
 is_relation item = is_item_length (length item) && nat_le (slice_index item 0 % 64) 7
 
--- what is wrong with the item at a place: its length before its operand
+-- the fault of the item at a place: its length before its operand
 abbrev pub relation_fault : ℕ → List ℕ → Option RuleBytesError
 relation_fault place item =
     if not (is_item_length (length item)) then Some (errors.ItemLength place)
@@ -117,19 +119,21 @@ abbrev pub or_else : Option RuleBytesError → Option RuleBytesError → Option 
 or_else None other = other
 or_else (Some fault) other = Some fault
 
--- what is wrong with the first bad item, if there is one; the first item is at the given place
+-- the fault of the first bad item, if there is one; the first item is at the given place
 abbrev pub first_relation_fault : ℕ → List (List ℕ) → Option RuleBytesError
 first_relation_fault place [] = None
 first_relation_fault place (item ∷ items) = or_else (relation_fault place item) (first_relation_fault (place + 1) items)
 
--- bytes are refused as a rule with a fault: they are no packed list, or it is that of the first bad item
+-- bytes are refused as a rule with a fault: they aren't a packed list, or it is that of the first
+-- bad item
 abbrev pub HasRuleFault : List ℕ → RuleBytesError → Type 0
 HasRuleFault bytes (errors.List fault) = HasFault bytes fault
 HasRuleFault bytes fault = (items : List (List ℕ)) × ListBytes items bytes × (first_relation_fault 0 items ≡ Some fault)
 
 -- ---- When two packed relations are equal.
 
--- what a relation is made of, as numbers: its mark, its operator, its operand, its modulus and both ends of its ranges
+-- what a relation is made of, as numbers: its mark, its operator, its operand, its modulus and both
+-- ends of its ranges
 abbrev pub relation_numbers : PackedRelation → List ℕ
 relation_numbers relation =
     and_or_bit relation.and_or ∷ operator_bit relation.meaning.operator ∷ operand_number relation.meaning.operand ∷ relation.meaning.modulus

@@ -31,7 +31,8 @@ abbrev pub packed_and_condition : AndOr → List Relation → List PackedRelatio
 packed_and_condition and_or [] = []
 packed_and_condition and_or (relation ∷ relations) = packed_relation and_or relation ∷ map (packed_relation And) relations
 
--- the relations of all and-conditions in order: the first one of each and-condition after the first place is marked Or, all others And
+-- the relations of all and-conditions in order: the first one of each and-condition after the first
+-- place is marked Or, all others And
 abbrev pub packed_groups : List (List Relation) → List PackedRelation
 packed_groups [] = []
 packed_groups (first ∷ others) = packed_and_condition And first ++ flat_map (packed_and_condition Or) others
@@ -106,7 +107,8 @@ has_no_negated_n relations = list_all (λ relation. not (is_negated_n relation.m
 
 -- ---- The result of packing a tree.
 
--- the relations of a tree, or why it can't be packed: a value above 32 bits anywhere in it, else a start above 65535
+-- the relations of a tree, or why it can't be packed: a value above 32 bits anywhere in it, else a
+-- start above 65535
 unfoldable pub packing : Condition → Result (List PackedRelation) RuleError
 packing condition =
     if has_large_value condition then Err (Parse ValueTooLarge)

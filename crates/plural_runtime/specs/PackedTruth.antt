@@ -18,7 +18,8 @@ unfoldable pub packed_truth : Operands → List PackedRelation → Bool
 packed_truth number relations = some_group (is_true_at number) (groups relations)
 
 -- ---- How many ranges of a packed rule are needed to tell whether it is true. A range is needed if no earlier group is true, all
--- earlier relations of its group are true, its operand has a value, and no earlier range of its list holds that value.
+-- earlier relations of its group are true, its operand has a value, and no earlier range of its
+-- list holds that value.
 
 -- each member of a list, with those before it
 abbrev pub with_earlier_from : {A : Type 0} → List A → List A → List (List A × A)
@@ -42,12 +43,12 @@ abbrev pub needed_of_relation : Operands → RelationMeaning → ℕ
 needed_of_relation number relation =
     needed_of_value relation.ranges (option_map (remainder relation.modulus) (operand_value relation.operand number))
 
--- how many ranges of a group are needed: those of the relations before which all are true
+-- how many ranges of a group are needed: the ranges of the relations before which all are true
 abbrev pub needed_of_group : Operands → List PackedRelation → ℕ
 needed_of_group number group =
     sum_by (λ at. if group_truth number at.0 then needed_of_relation number at.1.meaning else 0) (with_earlier group)
 
--- how many ranges of a rule are needed: those of the groups before which none is true
+-- how many ranges of a rule are needed: the ranges of the groups before which none is true
 unfoldable pub needed_ranges : Operands → List PackedRelation → ℕ
 needed_ranges number relations =
     sum_by (λ at. if list_any (group_truth number) at.0 then 0 else needed_of_group number at.1) (with_earlier (groups relations))

@@ -8,7 +8,7 @@ use Rattle.plural_runtime.specs.declared.error.RuleBytesError.TheVariants.{List 
 use Rattle.plural_runtime.specs.declared.error.RuleError.{RuleError}
 use Rattle.plural_runtime.specs.declared.error.RuleError.TheVariants.{Parse, StartLimit, Memory}
 
--- why bytes are no rule
+-- why bytes aren't a rule
 abbrev pub rule_bytes_error_text : RuleBytesError → List ℕ
 rule_bytes_error_text (InList fault) = list_error_text fault
 rule_bytes_error_text (ItemLength place) = codes "bad length of relation " ++ decimal place

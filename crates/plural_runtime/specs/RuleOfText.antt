@@ -1,4 +1,5 @@
--- What a text gives as a rule: the relations that its condition is packed to, or the reason why it gives none.
+-- What a text gives as a rule: the relations that its condition is packed to, or the reason why it
+-- gives none.
 --     IsPackedFrom text answer      the text is read, and this is the result of packing it
 --     TextGives text answer      the text gives this, by the grammar
 --     rule_of_text text      what the text gives, by a reader

@@ -1,4 +1,5 @@
--- Not a definition of the subject: the printed text of packed relations, one after the other.
+-- The printed text of packed relations, one after the other, for private contracts; printed rules
+-- pack again.
 use Rattle.std.specs.Prelude.{ℕ, List, [], ◌∷◌, ◌++◌, codes, Bool, true, false, if◌then◌else◌, ◌==◌, ◌≡◌, None, Ok}
 use Rattle.std.specs.Fmt.{decimal}
 use Rattle.plural_reference.specs.declared.ast.Operator.{Operator}
@@ -49,8 +50,8 @@ relations_shown (relation ∷ relations) = (mark_text true relation.and_or ++ re
 
 -- ---- Rules that are packed from texts, printed and packed again.
 
--- if a rule that is read from a text packs, its printed text is read as the tree of the packed rule, and that tree packs to
--- the same relations
+-- if a rule that is read from a text packs, its printed text is read as the tree of the packed
+-- rule, and that tree packs to the same relations
 abbrev pub PrintedRulesPackAgain : Type 0
 PrintedRulesPackAgain = (text : List ℕ) (rule : TreeRule) (relations : List PackedRelation) → TextReads ReadsRule text rule
     → packing rule.condition ≡ Ok relations

@@ -14,9 +14,11 @@ use crate::relation::Relation;
 use crate::rule::Rule;
 use std::fmt;
 
-/// The text of the rule's tree, as `n % 10 = 3..4, 9 and n % 100 != 10..19 or n = 0`. It allocates nothing.
+/// The text of the rule's tree, as `n % 10 = 3..4, 9 and n % 100 != 10..19 or n = 0`. It allocates
+/// nothing.
 ///
-/// A rule without relations has the empty text; one whose first relation is marked Or begins with ` or `.
+/// A rule without relations has the empty text; one whose first relation is marked Or begins with
+/// ` or `.
 impl<'data> fmt::Display for Rule<'data> {
     ghost use Rattle.std.specs.Prelude.{Some};
     ghost use Rattle.plural_reference.specs.Serializer.{condition_text};

@@ -5,10 +5,10 @@ use plural_reference::ParseError;
 use std::error::Error;
 use std::fmt;
 
-/// Why bytes are no rule.
+/// Why bytes aren't a rule.
 #[derive(Clone, Copy, Debug, PartialEq, Eq)]
 pub enum RuleBytesError {
-    /// They are no packed list.
+    /// They aren't a packed list.
     List(ListError),
     /// The length of the item at this place isn't 5 plus a multiple of 8.
     ItemLength(usize),
@@ -36,7 +36,8 @@ impl Error for RuleBytesError {}
 /// Why a tree or a text can't be packed.
 #[derive(Clone, Copy, Debug, PartialEq, Eq)]
 pub enum RuleError {
-    /// The text is no rule, or a value of the tree is above 4294967295 (`ParseError::ValueTooLarge`).
+    /// The text isn't a rule, or a value of the tree is above 4294967295
+    /// (`ParseError::ValueTooLarge`).
     Parse(ParseError),
     /// A relation would start after place 65535 of the data.
     StartLimit,

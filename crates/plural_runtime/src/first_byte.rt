@@ -6,10 +6,10 @@ ghost use Rattle.plural_runtime.specs.Inner.RuleReading.{and_or_in, operand_in, 
 
 use crate::kinds::{AndOr, Operand, Polarity};
 
-/// The meaning of a relation's first byte: bit 7 is 1 for And, bit 6 is 1 for Positive, and bits 0 to 5
-/// number the operand, from 0 for N to 7 for E.
+/// The meaning of a relation's first byte: bit 7 is 1 for And, bit 6 is 1 for Positive, and bits 0
+/// to 5 number the operand, from 0 for N to 7 for E.
 ///
-/// <!-- snippet crates/plural_runtime_tests/src/tests/kinds.rt:
+/// <!-- snippet crates/tests_libraries/src/tests/plural_runtime_examples.rt:
 /// example "let parts"
 /// to "holds!(rt; AndOrPolarityOperand::from_unaligned(0xc8)" of fn first_bytes_and_ranges_have_their_layout -->
 /// ```

@@ -13,15 +13,16 @@ use packed_list::laws::{item_bytes, read_again};
 impl<'data> Rule<'data> {
     /// Reads bytes as a rule. It allocates nothing.
     ///
-    /// The error is that the bytes are no packed list ([`RuleBytesError::List`]), or the fault of the first bad
-    /// item: its length isn't 5 plus a multiple of 8 ([`RuleBytesError::ItemLength`]), or its first byte names
-    /// no operand ([`RuleBytesError::Operand`]).
+    /// The error is that the bytes aren't a packed list ([`RuleBytesError::List`]), or the fault of
+    /// the first bad item: its length isn't 5 plus a multiple of 8
+    /// ([`RuleBytesError::ItemLength`]), or its first byte names no operand
+    /// ([`RuleBytesError::Operand`]).
     ///
     /// Rows of refused bytes and their fault:
     ///
-    /// <!-- snippet crates/plural_runtime_tests/src/tests/bytes.rt:
-    /// example "(b"\x01\0", RuleBytesError" to "(b"\x01\0\xc8" of fn refuses_hostile_bytes; example "for (bytes"
-    /// to "}" of fn refuses_hostile_bytes -->
+    /// <!-- snippet crates/tests_libraries/src/tests/plural_runtime_examples.rt:
+    /// example "(b"\x01\0", RuleBytesError" to "(b"\x01\0\xc8" of fn refuses_bytes; example "for (bytes"
+    /// to "}" of fn refuses_bytes -->
     /// ```
     /// (b"\x01\0", RuleBytesError::ItemLength(0)),
     /// (b"\x03\0\x02\0\x02\0abcd", RuleBytesError::ItemLength(0)),

@@ -17,7 +17,7 @@ impl Rule<'static> {
     /// [`RuleError::Parse`] with the fault that `parse` finds, or [`RuleError::StartLimit`] or
     /// [`RuleError::Memory`] as of [`Rule::try_from`].
     ///
-    /// <!-- snippet crates/plural_runtime_tests/src/tests/kinds.rt:
+    /// <!-- snippet crates/tests_libraries/src/tests/plural_runtime_examples.rt:
     /// example "let rule" to "holds!" of fn a_simple_rule_is_one_relation -->
     /// ```
     /// let rule = Rule::from_str(alloc, "i = 1")?;

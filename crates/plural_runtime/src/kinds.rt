@@ -125,7 +125,7 @@ impl Operand {
 
     /// Returns the expression of the operand, with the modulus unless it is 0.
     ///
-    /// <!-- snippet crates/plural_runtime_tests/src/tests/kinds.rt:
+    /// <!-- snippet crates/tests_libraries/src/tests/plural_runtime_examples.rt:
     /// example "let plain" to "holds!(rt; reduced" of fn a_modulus_0_is_none -->
     /// ```
     /// let plain = Operand::I.with_modulo(0);

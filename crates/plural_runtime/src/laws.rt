@@ -41,14 +41,16 @@ pub fn at_most_all()
     ensures { (number : Operands) (relations : List PackedRelation) → needed_ranges number relations ≤ range_count relations }
 {}
 
-/// A rule is true if and only if its tree is, provided that the fraction is zero or no relation tests `n` with `!=`.
+/// A rule is true if and only if its tree is, provided that the fraction is zero or no relation
+/// tests `n` with `!=`.
 pub fn truths_agree()
     ensures { (number : Operands) (relations : List PackedRelation) → (number.w ≡ 0) ⊎ IsTrue (has_no_negated_n relations)
         → tree_truth number (unpacked relations) ≡ packed_truth number relations }
 {}
 
-/// A rule that is packed from a text, printed, read and packed again is the same: the printed text is read as the tree of
-/// the rule, and that tree packs to its relations. Equal relations have equal bytes ([`one_encoding`]).
+/// A rule that is packed from a text, printed, read and packed again is the same: the printed text
+/// is read as the tree of the rule, and that tree packs to its relations. Equal relations have
+/// equal bytes ([`one_encoding`]).
 pub fn printed_rules_pack_again()
     ensures { PrintedRulesPackAgain }
 {
@@ -56,8 +58,8 @@ pub fn printed_rules_pack_again()
     spellable_conditions_print_back();
 }
 
-/// Every text gives exactly one result as a rule: the relations that its condition is packed to, or the reason why it gives
-/// none. It is a function of the text.
+/// Every text gives exactly one result as a rule: the relations that its condition is packed to, or
+/// the reason why it gives none. It is a function of the text.
 pub fn texts_give_one_answer()
     ensures { TextsGiveOneAnswer }
 {

@@ -1,4 +1,5 @@
-//! Plural rules as packed bytes: their relations, their tree and their text, and when they are true.
+//! Plural rules as packed bytes: their relations, their tree and their text, and when they are
+//! true.
 #![tactic(auto)]
 
 mod display;

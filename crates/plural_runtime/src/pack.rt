@@ -17,16 +17,16 @@ use std::alloc::Global;
 impl Rule<'static> {
     /// Packs a tree. Its samples are left out.
     ///
-    /// The first relation of each and-condition after the first place is marked Or, all others And. An empty
-    /// and-condition after the first place vanishes, and an absent modulus is 0.
+    /// The first relation of each and-condition after the first place is marked Or, all others And.
+    /// An empty and-condition after the first place vanishes, and an absent modulus is 0.
     ///
     /// The errors: a value above 4294967295 anywhere in the tree ([`RuleError::Parse`] of
     /// `ParseError::ValueTooLarge`), otherwise a relation that would start after place 65535
     /// ([`RuleError::StartLimit`]), as one of more than 65535 relations does; out of memory
     /// ([`RuleError::Memory`]).
     ///
-    /// <!-- snippet crates/plural_runtime_tests/src/tests/bytes.rt:
-    /// example "let tree" to "holds!" of fn prints_a_last_relation_without_ranges -->
+    /// <!-- snippet crates/tests_libraries/src/tests/plural_runtime_examples.rt:
+    /// example "let tree" to "holds!" of fn a_tree_packs_again -->
     /// ```
     /// let tree = rule.to_ast(alloc)?;
     /// let again = Rule::try_from(alloc, &tree)?;
@@ -129,8 +129,8 @@ fn is_large(value: &ast::Value) -> bool
     value.0 > 4294967295
 }
 
-// The relations of a tree as a list that can be packed, if none of them starts after place 65535. If they are more than
-// 65535, one does.
+// The relations of a tree as a list that can be packed, if none of them starts after place 65535.
+// If they are more than 65535, one does.
 fn list_of(condition: &ast::Condition) -> Option<ListWriter<TreeRelations<'_>>>
     ensures ok { IfSome result (λ list. list ≡ map relation_bytes (packed condition.now)) }
     ensures low { IfSome result (λ _. IsFalse (has_high_start (map relation_bytes (packed condition.now)))) }

@@ -7,9 +7,10 @@ ghost use Rattle.plural_runtime.specs.RuleKinds.{ends, item_of, ItemGives, range
 
 use plural_reference::{ParseError, ast};
 
-/// A range of values with both its ends, or one value. A range whose start is above its end holds nothing.
+/// A range of values with both its ends, or one value. A range whose start is above its end holds
+/// nothing.
 ///
-/// <!-- snippet crates/plural_runtime_tests/src/tests/kinds.rt:
+/// <!-- snippet crates/tests_libraries/src/tests/plural_runtime_examples.rt:
 /// example "let equal_ends" to "holds!(rt; RangeOrValue" of fn ranges_are_those_of_trees -->
 /// ```
 /// let equal_ends = RangeOrValue::Range(2, 2);
@@ -68,7 +69,8 @@ impl RangeOrValue {
         [a, b, c, d, e, f, g, h]
     }
 
-    /// Returns the range of two ends of four bytes each, low byte first, or the value if they are equal.
+    /// Returns the range of two ends of four bytes each, low byte first, or the value if they are
+    /// equal.
     pub fn from_unaligned(bytes: [u8; 8]) -> RangeOrValue
         ensures bytes { range_bytes (ends result) ≡ bytes }
         ensures value { result ≡ range_or_value (ends result) }
@@ -78,7 +80,7 @@ impl RangeOrValue {
     }
 }
 
-// Only for the proof: eight bytes are those of the range that they hold.
+// Only for the proof: eight bytes encode the range that they hold.
 fn spelled(bytes: &[u8])
     requires { length bytes.now ≡ range_length }
     ensures { range_bytes (range_in bytes.now) ≡ bytes.now }

@@ -18,10 +18,10 @@ pub struct RelationULE<'a> {
     ghost checked: { IsTrue (is_relation bytes.now) },
 }
 
-/// A relation, with its ranges borrowed from the bytes of an item. Relations are equal if their mark, polarity,
-/// operand, modulus and ranges are.
+/// A relation, with its ranges borrowed from the bytes of an item. Relations are equal if their
+/// mark, polarity, operand, modulus and ranges are.
 ///
-/// <!-- snippet crates/plural_runtime_tests/src/tests/kinds.rt:
+/// <!-- snippet crates/tests_libraries/src/tests/plural_runtime_examples.rt:
 /// example "let relation = item" to "holds!(rt; relation.range(0)" of fn a_simple_rule_is_one_relation -->
 /// ```
 /// let relation = item.as_relation();
@@ -205,7 +205,7 @@ fn same_ranges(ranges: &[u8], others: &[u8]) -> bool
     spelled_ranges(ranges) == spelled_ranges(others)
 }
 
-// The bytes of ranges are those of the ranges that they hold.
+// The bytes of ranges encode the ranges that they hold.
 fn spelled_ranges(ranges: &[u8]) -> &[u8]
     requires { IsTrue (is_whole (length ranges.now)) }
     ensures same { result.now ≡ ranges.now }
@@ -222,7 +222,7 @@ fn range_at(ranges: &[u8], index: usize) -> RangeOrValue
     first_range(&ranges[RANGE_LENGTH * index..])
 }
 
-// The bytes of an item are those of its relation.
+// The bytes of an item encode its relation.
 fn spelled(item: &[u8]) -> &[u8]
     requires { IsTrue (is_relation item.now) }
     ensures same { result.now ≡ item.now }

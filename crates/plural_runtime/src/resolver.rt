@@ -17,13 +17,14 @@ use crate::steps::{Counter, Steps, Uncounted};
 use packed_list::Items;
 use plural_reference::{PluralOperands, ast};
 
-/// Returns whether the rule is true of the operands: all relations of one of its groups are (UTS 35 Part 3, Plural
-/// Rules Syntax). A rule without relations is true, and so is one whose first relation is marked Or.
+/// Returns whether the rule is true of the operands: all relations of one of its groups are (UTS 35
+/// Part 3, Plural Rules Syntax). A rule without relations is true, and so is one whose first
+/// relation is marked Or.
 ///
-/// A relation on `n` at a fraction that isn't zero is in no list: false under `=`, true under `!=`. A modulus 0 is
-/// none. It allocates nothing.
+/// A relation on `n` at a fraction that isn't zero is in no list: false under `=`, true under `!=`.
+/// A modulus 0 is none. It allocates nothing.
 ///
-/// <!-- snippet crates/plural_runtime_tests/src/tests/kinds.rt:
+/// <!-- snippet crates/tests_libraries/src/tests/plural_runtime_examples.rt:
 /// example "let rule" to "let rule" of fn a_simple_rule_is_one_relation; example "holds!(rt; test_rule"
 /// to "holds!(rt; test_rule" of fn a_simple_rule_is_one_relation -->
 /// ```
@@ -41,10 +42,11 @@ pub fn test_rule(rule: &Rule<'_>, operands: &PluralOperands) -> bool
 
 /// [`test_rule`], with exactly one step for each range that is needed to tell.
 ///
-/// A range is needed if no earlier group is true, all earlier relations of its group are, its operand isn't `n`
-/// at a fraction that isn't zero, and no earlier range of its list holds the value.
+/// A range is needed if no earlier group is true, all earlier relations of its group are, its
+/// operand isn't `n` at a fraction that isn't zero, and no earlier range of its list holds the
+/// value.
 ///
-/// <!-- snippet crates/plural_runtime_tests/src/tests/truth.rt: example "let rule" to "}" of fn a_count_goes_on -->
+/// <!-- snippet crates/tests_libraries/src/tests/plural_runtime_examples.rt: example "let rule" to "}" of fn a_count_goes_on -->
 /// ```
 /// let rule = Rule::from_str(alloc, "i = 1..2, 4")?;
 /// let mut steps = Steps::new();
@@ -74,7 +76,8 @@ fn is_true<C: Counter>(rule: &Rule<'_>, operands: &PluralOperands, counter: &mut
     let Some(mut item) = next_of_group(&mut items) else {
         return true;
     };
-    // All relations before the item in its group are true, and no earlier group is: so nothing else is to be kept.
+    // All relations before the item in its group are true, and no earlier group is, so no other
+    // state is needed.
     'relations: loop {
         if relation_holds(item, operands, counter) {
             let Some(next) = next_of_group(&mut items) else {

@@ -17,8 +17,8 @@ use std::marker::Model;
 
 /// A plural rule, as checked bytes that are borrowed or owned.
 ///
-/// The bytes are a packed list, each item of which is a relation: its first byte, its modulus (0 for none) and
-/// both ends of its ranges, each number in four bytes with the low byte first.
+/// The bytes are a packed list, each item of which is a relation: its first byte, its modulus (0
+/// for none) and both ends of its ranges, each number in four bytes with the low byte first.
 ///
 /// <!-- snippet crates/using/src/bytes.rt: "let packed" to "let one" of fn print_stored_rule -->
 /// ```
@@ -119,7 +119,8 @@ impl<'data> Rule<'data> {
         }
     }
 
-    /// Returns a rule of the same bytes: borrowed if this one is borrowed, otherwise a copy. The only error is out of memory.
+    /// Returns a rule of the same bytes: borrowed if this one is borrowed, otherwise a copy. The
+    /// only error is out of memory.
     pub fn try_clone(&self) -> Result<Rule<'data>, AllocError>
         ensures { IfOk result (λ rule. rule ≡ self.now) }
     {

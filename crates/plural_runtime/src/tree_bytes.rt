@@ -21,8 +21,8 @@ pub(crate) struct TreeRelation<'a> {
     relation: &'a ast::Relation,
 }
 
-// The relations of a tree that are left: those of an and-condition, the first one of which has the mark, and those of the
-// and-conditions after it.
+// The relations of a tree that are left: those of an and-condition, the first one of which has the
+// mark, and those of the and-conditions after it.
 #[derive(Clone, Copy)]
 pub(crate) struct TreeRelations<'a> {
     and_or: AndOr,

@@ -18,9 +18,10 @@ const ROOM: usize = 4;
 impl<'data> Rule<'data> {
     /// Returns the tree of the rule, without samples. The only error is out of memory.
     ///
-    /// Each relation marked Or begins a new and-condition. Equal ends come back as a value, a modulus 0 as none.
+    /// Each relation marked Or begins a new and-condition. Equal ends come back as a value, a
+    /// modulus 0 as none.
     ///
-    /// <!-- snippet crates/plural_runtime_tests/src/tests/texts.rt:
+    /// <!-- snippet crates/tests_libraries/src/tests/plural_runtime_examples.rt:
     /// const LONG_RULE; example "let rule" to "holds!" of fn a_condition_comes_back -->
     /// ```
     /// const LONG_RULE: &str = "n % 10 = 3..4, 9 and n % 100 != 10..19, 70..79, 90..99 or n = 0";

@@ -29,13 +29,13 @@ minus n = negsuc (n - 1)
 abbrev pub memory_number : ℤ
 memory_number = minus 1
 
--- a text is no number
+-- a text isn't a number
 abbrev pub decimal_number : DecimalError → ℤ
 decimal_number decimal.Syntax = minus 10
 decimal_number decimal.Limit = minus 11
 decimal_number decimal.Memory = memory_number
 
--- a text is no rule
+-- a text isn't a rule
 abbrev pub parse_number : ParseError → ℤ
 parse_number parse.ExpectedAndCondition = minus 20
 parse_number parse.ExpectedRelation = minus 21
@@ -51,7 +51,7 @@ rule_number (rule.Parse fault) = parse_number fault
 rule_number rule.StartLimit = minus 27
 rule_number rule.Memory = memory_number
 
--- bytes in a block are no rule
+-- bytes in a block aren't a rule
 abbrev pub packed_number : RuleBytesError → ℤ
 packed_number (packed.List Header) = minus 35
 packed_number (packed.List ZeroCount) = minus 36
@@ -59,7 +59,7 @@ packed_number (packed.List Start) = minus 37
 packed_number (packed.ItemLength place) = minus 38
 packed_number (packed.Operand place) = minus 39
 
--- bytes are no block of rules
+-- bytes aren't a block of rules
 abbrev pub block_number : RulesBytesError → ℤ
 block_number (block.List Header) = minus 30
 block_number (block.List ZeroCount) = minus 31
@@ -68,7 +68,7 @@ block_number (block.ItemEmpty place) = minus 33
 block_number (block.Key place) = minus 34
 block_number (block.Rule place fault) = packed_number fault
 
--- bytes are no packed elements
+-- bytes aren't packed elements
 abbrev pub elements_number : ElementsBytesError → ℤ
 elements_number elements.Empty = minus 50
 elements_number elements.Short = minus 51
@@ -87,7 +87,8 @@ packing_number packing.DefaultLimit = minus 60
 packing_number packing.StartLimit = minus 61
 packing_number packing.Memory = memory_number
 
--- a JSON value is refused; a rule's text in it and elements that can't be packed have the same numbers as elsewhere
+-- a JSON value is refused; a rule's text in it and elements that can't be packed have the same
+-- numbers as elsewhere
 abbrev pub json_number : JsonError → ℤ
 json_number json.Float = minus 71
 json_number json.Shape = minus 72

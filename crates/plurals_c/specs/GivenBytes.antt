@@ -2,7 +2,8 @@
 --     ReadsRules bytes answer      the rules of a block (docs/FORMATS.md)
 --     ReadsElements bytes answer      the elements of packed bytes (docs/FORMATS.md)
 --     ReadsText bytes answer      the text
---     ReadsNumber bytes answer      the number that a text writes within the limits (docs/NUMBERS.md)
+--     ReadsNumber bytes answer      the number that a text writes within the limits
+--         (docs/NUMBERS.md)
 use Rattle.std.specs.Prelude.{◌≡◌, ℕ, ◌≤◌, List, Result, Ok, Err}
 use Rattle.std.specs.Str.{IsUtf8}
 use Rattle.icu_plurals.specs.declared.DecimalError.TheVariants as decimal
@@ -18,12 +19,12 @@ use Rattle.plurals_c.specs.Results.{Then}
 use Rattle.plurals_c.specs.declared.fault.Fault.{Fault}
 use Rattle.plurals_c.specs.declared.fault.Fault.TheVariants.{Memory, Utf8, Number, Rules, Elements}
 
--- the rules that the bytes are the block of, or what is wrong with them
+-- the rules that the bytes are the block of, or their fault
 abbrev pub ReadsRules : List ℕ → Result FiveRules Fault → Type 0
 ReadsRules bytes (Ok rules) = RulesBytes rules bytes
 ReadsRules bytes (Err e) = (fault : RulesBytesError) × (e ≡ Rules fault) × HasRulesFault bytes fault
 
--- the elements that the bytes are those of, or what is wrong with them
+-- the elements that the bytes encode, or their fault
 abbrev pub ReadsElements : List ℕ → Result PackedElements Fault → Type 0
 ReadsElements bytes (Ok elements) = ElementsBytes elements bytes
 ReadsElements bytes (Err e) = (fault : ElementsBytesError) × (e ≡ Elements fault) × HasElementsFault bytes fault
@@ -41,7 +42,8 @@ WritesNone text = (x : CompactNumber) → ¬ (WritesCompact text x)
 abbrev pub WritesOverLimit : List ℕ → Type 0
 WritesOverLimit text = (x : CompactNumber) × WritesCompact text x × IsCompactOverLimit x
 
--- why a text gives no number: it is out of form, or what it writes is over a limit; or neither, and memory ran out
+-- why a text gives no number: it is out of form, or what it writes is over a limit; or neither, and
+-- memory ran out
 abbrev pub IsNumberFault : List ℕ → Fault → Type 0
 IsNumberFault text Memory = ¬ (WritesNone text) × ¬ (WritesOverLimit text)
 IsNumberFault text (Number decimal.Syntax) = WritesNone text

@@ -1,7 +1,10 @@
--- What a JSON text has: the block of the rules of a locale, and the bytes of elements (docs/JSON.md).
---     AreRulesIn json locale type answer      the bytes of the block. Faults are looked for in this order: those of the type, of the
---                                             locale's text, of the JSON text, of the document, the locale isn't present, rules too long
---     AreElementsIn json answer      the packed bytes. Faults: those of the JSON text, of the elements
+-- What a JSON text has: the block of the rules of a locale, and the bytes of elements
+-- (docs/JSON.md).
+--     AreRulesIn json locale type answer      the bytes of the block. Faults are looked for in this
+--         order: those of the type, of the locale's text, of the JSON text, of the document, the
+--         locale isn't present, rules too long
+--     AreElementsIn json answer      the packed bytes. Faults: those of the JSON text, of the
+--         elements
 use Rattle.std.specs.Prelude.{◌≡◌, ℕ, ◌<◌, List, length, ◌==◌, if◌then◌else◌, Some, None, Result, Ok, Err, ⊤}
 use Rattle.serde_json.specs.Data.{Data}
 use Rattle.icu_plurals.specs.declared.JsonError.{JsonError}
@@ -25,7 +28,7 @@ type_of n = if n == 0 then Ok Cardinal else (if n == 1 then Ok Ordinal else Err 
 abbrev pub ReadsType : ℕ → Result PluralRuleType Fault → Type 0
 ReadsType n answer = answer ≡ type_of n
 
--- the bytes are no JSON text; or there are some, and memory ran out
+-- the bytes aren't JSON; or there are some, and memory ran out
 abbrev pub IsJsonFault : List ℕ → Fault → Type 0
 IsJsonFault bytes Memory = 0 < length bytes
 IsJsonFault bytes Json = json_of bytes ≡ None

@@ -1,5 +1,5 @@
--- The block of the rules of five texts. An empty text is no rule. Faults are looked for in this order: a text that isn't UTF-8, the
--- first text that gives no rule, rules too long for a block.
+-- The block of the rules of five texts. An empty text isn't a rule. Faults are looked for in this
+-- order: a text that isn't UTF-8, the first text that gives no rule, rules too long for a block.
 --     AreRulesFrom texts answer      the bytes of the block, or the fault
 use Rattle.std.specs.Prelude.{◌≡◌, ℕ, List, [], ◌∷◌, Option, Some, None, Result, Ok, Err, ⊤, IsTrue}
 use Rattle.std.specs.Str.{IsUtf8}
@@ -26,7 +26,7 @@ abbrev pub text_given : List ℕ → Option (List ℕ)
 text_given [] = None
 text_given (byte ∷ text) = Some (byte ∷ text)
 
--- those of five rules
+-- the bytes of five rules
 abbrev pub texts_given : Five (List ℕ) → Five (Option (List ℕ))
 texts_given texts =
     five (text_given texts.zero) (text_given texts.one) (text_given texts.two) (text_given texts.few) (text_given texts.many)

@@ -1,10 +1,11 @@
--- What a number has under a block of rules, and under elements. Faults are looked for in this order: those of the rules, of the
--- elements, of the number.
+-- What a number has under a block of rules, and under elements. Faults are looked for in this
+-- order: those of the rules, of the elements, of the number.
 --     IsCategoryOfInteger rules n answer      the category of an integer
 --     IsCategoryOf rules number answer      the category of the number that a text writes
 --     IsExactnessOf rules number answer      whether this category is exact
 --     IsElementOf rules elements number answer      the text of the element that the number chooses
---     IsMessageFor rules elements number answer      this text with the number's in the place of each `{}`
+--     IsMessageFor rules elements number answer      this text with the number's in the place of
+--         each `{}`
 use Rattle.std.specs.Prelude.{◌≡◌, ◌↔◌, ℕ, ℤ, pos, List, Bool, true, false, IsTrue, Result, Ok, Err}
 use Rattle.icu_plurals.specs.declared.PluralCategory.{PluralCategory}
 use Rattle.icu_plurals.specs.declared.PluralCategory.TheVariants.{Zero, One, Two, Few, Many, Other}
@@ -48,8 +49,8 @@ HasIntegerCategory n rules (Err fault) = ⊥
 abbrev pub IsCategoryOfInteger : List ℕ → ℕ → Result PluralCategory Fault → Type 0
 IsCategoryOfInteger rules n = Then (ReadsRules rules) (HasIntegerCategory n)
 
--- The category of a number: the one that its kept operands choose, and within the exactness bound that of the number itself
--- (docs/EXACTNESS.md).
+-- The category of a number: the one that its kept operands choose, and within the exactness bound
+-- that of the number itself (docs/EXACTNESS.md).
 abbrev pub HasCategory : FiveRules → CompactNumber → Result PluralCategory Fault → Type 0
 HasCategory rules x (Ok category) =
     IsKeptChoice rules x.significand.absolute x.exponent category
@@ -75,8 +76,8 @@ abbrev pub AfterAll : {B : Type 0} → (FiveRules → PackedElements → Compact
 AfterAll Is rules elements number =
     Then (ReadsRules rules) (λ five. Then (ReadsElements elements) (λ values. Then (ReadsNumber number) (Is five values)))
 
--- The text of the element of a number: the one that its kept operands choose, and within the exactness bound that of the number
--- itself.
+-- The text of the element of a number: the one that its kept operands choose, and within the
+-- exactness bound that of the number itself.
 abbrev pub HasElement : FiveRules → PackedElements → CompactNumber → Result (List ℕ) Fault → Type 0
 HasElement rules elements x (Ok text) =
     (element : PackedValue) × (text ≡ element.text)
@@ -87,8 +88,8 @@ HasElement rules elements x (Err fault) = ⊥
 abbrev pub IsElementOf : List ℕ → List ℕ → List ℕ → Result (List ℕ) Fault → Type 0
 IsElementOf = AfterAll HasElement
 
--- The text of the element that the number chooses, filled by the number's text (docs/MESSAGES.md); within the exactness bound the
--- element is that of the number itself. The message takes memory.
+-- The text of the element that the number chooses, filled by the number's text (docs/MESSAGES.md);
+-- within the exactness bound the element is that of the number itself. The message allocates.
 abbrev pub HasMessage : List ℕ → FiveRules → PackedElements → CompactNumber → Result (List ℕ) Fault → Type 0
 HasMessage number rules elements x (Ok text) =
     IsMessageWith (IsKeptElement (elements_of elements) rules) x number text

@@ -1,6 +1,7 @@
 -- What an export returns and writes: a number, and bytes at the front of a buffer.
 --     Answered Is number result      some answer is right, and the result is its number
---     Written Is old new result      some answer is right: its bytes are written if they fit, and the result is how many they are
+--     Written Is old new result      some answer is right: its bytes are written if they fit, and
+--         the result is how many they are
 --     Then First Next      one relation after another: a fault of the first is the answer
 use Rattle.std.specs.Prelude.{◌≡◌, ℕ, ℤ, pos, List, ◌++◌, length, drop, nat_le, if◌then◌else◌, Result, Ok, Err}
 use Rattle.plurals_c.specs.Faults.{fault_number}

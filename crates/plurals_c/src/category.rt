@@ -9,8 +9,8 @@ use crate::given::{number_in, rules_in};
 use icu_plurals::{PluralCategory, PluralOperands};
 use std::alloc::Global;
 
-/// The category of an integer, by its number: 0 zero, 1 one, 2 two, 3 few, 4 many, 5 other. It takes no
-/// memory.
+/// Returns the category of an integer, by its number: 0 zero, 1 one, 2 two, 3 few, 4 many, 5 other.
+/// It allocates nothing.
 ///
 /// A fault is negative, and is one of the rules.
 #[unsafe(no_mangle)]
@@ -23,11 +23,11 @@ pub extern "C" fn plurals_category_of_integer(rules: &[u8], number: u64) -> i32
     }
 }
 
-/// The category of the number that a text writes, a decimal with a compact exponent or not, by its number
-/// as [`plurals_category_of_integer`] returns it. It is chosen by what is kept of the number; where
-/// [`plurals_is_exact`] returns 1 it is that of the number itself.
+/// Returns the category of the number that a text writes, a decimal with a compact exponent or not,
+/// by its number as [`plurals_category_of_integer`] returns it. It is chosen by what is kept of the
+/// number; where [`plurals_is_exact`] returns 1 it is that of the number itself.
 ///
-/// A fault is negative: one of the rules, else one of the number. It takes memory for the number.
+/// A fault is negative: one of the rules, else one of the number. It allocates for the number.
 #[unsafe(no_mangle)]
 pub extern "C" fn plurals_category(alloc: Global, rules: &[u8], number: &[u8]) -> i32
     ensures { Answered (IsCategoryOf rules.now number.now) category_number result }
@@ -38,10 +38,10 @@ pub extern "C" fn plurals_category(alloc: Global, rules: &[u8], number: &[u8]) -
     }
 }
 
-/// 1 if the number is within the exactness bound of the rules, so that its category is that of the number
-/// itself, whatever its length, and not only of what is kept of it; else 0.
+/// Returns 1 if the category is guaranteed for the whole number, as it is within the exactness
+/// bound of the rules, else 0.
 ///
-/// A fault is negative: one of the rules, else one of the number. It takes memory for the number.
+/// A fault is negative: one of the rules, else one of the number. It allocates for the number.
 #[unsafe(no_mangle)]
 pub extern "C" fn plurals_is_exact(alloc: Global, rules: &[u8], number: &[u8]) -> i32
     ensures { Answered (IsExactnessOf rules.now number.now) truth_number result }

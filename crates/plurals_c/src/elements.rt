@@ -17,11 +17,11 @@ use icu_plurals::provider::PluralElementsPackedCow;
 use serde_json::Value;
 use std::alloc::Global;
 
-/// Writes the packed bytes of the elements of a JSON text. The result is how many they are; if the buffer
-/// is shorter, nothing is written.
+/// Writes the packed bytes of the elements of a JSON text. The result is how many they are; if the
+/// buffer is shorter, nothing is written.
 ///
-/// A fault is negative, and then nothing is written: no JSON text, else no elements, or elements that
-/// can't be packed. It takes memory.
+/// A fault is negative, and then nothing is written: no JSON text, else no elements, or elements
+/// that can't be packed. It allocates.
 #[unsafe(no_mangle)]
 pub extern "C" fn plurals_elements_from_json(alloc: Global, json: &[u8], out: &mut [u8]) -> i64
     ensures { Written (AreElementsIn json.now) out.old out.new result }
@@ -32,12 +32,12 @@ pub extern "C" fn plurals_elements_from_json(alloc: Global, json: &[u8], out: &m
     }
 }
 
-/// Writes the text of the element that a number chooses under the rules. The result is how many bytes it
-/// has; if the buffer is shorter, nothing is written. The number is a text that writes a decimal, with
-/// a compact exponent or not.
+/// Writes the text of the element that a number chooses under the rules. The result is how many
+/// bytes it has; if the buffer is shorter, nothing is written. The number is a text that writes a
+/// decimal, with a compact exponent or not.
 ///
-/// A fault is negative, and then nothing is written: one of the rules, else of the elements, else of the
-/// number. It takes memory for the number.
+/// A fault is negative, and then nothing is written: one of the rules, else of the elements, else
+/// of the number. It allocates for the number.
 #[unsafe(no_mangle)]
 pub extern "C" fn plurals_element(
     alloc: Global,

@@ -21,17 +21,17 @@ pub(crate) enum Fault {
     Utf8,
     // The type is neither 0 nor 1.
     RuleType,
-    // A text is no number, or over a limit.
+    // A text isn't a number, or over a limit.
     Number(DecimalError),
     // A text gives no rule.
     Text(RuleError),
-    // Bytes are no block of rules.
+    // Bytes aren't a block of rules.
     Rules(RulesBytesError),
     // Rules are too long for a block.
     RulesLimit,
-    // Bytes are no packed elements.
+    // Bytes aren't packed elements.
     Elements(ElementsBytesError),
-    // A text is no JSON.
+    // A text isn't JSON.
     Json,
     // A JSON value has another form.
     Document(JsonError),
@@ -128,7 +128,7 @@ impl From<JsonError> for Fault {
 // Out of memory.
 const MEMORY: i32 = -1;
 
-// The number of a text that is no number.
+// The number of a text that isn't a number.
 fn decimal_number(fault: DecimalError) -> i32
     ensures { result ≡ decimal_number fault }
 {
@@ -139,7 +139,7 @@ fn decimal_number(fault: DecimalError) -> i32
     }
 }
 
-// The number of a text that is no rule.
+// The number of a text that isn't a rule.
 fn parse_number(fault: ParseError) -> i32
     ensures { result ≡ parse_number fault }
 {
@@ -165,7 +165,7 @@ fn rule_number(fault: RuleError) -> i32
     }
 }
 
-// The number of bytes that are no block of rules.
+// The number of bytes that aren't a block of rules.
 fn block_number(fault: RulesBytesError) -> i32
     ensures { result ≡ block_number fault }
 {
@@ -179,7 +179,7 @@ fn block_number(fault: RulesBytesError) -> i32
     }
 }
 
-// The number of bytes in a block that are no rule.
+// The number of bytes in a block that aren't a rule.
 fn packed_number(fault: RuleBytesError) -> i32
     ensures { result ≡ packed_number fault }
 {
@@ -192,7 +192,7 @@ fn packed_number(fault: RuleBytesError) -> i32
     }
 }
 
-// The number of bytes that are no packed elements.
+// The number of bytes that aren't packed elements.
 fn elements_number(fault: ElementsBytesError) -> i32
     ensures { result ≡ elements_number fault }
 {

@@ -11,12 +11,12 @@ use crate::given::{elements_in, number_of, rules_in, text_in};
 use plural_message::Message;
 use std::alloc::Global;
 
-/// Writes the text of the element that a number chooses under the rules, with the number's text in the
-/// place of each `{}`. The result is how many bytes the message has; if the buffer is shorter, nothing is
-/// written. The number is a text that writes a decimal, with a compact exponent or not.
+/// Writes the text of the element that a number chooses under the rules, with the number's text in
+/// the place of each `{}`. The result is how many bytes the message has; if the buffer is shorter,
+/// nothing is written. The number is a text that writes a decimal, with a compact exponent or not.
 ///
-/// A fault is negative, and then nothing is written: one of the rules, else of the elements, else of the
-/// number. It takes memory for the number and for the message.
+/// A fault is negative, and then nothing is written: one of the rules, else of the elements, else
+/// of the number. It allocates for the number and for the message.
 #[unsafe(no_mangle)]
 pub extern "C" fn plurals_message(
     alloc: Global,

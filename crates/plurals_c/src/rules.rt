@@ -17,13 +17,13 @@ use crate::given::{rules_in, text_in};
 use icu_plurals::provider::PluralRulesData;
 use std::alloc::Global;
 
-/// Writes the block of the rules that a JSON document has for a locale: of cardinal rules if the type is
-/// 0, of ordinal rules if it is 1. The result is how many bytes the block has; if the buffer is
-/// shorter, nothing is written.
+/// Writes the block of the rules that a JSON document has for a locale: of cardinal rules if the
+/// type is 0, of ordinal rules if it is 1. The result is how many bytes the block has; if the
+/// buffer is shorter, nothing is written.
 ///
-/// A fault is negative, and then nothing is written. Faults are looked for in this order: the type, the
-/// locale's text isn't UTF-8, no JSON text, no document, the locale isn't present, rules too
-/// long for a block. It takes memory.
+/// A fault is negative, and then nothing is written. Faults are looked for in this order: the type,
+/// the locale's text isn't UTF-8, no JSON text, no document, the locale isn't present, rules too
+/// long for a block. It allocates.
 #[unsafe(no_mangle)]
 pub extern "C" fn plurals_rules_from_document(
     alloc: Global,
@@ -40,12 +40,12 @@ pub extern "C" fn plurals_rules_from_document(
     }
 }
 
-/// Writes the block of the rules of five texts as CLDR writes them (UTS 35 Part 3, Plural Rules Syntax);
-/// an empty text is no rule. The result is how many bytes the block has; if the buffer is shorter,
-/// nothing is written.
+/// Writes the block of the rules of five texts as CLDR writes them (UTS 35 Part 3, Plural Rules
+/// Syntax); an empty text isn't a rule. The result is how many bytes the block has; if the buffer
+/// is shorter, nothing is written.
 ///
-/// A fault is negative, and then nothing is written. Faults are looked for in this order: a text isn't
-/// UTF-8, the first text that gives no rule, rules too long for a block. It takes memory.
+/// A fault is negative, and then nothing is written. Faults are looked for in this order: a text
+/// isn't UTF-8, the first text that gives no rule, rules too long for a block. It allocates.
 #[unsafe(no_mangle)]
 pub extern "C" fn plurals_rules_from_texts(
     alloc: Global,
@@ -64,7 +64,7 @@ pub extern "C" fn plurals_rules_from_texts(
     }
 }
 
-/// 0 if the bytes are a block of rules, else what is wrong with them. It takes no memory.
+/// Returns 0 if the bytes are a block of rules, else their fault. It allocates nothing.
 #[unsafe(no_mangle)]
 pub extern "C" fn plurals_check_rules(rules: &[u8]) -> i32
     ensures { Answered (ReadsRules rules.now) (λ _. pos 0) result }

@@ -22,7 +22,8 @@ answered_alike law packed texts (inl held) op rules = ap (λ (e : Elements Packe
 answered_alike law packed texts (inr source) op rules =
     ap (λ (p : PackedElements). element_at (elements_of p) op rules) source ∙ law texts op rules
 
--- so the kept operands choose the same message among packed texts as among the texts that they stand for
+-- so the kept operands choose the same message among packed texts as among the texts that they
+-- stand for
 pub kept_message : PackedElementsAnswer → (packed : PackedElements) (texts : Elements PackedValue) → AreTextsOf packed texts
     → (rules : FiveRules) (number message : List ℕ)
     → IsMessageOf (IsKeptElement (elements_of packed) rules) number message → IsMessageOf (IsKeptElement texts rules) number message

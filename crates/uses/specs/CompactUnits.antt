@@ -1,4 +1,5 @@
--- Compact numbers with their units, such as `1.2 million` (UTS 35 Part 3, Plural Operand Meanings: c and e).
+-- Compact numbers with their units, such as `1.2 million` (UTS 35 Part 3, Plural Operand Meanings:
+-- c and e).
 --     unit_of units exponent      the texts for an exponent
 --     shown_of exponent number      the text that they show for the number
 --     IsCompactText IsChosen rules units number text      the text for a number
@@ -12,7 +13,8 @@ use Rattle.plural_message.specs.Messages.{IsMessageWith}
 use Rattle.uses.specs.PackedTexts.{TextChoice}
 use Rattle.uses.specs.declared.compact_units.CompactUnits.{CompactUnits}
 
--- thousand is ten to the power of 3, and million is ten to the power of 6; no other power has a unit
+-- thousand is ten to the power of 3, and million is ten to the power of 6; no other power has a
+-- unit
 abbrev pub unit_of : CompactUnits → ℕ → Elements PackedValue
 unit_of units exponent = if exponent == 3 then units.thousand else (if exponent == 6 then units.million else units.plain)
 
@@ -29,8 +31,8 @@ abbrev pub shown_of : ℕ → List ℕ → List ℕ
 shown_of exponent number =
     if exponent == 3 then before_exponent number else (if exponent == 6 then before_exponent number else number)
 
--- The number's text writes a number, and the text is the one that this whole number has among those of its unit, with the shown
--- text of the number in place of each `{}`.
+-- The number's text writes a number, and the text is the one that this whole number has among those
+-- of its unit, with the shown text of the number in place of each `{}`.
 abbrev pub IsCompactText : TextChoice → FiveRules → CompactUnits → List ℕ → List ℕ → Type 0
 IsCompactText IsChosen rules units number text =
     (x : CompactNumber) × WritesCompact number x

@@ -9,7 +9,7 @@ use Rattle.icu_plurals.specs.Places.{Places}
 abbrev pub AreTextsOf : PackedElements → Elements PackedValue → Type 0
 AreTextsOf packed texts = (elements_of packed ≡ texts) ⊎ (packed ≡ packed_of texts)
 
--- How a text is chosen by rules, for digits and an exponent: `IsKeptElement`, by what is kept of the number, or `IsExactElement`,
--- within the bound, by the number itself.
+-- How a text is chosen by rules, for digits and an exponent: `IsKeptElement`, by what is kept of
+-- the number, or `IsExactElement`, within the bound, by the number itself.
 abbrev pub TextChoice : Type 1
 TextChoice = Elements PackedValue → FiveRules → Places → ℕ → PackedValue → Type 0

@@ -9,8 +9,8 @@ use Rattle.icu_plurals.specs.Ranges.{resolved}
 use Rattle.uses.specs.declared.range_labels.RangeLabels.{RangeLabels}
 use Rattle.uses.specs.declared.range_labels.ShownNumber.{ShownNumber}
 
--- How a category is chosen by rules, for digits and an exponent: `IsKeptChoice`, by what is kept of the number, or
--- `IsExactChoice`, within the bound, by the number itself.
+-- How a category is chosen by rules, for digits and an exponent: `IsKeptChoice`, by what is kept of
+-- the number, or `IsExactChoice`, within the bound, by the number itself.
 abbrev pub CategoryChoice : Type 1
 CategoryChoice = FiveRules → Places → ℕ → PluralCategory → Type 0
 
@@ -19,7 +19,8 @@ abbrev pub IsCategoryOf : CategoryChoice → FiveRules → ShownNumber → Plura
 IsCategoryOf IsChosen rules shown category =
     IsChosen rules shown.number.now.significand.absolute shown.number.now.exponent category
 
--- the noun of the category that the ranges have for the categories of start and end, or of the end's category if they have none
+-- the noun of the category that the ranges have for the categories of start and end, or of the
+-- end's category if they have none
 abbrev pub noun_for : RangeLabels → PluralCategory → PluralCategory → List ℕ
 noun_for labels first last = (of_category labels.nouns (resolved labels.rules.ranges first last)).now
 

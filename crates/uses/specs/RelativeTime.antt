@@ -1,5 +1,6 @@
 -- Relative times, such as `in 5 days` and `1.5 days ago`.
---     IsSaidBy time amount texts shown      these texts are used for the amount, and show this text for it
+--     IsSaidBy time amount texts shown      these texts are used for the amount, and show this text
+--         for it
 --     IsRelativeTime IsChosen rules time amount text      the text for an amount
 use Rattle.std.specs.Prelude.{◌≡◌, ◌≢◌, ◌⊎◌, ℕ, List, ◌++◌, codes}
 use Rattle.icu_plurals.specs.Elements.{Elements}
@@ -10,14 +11,15 @@ use Rattle.plural_message.specs.Messages.{IsMessageWith}
 use Rattle.uses.specs.PackedTexts.{TextChoice}
 use Rattle.uses.specs.declared.relative_time.RelativeTime.{RelativeTime}
 
--- An amount with a leading `-` is past, and is shown without the `-`; any other amount is future, and is shown as it is written.
+-- An amount with a leading `-` is past, and is shown without the `-`; any other amount is future,
+-- and is shown as it is written.
 abbrev pub IsSaidBy : RelativeTime → List ℕ → Elements PackedValue → List ℕ → Type 0
 IsSaidBy time amount texts shown =
     ((amount ≡ codes "-" ++ shown) × (texts ≡ time.past))
     ⊎ (((rest : List ℕ) → amount ≢ codes "-" ++ rest) × (amount ≡ shown) × (texts ≡ time.future))
 
--- The amount writes a number, and the text is the one that this number has among the texts used for the amount, with the shown
--- text of the amount in place of each `{}`.
+-- The amount writes a number, and the text is the one that this number has among the texts used for
+-- the amount, with the shown text of the amount in place of each `{}`.
 abbrev pub IsRelativeTime : TextChoice → FiveRules → RelativeTime → List ℕ → List ℕ → Type 0
 IsRelativeTime IsChosen rules time amount text =
     (x : CompactNumber) × (texts : Elements PackedValue) × (shown : List ℕ)

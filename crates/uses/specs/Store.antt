@@ -1,5 +1,5 @@
 -- A rule and texts that are stored as bytes.
---     IsStoredIn store one texts      the bytes are those of the store's rule and of its texts
+--     IsStoredIn store one texts      the bytes encode the store's rule and of its texts
 --     IsTextFor IsChosen store number text      the text for a number
 use Rattle.std.specs.Prelude.{◌≡◌, ℕ, List, Some, None}
 use Rattle.icu_plurals.specs.Elements.{Elements}

@@ -19,7 +19,8 @@ pub struct CompactUnits<'a> {
 impl<'a> CompactUnits<'a> {
     ghost use Rattle.uses.specs.CompactUnits.{IsCompactText, shown_of, unit_of};
 
-    /// Returns the text for a number whose compact exponent names its unit. The errors are those of [`Message::format`].
+    /// Returns the text for a number whose compact exponent names its unit. The errors are as for
+    /// [`Message::format`].
     pub fn format(
         &self,
         alloc: Global,

@@ -10,7 +10,8 @@ use icu_plurals::{DecimalError, PluralRules};
 use plural_message::{Message, MessageError};
 use std::alloc::Global;
 
-/// The rules of a language, and the texts of a message in that language, such as `{} item` and `{} items`.
+/// The rules of a language, and the texts of a message in that language, such as `{} item` and
+/// `{} items`.
 #[derive(Debug, Drop)]
 pub struct Formatter {
     pub rules: PluralRules<'static>,
@@ -20,8 +21,8 @@ pub struct Formatter {
 impl Formatter {
     ghost use Rattle.uses.specs.Formatter.{IsFormatted};
 
-    /// Returns the message for a number: the text for its category, with the number as it was written in place of
-    /// each `{}`. The errors are those of [`Message::format`].
+    /// Returns the message for a number: the text for its category, with the number as it was
+    /// written in place of each `{}`. The errors are as for [`Message::format`].
     pub fn format(&self, alloc: Global, number: &str) -> Result<String, MessageError>
         ensures kept { IfOk result (λ text. IsFormatted IsKeptElement self.now number.now (string_bytes text)) }
         ensures exact { IfOk result (λ text. IsFormatted IsExactElement self.now number.now (string_bytes text)) }

@@ -1,4 +1,5 @@
-//! Five small callers of `icu_plurals` and `plural_message`, each proved from their public contracts alone.
+//! Five small callers of `icu_plurals` and `plural_message`, each proved from their public
+//! contracts alone.
 #![tactic(auto)]
 
 mod compact_units;
@@ -6,8 +7,6 @@ mod formatter;
 mod range_labels;
 mod relative_time;
 mod store;
-#[cfg(test)]
-mod tests;
 
 pub use compact_units::CompactUnits;
 pub use formatter::Formatter;

@@ -26,7 +26,8 @@ pub struct RangeLabels<'a> {
 impl<'a> RangeLabels<'a> {
     ghost use Rattle.uses.specs.RangeLabels.{IsRangeLabel};
 
-    /// Returns the label of a range. That the end is after the start isn't checked. The only error is out of memory.
+    /// Returns the label of a range. That the end is after the start isn't checked. The only error
+    /// is out of memory.
     pub fn label(
         &self,
         alloc: Global,

@@ -20,8 +20,8 @@ pub struct RelativeTime<'a> {
 impl<'a> RelativeTime<'a> {
     ghost use Rattle.uses.specs.RelativeTime.{IsRelativeTime, IsSaidBy};
 
-    /// Returns the text for an amount: with a leading `-` it is past, otherwise future. The errors are
-    /// those of [`Message::format`].
+    /// Returns the text for an amount: with a leading `-` it is past, otherwise future. The errors
+    /// are those of [`Message::format`].
     pub fn format(
         &self,
         alloc: Global,

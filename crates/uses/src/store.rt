@@ -19,7 +19,8 @@ impl<'a> Store<'a> {
     ghost use Rattle.uses.specs.declared.store.Store.{Store as Kept};
     ghost use Rattle.uses.specs.Store.{IsStoredIn, IsTextFor};
 
-    /// Returns the rule and the texts in these bytes, or `None` if either is invalid. It takes no memory.
+    /// Returns the rule and the texts in these bytes, or `None` if either is invalid. It allocates
+    /// nothing.
     pub fn from_bytes(one: &'a [u8], texts: &'a [u8]) -> Option<Store<'a>>
         ensures ok { IfSome result (λ store. IsStoredIn store one.now texts.now) }
         ensures accepted { (store : Kept) → IsStoredIn store one.now texts.now → result ≡ Some store }
@@ -40,7 +41,7 @@ impl<'a> Store<'a> {
         Some(Store { rules, texts })
     }
 
-    /// Returns the text for a number. It takes no memory.
+    /// Returns the text for a number. It allocates nothing.
     pub fn get(&self, number: &CompactDecimal) -> &str
         ensures kept { IsTextFor IsKeptElement self.now number.now result.now }
         ensures exact { IsTextFor IsExactElement self.now number.now result.now }

@@ -1,4 +1,5 @@
-//! The examples of docs/USING.md, a file for each. What they print is kept in `stdout`, with which every gate compares it.
+//! The examples of docs/USING.md, a file for each. What they print is kept in `stdout`, with which
+//! every gate compares it.
 #![tactic(auto)]
 
 mod bytes;

@@ -1,5 +1,6 @@
--- Not a definition of the subject: how an unsigned decimal is stored, as the digits from the highest nonzero one to the
--- lowest nonzero one, and how many zeros are before them among the written places.
+-- Not a definition of the subject: how an unsigned decimal is stored, as the digits from the
+-- highest nonzero one to the lowest nonzero one, and how many zeros are before them among the
+-- written places.
 --     places_of a      the number that is stored so
 --     IsSpan a      what holds of each stored number
 use Rattle.std.specs.Prelude.{◌≢◌, ℕ, ◌+◌, ◌-◌, ◌<◌, ◌≤◌, List, ◌++◌, length, take, drop, replicate, slice_index}

@@ -1,4 +1,5 @@
--- Not a definition of the subject: a reader of the bytes of packed elements, for views of checked bytes, laws, private contracts.
+-- Not a definition of the subject: a reader of the bytes of packed elements, for views of checked
+-- bytes, laws, private contracts.
 use Rattle.std.specs.Prelude.{◌≡◌, ◌==◌, ℕ, ◌/◌, ◌%◌, List, [], ◌∷◌, map, take, drop, Bool, false, ◌&&◌, nat_le, if◌then◌else◌}
 use Rattle.std.specs.Prelude.{nat_lt, IsTrue, Option, Some, None, unwrap_or, ⊤, ◌+◌, ◌++◌, length}
 use Rattle.std.proofs.Props.{props}
@@ -36,7 +37,7 @@ unfoldable pub read_elements : List ℕ → PackedElements
 read_elements [] = record { default = record { metadata = 0; text = [] }; items = None }
 read_elements (first ∷ bytes) = read_behind first bytes
 
--- the bytes are those of the packed elements that they hold
+-- the bytes encode the packed elements that they hold
 abbrev pub AreElements : List ℕ → Type 0
 AreElements bytes = ElementsBytes (read_elements bytes) bytes
 
@@ -115,7 +116,8 @@ with_item e item = record {
 
 -- ---- The bytes of a default and of items
 
--- what is before the default's text: its metadata alone, or bit 7 with the metadata and the length of the text
+-- what is before the default's text: its metadata alone, or bit 7 with the metadata and the length
+-- of the text
 abbrev pub head_with : PackedValue → List (List ℕ) → List ℕ
 head_with default [] = default.metadata ∷ []
 head_with default (item ∷ items) = (128 + default.metadata) ∷ length default.text ∷ []

@@ -1,4 +1,5 @@
--- What contracts see of packed elements, of their parts, and of borrowed values and items. Not a definition of the subject.
+-- What contracts see of packed elements, of their parts, and of borrowed values and items. Not a
+-- definition of the subject.
 use Rattle.std.specs.Prelude.{ℕ, List, ◌∷◌, Some, map, option_map}
 use Rattle.std.specs.Borrow.{Bor}
 use Rattle.icu_plurals.specs.declared.packed.PluralElementsPackedULE.{PluralElementsPackedULE}

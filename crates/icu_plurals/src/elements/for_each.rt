@@ -8,10 +8,10 @@ ghost use Rattle.icu_plurals.specs.ElementCalls.{VisitsAt, VisitsEach, RefusesAt
 use super::PluralElements;
 
 impl<T> PluralElements<T> {
-    /// Calls the closure for other, zero, one, two, few, many, explicit zero and explicit one, in this
-    /// order, if they are present. With `seen`, which notes the calls:
+    /// Calls the closure for other, zero, one, two, few, many, explicit zero and explicit one, in
+    /// this order, if they are present. With `seen`, which notes the calls:
     ///
-    /// <!-- snippet crates/icu_plurals_tests/src/tests/elements.rt: example body of fn absent_values_are_skipped -->
+    /// <!-- snippet crates/tests_libraries/src/tests/icu_plurals_closures.rt: example body of fn absent_values_are_skipped -->
     /// ```
     /// let elements = PluralElements::new(11u8).with_one_value(Some(15));
     /// let doubled = elements.map(|value| u32::from(value) * 2);
@@ -27,10 +27,11 @@ impl<T> PluralElements<T> {
         self.visit_all(&mut f);
     }
 
-    /// As [`PluralElements::for_each`] up to the first `Err` of the closure, which is then the result;
-    /// the closure isn't called again. With `seen`, which gives `Err(refused)` at call `refused`:
+    /// As [`PluralElements::for_each`] up to the first `Err` of the closure, which is then the
+    /// result; the closure isn't called again. With `seen`, which gives `Err(refused)` at call
+    /// `refused`:
     ///
-    /// <!-- snippet crates/icu_plurals_tests/src/tests/elements.rt:
+    /// <!-- snippet crates/tests_libraries/src/tests/icu_plurals_closures.rt:
     ///      example "let answer = eight().try_for_each" to "holds!(rt; seen.calls" -->
     /// ```
     /// let answer = eight().try_for_each(|value| {

@@ -8,10 +8,11 @@ ghost use Rattle.icu_plurals.specs.ElementCalls.{CallsAt, CallsEach, Changes, Ch
 use super::PluralElements;
 
 impl<T> PluralElements<T> {
-    /// Calls the closure, which may change the value that it gets, for other, zero, one, two, few, many,
-    /// explicit zero and explicit one, in this order, if they are present. With `seen`, which notes the calls:
+    /// Calls the closure, which may change the value that it gets, for other, zero, one, two, few,
+    /// many, explicit zero and explicit one, in this order, if they are present. With `seen`, which
+    /// notes the calls:
     ///
-    /// <!-- snippet crates/icu_plurals_tests/src/tests/elements.rt: example "elements.for_each_mut" to "});" -->
+    /// <!-- snippet crates/tests_libraries/src/tests/icu_plurals_closures.rt: example "elements.for_each_mut" to "});" -->
     /// ```
     /// elements.for_each_mut(|value| {
     ///     seen.see(*value);
@@ -35,7 +36,7 @@ impl<T> PluralElements<T> {
     /// As [`PluralElements::for_each_mut`] up to the first `Err` of the closure, which is then the
     /// result; the closure isn't called again, and what it has changed before stays changed.
     ///
-    /// <!-- snippet crates/icu_plurals_tests/src/tests/elements.rt:
+    /// <!-- snippet crates/tests_libraries/src/tests/icu_plurals_closures.rt:
     ///      example "let answer = elements.try_for_each_mut" to "holds!(rt; values" of fn calls_without_an_error_answer_ok -->
     /// ```
     /// let answer = elements.try_for_each_mut(|value| {

@@ -7,11 +7,11 @@ ghost use Rattle.icu_plurals.specs.ElementCalls.{CallsAt, CallsEach, RefusesAt, 
 use super::PluralElements;
 
 impl<T> PluralElements<T> {
-    /// The closure's results for the values, at the same keys. It is called for other, zero, one, two,
-    /// few, many, explicit zero and explicit one, in this order, if they are present. With `values`, which lists the
-    /// values as the accessors return them:
+    /// Returns the closure's results for the values, at the same keys. It is called for other,
+    /// zero, one, two, few, many, explicit zero and explicit one, in this order, if they are
+    /// present. With `values`, which lists the values as the accessors return them:
     ///
-    /// <!-- snippet crates/icu_plurals_tests/src/tests/elements.rt:
+    /// <!-- snippet crates/tests_libraries/src/tests/icu_plurals_closures.rt:
     ///      example "let elements" to "holds!" of fn absent_values_are_skipped -->
     /// ```
     /// let elements = PluralElements::new(11u8).with_one_value(Some(15));
@@ -34,10 +34,10 @@ impl<T> PluralElements<T> {
         }
     }
 
-    /// As [`PluralElements::map`] up to the first `Err` of the closure, which is then the result; the
-    /// closure isn't called again.
+    /// As [`PluralElements::map`] up to the first `Err` of the closure, which is then the result;
+    /// the closure isn't called again.
     ///
-    /// <!-- snippet crates/icu_plurals_tests/src/tests/elements.rt: example fn lists -->
+    /// <!-- snippet crates/tests_libraries/src/tests/icu_plurals_closures.rt: example fn lists -->
     /// ```
     /// fn lists(alloc: Global) -> Result<PluralElements<Vec<u32>>, AllocError> {
     ///     eight().try_map(|value| {

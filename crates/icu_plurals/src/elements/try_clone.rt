@@ -8,11 +8,11 @@ use super::PluralElements;
 use std::alloc::AllocError;
 
 impl<T: Clone> PluralElements<T> {
-    /// A clone of each value at its key. It takes memory if clones of the values do; the only error is
-    /// out of memory, and there is none if clones of `T` never fail. It equals what was cloned if clones
-    /// of `T` equal their sources.
+    /// Returns a clone of each value at its key. It allocates if clones of the values do; the only
+    /// error is out of memory, and there is none if clones of `T` never fail. It equals what was
+    /// cloned if clones of `T` equal their sources.
     ///
-    /// <!-- snippet crates/icu_plurals_tests/src/tests/elements.rt: example body of fn a_clone_equals_its_source -->
+    /// <!-- snippet crates/tests_libraries/src/tests/icu_plurals_closures.rt: example body of fn a_clone_equals_its_source -->
     /// ```
     /// let source = lists(alloc)?;
     /// let clone = source.try_clone()?;

@@ -6,7 +6,8 @@ ghost use Rattle.icu_plurals.specs.Elements.{unless_equal};
 use super::PluralElements;
 
 impl<T: PartialEq + Drop> PluralElements<T> {
-    /// The same elements with this value of zero; without one, if it is `None` or equals that of other.
+    /// Returns the same elements with this value of zero; without one, if it is `None` or equals
+    /// that of other.
     pub fn with_zero_value(self, zero: Option<T>) -> PluralElements<T>
         ensures { result ≡ record self { zero = unless_equal T.eq self.other zero } }
     {
@@ -14,9 +15,10 @@ impl<T: PartialEq + Drop> PluralElements<T> {
         PluralElements { zero, ..self }
     }
 
-    /// The same elements with this value of one; without one, if it is `None` or equals that of other.
+    /// Returns the same elements with this value of one; without one, if it is `None` or equals
+    /// that of other.
     ///
-    /// <!-- snippet crates/icu_plurals_tests/src/tests/elements.rt: example body of fn a_value_that_equals_others_is_not_kept -->
+    /// <!-- snippet crates/tests_libraries/src/tests/icu_plurals_examples.rt: example body of fn a_value_that_equals_others_is_not_kept -->
     /// ```
     /// let same = PluralElements::new("abc").with_one_value(Some("abc"));
     /// assert!(rt; same.try_into_other() == Some("abc"));
@@ -34,7 +36,8 @@ impl<T: PartialEq + Drop> PluralElements<T> {
         PluralElements { one, ..self }
     }
 
-    /// The same elements with this value of two; without one, if it is `None` or equals that of other.
+    /// Returns the same elements with this value of two; without one, if it is `None` or equals
+    /// that of other.
     pub fn with_two_value(self, two: Option<T>) -> PluralElements<T>
         ensures { result ≡ record self { two = unless_equal T.eq self.other two } }
     {
@@ -42,7 +45,8 @@ impl<T: PartialEq + Drop> PluralElements<T> {
         PluralElements { two, ..self }
     }
 
-    /// The same elements with this value of few; without one, if it is `None` or equals that of other.
+    /// Returns the same elements with this value of few; without one, if it is `None` or equals
+    /// that of other.
     pub fn with_few_value(self, few: Option<T>) -> PluralElements<T>
         ensures { result ≡ record self { few = unless_equal T.eq self.other few } }
     {
@@ -50,7 +54,8 @@ impl<T: PartialEq + Drop> PluralElements<T> {
         PluralElements { few, ..self }
     }
 
-    /// The same elements with this value of many; without one, if it is `None` or equals that of other.
+    /// Returns the same elements with this value of many; without one, if it is `None` or equals
+    /// that of other.
     pub fn with_many_value(self, many: Option<T>) -> PluralElements<T>
         ensures { result ≡ record self { many = unless_equal T.eq self.other many } }
     {
@@ -58,8 +63,8 @@ impl<T: PartialEq + Drop> PluralElements<T> {
         PluralElements { many, ..self }
     }
 
-    /// The same elements with this value for exactly 0, even if it equals that of other; without one, if it is
-    /// `None`.
+    /// Returns the same elements with this value for exactly 0, even if it equals that of other;
+    /// without one, if it is `None`.
     pub fn with_explicit_zero_value(self, explicit_zero: Option<T>) -> PluralElements<T>
         ensures { result ≡ record self { explicit_zero = explicit_zero } }
     {
@@ -69,10 +74,10 @@ impl<T: PartialEq + Drop> PluralElements<T> {
         }
     }
 
-    /// The same elements with this value for exactly 1, even if it equals that of other; without one, if it is
-    /// `None`.
+    /// Returns the same elements with this value for exactly 1, even if it equals that of other;
+    /// without one, if it is `None`.
     ///
-    /// <!-- snippet crates/icu_plurals_tests/src/tests/elements.rt: example body of fn an_explicit_value_is_kept -->
+    /// <!-- snippet crates/tests_libraries/src/tests/icu_plurals_examples.rt: example body of fn an_explicit_value_is_kept -->
     /// ```
     /// let elements = PluralElements::new(1).with_explicit_one_value(Some(1));
     /// assert!(rt; elements.explicit_one() == Some(&1));

@@ -4,21 +4,22 @@ use packed_list::ListError;
 use std::error::Error;
 use std::fmt;
 
-/// Why bytes are no packed elements. The causes down to [`List`] are looked for in this order; then the
-/// first bad item is named, with the first of the last three that it has.
+/// Why bytes aren't packed elements. The causes down to [`List`] are looked for in this order; then
+/// the first bad item is named, with the first of the last three that it has.
 ///
 /// [`List`]: ElementsBytesError::List
 #[derive(Clone, Copy, Debug, PartialEq, Eq)]
 pub enum ElementsBytesError {
     /// There is no byte.
     Empty,
-    /// Items are to follow, and the length of the default's text is missing, or is more than the bytes left.
+    /// Items are to follow, and the length of the default's text is missing, or is more than the
+    /// bytes left.
     Short,
     /// One of the bits 4 to 6 of the first byte is set.
     Padding,
     /// The default's text isn't UTF-8.
     DefaultText,
-    /// What follows the default is no packed list.
+    /// What follows the default isn't a packed list.
     List(ListError),
     /// The item at this place has no byte.
     ItemEmpty(usize),

@@ -4,7 +4,7 @@ ghost use Rattle.std.specs.Prelude.{◌<◌};
 
 /// Four bits beside a text of packed elements. Their meaning is up to the user.
 ///
-/// <!-- snippet crates/icu_plurals_tests/src/tests/packed.rt: example body of fn metadata_has_four_bits -->
+/// <!-- snippet crates/tests_libraries/src/tests/icu_plurals_examples.rt: example body of fn metadata_has_four_bits -->
 /// ```
 /// assert!(rt; FourBitMetadata::zero().get() == 0);
 /// assert!(rt; FourBitMetadata::try_from_byte(0) == Some(FourBitMetadata::zero()));
@@ -22,7 +22,7 @@ impl FourBitMetadata {
     ghost use Rattle.std.specs.Prelude.{◌≡◌, ◌≤◌, ◌<◌, ◌%◌, ◌↔◌, IfSome, IsSome};
     ghost use Rattle.icu_plurals.specs.Inner.ElementsViews.{metadata_number};
 
-    /// The number as metadata, if it is at most 15.
+    /// Returns the number as metadata, if it is at most 15.
     pub fn try_from_byte(byte: u8) -> Option<FourBitMetadata>
         ensures same { IfSome result (λ metadata. metadata_number metadata ≡ byte) }
         ensures found { IsSome result ↔ (byte ≤ 15) }
@@ -33,7 +33,7 @@ impl FourBitMetadata {
         Some(FourBitMetadata { value: byte })
     }
 
-    /// No bit set.
+    /// Returns metadata without a bit set.
     pub fn zero() -> FourBitMetadata
         ensures { metadata_number result ≡ 0 }
     {
@@ -47,7 +47,7 @@ impl FourBitMetadata {
         FourBitMetadata { value: byte % 16 }
     }
 
-    /// The number, at most 15.
+    /// Returns the number, at most 15.
     pub fn get(self) -> u8
         ensures same { result ≡ metadata_number self }
         ensures below { result < 16 }

@@ -8,7 +8,8 @@ ghost use Rattle.icu_plurals.specs.Inner.ElementsViews.{lent_parts};
 use crate::packed::error::ElementsBytesError;
 use crate::packed::items::{check_items, is_text};
 
-// The first byte, the default's text, and what is left after it if bit 7 of the first byte says that items follow.
+// The first byte, the default's text, and what is left after it if bit 7 of the first byte says
+// that items follow.
 #[derive(Clone, Copy)]
 pub(crate) struct Parts<'a> {
     pub(crate) first: u8,

@@ -1,4 +1,5 @@
--- A reader of list bytes, for the view of a list, for bytes that are known to be one, and for laws. Not a definition of the subject.
+-- A reader of list bytes, for the view of a list, for bytes that are known to be one, and for laws.
+-- Not a definition of the subject.
 use Rattle.std.specs.Prelude.{ℕ, suc, ◌+◌, ◌-◌, ◌*◌, ◌<◌, ◌≤◌, List, [], ◌∷◌, length, drop, slice_index, slice_range}
 use Rattle.packed_list.specs.ListBytes.{ListBytes, two_byte_number, start_at}
 
@@ -16,7 +17,7 @@ abbrev pub pieces_from : ℕ → List ℕ → List ℕ → List (List ℕ)
 pieces_from from [] bytes = drop from bytes ∷ []
 pieces_from from (to ∷ places) bytes = slice_range bytes from to ∷ pieces_from to places bytes
 
--- the items that bytes hold, if they are those of a list
+-- the items that bytes hold, if they encode a list
 unfoldable pub items_in : List ℕ → List (List ℕ)
 items_in [] = []
 items_in (byte ∷ bytes) =
@@ -24,7 +25,7 @@ items_in (byte ∷ bytes) =
     let count = two_byte_number all 0 in
     pieces_from 0 (numbers (count - 1) (drop 2 all)) (drop (2 * count) all)
 
--- the bytes are those of the items that they hold
+-- the bytes encode the items that they hold
 abbrev pub IsList : List ℕ → Type 0
 IsList bytes = ListBytes (items_in bytes) bytes
 

@@ -1,4 +1,5 @@
--- Not a definition of the subject: the items that the code makes of rules, and those that it has left to read.
+-- Not a definition of the subject: the items that the code makes of rules, and those that it has
+-- left to read.
 use Rattle.std.specs.Prelude.{◌≢◌, ℕ, List, [], ◌∷◌, map, drop, ⊤}
 use Rattle.plural_base.specs.declared.rules.bytes.items.RuleItem.{RuleItem}
 use Rattle.plural_base.specs.declared.rules.bytes.keyed.KeyedRules.{KeyedRules}

@@ -9,7 +9,7 @@ use crate::category::PluralCategory;
 ///
 /// The order is that of the numbers.
 ///
-/// <!-- snippet crates/plural_base_tests/src/tests/categories.rt:
+/// <!-- snippet crates/tests_libraries/src/tests/plural_base_rules.rt:
 ///      example "let rows" to "}" of fn numbers_are_those_of_the_raw_categories -->
 /// ```
 /// let rows = [
@@ -52,7 +52,7 @@ pub(crate) const ALL: [RawPluralCategory; 6] = [
 ];
 
 impl RawPluralCategory {
-    /// The name in lower case, as CLDR writes it.
+    /// Returns the name in lower case, as CLDR writes it.
     pub fn as_str(self) -> &'static str
         ensures { result.now ≡ name_of (category_of self) }
     {

@@ -11,7 +11,7 @@ use std::fmt;
 /// Why a JSON value is refused, or can't be written.
 #[derive(Clone, Copy, Debug, PartialEq, Eq)]
 pub enum JsonError {
-    /// The value holds a number that is no integer of 64 bits.
+    /// The value holds a number that isn't an integer of 64 bits.
     Float,
     /// A part of the value is of another kind than its form requires.
     Shape,

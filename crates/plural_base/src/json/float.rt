@@ -6,7 +6,8 @@ ghost use Rattle.serde_json.specs.Written.{has_float, items_have_float, members_
 
 use serde_json::{Map, Value};
 
-/// Whether the value holds a float: a number for which `as_u64` and `as_i64` both return `None`. It takes no memory.
+/// Returns whether the value holds a float: a number for which `as_u64` and `as_i64` both return
+/// `None`. It allocates nothing.
 #[cycle(float)]
 pub fn holds_float(value: &Value) -> bool
     ensures { result ≡ has_float (view value.now) }

@@ -47,10 +47,10 @@ impl Model for JsonProvider {
 impl JsonProvider {
     ghost use Rattle.plural_base.specs.DocumentJson.{found, document_of_json, value_of_locale, AreRangesAt, IsReadAt};
 
-    /// The provider of a document: an object with an object from locales to rules, as
-    /// [`PluralRulesData::from_json`] reads them, under each of `cardinal` and `ordinal`, and one to
-    /// ranges, as [`PluralRanges::from_json`] reads them, under `ranges`. Each of the three may be null
-    /// or absent. Other keys aren't read.
+    /// Returns the provider of a document: an object with an object from locales to rules, as
+    /// [`PluralRulesData::from_json`] reads them, under each of `cardinal` and `ordinal`, and one
+    /// to ranges, as [`PluralRanges::from_json`] reads them, under `ranges`. Each of the three may
+    /// be null or absent. Other keys aren't read.
     ///
     /// <!-- snippet crates/using/src/json.rt: const DOCUMENT; fn provider -->
     /// ```
@@ -70,19 +70,21 @@ impl JsonProvider {
     /// }
     /// ```
     ///
-    /// [`JsonError::Float`] if the document holds a float, else [`JsonError::Shape`] if it is no object;
-    /// else the first refusal: cardinal before ordinal before ranges, in each first [`JsonError::Shape`]
-    /// if it is neither null nor an object, then its locales in the order of their bytes, each as
-    /// [`PluralRulesData::from_json`] or [`PluralRanges::from_json`] refuses it. It takes memory; out of
-    /// memory is [`JsonError::Memory`].
+    /// [`JsonError::Float`] if the document holds a float, else [`JsonError::Shape`] if it isn't an
+    /// object; else the first refusal: cardinal before ordinal before ranges, in each first
+    /// [`JsonError::Shape`] if it is neither null nor an object, then its locales in the order of
+    /// their bytes, each as [`PluralRulesData::from_json`] or [`PluralRanges::from_json`] refuses
+    /// it. It allocates; out of memory is [`JsonError::Memory`].
     pub fn from_value(alloc: Global, value: &Value) -> Result<JsonProvider, JsonError>
         ensures answers { Answers (λ provider. provider) result (document_of_json (view value.now)) }
-        // A locale has rules if and only if its key is present, and they are those of the texts under it.
+        // A locale has rules if and only if its key is present, and they are those of the texts
+        // under it.
         ensures cardinal { IfOk result (λ provider. (locale : List ℕ) → IsReadAt (value_of_locale (codes "cardinal") locale (view value.now)) (found locale provider.cardinal)) }
         ensures ordinal { IfOk result (λ provider. (locale : List ℕ) → IsReadAt (value_of_locale (codes "ordinal") locale (view value.now)) (found locale provider.ordinal)) }
-        // A locale has ranges if and only if its key is present, and they are those that the value under it means.
+        // A locale has ranges if and only if its key is present, and they are those that the value
+        // under it means.
         ensures ranges { IfOk result (λ provider. (locale : List ℕ) → AreRangesAt (value_of_locale (codes "ranges") locale (view value.now)) (found locale provider.ranges)) }
-        // Both are checked before memory is taken.
+        // Both are checked before anything is allocated.
         ensures float { (result ≡ Err JsonError.Float) ↔ IsTrue (has_float (view value.now)) }
         ensures shape { IsFalse (has_float (view value.now)) → as_object (view value.now) ≡ None → result ≡ Err JsonError.Shape }
         ensures memory { (category : Option PluralCategory) → result ≢ Err (JsonError.Rule category RuleError.Memory) }

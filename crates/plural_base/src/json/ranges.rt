@@ -17,7 +17,7 @@ use serde_json::{Map, Value, json};
 use std::alloc::{AllocError, Global};
 
 impl UnvalidatedPluralRange {
-    /// The JSON value of the range, its text. It takes memory.
+    /// Returns the JSON value of the range, its text. It allocates.
     ///
     /// [`JsonError::RangeKey`] if and only if the byte names no range; out of memory is
     /// [`JsonError::Memory`].
@@ -32,10 +32,10 @@ impl UnvalidatedPluralRange {
         Ok(Value::String(text_of(alloc, start, end)?))
     }
 
-    /// The range of a JSON value, which is its text. It takes no memory.
+    /// Returns the range of a JSON value, which is its text. It allocates nothing.
     ///
-    /// [`JsonError::Float`] if the value holds a float, else [`JsonError::Shape`] if it is no text, else
-    /// [`JsonError::RangeKey`] if the text names no range.
+    /// [`JsonError::Float`] if the value holds a float, else [`JsonError::Shape`] if it isn't a
+    /// text, else [`JsonError::RangeKey`] if the text names no range.
     pub fn from_json(value: &Value) -> Result<UnvalidatedPluralRange, JsonError>
         ensures answers { result ≡ key_of_json (view value.now) }
         ensures no_memory { result ≢ Err JsonError.Memory }
@@ -48,11 +48,11 @@ impl UnvalidatedPluralRange {
 }
 
 impl PluralRanges {
-    /// The JSON value of the ranges: an object with `ranges` alone, an object from the text of each
-    /// range that has a category to the category's name. It takes memory; the only error is
+    /// Returns the JSON value of the ranges: an object with `ranges` alone, an object from the text
+    /// of each range that has a category to the category's name. It allocates; the only error is
     /// [`JsonError::Memory`].
     ///
-    /// <!-- snippet crates/plural_base_tests/src/tests/ranges.rt:
+    /// <!-- snippet crates/tests_libraries/src/tests/plural_base_ranges.rt:
     ///      example "let mut two" to "holds!(rt; written.as_str() == wanted" of fn a_full_table_is_written_and_read -->
     /// ```
     /// let mut two = PluralRanges::new();
@@ -70,17 +70,18 @@ impl PluralRanges {
         Ok(under_ranges(alloc, Value::Object(members))?)
     }
 
-    /// The ranges of a JSON value: an object with an object under `ranges`, from texts of ranges to names
-    /// of categories. Other keys aren't read. It takes no memory.
+    /// Returns the ranges of a JSON value: an object with an object under `ranges`, from texts of
+    /// ranges to names of categories. Other keys aren't read. It allocates nothing.
     ///
-    /// [`JsonError::Float`] if the value holds a float, else [`JsonError::Shape`] if it or what is under
-    /// `ranges` is no object; else the refusal of the first member, in the order of the keys' bytes, key
-    /// before value: [`JsonError::RangeKey`] if the key names no range, [`JsonError::Shape`] if the value
-    /// is no text, [`JsonError::RangeValue`] if it is no category's name.
+    /// [`JsonError::Float`] if the value holds a float, else [`JsonError::Shape`] if it or what is
+    /// under `ranges` isn't an object; else the refusal of the first member, in the order of the
+    /// keys' bytes, key before value: [`JsonError::RangeKey`] if the key names no range,
+    /// [`JsonError::Shape`] if the value isn't a text, [`JsonError::RangeValue`] if it isn't a
+    /// category's name.
     ///
     /// With `full`, a table that has all 36 pairs:
     ///
-    /// <!-- snippet crates/plural_base_tests/src/tests/ranges.rt: example "let written = full" to "holds!" -->
+    /// <!-- snippet crates/tests_libraries/src/tests/plural_base_ranges.rt: example "let written = full" to "holds!" -->
     /// ```
     /// let written = full.to_json(alloc)?;
     /// assert!(rt; PluralRanges::from_json(&written) == Ok(full));

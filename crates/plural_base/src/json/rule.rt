@@ -18,14 +18,14 @@ use plural_runtime::{Rule, RuleError};
 use serde_json::Value;
 use std::alloc::Global;
 
-/// The rule of a JSON value, which is a text as CLDR writes rules, samples included (UTS 35 Part 3,
-/// Plural Rules Syntax).
+/// Returns the rule of a JSON value, which is a text as CLDR writes rules, samples included (UTS 35
+/// Part 3, Plural Rules Syntax).
 ///
-/// [`JsonError::Float`] if the value holds a float, else [`JsonError::Shape`] if it is no text, else
-/// [`JsonError::Rule`] without a category if the text gives no rule. It takes memory for the rule; out
-/// of memory is [`JsonError::Memory`].
+/// [`JsonError::Float`] if the value holds a float, else [`JsonError::Shape`] if it isn't a text,
+/// else [`JsonError::Rule`] without a category if the text gives no rule. It allocates for the
+/// rule; out of memory is [`JsonError::Memory`].
 ///
-/// <!-- snippet crates/plural_base_tests/src/tests/json.rt: example body of fn a_rule_is_its_printed_text -->
+/// <!-- snippet crates/tests_libraries/src/tests/plural_base_rules.rt: example body of fn a_rule_is_its_printed_text -->
 /// ```
 /// let value = Value::from_str(alloc, "\"i%10=1 or n = 2..4 @integer 1\"")?;
 /// let rule = rule_from_json(alloc, &value)?;
@@ -36,7 +36,7 @@ use std::alloc::Global;
 pub fn rule_from_json(alloc: Global, value: &Value) -> Result<Rule<'static>, JsonError>
     ensures answers { Answers (λ rule. rule) result (rule_of_json (view value.now)) }
     ensures read { IfOk result (λ rule. IsRuleOf (as_str (view value.now)) (Some rule)) }
-    // Both are checked before memory is taken.
+    // Both are checked before anything is allocated.
     ensures float { (result ≡ Err JsonError.Float) ↔ IsTrue (has_float (view value.now)) }
     ensures shape { (result ≡ Err JsonError.Shape) ↔ (IsFalse (has_float (view value.now)) × (as_str (view value.now) ≡ None)) }
     ensures memory { (category : Option Category) → result ≢ Err (JsonError.Rule category RuleError.Memory) }
@@ -47,8 +47,8 @@ pub fn rule_from_json(alloc: Global, value: &Value) -> Result<Rule<'static>, Jso
     read_rule(alloc, value, None)
 }
 
-/// The JSON value of a rule, its printed text, as the example of [`rule_from_json`] shows. It takes
-/// memory for the text; the only error is [`JsonError::Memory`].
+/// Returns the JSON value of a rule, its printed text, as the example of [`rule_from_json`] shows.
+/// It allocates for the text; the only error is [`JsonError::Memory`].
 pub fn rule_to_json(alloc: Global, rule: &Rule<'_>) -> Result<Value, JsonError>
     ensures written { IfOk result (λ value. view value ≡ rule_json rule.now) }
     ensures memory { IfErr result (λ error. error ≡ JsonError.Memory) }

@@ -26,11 +26,11 @@ use std::alloc::{AllocError, Global};
 impl PluralRulesData<'static> {
     ghost use Rattle.plural_base.specs.RulesJson.{rules_of_json};
 
-    /// The rules of a JSON value: an object with a rule's text under each of `zero`, `one`, `two`,
-    /// `few` and `many`, or null or nothing if there is no rule. Other keys, `other` among them, aren't
-    /// read.
+    /// Returns the rules of a JSON value: an object with a rule's text under each of `zero`, `one`,
+    /// `two`, `few` and `many`, or null or nothing if there is no rule. Other keys, `other` among
+    /// them, aren't read.
     ///
-    /// <!-- snippet crates/plural_base_tests/src/tests/json.rt: example body of fn rules_are_read_and_written -->
+    /// <!-- snippet crates/tests_libraries/src/tests/plural_base_rules.rt: example body of fn rules_are_read_and_written -->
     /// ```
     /// let value = Value::from_str(alloc, "{\"one\":\"i \\u003d 1\"}")?;
     /// let rules = PluralRulesData::from_json(alloc, &value)?;
@@ -42,15 +42,16 @@ impl PluralRulesData<'static> {
     /// assert!(rt; written.as_str() == all_five);
     /// ```
     ///
-    /// [`JsonError::Float`] if the value holds a float, else [`JsonError::Shape`] if it is no object; else
-    /// the refusal of the first of the five, in this order, that is refused: [`JsonError::Shape`] if it is
-    /// neither null nor a text, [`JsonError::Rule`] with its category if the text gives no rule. It takes
-    /// memory for each rule; out of memory is [`JsonError::Memory`].
+    /// [`JsonError::Float`] if the value holds a float, else [`JsonError::Shape`] if it isn't an
+    /// object; else the refusal of the first of the five, in this order, that is refused:
+    /// [`JsonError::Shape`] if it is neither null nor a text, [`JsonError::Rule`] with its category
+    /// if the text gives no rule. It allocates for each rule; out of memory is
+    /// [`JsonError::Memory`].
     pub fn from_json(alloc: Global, value: &Value) -> Result<PluralRulesData<'static>, JsonError>
         ensures answers { Answers rules_of result (rules_of_json (view value.now)) }
-        // The rules are those of the texts under the five keys.
+        // The rules come from the texts under the five keys.
         ensures read { IfOk result (λ rules. AreRulesOf (texts_in (view value.now)) (rules_of rules)) }
-        // Both are checked before memory is taken.
+        // Both are checked before anything is allocated.
         ensures float { (result ≡ Err JsonError.Float) ↔ IsTrue (has_float (view value.now)) }
         ensures shape { IsFalse (has_float (view value.now)) → as_object (view value.now) ≡ None → result ≡ Err JsonError.Shape }
         ensures memory { (category : Option Category) → result ≢ Err (JsonError.Rule category RuleError.Memory) }
@@ -65,8 +66,8 @@ impl PluralRulesData<'static> {
 impl<'data> PluralRulesData<'data> {
     ghost use Rattle.plural_base.specs.RulesJson.{rules_json};
 
-    /// The JSON value of the rules: an object with all five keys, and under each the rule's printed
-    /// text, or null. It takes memory; the only error is [`JsonError::Memory`].
+    /// Returns the JSON value of the rules: an object with all five keys, and under each the rule's
+    /// printed text, or null. It allocates; the only error is [`JsonError::Memory`].
     pub fn to_json(&self, alloc: Global) -> Result<Value, JsonError>
         ensures written { IfOk result (λ value. view value ≡ rules_json (rules_of self.now)) }
         ensures memory { IfErr result (λ error. error ≡ JsonError.Memory) }

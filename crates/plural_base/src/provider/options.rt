@@ -14,7 +14,7 @@ pub enum PluralRuleType {
 
 /// Which rules are requested. By default no type is set.
 ///
-/// <!-- snippet crates/plural_base_tests/src/tests/categories.rt: example body of fn options_name_a_type_or_none -->
+/// <!-- snippet crates/tests_libraries/src/tests/plural_base_rules.rt: example body of fn options_name_a_type_or_none -->
 /// ```
 /// assert!(rt; PluralRuleType::default() == PluralRuleType::Cardinal);
 /// assert!(rt; PluralRulesOptions::default().rule_type == None);
@@ -29,7 +29,7 @@ pub struct PluralRulesOptions {
 }
 
 impl PluralRulesOptions {
-    /// The same options with this type.
+    /// Returns the same options with this type.
     pub fn with_type(self, rule_type: PluralRuleType) -> PluralRulesOptions
         ensures { result ≡ record { rule_type = Some rule_type } }
     {

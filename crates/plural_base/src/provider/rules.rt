@@ -7,10 +7,11 @@ use crate::rules::PluralRules;
 impl<'data> PluralRules<'data> {
     ghost use Rattle.plural_base.specs.Providers.{Makes, of_type};
 
-    /// The rules of a locale, of the type of the options; no type means cardinal. They are borrowed
-    /// from the provider. [`DataError::NotFound`] if and only if it has none. It takes no memory.
+    /// Returns the rules of a locale, of the type of the options; no type means cardinal. They are
+    /// borrowed from the provider. [`DataError::NotFound`] if and only if it has none. It allocates
+    /// nothing.
     ///
-    /// <!-- snippet crates/plural_base_tests/src/tests/provider.rt: example body of fn options_say_which_rules_are_loaded -->
+    /// <!-- snippet crates/tests_libraries/src/tests/plural_base_rules.rt: example body of fn options_say_which_rules_are_loaded -->
     /// ```
     /// let provider = provider(alloc, DOCUMENT)?;
     /// let two = PluralOperands::from(2u64);
@@ -47,8 +48,8 @@ impl<'data> PluralRules<'data> {
         }
     }
 
-    /// The rules of a locale for cardinal numbers, borrowed from the provider.
-    /// [`DataError::NotFound`] if and only if it has none. It takes no memory.
+    /// Returns the rules of a locale for cardinal numbers, borrowed from the provider.
+    /// [`DataError::NotFound`] if and only if it has none. It allocates nothing.
     ///
     /// <!-- snippet crates/using/src/english.rt: "let rules" to "}" of fn print_english -->
     /// ```
@@ -76,8 +77,8 @@ impl<'data> PluralRules<'data> {
         Ok(PluralRules::from_data(provider.load_cardinal(locale)?))
     }
 
-    /// The rules of a locale for ordinal numbers, borrowed from the provider.
-    /// [`DataError::NotFound`] if and only if it has none. It takes no memory.
+    /// Returns the rules of a locale for ordinal numbers, borrowed from the provider.
+    /// [`DataError::NotFound`] if and only if it has none. It allocates nothing.
     ///
     /// <!-- snippet crates/using/src/json.rt: body of fn print_places -->
     /// ```

@@ -9,13 +9,13 @@ ghost use Rattle.plural_base.specs.Ranges.{category_named, range_byte, range_key
 use crate::category::PluralCategory;
 use crate::category::raw::RawPluralCategory;
 
-/// A range of numbers by the categories of its start and its end, in one byte (UTS 35 Part 3, Plural
-/// Ranges): 16 times the start's number, plus the end's number, as [`RawPluralCategory`] counts them. A
-/// byte with another number in it names no range.
+/// A range of numbers by the categories of its start and its end, in one byte (UTS 35 Part 3,
+/// Plural Ranges): 16 times the start's number, plus the end's number, as [`RawPluralCategory`]
+/// counts them. A byte with another number in it names no range.
 ///
 /// The order is that of the bytes.
 ///
-/// <!-- snippet crates/plural_base_tests/src/tests/ranges.rt: example body of fn keys_are_ordered_by_their_bytes -->
+/// <!-- snippet crates/tests_libraries/src/tests/plural_base_ranges.rt: example body of fn keys_are_ordered_by_their_bytes -->
 /// ```
 /// let low = UnvalidatedPluralRange::from_range(OTHER, MANY);
 /// let high = UnvalidatedPluralRange::from_range(ONE, OTHER);
@@ -26,9 +26,10 @@ use crate::category::raw::RawPluralCategory;
 pub struct UnvalidatedPluralRange(pub u8);
 
 impl UnvalidatedPluralRange {
-    /// The byte of a start and an end. With rows such as `one`, `other`, 32 and `"one--other"`:
+    /// Returns the byte of a start and an end. With rows such as `one`, `other`, 32 and
+    /// `"one--other"`:
     ///
-    /// <!-- snippet crates/plural_base_tests/src/tests/ranges.rt:
+    /// <!-- snippet crates/tests_libraries/src/tests/plural_base_ranges.rt:
     ///      example "for (start, end, byte, text)" to "}" of fn a_range_has_a_byte_and_a_text -->
     /// ```
     /// for (start, end, byte, text) in rows {
@@ -46,8 +47,8 @@ impl UnvalidatedPluralRange {
         UnvalidatedPluralRange(16 * (start as u8) + end as u8)
     }
 
-    /// The byte of a range's text: the start's name, two hyphens, the end's name. `None` for any other
-    /// text.
+    /// Returns the byte of a range's text: the start's name, two hyphens, the end's name. `None`
+    /// for any other text.
     pub fn from_text(text: &str) -> Option<UnvalidatedPluralRange>
         ensures { (key : Key) → (result ≡ Some key) ↔ IsKeyOfText text.now key }
     {

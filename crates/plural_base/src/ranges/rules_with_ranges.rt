@@ -16,8 +16,9 @@ use crate::rules::as_plural_rules::AsPluralRules;
 use plural_reference::PluralOperands;
 use std::marker::Model;
 
-/// Rules and the categories of ranges, which choose a range's category by those of its start and its end
-/// (UTS 35 Part 3, Plural Ranges). The order of start and end isn't checked, nor that both are positive.
+/// Rules and the categories of ranges, which choose a range's category by those of its start and
+/// its end (UTS 35 Part 3, Plural Ranges). The order of start and end isn't checked, nor that both
+/// are positive.
 ///
 /// <!-- snippet crates/using/src/ranges.rt: body of fn print_ranges -->
 /// ```
@@ -51,16 +52,17 @@ impl<R> Model for PluralRulesWithRanges<R> {
 }
 
 impl<'data, R: AsPluralRules<'data>> PluralRulesWithRanges<R> {
-    /// The rules.
+    /// Returns the rules.
     pub fn rules(&self) -> &PluralRules<'data>
         ensures { result.now ≡ R.rules self.now.rules }
     {
         self.rules.as_plural_rules()
     }
 
-    /// The category of a range of numbers, by the operands of its start and its end. It takes no memory.
+    /// Returns the category of a range of numbers, by the operands of its start and its end. It
+    /// allocates nothing.
     ///
-    /// <!-- snippet crates/plural_base_tests/src/tests/ranges.rt: example fn cardinal -->
+    /// <!-- snippet crates/tests_libraries/src/tests/plural_base_ranges.rt: example fn cardinal -->
     /// ```
     /// fn cardinal(
     ///     provider: &JsonProvider,
@@ -83,10 +85,10 @@ impl<'data, R: AsPluralRules<'data>> PluralRulesWithRanges<R> {
         self.resolve_range(start, end)
     }
 
-    /// The category of a range, by those of its start and its end: the pair's, if it has one, else the
-    /// end's.
+    /// Returns the category of a range, by those of its start and its end: the pair's, if it has
+    /// one, else the end's.
     ///
-    /// <!-- snippet crates/plural_base_tests/src/tests/ranges.rt:
+    /// <!-- snippet crates/tests_libraries/src/tests/plural_base_ranges.rt:
     ///      example "let resolved = ranges.resolve_range(PluralCategory::Other" to "holds!" -->
     /// ```
     /// let resolved = ranges.resolve_range(PluralCategory::Other, PluralCategory::One);
@@ -104,11 +106,11 @@ impl<'data, R: AsPluralRules<'data>> PluralRulesWithRanges<R> {
 }
 
 impl<'data> PluralRulesWithRanges<PluralRules<'data>> {
-    /// The rules of a locale, of the type of the options, and its ranges; no type means cardinal. The
-    /// rules are borrowed from the provider. [`DataError::NotFound`] if and only if the provider has no
-    /// such rules or no ranges. It takes no memory.
+    /// Returns the rules of a locale, of the type of the options, and its ranges; no type means
+    /// cardinal. The rules are borrowed from the provider. [`DataError::NotFound`] if and only if
+    /// the provider has no such rules or no ranges. It allocates nothing.
     ///
-    /// <!-- snippet crates/plural_base_tests/src/tests/ranges.rt: example fn zero_to_one -->
+    /// <!-- snippet crates/tests_libraries/src/tests/plural_base_ranges.rt: example fn zero_to_one -->
     /// ```
     /// fn zero_to_one(
     ///     provider: &JsonProvider,
@@ -130,7 +132,7 @@ impl<'data> PluralRulesWithRanges<PluralRules<'data>> {
         PluralRulesWithRanges::try_new_with_rules_unstable(provider, locale, rules)
     }
 
-    /// The rules of a locale for cardinal numbers, and its ranges; otherwise as
+    /// Returns the rules of a locale for cardinal numbers, and its ranges; otherwise as
     /// [`PluralRulesWithRanges::try_new_unstable`].
     pub fn try_new_cardinal_unstable<P: PluralsProvider>(
         provider: &'data P,
@@ -142,7 +144,7 @@ impl<'data> PluralRulesWithRanges<PluralRules<'data>> {
         PluralRulesWithRanges::try_new_with_rules_unstable(provider, locale, rules)
     }
 
-    /// The rules of a locale for ordinal numbers, and its ranges; otherwise as
+    /// Returns the rules of a locale for ordinal numbers, and its ranges; otherwise as
     /// [`PluralRulesWithRanges::try_new_unstable`].
     pub fn try_new_ordinal_unstable<P: PluralsProvider>(
         provider: &'data P,
@@ -156,8 +158,9 @@ impl<'data> PluralRulesWithRanges<PluralRules<'data>> {
 }
 
 impl<R: Drop> PluralRulesWithRanges<R> {
-    /// These rules, and the ranges of a locale. Whether the rules are those of the locale isn't checked.
-    /// [`DataError::NotFound`] if and only if the provider has no ranges. It takes no memory.
+    /// Returns these rules, and the ranges of a locale. Whether the rules are those of the locale
+    /// isn't checked. [`DataError::NotFound`] if and only if the provider has no ranges. It
+    /// allocates nothing.
     ///
     /// <!-- snippet crates/using/src/named.rt: body of fn print_named_range -->
     /// ```

@@ -30,7 +30,7 @@ pub trait AsPluralRules<'data> {
     // The rules that it has.
     ghost rules: { Self → FiveRules };
 
-    /// The rules, borrowed.
+    /// Returns the rules, borrowed.
     fn as_plural_rules(&self) -> &PluralRules<'data>
         ensures { result.now ≡ rules self.now };
 }

@@ -20,12 +20,14 @@ use packed_list::{ListWriter, PackedList};
 use std::alloc::Global;
 
 impl<'data> PluralRulesData<'data> {
-    /// The bytes of the rules, made by one allocation: a packed list of the rules that are present, each after the byte
-    /// of its key, 0 zero, 1 one, 2 two, 3 few, 4 many. No rules are no bytes.
+    /// Returns the bytes of the rules, made by one allocation: a packed list of the rules that are
+    /// present, each after the byte of its key, 0 zero, 1 one, 2 two, 3 few, 4 many. No rules are
+    /// no bytes.
     ///
-    /// With `read_rules`, which reads the texts of one and few, and `ONE_AND_FEW`, the bytes of these rules:
+    /// With `read_rules`, which reads the texts of one and few, and `ONE_AND_FEW`, the bytes of
+    /// these rules:
     ///
-    /// <!-- snippet crates/plural_base_tests/src/tests/rules_bytes.rt:
+    /// <!-- snippet crates/tests_libraries/src/tests/plural_base_rules.rt:
     ///      example body of fn packs_each_rule_after_its_key -->
     /// ```
     /// let rules = read_rules(alloc, Some("n = 1"), Some("n = 2"))?;
@@ -35,8 +37,9 @@ impl<'data> PluralRulesData<'data> {
     /// assert!(rt; stored == rules);
     /// ```
     ///
-    /// The errors: a rule would start after place 65535 of the data ([`RulesPackError::StartLimit`]), which is looked
-    /// for first; out of memory ([`RulesPackError::Memory`]).
+    /// The errors: a rule would start after place 65535 of the data
+    /// ([`RulesPackError::StartLimit`]), which is looked for first; out of memory
+    /// ([`RulesPackError::Memory`]).
     pub fn to_bytes(&self, alloc: Global) -> Result<Vec<u8>, RulesPackError>
         ensures ok { IfOk result (λ bytes. RulesBytes (rules_of self.now) bytes.items) }
         ensures start_limit { (result ≡ Err RulesPackError.StartLimit) ↔ IsTrue (has_high_start (rule_items (rules_of self.now))) }
@@ -46,9 +49,9 @@ impl<'data> PluralRulesData<'data> {
         Ok(list.to_bytes(alloc)?)
     }
 
-    /// The rules in these bytes, borrowed from them. It takes no memory.
+    /// Returns the rules in these bytes, borrowed from them. It allocates nothing.
     ///
-    /// <!-- snippet crates/plural_base_tests/src/tests/rules_bytes.rt:
+    /// <!-- snippet crates/tests_libraries/src/tests/plural_base_rules.rt:
     ///      example "let rules" to "}" of fn rules_that_are_read_choose_as_before -->
     /// ```
     /// let rules = PluralRules::from_data(PluralRulesData::from_bytes(ONE_AND_FEW)?);
@@ -63,10 +66,10 @@ impl<'data> PluralRulesData<'data> {
     /// }
     /// ```
     ///
-    /// The error is that the bytes are no packed list ([`RulesBytesError::List`]), or what is wrong with the first bad
-    /// item: it has no byte ([`RulesBytesError::ItemEmpty`]); its key is above 4, or not above the key of the item
-    /// before it ([`RulesBytesError::Key`]); what follows is no rule, as [`Rule::parse_bytes`] tells
-    /// ([`RulesBytesError::Rule`]).
+    /// The error is that the bytes aren't a packed list ([`RulesBytesError::List`]), or the fault
+    /// of the first bad item: it has no byte ([`RulesBytesError::ItemEmpty`]); its key is above 4,
+    /// or not above the key of the item before it ([`RulesBytesError::Key`]); what follows isn't a
+    /// rule, as [`Rule::parse_bytes`] tells ([`RulesBytesError::Rule`]).
     ///
     /// [`Rule::parse_bytes`]: plural_runtime::Rule::parse_bytes
     #[inline(always)]

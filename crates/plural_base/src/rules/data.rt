@@ -33,7 +33,7 @@ pub struct PluralRulesData<'data> {
 }
 
 impl<'data> PluralRulesData<'data> {
-    /// The same rules, borrowed from these.
+    /// Returns the same rules, borrowed from these.
     pub fn as_borrowed(&self) -> PluralRulesData<'_>
         ensures { result ≡ self.now }
     {
@@ -46,7 +46,8 @@ impl<'data> PluralRulesData<'data> {
         }
     }
 
-    /// A copy of the rules. It takes memory if a rule owns its bytes; the only error is out of memory.
+    /// Returns a copy of the rules. It allocates if a rule owns its bytes; the only error is out of
+    /// memory.
     pub fn try_clone(&self) -> Result<PluralRulesData<'data>, AllocError>
         ensures { IfOk result (λ copy. copy ≡ self.now) }
     {

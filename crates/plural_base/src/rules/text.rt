@@ -59,10 +59,10 @@ impl PluralRulesData<'static> {
     ghost use Rattle.plural_base.specs.FiveRules.{rules_of};
     ghost use Rattle.plural_base.specs.RuleTexts.{AreRulesOf, texts_of};
 
-    /// The rules of texts as CLDR writes them (UTS 35 Part 3, Plural Rules Syntax), samples included,
-    /// read in the order zero, one, two, few, many. It takes memory for each rule.
+    /// Returns the rules of texts as CLDR writes them (UTS 35 Part 3, Plural Rules Syntax), samples
+    /// included, read in the order zero, one, two, few, many. It allocates for each rule.
     ///
-    /// <!-- snippet crates/plural_base_tests/src/tests/texts.rt:
+    /// <!-- snippet crates/tests_libraries/src/tests/plural_base_rules.rt:
     ///      example "let one" to "let rules" of fn rules_of_four_forms_choose_as_languages_do -->
     /// ```
     /// let one = Some("n % 10 = 1 and n % 100 != 11");
@@ -73,8 +73,8 @@ impl PluralRulesData<'static> {
     /// ```
     ///
     /// The error names the first text that gives no rule; later texts aren't read. Its cause is
-    /// [`RuleError::Parse`] if the text or its samples have a fault, [`RuleError::StartLimit`] if the
-    /// packed rule would be too long, and [`RuleError::Memory`] if memory ran out.
+    /// [`RuleError::Parse`] if the text or its samples have a fault, [`RuleError::StartLimit`] if
+    /// the packed rule would be too long, and [`RuleError::Memory`] if memory ran out.
     pub fn from_texts(
         alloc: Global,
         zero: Option<&str>,

@@ -108,7 +108,8 @@ scaled_remainder a f part m pos below =
     expand : (q m r part f : ℕ) → (q * m + r) * part + f ≡ q * (m * part) + (r * part + f)
     expand q m r part f = omega arith
 
--- The remainder of a number with its fraction by a modulus leaves the fraction as it is, also by none.
+-- The remainder of a number with its fraction by a modulus leaves the fraction as it is, also by
+-- none.
 scaled : (modulus a f part : ℕ) → 0 < part → f < part → remainder (modulus * part) (a * part + f) ≡ remainder modulus a * part + f
 scaled zero a f part some below = let z : 0 * part ≡ 0 = omega arith in ap (λ m. remainder m (a * part + f)) z
 scaled (suc m) a f part some below =

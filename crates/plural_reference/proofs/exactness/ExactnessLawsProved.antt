@@ -1,5 +1,5 @@
--- Laws on the bound, and on relations of exact numbers: which ranges hold an exact value, the bound told before the shift,
--- and that no modulus more can be admitted. The laws of exactness cite it.
+-- Laws on the bound, and on relations of exact numbers: which ranges hold an exact value, the bound
+-- told before the shift, and that no modulus more can be admitted. The laws of exactness cite it.
 use Rattle.std.proofs.Common.{◌≡◌, ℕ, zero, suc, ◌+◌, ◌-◌, ◌*◌, ◌/◌, ◌%◌, ◌^◌, ◌<◌, ◌≤◌, ◌≤ℤ◌, inl, inr}
 use Rattle.std.proofs.Common.{List, [], ◌∷◌, refl, sym, ◌∙◌, ap, subst, length, arith, lit<, ℤ, pos}
 use Rattle.std.proofs.Common.{negsuc, ◌-ℤ◌, get_or, reverse, Bool, true, false, eqb, cond, Some, None}
@@ -46,7 +46,8 @@ whole_from ranges unit count k some h e =
     cond-true (eqb (count % unit) 0) (Some (count / unit)) None (eq-eqb (count % unit) 0 none) ∙ ap Some quotient in
     ap (holds_value ranges) w ∙ h
 
--- the exact value of n is in ranges exactly if a whole number of them is what the modulus leaves of the number
+-- the exact value of n is in ranges exactly if a whole number of them is what the modulus leaves of
+-- the number
 pub holds_whole_numbers : HoldsWholeNumbers
 holds_whole_numbers ranges modulus o = (
   λ h. some_whole ranges (10 ^ o.v) (remainder (modulus * 10 ^ o.v) (parts o)) _ refl h,
@@ -55,7 +56,8 @@ holds_whole_numbers ranges modulus o = (
 
 -- ---- the bound before the shift
 
--- moving the point to the right adds that many integer places, and removes at most that many fraction places
+-- moving the point to the right adds that many integer places, and removes at most that many
+-- fraction places
 pub shifted_places : ShiftedPlaces
 shifted_places x e = (length-whole e x, length-fraction e x)
 
@@ -102,7 +104,8 @@ digit_index x (pos k) h =
     ]
 digit_index x (negsuc k) h = (length x.whole + k, omega (arith, ints))
 
--- after the shift the integer digits write 10 ^ n or more exactly if some digit but 0 is at a high enough place before it
+-- after the shift the integer digits write 10 ^ n or more exactly if some digit but 0 is at a high
+-- enough place before it
 pub long_value : LongValue
 long_value x e n h =
     let y : Places = shift_right e x in
@@ -182,7 +185,8 @@ only_it a k h =
       | inr none ↦ absurd (false≢true none)
     ]
 
--- for a modulus that doesn't divide 10 ^ 18, a relation is true of the exact 2 * 10 ^ 18 and false of what is kept of it
+-- for a modulus that doesn't divide 10 ^ 18, a relation is true of the exact 2 * 10 ^ 18 and false
+-- of what is kept of it
 pub bound_is_widest : BoundIsWidest
 bound_is_widest m x kept exact some other twice c y =
     let r : ℕ = 2 * 10 ^ 18 % m in

@@ -1,5 +1,5 @@
--- Within the bound a condition is true of the kept operands exactly if it is true of the exact number: from one relation, in
--- Agreement, to groups of them. The law kept_operands_agree cites it.
+-- Within the bound a condition is true of the kept operands exactly if it is true of the exact
+-- number: from one relation, in Agreement, to groups of them. The law kept_operands_agree cites it.
 use Rattle.std.proofs.Common.{◌≡◌, List, [], ◌∷◌, refl, ◌∙◌, ap, Bool, ◌&&◌, ◌||◌}
 use Rattle.std.specs.List.{AllByRecursion, list_all}
 use Rattle.fixed_decimal.specs.Places.{shift_right}

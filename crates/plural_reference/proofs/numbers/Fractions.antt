@@ -80,7 +80,7 @@ zero_fraction o shown written h below = (
 pub exact_whole : (y : Places) (e : ℕ) (o : Operands) → IsWritten y → IsExactAt y e o → o.i ≡ value_of y.whole
 exact_whole y e o h k = k.i ∙ value_of-append-div y.whole y.fraction h.fraction
 
--- The exact v, w, f and t are those of the fraction digits.
+-- The exact v, w, f and t come from the fraction digits.
 pub exact_fraction : (y : Places) (e : ℕ) (o : Operands) → IsWritten y → IsExactAt y e o
     → HasFraction o (length y.fraction) (value_of y.fraction)
 exact_fraction y e o h k

@@ -1,6 +1,6 @@
--- Laws on the operands of every number: integers of 64 and 128 bits, numbers of which nothing is cut, that a number has one
--- list of kept and one of exact operands, and what the exact ones tell. The laws of operands cite it, and NamedOnce that
--- operands are known by their parts.
+-- Laws on the operands of every number: integers of 64 and 128 bits, numbers of which nothing is
+-- cut, that a number has one list of kept and one of exact operands, and what the exact ones tell.
+-- The laws of operands cite it, and NamedOnce that operands are known by their parts.
 use Rattle.std.proofs.Common.{◌≡◌, ℕ, zero, suc, ◌+◌, ◌-◌, ◌*◌, ◌/◌, ◌%◌, ◌^◌, ◌≤◌, ◌↔◌, inl}
 use Rattle.std.proofs.Common.{inr, List, refl, sym, ◌∙◌, ap, subst, length, take, arith, ltb}
 use Rattle.std.proofs.lemmas.Bool.{lt-ltb, le-ltb, cond-true, cond-false, cases_eq}
@@ -74,13 +74,15 @@ same_six a b i v w f t c = cc
 pub one_record : (a b : Operands) → a.i ≡ b.i → SameFraction a b → a.c ≡ b.c → a ≡ b
 one_record a b i s c = six_parts a ∙ same_six a b i s.v s.w s.f s.t c ∙ sym (six_parts b)
 
--- w is the count of digits of a written fraction without its last zeros, and t is the number that they write
+-- w is the count of digits of a written fraction without its last zeros, and t is the number that
+-- they write
 record IsLeast (shown written w t : ℕ) : Type 0 where
   pub divides : 10 ^ (shown - w) ∣ written
   pub least : (k : ℕ) → 10 ^ (shown - k) ∣ written → w ≤ k
   pub quotient : t ≡ written / 10 ^ (shown - w)
 
--- a count that writes the fraction with zeros after it, and than which no smaller count does, is the least
+-- a count that writes the fraction with zeros after it, and than which no smaller count does, is
+-- the least
 found : (left number shown written : ℕ) → written ≡ number * 10 ^ (shown - left)
     → ((k : ℕ) → 10 ^ (shown - k) ∣ written → left ≤ k) → IsLeast shown written left number
 found left number shown written e l = record {

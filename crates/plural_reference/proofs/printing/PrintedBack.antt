@@ -1,5 +1,6 @@
--- What is printed is read as what it was printed from: a spellable condition, a condition that was read from a text, and a rule
--- that was read from a text and has small runs. The laws of printing cite it.
+-- What is printed is read as what it was printed from: a spellable condition, a condition that was
+-- read from a text, and a rule that was read from a text and has small runs. The laws of printing
+-- cite it.
 use Rattle.std.proofs.Common.{◌≡◌, ℕ, List, [], ◌++◌, Option, Some, None, refl, sym, ap, ◌∙◌, subst, inl, inr}
 use Rattle.std.proofs.lemmas.List.{append-nil}
 use Rattle.std.specs.Prelude.{IfSome}
@@ -38,7 +39,8 @@ spellable_conditions_print_back c h =
 pub conditions_print_back : ConditionsPrintBack
 conditions_print_back text c h = (spellable_conditions_print_back c (conditions_of_texts_are_spellable text c h)).0
 
--- a rule of a spellable condition and of samples as they are read, with small runs, is read from its printed text
+-- a rule of a spellable condition and of samples as they are read, with small runs, is read from
+-- its printed text
 rule_prints_back : (c : Condition) (s : Option samples.Samples) → IsSpellable c → IfSome s AreReadSamples
     → RuleHasSmallRuns (record { condition = c; samples = s })
     → TextReads ReadsRule (rule_text (record { condition = c; samples = s })) (record { condition = c; samples = s })

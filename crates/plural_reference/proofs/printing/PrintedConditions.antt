@@ -1,5 +1,5 @@
--- The tokens of a printed condition spell it: item by item, relation by relation, group by group. From spellable conditions to
--- their printed texts; PrintedBack cites it.
+-- The tokens of a printed condition spell it: item by item, relation by relation, group by group.
+-- From spellable conditions to their printed texts; PrintedBack cites it.
 use Rattle.std.proofs.Common.{◌≡◌, ◌≢◌, ℕ, List, [], ◌∷◌, ◌++◌, Option, Some, None, refl, sym, ap, ◌∙◌, append_assoc, inl, inr, arith}
 use Rattle.std.proofs.lemmas.Bool.{eqb-false}
 use Rattle.std.proofs.lemmas.List.Elements.{All-weaker, recursion_from_All}

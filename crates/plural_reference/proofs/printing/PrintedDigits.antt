@@ -1,5 +1,6 @@
--- The tokens of the digits, the fraction and the exponent of a printed sample, which join to their texts again: not always the
--- tokens that were read, since `0` before a number is a token of its own. PrintedSamples puts them together.
+-- The tokens of the digits, the fraction and the exponent of a printed sample, which join to their
+-- texts again: not always the tokens that were read, since `0` before a number is a token of its
+-- own. PrintedSamples puts them together.
 use Rattle.std.proofs.Common.{◌≡◌, ◌≢◌, ◌≤◌, ℕ, List, [], ◌∷◌, ◌++◌, Some, refl, sym, ap, ◌∙◌, subst, append_assoc, arith, ⊎_elim}
 use Rattle.std.proofs.lemmas.Bool.{eqb-false}
 use Rattle.std.proofs.lemmas.Bool.Decides.{eqb_tells}

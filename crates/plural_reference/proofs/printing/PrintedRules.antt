@@ -1,5 +1,5 @@
--- The samples of a rule that is read from a text, and the tokens of their printed text, from which they are read again, if they
--- have small runs. PrintedBack joins this with the condition.
+-- The samples of a rule that is read from a text, and the tokens of their printed text, from which
+-- they are read again, if they have small runs. PrintedBack joins this with the condition.
 use Rattle.std.proofs.Common.{◌≡◌, List, [], ◌∷◌, ◌++◌, Option, Some, None, refl, sym, ap, ◌∙◌, subst, append_assoc}
 use Rattle.std.proofs.lemmas.List.{append-nil}
 use Rattle.std.specs.List.{AllByRecursion}

@@ -1,5 +1,6 @@
--- The tokens of a printed list of samples spell it, though they need not be those that it was read from, if a token holds the
--- number of each run of its digits. From samples that were read to their printed texts; PrintedRules cites it.
+-- The tokens of a printed list of samples spell it, though they need not be those that it was read
+-- from, if a token holds the number of each run of its digits. From samples that were read to their
+-- printed texts; PrintedRules cites it.
 use Rattle.std.proofs.Common.{◌≡◌, ◌≢◌, ◌≤◌, ℕ, Bool, true, false, List, [], ◌∷◌, ◌++◌, Option}
 use Rattle.std.proofs.Common.{Some, None, refl, sym, ap, ◌∙◌, subst, append_assoc, arith}
 use Rattle.std.proofs.lemmas.Bool.{eqb-false}

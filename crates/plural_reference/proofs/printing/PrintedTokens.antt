@@ -1,6 +1,6 @@
--- The tokens of printed texts, one text after another: a text gives its tokens before each rest that may follow it, so that
--- printed parts can be joined and still be scanned part by part; and a printed number is one token. The other proofs on what
--- is printed rest on it.
+-- The tokens of printed texts, one text after another: a text gives its tokens before each rest
+-- that may follow it, so that printed parts can be joined and still be scanned part by part; and a
+-- printed number is one token. The other proofs on what is printed rest on it.
 use Rattle.std.proofs.Common.{◌≡◌, ◌≢◌, ◌≤◌, ◌<◌, ◌^◌, ℕ, zero, suc, List, [], ◌∷◌, ◌++◌}
 use Rattle.std.proofs.Common.{length, get_or, refl, sym, ap, ◌∙◌, append_assoc, arith, rules}
 use Rattle.std.proofs.lemmas.Bool.{le-leb}
@@ -47,7 +47,8 @@ module _ {A : Type 0} (Follows : List ℕ → Type 0) (Part : List Token → A �
     (separator : List ℕ) (mark : Token)
     (gives_mark : (rest : List ℕ) → tokens_of (separator ++ rest) ≡ mark ∷ tokens_of rest)
     (may_follow : (rest : List ℕ) → Follows (separator ++ rest)) where
-  -- if the text of each part spells it, the joined texts spell the parts with separators between them
+  -- if the text of each part spells it, the joined texts spell the parts with separators between
+  -- them
   pub joined_spells : (xs : List A) → xs ≢ [] → AllByRecursion (λ x. Spells Follows Part (text x) x) xs
       → Spells Follows (Separated mark Part) (joined separator text xs) xs
   joined_spells [] some h = absurd (some refl)
@@ -70,15 +71,15 @@ module _ {A : Type 0} (Follows : List ℕ → Type 0) (Part : List Token → A �
 
 -- ---- numbers
 
--- a byte below `0` is no digit
+-- a byte below `0` isn't a digit
 pub below_digits : (b : ℕ) → b < 48 → IsAsciiDigit b → ⊥
 below_digits b h d = omega (arith, d.0)
 
--- a byte above `9` is no digit
+-- a byte above `9` isn't a digit
 pub above_digits : (b : ℕ) → 57 < b → IsAsciiDigit b → ⊥
 above_digits b h d = omega (arith, d.1)
 
--- what may follow a number: the end, or a byte that is no digit
+-- what may follow a number: the end, or a byte that isn't a digit
 abbrev pub EndsRun : List ℕ → Type 0
 EndsRun rest = IfSome (first rest) (λ b. ¬ (IsAsciiDigit b))
 

@@ -1,5 +1,5 @@
--- A condition that is read from a text is spellable: it has no empty group or list, and its numbers are those of tokens, which
--- fit. From TokensFit to the law of this name; PrintedBack cites it.
+-- A condition that is read from a text is spellable: it has no empty group or list, and its numbers
+-- are those of tokens, which fit. From TokensFit to the law of this name; PrintedBack cites it.
 use Rattle.std.proofs.Common.{◌≡◌, ◌≢◌, List, [], ◌∷◌, Option, Some, None, sym, subst, inl, inr, arith}
 use Rattle.std.proofs.lemmas.List.Elements.{All-from_recursion, All-nil}
 use Rattle.std.specs.Prelude.{IfSome}
@@ -23,7 +23,8 @@ value_fits (Number n) v h e = let same : record { 0 = n } ≡ v = cc in subst (�
 value_fits Zero v h e = let same : record { 0 = 0 } ≡ v = cc in subst (λ (x : Value). FitsToken x) same (omega arith)
 value_fits _ v h e = cc
 
--- what holds of each part of tokens that fit holds of all parts between separators, of which there is at least one
+-- what holds of each part of tokens that fit holds of all parts between separators, of which there
+-- is at least one
 pub separated_parts : {A : Type 0} (separator : Token) (Part : List Token → A → Type 0) (P : A → Type 0)
     → ((tokens : List Token) (x : A) → AllFit tokens → Part tokens x → P x) → (tokens : List Token) (xs : List A)
     → AllFit tokens → Separated separator Part tokens xs → (xs ≢ []) × AllByRecursion P xs

@@ -114,7 +114,7 @@ pub no_modulus : (old middle after : List Token) (t : Token) (o : operand.Operan
 unfolding run
 no_modulus old middle after t o e h f k b = rw (e, h, f) (after_modulo_stop b o after ExpectedValue k)
 
--- a token that is no operand is a fault if an operand is expected
+-- a token that isn't an operand is a fault if an operand is expected
 pub no_operand_fault : (old : List Token) (e : ParseError)
     → NoOperand old e → (b : Before) → run (before_operand b) old ≡ Err ExpectedOperand
 no_operand_fault old e h b = operand_stop b None old ExpectedOperand (λ e k. cc) (h.1 None)

@@ -1,6 +1,7 @@
--- What the grammar spells is read, and a fault is returned: the tokens of a condition lead the reader to its end, and those of
--- a waiting place lead it to a state that refuses what follows. From the grammar to the reader; Readings and RuleReadings cite
--- the two last facts, ParserSteps the fault at each state, and the proofs on samples that of the last of a list.
+-- What the grammar spells is read, and a fault is returned: the tokens of a condition lead the
+-- reader to its end, and those of a waiting place lead it to a state that refuses what follows.
+-- From the grammar to the reader; Readings and RuleReadings cite the two last facts, ParserSteps
+-- the fault at each state, and the proofs on samples that of the last of a list.
 use Rattle.std.proofs.Common.{◌≡◌, List, [], ◌∷◌, ◌++◌, Option, Some, None, Ok, Err, refl, sym, ap, ◌∙◌, subst, append_assoc, inl, inr}
 use Rattle.std.specs.Prelude.{IfSome, is_some, if◌then◌else◌}
 use Rattle.plural_reference.specs.declared.ast.RangeListItem.{RangeListItem}

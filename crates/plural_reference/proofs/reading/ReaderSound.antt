@@ -1,6 +1,7 @@
--- What the reader of conditions returns is what the grammar says: the tokens so far spell what its state holds as complete, so
--- the condition that it ends with is read, and a fault that it stops with is theirs. Readings, Answered, the worked rows and
--- RuleReadings cite the last lemma, SampleSound those on parts with separators after them.
+-- What the reader of conditions returns is what the grammar says: the tokens so far spell what its
+-- state holds as complete, so the condition that it ends with is read, and a fault that it stops
+-- with is theirs. Readings, Answered, the worked rows and RuleReadings cite the last lemma,
+-- SampleSound those on parts with separators after them.
 use Rattle.std.proofs.Common.{◌≡◌, List, [], ◌∷◌, ◌++◌, Option, Some, None, Ok, Err, refl, sym, ap, ◌∙◌, subst, append_assoc, inl, inr}
 use Rattle.std.proofs.lemmas.List.{append-nil}
 use Rattle.plural_reference.specs.declared.ast.RangeListItem.{RangeListItem}
@@ -448,7 +449,7 @@ item_done : (p : List Token) (o : Opened) (xs : List RangeListItem) (x : RangeLi
     → IsCondition p (ended_condition (with_relation o.before (relation_of o (xs ++ x ∷ []))))
 item_done p o xs x h = condition_done p o.before _ (relation_done p o xs x h)
 
--- a range is no single value
+-- a range isn't a single value
 range_is_no_value : (a b v : Value) → Some (items.Range a b) ≡ Some (items.Value v) → ⊥
 range_is_no_value a b v h = cc
 
@@ -545,7 +546,8 @@ said_at_end tokens (go s) h = absurd h
 said_at_end tokens (finish c) h = h
 said_at_end tokens (refuse kind) h = h
 
--- what is said of a move, and of the result from the next state, is said of the result from this one
+-- what is said of a move, and of the result from the next state, is said of the result from this
+-- one
 said_move : (p : List Token) (t : Token) (ts : List Token) (m : Move) → SaidOfMove p t ts m
     → ((next : State) → Spells (p ++ t ∷ []) next → Said ((p ++ t ∷ []) ++ ts) (run next ts))
     → Said (p ++ t ∷ ts) (proceed m (t ∷ ts) (λ next. run next ts))

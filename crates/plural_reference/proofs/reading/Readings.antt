@@ -1,5 +1,6 @@
--- From every list of tokens exactly one condition is read, or it has exactly one fault: each is what the reader returns, by
--- ReaderSound and ReaderComplete. The law of this name cites it, and so does Answered, which makes a result of the parser exact.
+-- From every list of tokens exactly one condition is read, or it has exactly one fault: each is
+-- what the reader returns, by ReaderSound and ReaderComplete. The law of this name cites it, and so
+-- does Answered, which makes a result of the parser exact.
 use Rattle.std.proofs.Common.{◌≡◌, List, Result, Ok, Err, inl, inr}
 use Rattle.plural_reference.specs.declared.ast.Condition.{Condition}
 use Rattle.plural_reference.specs.declared.error.ParseError.{ParseError}

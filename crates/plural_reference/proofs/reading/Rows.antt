@@ -72,7 +72,7 @@ largest : AreTokensOf (codes "4294967295") (Number 4294967295 ∷ [])
 unfolding tokens_from
 largest = has_tokens (codes "4294967295")
 
--- one more is no number
+-- one more isn't a number
 too_large_is_junk : AreTokensOf (codes "4294967296") (Junk ∷ [])
 unfolding tokens_from
 too_large_is_junk = has_tokens (codes "4294967296")

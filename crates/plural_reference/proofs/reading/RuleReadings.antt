@@ -16,7 +16,7 @@ use Rattle.plural_reference.proofs.reading.ReaderSound.{Said, said}
 use Rattle.plural_reference.proofs.samples.SampleSound.{SaidSamples, said_samples}
 use Rattle.plural_reference.proofs.samples.SampleComplete.{reads_samples_run, faulty_samples_run}
 
--- samples that are read are those of the lists that the reader gives
+-- samples that are read come from the lists that the reader gives
 sections_read : (tokens : List Token) (s : Option samples.Samples)
     → ReadsSamples tokens s
     → (sections : List Section) × (rest : List Token) × (run_samples (after_sections []) tokens ≡ Ok (sections, rest))
@@ -62,7 +62,7 @@ same_ok o r s h k = cc
 same_err : (o : RuleOutcome) (e f : ParseError) → o ≡ Err e → o ≡ Err f → f ≡ e
 same_err o e f h k = cc
 
--- an outcome is no rule and fault at once
+-- an outcome isn't a rule and fault at once
 no_both : (o : RuleOutcome) (r : Rule) (e : ParseError) → o ≡ Ok r → o ≡ Err e → ⊥
 no_both o r e h k = cc
 

@@ -94,7 +94,7 @@ dots : TextFaulty FaultyRule (codes "@integer 1, ...") ExpectedValue
 unfolding tokens_from run run_samples digits
 dots = faulty (codes "@integer 1, ...") ExpectedValue refl
 
--- `foo` is no type of samples
+-- `foo` isn't a type of samples
 at_foo : TextFaulty FaultyRule (codes "@foo") ExpectedSampleType
 unfolding tokens_from run run_samples digits
 at_foo = faulty (codes "@foo") ExpectedSampleType refl

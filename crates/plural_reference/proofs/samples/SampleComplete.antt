@@ -1,6 +1,7 @@
--- What the grammar of samples spells is read, and a fault is returned: the tokens of sections lead the reader of samples past
--- them, and those of a waiting place lead it to a state that refuses what follows. From the grammar to the reader;
--- RuleReadings cites the two last facts, the steps of the parser in samples the step that each kind of token makes.
+-- What the grammar of samples spells is read, and a fault is returned: the tokens of sections lead
+-- the reader of samples past them, and those of a waiting place lead it to a state that refuses
+-- what follows. From the grammar to the reader; RuleReadings cites the two last facts, the steps of
+-- the parser in samples the step that each kind of token makes.
 use Rattle.std.proofs.Common.{◌≡◌, ◌≢◌, ◌<◌, ◌+◌, ◌/◌, ◌%◌, ℕ, zero, suc, Bool, true, false, List, [], ◌∷◌, ◌++◌, Option}
 use Rattle.std.proofs.Common.{Some, None, Ok, Err, refl, sym, ap, ◌∙◌, subst, append_assoc, inl, inr, cond, nat_eq, arith}
 use Rattle.std.proofs.lemmas.Bool.{true≢false}
@@ -49,7 +50,7 @@ by_cond false x y p h k = k
 glyph : (n : ℕ) → digit_glyph false (n % 10) ≡ 48 + n % 10
 glyph n = grind (arith, nat_tests)
 
--- what is no digit is not found among the digits of a number, put before a text without it
+-- what isn't a digit is not found among the digits of a number, put before a text without it
 onto_none : (p : ℕ → Bool) → ((d : ℕ) → d < 10 → p (48 + d) ≡ false) → (k n : ℕ) (acc : List ℕ) → list_any p acc ≡ false
     → list_any p (digits_onto k 10 false n acc) ≡ false
 onto_none p h zero n acc e = e
@@ -57,7 +58,7 @@ onto_none p h (suc k) n acc e =
     let here : list_any p (digit_glyph false (n % 10) ∷ acc) ≡ false = both_false _ _ (ap p (glyph n) ∙ h (n % 10) (omega arith)) e in
     by_cond (nat_eq (n / 10) 0) _ _ p here (onto_none p h k (n / 10) (digit_glyph false (n % 10) ∷ acc) here)
 
--- what is no digit is not found in a printed number
+-- what isn't a digit is not found in a printed number
 decimal_none : (p : ℕ → Bool) → ((d : ℕ) → d < 10 → p (48 + d) ≡ false) → (n : ℕ) → list_any p (decimal n) ≡ false
 unfolding digits
 decimal_none p h n = onto_none p h 64 n [] refl
@@ -66,7 +67,7 @@ decimal_none p h n = onto_none p h 64 n [] refl
 no_mark : (d : ℕ) → d < 10 → (nat_eq (48 + d) 101 || nat_eq (48 + d) 99) ≡ false
 no_mark d h = both_false _ _ (no_eq (48 + d) 101 (λ e. omega arith)) (no_eq (48 + d) 99 (λ e. omega arith))
 
--- a digit is no point
+-- a digit isn't a point
 no_point : (d : ℕ) → d < 10 → nat_eq (48 + d) 46 ≡ false
 no_point d h = no_eq (48 + d) 46 (λ e. omega arith)
 

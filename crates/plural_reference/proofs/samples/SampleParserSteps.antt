@@ -149,7 +149,7 @@ more_digits before after n old middle new h (t, e, d, w) = record {
   nothing = λ none. absurd (joined_not_empty after (decimal n) (decimal_not_empty n) none);
 }
 
--- a point is no mark of an exponent
+-- a point isn't a mark of an exponent
 pub point_has_no_mark : (text : List ℕ) → has_exponent text ≡ false → has_exponent (text ++ 46 ∷ []) ≡ false
 point_has_no_mark text h = any-append _ text (46 ∷ []) h refl
 

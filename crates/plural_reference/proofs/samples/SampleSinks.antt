@@ -1,4 +1,5 @@
--- The steps of the parser in samples, which are kept or left out: what is stored is what is read, if it is kept.
+-- The steps of the parser in samples, which are kept or left out: what is stored is what is read,
+-- if it is kept.
 use Rattle.std.proofs.Common.{◌≡◌, ◌≢◌, ◌∷◌, ◌++◌, ℕ, List, [], Bool, true, false, Option, Some, None, Err, refl, sym, ap, ◌∙◌, subst}
 use Rattle.std.proofs.Common.{inl, inr}
 use Rattle.std.specs.Prelude.{unwrap_or}

@@ -1,6 +1,7 @@
--- What the reader of samples returns is what the grammar says: the tokens so far spell the sections, the ranges and the part of
--- a sample that its state holds, so the sections that it ends with are read, and a fault that it stops with is theirs.
--- RuleReadings cites the last lemma, SampleComplete and the steps of the parser in samples some of the others.
+-- What the reader of samples returns is what the grammar says: the tokens so far spell the
+-- sections, the ranges and the part of a sample that its state holds, so the sections that it ends
+-- with are read, and a fault that it stops with is theirs. RuleReadings cites the last lemma,
+-- SampleComplete and the steps of the parser in samples some of the others.
 use Rattle.std.proofs.Common.{◌≡◌, ◌≢◌, ℕ, Bool, true, false, List, [], ◌∷◌, ◌++◌, Option, Some, None}
 use Rattle.std.proofs.Common.{Ok, Err, refl, sym, ap, ◌∙◌, subst, append_assoc, inl, inr, ⊎_elim}
 use Rattle.std.proofs.lemmas.Bool.{true≢false}
@@ -54,7 +55,8 @@ LowerIs : List Token → Option DecimalValue → Type 0
 LowerIs tokens None = tokens ≡ []
 LowerIs tokens (Some lower) = (x : List Token) × (tokens ≡ x ++ Tilde ∷ []) × IsSample x lower
 
--- whole sections, At and a type, ranges with Comma after each, and perhaps a lower sample with its Tilde
+-- whole sections, At and a type, ranges with Comma after each, and perhaps a lower sample with its
+-- Tilde
 record SpellsPartial (q : List Token) (p : Partial) : Type 0 where
   section_tokens : List Token
   range_tokens : List Token
@@ -690,7 +692,8 @@ end_said q (goes s) h = absurd h
 end_said q (ends ss) h = h
 end_said q (refuses kind) h = h
 
--- what is said of a move, and of the result from the next state, is said of the result from this one
+-- what is said of a move, and of the result from the next state, is said of the result from this
+-- one
 move_said : (q : List Token) (t : Token) (ts : List Token) (m : SampleMove) → SaidMove q t ts m
     → ((next : SampleState) → SpellsState (q ++ t ∷ []) next → SaidSamples ((q ++ t ∷ []) ++ ts) (run_samples next ts))
     → SaidSamples (q ++ t ∷ ts) (sample_proceed m (t ∷ ts) (λ next. run_samples next ts))

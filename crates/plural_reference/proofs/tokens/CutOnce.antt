@@ -1,5 +1,6 @@
--- A text is cut in one way only: the scan, used for the bytes of the first piece in place of its token, finds the first piece
--- of any cut. From ScanSound and ScanComplete to the law that every text has exactly one cut.
+-- A text is cut in one way only: the scan, used for the bytes of the first piece in place of its
+-- token, finds the first piece of any cut. From ScanSound and ScanComplete to the law that every
+-- text has exactly one cut.
 use Rattle.std.proofs.Common.{◌≡◌, ◌≢◌, ◌*◌, ◌+◌, ℕ, List, [], ◌∷◌, ◌++◌, Option, Some, None, refl}
 use Rattle.std.proofs.Common.{sym, ap, ◌∙◌, append_assoc, cond, drop, is_some, nat_eq, length, subst, true, arith}
 use Rattle.std.proofs.lemmas.Bool.{eq-eqb, false≢true}
@@ -26,7 +27,8 @@ data Bite : Type 0 where
   ends : Bite
   goes : Scan → Bite
 
--- a byte ends the piece if the state after it is between two pieces; otherwise it belongs to the piece, with more to come
+-- a byte ends the piece if the state after it is between two pieces; otherwise it belongs to the
+-- piece, with more to come
 abbrev taken : Scan → Bite
 taken between = ends
 taken (in_keyword k ks t) = goes (in_keyword k ks t)

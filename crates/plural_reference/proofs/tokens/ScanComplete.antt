@@ -1,5 +1,6 @@
--- A cut of a text has the tokens of the scan: each piece, scanned from between two pieces, gives its token and leads back
--- there. From cuts to the scan; ScanSound, CutOnce and the tokens of printed texts cite it.
+-- A cut of a text has the tokens of the scan: each piece, scanned from between two pieces, gives
+-- its token and leads back there. From cuts to the scan; ScanSound, CutOnce and the tokens of
+-- printed texts cite it.
 use Rattle.std.proofs.Common.{◌≡◌, ◌≢◌, ◌≤◌, ◌+◌, ◌*◌, ℕ, List, [], ◌∷◌, ◌++◌, Bool, Option, Some, refl}
 use Rattle.std.proofs.Common.{sym, ap, ◌∙◌, append_assoc, drop, inl, inr, true, false, nat_eq, arith, ⊎_elim}
 use Rattle.std.proofs.lemmas.Bool.{and_parts, eq-eqb, eqb-true, false≢true, le-leb, lt-leb, or_cases}
@@ -74,7 +75,8 @@ keyword_tail k (l ∷ ls) t (b ∷ bs) next more rest h =
     let tail : l ∷ ls ≡ bs ++ next ∷ more = cc in
     rw (← same_k, eq-eqb k k refl) (keyword_tail l ls t bs next more rest tail)
 
--- at each byte of a keyword but the last, the part so far leads the scan to the bytes that are expected
+-- at each byte of a keyword but the last, the part so far leads the scan to the bytes that are
+-- expected
 abbrev BegunScans : Word → Type 0
 BegunScans w =
     (begun : List ℕ) (next : ℕ) (more rest : List ℕ) → w.0 ≡ begun ++ next ∷ more → begun ≢ [] → begun ≢ codes "i"
@@ -156,7 +158,8 @@ digit_no b h =
     (λ low. rw low.0 refl)
     (leb_tells 48 b)
 
--- digits that no digit follows end an open number: one token, of the number followed by these digits
+-- digits that no digit follows end an open number: one token, of the number followed by these
+-- digits
 number_scans : (n : ℕ) (digits rest : List ℕ) → AllByRecursion IsAsciiDigit digits
     → IfSome (first rest) (λ d. ¬ (IsAsciiDigit d))
     → tokens_from (in_number n) (digits ++ rest) ≡ number_token (digits_value_after 10 n digits) ∷ tokens_of rest
@@ -215,7 +218,8 @@ carried P Q like carry xs (y ∷ ys) h e =
     let both = and_parts (list_any (λ x. like x y) xs) (list_all (λ z. list_any (λ x. like x z) xs) ys) e in
     (carried_to P Q like carry xs y h both.0, carried P Q like carry xs ys h both.1)
 
--- a byte that begins no mark and no keyword is in no row of the table of first bytes, since each row begins one
+-- a byte that begins no mark and no keyword is in no row of the table of first bytes, since each
+-- row begins one
 no_start : (b : ℕ) → All (λ (word : Word). first word.0 ≢ Some b) (marks ++ keywords)
     → AllByRecursion (λ (s : ℕ × Start). b ≢ s.0) piece_starts
 no_start b h =
@@ -258,7 +262,7 @@ piece_scans piece rest token (too_large r large k) = run_scans piece rest r ∙ 
 piece_scans piece rest token (broken begun next b e g d k) = rw (e, k) (broken_scans begun next b rest g d)
 piece_scans piece rest token (cut_off next g e k) = rw (e, k) (cut_off_scans piece next g)
 
--- the tokens of a cut are those of the scan, so all cuts of a text have the same tokens
+-- the tokens of a cut are the scan's, so all cuts of a text have the same tokens
 pub cut_scans : (text : List ℕ) (pieces : List Piece) → IsCut text pieces → tokens_of text ≡ filter_map (λ p. p.1) pieces
 unfolding tokens_from
 cut_scans text [] h = rw h refl

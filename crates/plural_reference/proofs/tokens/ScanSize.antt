@@ -1,5 +1,6 @@
--- A text has at most as many tokens as bytes: a step of the scan gives no more tokens than it has read bytes, where an open
--- piece counts as one. The contract of the lexer's constructor cites it, from which a caller knows how much memory is enough.
+-- A text has at most as many tokens as bytes: a step of the scan gives no more tokens than it has
+-- read bytes, where an open piece counts as one. The contract of the lexer's constructor cites it,
+-- from which a caller knows how much memory is enough.
 use Rattle.std.proofs.Common.{◌≤◌, ◌+◌, ◌*◌, ℕ, Bool, true, false, cond, List, [], ◌∷◌, length, nat_eq, arith, length-append}
 use Rattle.std.specs.Prelude.{nat_le}
 use Rattle.std.specs.Char.{is_ascii_digit, digit_value}

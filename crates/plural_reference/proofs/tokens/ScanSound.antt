@@ -1,6 +1,6 @@
--- Every text has a cut, with the tokens of the scan: the bytes of the open piece are kept beside the state of the scan until
--- the piece ends. From the scan to cuts; with ScanComplete the tokens of a text are just those of the scan, which the laws of
--- reading, the lexer and the printed texts cite.
+-- Every text has a cut, with the tokens of the scan: the bytes of the open piece are kept beside
+-- the state of the scan until the piece ends. From the scan to cuts; with ScanComplete the tokens
+-- of a text are just the scan's, which the laws of reading, the lexer and the printed texts cite.
 use Rattle.std.proofs.Common.{◌≡◌, ◌≢◌, ◌<◌, ◌≤◌, ◌+◌, ◌*◌, ℕ, List, [], ◌∷◌, ◌++◌, Option, Some, None, refl, sym, ap}
 use Rattle.std.proofs.Common.{◌∙◌, subst, append_assoc, inl, inr, cond, Bool, true, false, nat_eq, arith, ⊎_elim, lit<}
 use Rattle.std.proofs.lemmas.Bool.{eqb-false, true≢false}
@@ -49,7 +49,8 @@ not_empty a xs e = cc
 some_inj : {A : Type 0} {x y : A} → Some x ≡ Some y → x ≡ y
 some_inj e = cc
 
--- a piece in front of a text with tokens: a text whose tokens begin with the one of the piece, if it gives one
+-- a piece in front of a text with tokens: a text whose tokens begin with the one of the piece, if
+-- it gives one
 more_tokens : (piece rest : List ℕ) (token : Option Token) (ts : List Token) → IsPiece piece rest token
     → AreTokensOf rest ts → AreTokensOf (piece ++ rest) (cons_option token ts)
 more_tokens piece rest token ts h k = ((piece, token) ∷ k.0, (rest, refl, h, k.1), ap (cons_option token) k.2)
@@ -95,7 +96,8 @@ point_piece rest h = mark Dot (10, lit< tt, refl) ((λ e. absurd (texts_apart 46
 
 -- ---- the first byte of a piece
 
--- a row of the table of first bytes is right: its byte is a mark that nothing goes on with, or it opens a longer piece
+-- a row of the table of first bytes is right: its byte is a mark that nothing goes on with, or it
+-- opens a longer piece
 abbrev StartOk : ℕ × Start → Type 0
 StartOk (b, gives t) = Contains marks (b ∷ [], t) × (b ≢ 105) × (b ≢ 46)
 StartOk (b, opens s) = Opened (b ∷ []) s
@@ -182,7 +184,8 @@ looks_up b ((c, s) ∷ ss) h = ⊎_elim
     (λ differs. rw differs.0 (looks_up_more b (c, s) ss (look_up b ss) differs.1 (looks_up b ss h.1)))
     (eqb_tells b c)
 
--- a byte that is no space, no digit and in no row of the table begins no piece: each word begins with the byte of a row
+-- a byte that is no space, no digit and in no row of the table begins no piece: each word begins
+-- with the byte of a row
 begins_none : (b : ℕ) → b ≢ 32 → (IsAsciiDigit b → ⊥) → AllByRecursion (λ (s : ℕ × Start). b ≢ s.0) piece_starts → BeginsNone b
 begins_none b no_space no_digit h =
     let words =
@@ -203,7 +206,8 @@ two_not_i [] k h e = absurd (h refl)
 two_not_i (x ∷ []) k h e = absurd (two_not_one x k 105 e)
 two_not_i (x ∷ y ∷ ys) k h e = absurd (many_not_one x y (ys ++ k ∷ []) 105 e)
 
--- a byte in a right row is a piece or opens one: with a rest that is cut so, it is cut with the tokens of the scan
+-- a byte in a right row is a piece or opens one: with a rest that is cut so, it is cut with the
+-- tokens of the scan
 one_piece : (b : ℕ) (bs : List ℕ) (s : Start) → StartOk (b, s) → Cuts bs
     → AreTokensOf (b ∷ bs) ((start_move s).0 ++ tokens_from (start_move s).1 bs)
 one_piece b bs (gives t) h cuts =
@@ -350,7 +354,8 @@ said_step w after_point b bs h cuts =
     (rw h (ended_cuts (codes ".") Dot b bs (point_piece (b ∷ bs) (λ e. differs.1 (some_inj e))) cuts)))
     (eqb_tells b 46)
 
--- an open piece at the end of the text is a piece, or is cut off, with the token that the scan gives at its end
+-- an open piece at the end of the text is a piece, or is cut off, with the token that the scan
+-- gives at its end
 said_end : (w : List ℕ) (s : Scan) → Opened w s → AreTokensOf (w ++ []) (scan_end s)
 said_end w between h = rw h no_tokens
 said_end w (in_keyword k ks t) h = more_tokens w [] (Some Junk) [] (cut_off k (is_begun w k ks t h) refl refl) no_tokens
@@ -364,10 +369,10 @@ unfolding tokens_from
 all_cuts [] s w h = said_end w s h
 all_cuts (b ∷ bs) s w h = said_step w s b bs h (all_cuts bs)
 
--- every text has tokens: those of the scan
+-- every text has tokens: the scan's
 pub has_tokens : (text : List ℕ) → AreTokensOf text (tokens_of text)
 has_tokens text = all_cuts text between [] refl
 
--- a text has no other tokens than those of the scan
+-- a text has no other tokens than the scan's
 pub tokens_are : (text : List ℕ) (tokens : List Token) → AreTokensOf text tokens → tokens ≡ tokens_of text
 tokens_are text tokens h = h.2 ∙ sym (cut_scans text h.0 h.1)

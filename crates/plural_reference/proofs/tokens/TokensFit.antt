@@ -1,5 +1,5 @@
--- The numbers of a text's tokens are at most the largest that a token holds, since a longer run of digits is Junk. From cuts
--- to tokens; SpellableConditions and the printed texts cite it.
+-- The numbers of a text's tokens are at most the largest that a token holds, since a longer run of
+-- digits is Junk. From cuts to tokens; SpellableConditions and the printed texts cite it.
 use Rattle.std.proofs.Common.{◌≤◌, ℕ, List, [], ◌∷◌, ◌++◌, Option, Some, None, sym, subst}
 use Rattle.std.proofs.lemmas.List.Elements.{All-contains, All-from_recursion}
 use Rattle.std.specs.Prelude.{IfSome}

@@ -1,5 +1,5 @@
--- Not a definition of the subject: a reader of conditions, token by token, for the parser's private contracts. That it
--- returns what the grammar says is proved.
+-- Not a definition of the subject: a reader of conditions, token by token, for the parser's private
+-- contracts. That it returns what the grammar says is proved.
 use Rattle.std.specs.Prelude.{List, [], ◌∷◌, ◌++◌, Option, Some, None, Result, Ok, Err, ◌≡◌, ◌≢◌}
 use Rattle.plural_reference.specs.declared.ast.AndCondition.{AndCondition}
 use Rattle.plural_reference.specs.declared.ast.Condition.{Condition}
@@ -177,7 +177,8 @@ abbrev pub ReadsOption : {A : Type 0} → (List Token → A → List Token → T
 ReadsOption Read old None new = IsUnconditional old × (new ≡ old)
 ReadsOption Read old (Some x) new = Read old x new
 
--- an expression is read wherever an operand is expected: an operator after it leads to the items, and any other token is a fault
+-- an expression is read wherever an operand is expected: an operator after it leads to the items,
+-- and any other token is a fault
 pub record ReadsExpression (old : List Token) (e : Expression) (new : List Token) : Type 0 where
   pub goes_on : (b : Before) (op : operator.Operator) (rest : List Token) → new ≡ token.Operator op ∷ rest
       → run (before_operand b) old ≡ run (before_item (record { before = b; expression = e; operator = op }) []) rest
@@ -199,7 +200,7 @@ NoOperator old e = (e ≡ ExpectedOperator) × (operator_fault (first old) ≡ S
 abbrev pub TakesOperand : List Token → operand.Operand → List Token → Type 0
 TakesOperand old o new = (t : Token) × (old ≡ t ∷ new) × (operand_of t ≡ Some o)
 
--- a token that is no operand comes next: a fault wherever one is expected
+-- a token that isn't an operand comes next: a fault wherever one is expected
 abbrev pub NoOperand : List Token → ParseError → Type 0
 NoOperand old e = (e ≡ ExpectedOperand) × ((at_end : Option ParseError) → operand_fault at_end (first old) ≡ Some ExpectedOperand)
 

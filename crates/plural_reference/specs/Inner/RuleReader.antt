@@ -1,6 +1,6 @@
--- Not a definition of the subject: a reader of rules, made of the readers of tokens, of conditions and of samples. Definitions
--- of crates above cite it to have a text's condition as a function; that it gives what the grammar says is the law
--- `texts_are_read`.
+-- Not a definition of the subject: a reader of rules, made of the readers of tokens, of conditions
+-- and of samples. Definitions of crates above cite it to have a text's condition as a function;
+-- that it gives what the grammar says is the law `texts_are_read`.
 use Rattle.std.specs.Prelude.{ℕ, List, [], Result, Ok, Err}
 use Rattle.plural_reference.specs.declared.ast.Condition.{Condition}
 use Rattle.plural_reference.specs.declared.ast.Rule.{Rule}

@@ -1,5 +1,5 @@
--- Not a definition of the subject: a reader of samples, token by token, for the parser's private contracts. That it
--- returns what the grammar says is proved.
+-- Not a definition of the subject: a reader of samples, token by token, for the parser's private
+-- contracts. That it returns what the grammar says is proved.
 use Rattle.std.specs.Prelude.{Bool, true, false, List, [], ◌∷◌, ◌++◌, Option, Some, None, Result, Ok, Err, ◌||◌, cond, ◌≡◌, ◌≢◌}
 use Rattle.std.specs.Prelude.{◌⊎◌, ℕ, IfSome, unwrap_or}
 use Rattle.plural_reference.specs.declared.ast.Operand.TheVariants.{C}

@@ -1,5 +1,5 @@
--- Not a definition of the subject: the tokens of a text, byte by byte, for the view of the lexer and its private contracts.
--- That these are the tokens of the text's pieces is proved.
+-- Not a definition of the subject: the tokens of a text, byte by byte, for the view of the lexer
+-- and its private contracts. That these are the tokens of the text's pieces is proved.
 use Rattle.std.specs.Prelude.{ℕ, ◌+◌, ◌*◌, List, [], ◌∷◌, ◌++◌, nat_eq, cond, nat_le, codes}
 use Rattle.std.specs.Str.{byte}
 use Rattle.std.specs.Char.{is_ascii_digit, digit_value}

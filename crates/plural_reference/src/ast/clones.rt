@@ -142,8 +142,8 @@ impl DecimalValue {
     }
 }
 
-// A part of a tree that lists and options hold. Generic code reaches a method only by a trait, so each impl calls the
-// public `try_clone` of its type.
+// A part of a tree that lists and options hold. Generic code reaches a method only by a trait, so
+// each impl calls the public `try_clone` of its type.
 trait Cloned: Drop {
     fn cloned(&self) -> Result<Self, AllocError>
         ensures { IfOk result (λ x. x ≡ self.now) };

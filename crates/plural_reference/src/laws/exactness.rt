@@ -27,8 +27,8 @@ pub fn bound_before_the_shift()
     ensures value { LongValue }
 {}
 
-/// The bound on moduli is the widest: for each modulus that doesn't divide `10^18`, a relation is true
-/// of `2 * 10^18` and false of its kept part.
+/// The bound on moduli is the widest: for each modulus that doesn't divide `10^18`, a relation is
+/// true of `2 * 10^18` and false of its kept part.
 pub fn bound_is_widest()
     ensures { BoundIsWidest }
 {}

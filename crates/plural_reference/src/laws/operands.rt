@@ -31,8 +31,8 @@ pub fn wide_signed_as_absolute(number: i128) -> (PluralOperands, PluralOperands)
     (PluralOperands::from(number), PluralOperands::from(absolute))
 }
 
-/// With at most 18 places on each side of the point, once the exponent has moved it, the kept operands
-/// are the exact ones.
+/// With at most 18 places on each side of the point, once the exponent has moved it, the kept
+/// operands are the exact ones.
 pub fn short_numbers_are_exact()
     ensures { AllIsKept }
 {}

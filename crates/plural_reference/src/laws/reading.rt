@@ -22,8 +22,8 @@ pub fn one_rule()
     ensures { HaveOneRule }
 {}
 
-/// The condition of the rule that a text is, or the text's fault, is what a reader gives that is a function of the text:
-/// readers of documents are stated by it.
+/// The condition of the rule that a text is, or the text's fault, is what a reader gives that is a
+/// function of the text: readers of documents are stated by it.
 pub fn texts_are_read()
     ensures { TextsAreRead }
 {}

@@ -17,7 +17,7 @@ impl PluralOperands {
     ///
     /// Rows of a number and its operands i, v, w, f, t and c:
     ///
-    /// <!-- snippet crates/plural_reference_tests/src/tests/operands.rt:
+    /// <!-- snippet crates/tests_libraries/src/tests/plural_reference_examples.rt:
     /// example "("1.00000020c6"" to "("1c0"" of fn a_compact_decimal_moves_its_point; example "for (text"
     /// to "}" of fn a_compact_decimal_moves_its_point -->
     /// ```

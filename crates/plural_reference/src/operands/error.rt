@@ -30,7 +30,7 @@ impl fmt::Display for OperandsError {
 
 impl Error for OperandsError {}
 
-/// `Invalid`: a part of the text is no number of 64 bits.
+/// `Invalid`: a part of the text isn't a number of 64 bits.
 impl From<ParseIntError> for OperandsError {
     ghost from_gives = { λ _ e. e ≡ Invalid };
 

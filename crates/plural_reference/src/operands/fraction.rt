@@ -8,7 +8,8 @@ use crate::operands::PluralOperands;
 use crate::operands::kept::power_of_ten;
 
 impl PluralOperands {
-    // Those of an integer part, a count of fraction digits, the number that they write, and an exponent.
+    // Those of an integer part, a count of fraction digits, the number that they write, and an
+    // exponent.
     pub(crate) fn from_parts(i: u64, shown: usize, written: u64, c: usize) -> PluralOperands
         ensures integer { result.i ≡ i }
         ensures fraction { HasFraction result shown written }
@@ -17,8 +18,8 @@ impl PluralOperands {
         PluralOperands::from_scaled_parts(i, shown, written, 0, c)
     }
 
-    // Those of fraction digits that end in a count of zeros: they write the number times 10 to the power of
-    // that count.
+    // Those of fraction digits that end in a count of zeros: they write the number times 10 to the
+    // power of that count.
     pub(crate) fn from_scaled_parts(
         i: u64,
         shown: usize,
@@ -45,8 +46,8 @@ impl PluralOperands {
     }
 }
 
-// The fraction that a number and a count of zeros after it write, without its trailing zeros: how many
-// digits are left, and what they write.
+// The fraction that a number and a count of zeros after it write, without its trailing zeros: how
+// many digits are left, and what they write.
 fn without_zeros(shown: usize, number: u64, zeros: usize) -> (usize, u64)
     requires { zeros ≤ shown }
     ensures divides { 10 ^ (shown - result.0) ∣ number * 10 ^ zeros }

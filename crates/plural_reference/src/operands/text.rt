@@ -8,15 +8,16 @@ ghost use Rattle.plural_reference.specs.Inner.OperandReader.{IsReading, HasCount
 use crate::operands::{OperandsError, PluralOperands};
 use std::str::FromStr;
 
-/// Reads an optional `-`, an integer, optionally `.` and a fraction, and optionally `e` and an exponent.
+/// Reads an optional `-`, an integer, optionally `.` and a fraction, and optionally `e` and an
+/// exponent.
 ///
-/// The integer and the exponent are digits, which may follow a `+`; the fraction is digits. Each is at
-/// most 18446744073709551615 as a number. The sign has no effect, all of the integer is kept, and
-/// nothing is moved by the exponent. `Empty` for the empty text, `Invalid` for every other text that
-/// isn't of this form. It allocates nothing.
+/// The integer and the exponent are digits, which may follow a `+`; the fraction is digits. Each is
+/// at most 18446744073709551615 as a number. The sign has no effect, all of the integer is kept,
+/// and nothing is moved by the exponent. `Empty` for the empty text, `Invalid` for every other text
+/// that isn't of this form. It allocates nothing.
 ///
-/// <!-- snippet crates/plural_reference_tests/src/tests/operands.rt:
-/// example "holds!(rt; """ to "holds!(rt; """ of fn another_text_names_none -->
+/// <!-- snippet crates/tests_libraries/src/tests/plural_reference_examples.rt:
+/// example "holds!(rt; """ to "holds!(rt; """ of fn an_empty_text_names_none -->
 /// ```
 /// assert!(rt; "".parse::<PluralOperands>() == Err(OperandsError::Empty));
 /// ```

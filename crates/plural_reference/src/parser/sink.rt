@@ -14,7 +14,8 @@ const TEXT_ROOM: usize = 16;
 // Room for the ranges of a list: CLDR's have 8 in the mean.
 const LIST_ROOM: usize = 8;
 
-// Takes the texts and ranges of samples, and stores them or leaves them out: then the texts and lists that it gets stay empty.
+// Takes the texts and ranges of samples, and stores them or leaves them out: then the texts and
+// lists that it gets stay empty.
 pub(super) trait Sink {
     ghost use Rattle.std.specs.Prelude.{Bool};
 
@@ -74,7 +75,8 @@ impl Sink for Kept {
     }
 }
 
-// The digits of a number join the text. A function of its own, so that a number of one digit is written without a call.
+// The digits of a number join the text. A function of its own, so that a number of one digit is
+// written without a call.
 #[inline(never)]
 fn push_digits(text: &mut String, number: u32) -> Result<(), AllocError>
     ensures { OnOk result (string_bytes text.new ≡ string_bytes text.old ++ decimal number) }

@@ -1,4 +1,5 @@
--- A reader of rule bytes, for the view of a rule, the laws and private contracts. Not a definition of the subject.
+-- A reader of rule bytes, for the view of a rule, the laws and private contracts. Not a definition
+-- of the subject.
 use Rattle.std.specs.Prelude.{ℕ, ◌+◌, ◌*◌, ◌%◌, List, [], ◌∷◌, map, drop, slice_index, if◌then◌else◌, ◌==◌, nat_lt, Option, Some, None}
 use Rattle.packed_list.specs.Inner.ListReading.{items_in}
 use Rattle.plural_reference.specs.declared.ast.Operand.{Operand}
@@ -59,10 +60,10 @@ relation_in bytes = record {
   };
 }
 
--- the relations that bytes hold, if they are those of a rule
+-- the relations that bytes hold, if they encode a rule
 unfoldable pub relations_in : List ℕ → List PackedRelation
 relations_in bytes = map relation_in (items_in bytes)
 
--- the bytes are those of the relations that they hold
+-- the bytes encode the relations that they hold
 abbrev pub IsRule : List ℕ → Type 0
 IsRule bytes = RuleBytes (relations_in bytes) bytes

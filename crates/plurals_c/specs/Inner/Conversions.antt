@@ -1,4 +1,5 @@
--- Not a definition of the subject: the fault that an error of a crate below becomes. One of memory becomes that of memory.
+-- Not a definition of the subject: the fault that an error of a crate below becomes. One of memory
+-- becomes that of memory.
 use Rattle.icu_plurals.specs.declared.DecimalError.{DecimalError}
 use Rattle.icu_plurals.specs.declared.DecimalError.TheVariants as decimal
 use Rattle.icu_plurals.specs.declared.JsonError.{JsonError}

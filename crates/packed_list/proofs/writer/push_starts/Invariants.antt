@@ -4,7 +4,8 @@ use Rattle.std.specs.List.{list_any}
 use Rattle.packed_list.specs.ListBytes.{starts_from, two_bytes}
 use Rattle.packed_list.proofs.writer.push_starts.Given as goal
 
--- What is written and the remaining starts are all starts, and there is room for the remaining ones.
+-- What is written and the remaining starts are all starts, and there is room for the remaining
+-- ones.
 abbrev pub invariant-loop-item : goal.invariant-loop-item
 invariant-loop-item g l = record {
   room : vec_len l.bytes + 2 * length (g.I.ByteItems.items l.left) ≤ vec_capacity l.bytes;

@@ -6,17 +6,17 @@ use std::alloc::AllocError;
 use std::error::Error;
 use std::fmt;
 
-/// Why bytes are no rules of a language: they are no packed list, or the first bad item has the first of the other
-/// three faults.
+/// Why bytes aren't rules of a language: they aren't a packed list, or the first bad item has the
+/// first of the other three faults.
 #[derive(Clone, Copy, Debug, PartialEq, Eq)]
 pub enum RulesBytesError {
-    /// They are no packed list.
+    /// They aren't a packed list.
     List(ListError),
     /// The item at this place has no byte.
     ItemEmpty(usize),
     /// The key of the item at this place is above 4, or not above the key of the item before it.
     Key(usize),
-    /// What follows the key of the item at this place is no rule.
+    /// What follows the key of the item at this place isn't a rule.
     Rule(usize, RuleBytesError),
 }
 

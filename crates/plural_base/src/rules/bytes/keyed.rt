@@ -11,8 +11,8 @@ use crate::rules::data::PluralRulesData;
 use packed_list::PackedList;
 use plural_runtime::Rule;
 
-// The rules of the items, if none of these is bad.
-// Inlined, as are the calls in it, the rules are made in place: to copy them took more than to check them.
+// The rules of the items, if none of these is bad. Inlined, as are the calls in it, the rules are
+// made in place: to copy them took more than to check them.
 #[inline(always)]
 pub(crate) fn rules_in(list: PackedList<'_>) -> Result<PluralRulesData<'_>, RulesBytesError>
     ensures can_pack { IfOk result (λ rules. CanPackRules (rules_of rules)) }
@@ -46,7 +46,8 @@ pub(crate) struct KeyedRules<'data> {
 }
 
 impl<'data> KeyedRules<'data> {
-    // Takes the first item that is left and returns its rule, if it has this key. All keys below this one were asked for.
+    // Takes the first item that is left and returns its rule, if it has this key. All keys below
+    // this one were asked for.
     #[inline(always)]
     fn take(&mut self, key: u8) -> Result<Option<Rule<'data>>, RulesBytesError>
         requires key { key ≤ 4 }

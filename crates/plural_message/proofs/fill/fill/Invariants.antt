@@ -3,7 +3,8 @@ use Rattle.std.specs.Str.Iter.{split_inclusive_pattern, split_inclusive_text}
 use Rattle.plural_message.specs.Messages.{IsFilling}
 use Rattle.plural_message.proofs.fill.fill.Given as goal
 
--- The text so far, followed by the remaining text filled, is the whole text filled; the text is cut at each `}`.
+-- The text so far, followed by the remaining text filled, is the whole text filled; the text is cut
+-- at each `}`.
 abbrev pub invariant-loop-piece : goal.invariant-loop-piece
 invariant-loop-piece l =
     (split_inclusive_pattern l.piece-iterator ≡ 125)

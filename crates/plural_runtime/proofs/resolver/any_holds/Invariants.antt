@@ -5,7 +5,8 @@ use Rattle.plural_runtime.specs.Inner.RuleReading.{ranges_in}
 use Rattle.plural_runtime.proofs.NeededGroups.{needed_from}
 use Rattle.plural_runtime.proofs.resolver.any_holds.Given as goal
 
--- No range so far contains the value, so the remaining ranges (at least one) decide, and need the rest of the count.
+-- No range so far contains the value, so the remaining ranges (at least one) decide, and need the
+-- rest of the count.
 abbrev pub invariant-loop-others : goal.invariant-loop-others
 invariant-loop-others g l = record {
   whole : IsTrue (length l.rest % 8 == 0);

@@ -4,7 +4,8 @@ use Rattle.plural_runtime.specs.RuleKinds.{item_of}
 use Rattle.plural_runtime.specs.Inner.RuleViews.{lent_relation}
 use Rattle.plural_runtime.proofs.unpack.ranges_of.Given as goal
 
--- The items that are made and those of the remaining ranges are all items, and there is room for the latter.
+-- The items that are made and those of the remaining ranges are all items, and there is room for
+-- the latter.
 abbrev pub invariant-loop-range : goal.invariant-loop-range
 invariant-loop-range l = record {
   room : vec_len l.items + length l.range-iterator ≤ vec_capacity l.items;

@@ -79,7 +79,7 @@ returns-in-Err-clause-start_limit c =
 
 -- ---- the bytes
 
--- the bytes that are written are those of the packed elements
+-- the bytes that are written encode the packed elements
 is_encoded : (c : In-Ok) → ElementsBytes (packed_of (each_by lent_value c.args.elements.now)) c.in-Ok.bytes.items
 is_encoded c =
     let e = each_by lent_value c.args.elements.now in

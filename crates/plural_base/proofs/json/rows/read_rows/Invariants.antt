@@ -7,7 +7,7 @@ use Rattle.plural_base.proofs.RowsRead.{behind}
 use Rattle.serde_json.specs.View.{members_view}
 use Rattle.plural_base.proofs.json.rows.read_rows.Given as goal
 
--- the rows so far, followed by those of the remaining members; the keys of both ascend
+-- the rows so far, followed by the rows of the remaining members; the keys of both ascend
 abbrev pub invariant-loop-locale : goal.invariant-loop-locale
 invariant-loop-locale g l =
     let rows = rows_by g.T.FromJson.seen l.rows.entries in

@@ -1,5 +1,0 @@
-//! Tests of what the contracts of `plural_base` don't say. They are apart so that the crate isn't proved again for them.
-#![tactic(auto)]
-
-#[cfg(test)]
-mod tests;

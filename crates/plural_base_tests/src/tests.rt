@@ -1,9 +1,0 @@
-mod assertion;
-mod categories;
-mod exact;
-mod json;
-mod long;
-mod provider;
-mod ranges;
-mod rules_bytes;
-mod texts;

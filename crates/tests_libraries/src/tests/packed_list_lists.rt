@@ -1,0 +1,77 @@
+//! Packed lists: examples of the pages, growth that is refused, the texts of errors.
+
+use crate::tests::assertion::holds;
+use packed_list::{ListError, PackError, PackedList};
+use std::alloc::Global;
+use std::test::Fail;
+
+// The list of `ab`, the empty item and `cd`.
+const THREE_ITEMS: &[u8] = b"\x03\x00\x02\x00\x02\x00abcd";
+
+#[test]
+fn gives_the_items_and_their_starts(rt: HostRuntime) {
+    let expected: [(&[u8], usize); 3] = [(b"ab", 0), (b"", 2), (b"cd", 2)];
+    let list = PackedList::parse_bytes(THREE_ITEMS).expect(&rt, "a list");
+    holds!(rt; list.len() == 3);
+    holds!(rt; list.as_bytes() == THREE_ITEMS);
+    let mut items = list.iter();
+    for (place, (item, start)) in expected.iter().enumerate() {
+        holds!(rt; list.get(place) == Some(*item), at place);
+        holds!(rt; list.start(place) == Some(*start), at place);
+        holds!(rt; items.next() == Some(*item), at place);
+    }
+    holds!(rt; list.get(3) == None);
+    holds!(rt; list.start(3) == None);
+    holds!(rt; items.next() == None);
+}
+
+#[test]
+fn the_last_items_of_a_beginning_are_empty(rt: HostRuntime) {
+    let list = PackedList::parse_bytes(&THREE_ITEMS[..8]).expect(&rt, "a list");
+    let expected: [&[u8]; 3] = [b"ab", b"", b""];
+    holds!(rt; list.len() == 3);
+    for (place, item) in expected.iter().enumerate() {
+        holds!(rt; list.get(place) == Some(*item), at place);
+    }
+}
+
+// Whether packing gives the three items, or `None` if memory ran out.
+fn packs_three(alloc: Global) -> Option<bool> {
+    match PackedList::encode(alloc, &[b"ab", b"", b"cd"]) {
+        Ok(bytes) => Some(bytes.as_slice() == THREE_ITEMS),
+        Err(PackError::Memory) => None,
+        Err(_) => Some(false),
+    }
+}
+
+#[test]
+fn packs_again_after_a_refused_growth(rt: HostRuntime) {
+    let first = packs_three(rt.alloc());
+    let second = packs_three(rt.alloc());
+    holds!(rt; first == None || first == Some(true));
+    holds!(rt; second == None || second == Some(true));
+    holds!(rt; first == Some(true) || second == Some(true));
+    holds!(rt; PackedList::encode(rt.alloc(), &[]).is_ok(), "no item takes no memory");
+}
+
+#[test]
+fn errors_say_what_is_wrong(rt: HostRuntime) -> Result<(), Fail> {
+    let alloc = rt.alloc();
+    let lists = [
+        (ListError::Header, "list header too short"),
+        (ListError::ZeroCount, "list without items"),
+        (ListError::Start, "bad start of a list item"),
+    ];
+    for (error, expected) in lists {
+        holds!(rt; format!(in alloc; "{error}")?.as_str() == expected);
+    }
+    let packs = [
+        (PackError::CountLimit, "too many list items"),
+        (PackError::StartLimit, "list too long"),
+        (PackError::Memory, "out of memory"),
+    ];
+    for (error, expected) in packs {
+        holds!(rt; format!(in alloc; "{error}")?.as_str() == expected);
+    }
+    Ok(())
+}
