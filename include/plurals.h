@@ -23,9 +23,10 @@
  *
  * Memory and ownership
  *     All bytes are the caller's, before and after a call. Nothing is kept between calls: no call has to be undone, and
- *     there is no state that calls share. A call that takes memory gives it back before it returns; it uses malloc,
+ *     there is no state that calls share. A call that allocates frees all of it before it returns; it uses malloc,
  *     realloc and free of the process, which have to be of one allocator, and malloc and realloc have to align a block to
- *     each power of two up to 16 that divides its size. plurals_check_rules and plurals_category_of_integer take none.
+ *     each power of two up to 16 that divides its size. plurals_check_rules and plurals_category_of_integer allocate
+ *     nothing.
  *
  * What the caller has to see to
  *     A pointer and the length after it are one slice: that many bytes can be read there, and in out written. A text needs
@@ -126,15 +127,15 @@ enum plurals_fault {
 
 /* Writes the block of the rules that a document has for a locale (docs/JSON.md; tools/cldr-document makes a document of
  * CLDR's files). rule_type is PLURALS_CARDINAL or PLURALS_ORDINAL. The locale is compared byte by byte, without fallback.
- * Faults, in the order in which they are looked for: the type; the locale's text isn't UTF-8; the text isn't JSON; it is no
- * document, in any of its locales; the locale isn't present; PLURALS_RULES_LIMIT. Takes memory in proportion to the
+ * Faults, in the order in which they are looked for: the type; the locale's text isn't UTF-8; the text isn't JSON; it isn't a
+ * document, in any of its locales; the locale isn't present; PLURALS_RULES_LIMIT. Allocates in proportion to the
  * document. */
 int64_t plurals_rules_from_document(const char *json, size_t json_len, const char *locale, size_t locale_len,
                                     uint8_t rule_type, uint8_t *out, size_t out_len);
 
 /* Writes the block of the rules of these five texts, which are as CLDR has them, with samples or without. A text of length
- * 0 is no rule. Faults, in the order in which they are looked for: a text isn't UTF-8; that of the first text that is no
- * rule; PLURALS_RULES_LIMIT. Takes memory. */
+ * 0 isn't a rule. Faults, in the order in which they are looked for: a text isn't UTF-8; that of the first text that isn't a
+ * rule; PLURALS_RULES_LIMIT. Allocates. */
 int64_t plurals_rules_from_texts(const char *zero, size_t zero_len, const char *one, size_t one_len, const char *two,
                                  size_t two_len, const char *few, size_t few_len, const char *many, size_t many_len,
                                  uint8_t *out, size_t out_len);
@@ -144,30 +145,31 @@ int64_t plurals_rules_from_texts(const char *zero, size_t zero_len, const char *
  * memory. */
 int32_t plurals_check_rules(const uint8_t *rules, size_t rules_len);
 
-/* Returns the category of an integer, PLURALS_ZERO to PLURALS_OTHER, or the fault of the rules. Takes no memory. */
+/* Returns the category of an integer, PLURALS_ZERO to PLURALS_OTHER, or the fault of the rules. number is
+ * unsigned: pass the absolute value of a negative one, which has the same category. Allocates nothing. */
 int32_t plurals_category_of_integer(const uint8_t *rules, size_t rules_len, uint64_t number);
 
 /* Returns the category of a number as it is written: 1 and 1.0 are two numbers. It may have a sign, zeros at both ends and
  * a compact exponent, as 1.2c6 (docs/NUMBERS.md). Of a long number a part decides; plurals_is_exact tells whether all of
- * it would give the same category. Takes memory for the number. */
+ * it would give the same category. Allocates for the number. */
 int32_t plurals_category(const uint8_t *rules, size_t rules_len, const char *number, size_t number_len);
 
 /* Returns 1 if the category of the number is that of all its digits, however many it has, 0 if it may be another one
  * (docs/EXACTNESS.md), or a fault. It is 1 for each number that has at most 18 digits on either side of the point, once
- * the exponent has moved it. Takes memory for the number. */
+ * the exponent has moved it. Allocates for the number. */
 int32_t plurals_is_exact(const uint8_t *rules, size_t rules_len, const char *number, size_t number_len);
 
 /* Writes the block of the elements of a JSON text (docs/JSON.md), as {"other":[0,"{} items"],"one":[0,"{} item"]}. Faults,
- * in the order in which they are looked for: the text isn't JSON; it means no elements; they can't be packed. Takes memory. */
+ * in the order in which they are looked for: the text isn't JSON; it means no elements; they can't be packed. Allocates. */
 int64_t plurals_elements_from_json(const char *json, size_t json_len, uint8_t *out, size_t out_len);
 
 /* Writes the text of the element that the number takes: the explicit one of exactly 0 or exactly 1 if it is present, else
- * that of the number's category, else that of other. Takes memory for the number. */
+ * that of the number's category, else that of other. Allocates for the number. */
 int64_t plurals_element(const uint8_t *rules, size_t rules_len, const uint8_t *elements, size_t elements_len,
                         const char *number, size_t number_len, char *out, size_t out_len);
 
 /* Writes the message of the number: the text of its element, with the number as it is written in the place of each {}.
- * Takes memory for the number and for the message. */
+ * Allocates for the number and for the message. */
 int64_t plurals_message(const uint8_t *rules, size_t rules_len, const uint8_t *elements, size_t elements_len,
                         const char *number, size_t number_len, char *out, size_t out_len);
 

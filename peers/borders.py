@@ -5,12 +5,13 @@ from collections import Counter
 from dataclasses import replace
 
 import rules as shared
-from exact import category, exact_number
+from exact import category, exact_number, parts
 from library import TEXT_FAULTS
 
 REFUSED = "refused"
 TRUE_OF_ALL = [[]]
 NUMBERS = 10  # of each text
+SAID = 10  # of the texts that aren't as wanted
 
 
 def with_last(groups, relation):
@@ -157,7 +158,10 @@ BORDERS = {
 def number(random, groups):
     """Returns a short number, whose operands both sides hold exactly."""
     if random.random() < 0.5 and groups[-1]:
-        return shared.aimed(random, {"one": groups})
+        aimed = shared.aimed(random, {"one": groups})
+        whole, fraction, _ = parts(aimed)
+        if len(whole) + len(fraction) < 16:
+            return aimed
     return str(random.randrange(1000)) + random.choice(("", "", ".0", ".5", ".50", ".125"))
 
 
@@ -198,6 +202,6 @@ def compare(asked, library, random, count, say):
             is_right = is_as_wanted(ours, *of_library(library, text, numbers), numbers)
             is_right = is_as_wanted(theirs, *of_icu4c(result), numbers) and is_right
             counts[name if is_right else "unexplained"] += 1
-            if not is_right:
+            if not is_right and counts["unexplained"] <= SAID:
                 say(f"ICU4C, {name}: not as the class says: {text!r} {result[0]}")
     return counts

@@ -12,6 +12,7 @@ DOCUMENT = TOP / "crates/plurals_check/stdin"
 ORDER = "two forms, other first"
 TYPES = ("cardinal", "ordinal")
 LAST = 100_000
+SAID = 10  # of the differences of no class
 # Ends of the machine's integers and of decimal places, with their neighbours.
 EDGES = sorted(
     {10**k + near for k in range(5, 20) for near in (-1, 0, 1)}
@@ -162,7 +163,8 @@ def compare_set(path, rules, library, counts, say):
         counts["compared"] += 1
         if ours != theirs:
             counts["unexplained"] += 1
-            say(f"gettext, {dict(rules)}, {number}: {ours} by the library, {theirs} by gettext")
+            if counts["unexplained"] <= SAID:
+                say(f"gettext, {dict(rules)}, {number}: {ours} by the library, {theirs} by gettext")
 
     for number in [*range(LAST + 1), *EDGES]:
         compare_number(library.category_of_integer(block, number), number)
@@ -214,12 +216,13 @@ def row(path, rules, last):
 
 
 HEAD = """\
-# The category of each integer from 0 to 200 under each set of CLDR 41's rules, as GNU gettext gives it: the expression of C that its
-# program cldr-plurals prints for the set, evaluated at each integer. Nothing here comes from this project's own programs: tools/peers
-# --rows writes the file, and docs/PEERS.md tells how. CLDR's rules are those of crates/plurals_check/stdin (ORIGIN.md beside it).
+# The category of each integer from 0 to 200 under each set of CLDR 41's rules, as GNU gettext gives
+# it: the expression of C that its program cldr-plurals prints for the set, evaluated at each
+# integer. Nothing here comes from this project's own programs. tools/peers --rows writes the file,
+# and docs/PEERS.md says how. The rules are those of crates/plurals_check/stdin (ORIGIN.md there).
 #
-# integer_categories RULES, FIRST, LAST => the categories that occur, zero to other, each with its integers from FIRST to LAST;
-#     neighbours as 2~4
+# integer_categories RULES, FIRST, LAST => the categories of the integers from FIRST to LAST, zero
+#     to other, each with its integers; neighbours as 2~4
 """
 
 

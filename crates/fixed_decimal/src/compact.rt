@@ -13,11 +13,19 @@ use std::marker::Model;
 /// A decimal and a compact exponent: the power of ten after the `c` of its text (UTS 35 Part 3,
 /// Language Plural Rules, operands c and e).
 ///
-/// <!-- snippet crates/tests_libraries/src/tests/fixed_decimal_examples.rt:
-/// example "let number = CompactDecimal::from_str" to "holds!" of fn a_compact_decimal_has_its_parts -->
+/// <!-- snippet crates/using/src/calls/numbers.rt: body of fn print_compact -->
 /// ```
-/// let number = CompactDecimal::from_str(alloc, "-1.00000020c6")?;
-/// assert!(rt; number.significand().sign == Sign::Negative);
+/// let number = CompactDecimal::from_str(alloc, "1.2c6")?;
+/// println!(rt; "{}", number.exponent())?;
+/// println!(rt; "{}", number.significand().absolute.digit_at(-1))?;
+/// ```
+///
+/// This prints
+///
+/// <!-- snippet crates/using/stdout: section a compact decimal -->
+/// ```text
+/// 6
+/// 2
 /// ```
 #[derive(Debug, Drop)]
 pub struct CompactDecimal {

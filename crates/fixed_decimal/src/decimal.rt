@@ -15,13 +15,20 @@ use std::alloc::Global;
 
 /// A written number with the sign that its text has.
 ///
-/// <!-- snippet crates/tests_libraries/src/tests/fixed_decimal_examples.rt:
-/// example "let number = CompactDecimal::from_parts" to "holds!(rt; number.significand().sign == Sign::P"
-/// of fn a_compact_decimal_has_its_parts -->
+/// <!-- snippet crates/using/src/calls/numbers.rt: body of fn print_decimal -->
 /// ```
-/// let number = CompactDecimal::from_parts(Decimal::from_str(alloc, "+2.5")?, 255);
-/// assert!(rt; number.exponent() == 255);
-/// assert!(rt; number.significand().sign == Sign::Positive);
+/// let number = Decimal::from_str(alloc, "-12.50")?;
+/// println!(rt; "{:?}", number.sign)?;
+/// let (lowest, highest) = number.absolute.magnitude_range();
+/// println!(rt; "{lowest} to {highest}")?;
+/// ```
+///
+/// This prints
+///
+/// <!-- snippet crates/using/stdout: section a decimal -->
+/// ```text
+/// Negative
+/// -2 to 1
 /// ```
 #[derive(Debug, Drop)]
 pub struct Decimal {

@@ -18,13 +18,24 @@ use std::marker::Model;
 /// A written number without a sign: its integer digits, at least one, and its fraction digits. All
 /// written zeros count. Only the digits from the first to the last that isn't zero are stored.
 ///
-/// <!-- snippet crates/tests_libraries/src/tests/fixed_decimal_examples.rt:
-/// example "let number = UnsignedDecimal::from_str" to "}" of fn outside_the_places_each_digit_is_zero -->
+/// <!-- snippet crates/using/src/calls/numbers.rt: body of fn print_digits -->
 /// ```
-/// let number = UnsignedDecimal::from_str(alloc, "98.76")?;
-/// for magnitude in [i16::MIN, -32767, -4, -3, 2, 3, 32766, i16::MAX] {
-///     assert!(rt; number.digit_at(magnitude) == 0);
+/// let number = UnsignedDecimal::from_str(alloc, "98.70")?;
+/// for magnitude in [2i16, 1, 0, -1, -2] {
+///     let digit = number.digit_at(magnitude);
+///     println!(rt; "{magnitude}: {digit}")?;
 /// }
+/// ```
+///
+/// This prints
+///
+/// <!-- snippet crates/using/stdout: section digits -->
+/// ```text
+/// 2: 0
+/// 1: 9
+/// 0: 8
+/// -1: 7
+/// -2: 0
 /// ```
 #[derive(Debug, Drop)]
 pub struct UnsignedDecimal {

@@ -26,19 +26,13 @@ impl PluralElementsPackedCow<'static> {
     /// `two`, `few`, `many`, `explicit_zero` and `explicit_one`. Other keys aren't read. A
     /// category's value that equals that of other isn't packed.
     ///
-    /// With rows such as `{"other":[0,"abc"]}`, `b"\0abc"` and again `{"other":[0,"abc"]}`:
+    /// For example:
     ///
-    /// <!-- snippet crates/tests_libraries/src/tests/icu_plurals_json.rt:
-    ///      example "for (text, bytes, wanted)" to "}" of fn elements_are_read_and_written -->
+    /// <!-- snippet crates/using/src/calls/packed.rt: "let value" to "println" of fn print_json -->
     /// ```
-    /// for (text, bytes, wanted) in rows {
-    ///     let value = Value::from_str(alloc, text)?;
-    ///     let elements = PluralElementsPackedCow::from_json(alloc, &value)?;
-    ///     assert!(rt; elements.as_packed().as_bytes() == bytes);
-    ///     assert!(rt; elements.as_packed() == PluralElementsPackedULE::parse_bytes(bytes)?);
-    ///     let written = elements.to_json(alloc)?.to_string(alloc)?;
-    ///     assert!(rt; written.as_str() == wanted);
-    /// }
+    /// let value = Value::from_str(alloc, r#"{"other":[0,"files"],"one":[0,"file"]}"#)?;
+    /// let elements = PluralElementsPackedCow::from_json(alloc, &value)?;
+    /// println!(rt; "{} bytes", elements.as_packed().as_bytes().len())?;
     /// ```
     ///
     /// [`JsonError::Float`] if the value holds a float, else [`JsonError::Shape`] if a part has
@@ -69,10 +63,22 @@ impl<'data> PluralElementsPackedCow<'data> {
     /// an object with a list of metadata and text under the key of each value that is present. It
     /// allocates; the only error is [`JsonError::Memory`].
     ///
-    /// <!-- snippet crates/tests_libraries/src/tests/icu_plurals_packing.rt: example "let value = packed.to_json" to "holds!" -->
+    /// <!-- snippet crates/using/src/calls/packed.rt: body of fn print_json -->
     /// ```
-    /// let value = packed.to_json(alloc)?;
-    /// assert!(rt; PluralElementsPackedCow::from_json(alloc, &value)? == packed);
+    /// let value = Value::from_str(alloc, r#"{"other":[0,"files"],"one":[0,"file"]}"#)?;
+    /// let elements = PluralElementsPackedCow::from_json(alloc, &value)?;
+    /// println!(rt; "{} bytes", elements.as_packed().as_bytes().len())?;
+    /// let written = elements.to_json(alloc)?;
+    /// let again = PluralElementsPackedCow::from_json(alloc, &written)?;
+    /// println!(rt; "{}", again == elements)?;
+    /// ```
+    ///
+    /// This prints
+    ///
+    /// <!-- snippet crates/using/stdout: section elements as JSON -->
+    /// ```text
+    /// 14 bytes
+    /// true
     /// ```
     pub fn to_json(&self, alloc: Global) -> Result<Value, JsonError>
         ensures written { IfOk result (λ value. view value ≡ elements_json (elements_of self.now)) }

@@ -23,25 +23,14 @@ impl PluralElementsPackedULE<'_> {
     /// those of the categories that differ from that of other in metadata or text; the value of
     /// other is the default.
     ///
-    /// <!-- snippet crates/tests_libraries/src/tests/icu_plurals_packing.rt:
-    ///      const EIGHT; fn eight; example body of fn packs_every_key_in_order -->
+    /// <!-- snippet crates/using/src/calls/packed.rt:
+    ///      "let elements" to "let bytes" of fn print_encoded -->
     /// ```
-    /// const EIGHT: &[u8] =
-    ///     b"\x82\x01o\x07\0\x02\0\x04\0\x06\0\x08\0\x0a\0\x0c\0\x03z\x14a\x25b\x36c\x47d\x58e\x69f";
-    ///
-    /// fn eight() -> PluralElements<(FourBitMetadata, &'static str)> {
-    ///     PluralElements::new(value((2, "o")))
-    ///         .with_zero_value(Some(value((3, "z"))))
-    ///         .with_one_value(Some(value((4, "a"))))
-    ///         .with_two_value(Some(value((5, "b"))))
-    ///         .with_few_value(Some(value((6, "c"))))
-    ///         .with_many_value(Some(value((7, "d"))))
-    ///         .with_explicit_zero_value(Some(value((8, "e"))))
-    ///         .with_explicit_one_value(Some(value((9, "f"))))
-    /// }
-    ///
-    /// let bytes = PluralElementsPackedULE::encode(alloc, &eight())?;
-    /// assert!(rt; bytes.as_slice() == EIGHT);
+    /// let elements = PluralElements::new((FourBitMetadata::zero(), "files")).with_one_value(Some((
+    ///     FourBitMetadata::zero(),
+    ///     "file",
+    /// )));
+    /// let bytes = PluralElementsPackedULE::encode(alloc, &elements)?;
     /// ```
     ///
     /// The errors, in the order in which they are looked for: the default has more than 255 bytes,

@@ -64,8 +64,15 @@
 //! [`PluralRules::is_exact_for`] returns whether its category is that of the number itself, and not
 //! only of what is kept of it: with the rules of French
 //!
-//! <!-- snippet crates/using/src/numbers.rt: body of fn print_exactness -->
+//! <!-- snippet crates/using/src/numbers.rt: fn french; body of fn print_exactness -->
 //! ```
+//! fn french(alloc: Global) -> anyhow::Result<PluralRules<'static>> {
+//!     let one = Some("i = 0,1");
+//!     let many = Some("e = 0 and i != 0 and i % 1000000 = 0 and v = 0 or e != 0..5");
+//!     let data = PluralRulesData::from_texts(alloc, None, one, None, None, many)?;
+//!     Ok(PluralRules::from_data(data))
+//! }
+//!
 //! let rules = french(alloc)?;
 //! for text in [
 //!     "100000000000000000000000000000",

@@ -22,19 +22,27 @@ use plural_reference::PluralOperands;
 /// Elements as checked bytes: a default, and either nothing else or a packed list of items after
 /// it. Each value is metadata and a text. Two are equal if and only if their bytes are.
 ///
-/// <!-- snippet crates/tests_libraries/src/tests/icu_plurals_packing.rt: example body of fn packed_elements_answer_as_before -->
+/// <!-- snippet crates/using/src/calls/packed.rt: body of fn print_encoded -->
 /// ```
-/// let rules = rules(alloc)?;
-/// let elements = items();
+/// let elements = PluralElements::new((FourBitMetadata::zero(), "files")).with_one_value(Some((
+///     FourBitMetadata::zero(),
+///     "file",
+/// )));
 /// let bytes = PluralElementsPackedULE::encode(alloc, &elements)?;
 /// let packed = PluralElementsPackedULE::parse_bytes(&bytes)?;
-/// for number in numbers() {
-///     let (metadata, text) = packed.get(number, &rules);
-///     let (wanted, wanted_text) = *elements.get(number, &rules);
-///     assert!(rt; metadata == wanted);
-///     assert!(rt; text == wanted_text);
-///     assert!(rt; text == "items");
+/// for number in [1u8, 2] {
+///     let (metadata, text) = packed.get(PluralOperands::from(number), rules);
+///     let metadata = metadata.get();
+///     println!(rt; "{number}: {text}, {metadata}")?;
 /// }
+/// ```
+///
+/// With the rules of English, this prints
+///
+/// <!-- snippet crates/using/stdout: section encode -->
+/// ```text
+/// 1: file, 0
+/// 2: files, 0
 /// ```
 #[derive(Clone, Copy, Debug)]
 pub struct PluralElementsPackedULE<'a> {
@@ -102,18 +110,15 @@ impl<'a> PluralElementsPackedULE<'a> {
     /// is present, else that of the category that the rules choose, else the default. If a key
     /// occurs twice, its first item counts. The item is looked up in the bytes; no memory is taken.
     ///
-    /// With the bytes of a row, and what is `wanted` for each of four numbers:
+    /// With `packed` as in the example of the type:
     ///
-    /// <!-- snippet crates/tests_libraries/src/tests/icu_plurals_examples.rt:
-    ///      example "let elements" to "holds!(rt; found" of fn chooses_an_item_or_the_default -->
+    /// <!-- snippet crates/using/src/calls/packed.rt: "for number" to "}" of fn print_encoded -->
     /// ```
-    /// let elements = PluralElementsPackedULE::parse_bytes(bytes)?;
-    /// assert!(rt; elements.as_bytes() == bytes);
-    /// let found = numbers.map(|number| {
-    ///     let (metadata, text) = elements.get(number, &rules);
-    ///     (metadata.get(), text)
-    /// });
-    /// assert!(rt; found == wanted);
+    /// for number in [1u8, 2] {
+    ///     let (metadata, text) = packed.get(PluralOperands::from(number), rules);
+    ///     let metadata = metadata.get();
+    ///     println!(rt; "{number}: {text}, {metadata}")?;
+    /// }
     /// ```
     pub fn get(&self, op: PluralOperands, rules: &PluralRules<'_>) -> (FourBitMetadata, &'a str)
         ensures { lent_value result ≡ element_at (elements_of (lent_elements self.now)) op rules.now }
@@ -129,14 +134,23 @@ impl<'a> PluralElementsPackedULE<'a> {
     /// counts, and a category's value is present even if it equals the default. It allocates
     /// nothing.
     ///
-    /// <!-- snippet crates/tests_libraries/src/tests/icu_plurals_examples.rt:
-    ///      example "let bytes" to "holds!(rt; shown(elements.zero())" of fn decodes_every_key -->
+    /// <!-- snippet crates/using/src/calls/packed.rt: body of fn print_decoded -->
     /// ```
-    /// let bytes =
-    ///     b"\x82\x01o\x07\0\x02\0\x04\0\x06\0\x08\0\x0a\0\x0c\0\x03z\x14a\x25b\x36c\x47d\x58e\x69f";
-    /// let elements = PluralElementsPackedULE::parse_bytes(bytes)?.decode();
-    /// assert!(rt; shown(elements.other()) == (2, "o"));
-    /// assert!(rt; shown(elements.zero()) == (3, "z"));
+    /// let packed = PluralElementsPackedULE::parse_bytes(b"\x85\x05files\x01\0\x10file")?;
+    /// let elements = packed.decode();
+    /// let (metadata, text) = *elements.other();
+    /// let metadata = metadata.get();
+    /// println!(rt; "{text}, {metadata}")?;
+    /// let (_, text) = *elements.one();
+    /// println!(rt; "{text}")?;
+    /// ```
+    ///
+    /// This prints
+    ///
+    /// <!-- snippet crates/using/stdout: section decode -->
+    /// ```text
+    /// files, 5
+    /// file
     /// ```
     pub fn decode(&self) -> PluralElements<(FourBitMetadata, &'a str)>
         ensures { each_by lent_value result ≡ elements_of (lent_elements self.now) }

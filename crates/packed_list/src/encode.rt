@@ -15,13 +15,11 @@ impl<'a> PackedList<'a> {
     /// ([`PackError::CountLimit`]); an item that would start after place 65535
     /// ([`PackError::StartLimit`]); out of memory ([`PackError::Memory`]).
     ///
-    /// <!-- snippet crates/tests_libraries/src/tests/packed_list_lists.rt: "match PackedList::encode" to "}" of fn packs_three -->
+    /// <!-- snippet crates/using/src/calls/lists.rt:
+    ///      "let items" to "let bytes" of fn print_list -->
     /// ```
-    /// match PackedList::encode(alloc, &[b"ab", b"", b"cd"]) {
-    ///     Ok(bytes) => Some(bytes.as_slice() == THREE_ITEMS),
-    ///     Err(PackError::Memory) => None,
-    ///     Err(_) => Some(false),
-    /// }
+    /// let items: [&[u8]; 3] = [b"ab", b"", b"cd"];
+    /// let bytes = PackedList::encode(alloc, &items)?;
     /// ```
     pub fn encode(alloc: Global, items: &[&[u8]]) -> Result<Vec<u8>, PackError>
         ensures ok { IfOk result (λ bytes. ListBytes (lent items.now) bytes.items) }

@@ -48,15 +48,23 @@ impl<'a> PackedList<'a> {
     /// count and the starts take ([`ListError::Header`]); a count of 0 ([`ListError::ZeroCount`]);
     /// a start that is below the previous one or after the data ([`ListError::Start`]).
     ///
-    /// <!-- snippet crates/tests_libraries/src/tests/packed_list_lists.rt:
-    /// example "let list" to "}" of fn the_last_items_of_a_beginning_are_empty -->
+    /// <!-- snippet crates/using/src/calls/lists.rt: body of fn print_list -->
     /// ```
-    /// let list = PackedList::parse_bytes(&THREE_ITEMS[..8])?;
-    /// let expected: [&[u8]; 3] = [b"ab", b"", b""];
-    /// assert!(rt; list.len() == 3);
-    /// for (place, item) in expected.iter().enumerate() {
-    ///     assert!(rt; list.get(place) == Some(*item));
+    /// let items: [&[u8]; 3] = [b"ab", b"", b"cd"];
+    /// let bytes = PackedList::encode(alloc, &items)?;
+    /// let list = PackedList::parse_bytes(&bytes)?;
+    /// println!(rt; "{} items in {} bytes", list.len(), bytes.len())?;
+    /// if let Some(item) = list.get(2) {
+    ///     println!(rt; "the last one has {} bytes", item.len())?;
     /// }
+    /// ```
+    ///
+    /// This prints
+    ///
+    /// <!-- snippet crates/using/stdout: section a list -->
+    /// ```text
+    /// 3 items in 10 bytes
+    /// the last one has 2 bytes
     /// ```
     pub fn parse_bytes(bytes: &'a [u8]) -> Result<PackedList<'a>, ListError>
         ensures ok { IfOk result (λ list. ListBytes list bytes.now) }

@@ -14,14 +14,24 @@ impl<'data> PluralRules<'data> {
     /// [`PluralRules::is_exact_for_decimal`] holds and the rules come from texts, it is the
     /// category of the number itself, whatever its length. It allocates nothing.
     ///
-    /// <!-- snippet crates/tests_libraries/src/tests/plural_base_rules.rt: example fn decimal -->
+    /// <!-- snippet crates/using/src/calls/rules.rt: body of fn print_decimals -->
     /// ```
-    /// fn decimal(alloc: Global, one: &str, number: &str) -> anyhow::Result<(PluralCategory, bool)> {
-    ///     let rules = rules_of(alloc, one)?;
-    ///     let number = Decimal::from_str(alloc, number)?;
+    /// let data = PluralRulesData::from_texts(alloc, None, Some("i % 3 = 2"), None, None, None)?;
+    /// let rules = PluralRules::from_data(data);
+    /// for text in ["5.0", "2000000000000000000"] {
+    ///     let number = Decimal::from_str(alloc, text)?;
     ///     let category = rules.category_for_decimal(&number);
-    ///     Ok((category, rules.is_exact_for_decimal(&number)))
+    ///     let is_exact = rules.is_exact_for_decimal(&number);
+    ///     println!(rt; "{text}: {category:?}, exact: {is_exact}")?;
     /// }
+    /// ```
+    ///
+    /// This prints
+    ///
+    /// <!-- snippet crates/using/stdout: section category_for_decimal -->
+    /// ```text
+    /// 5.0: One, exact: true
+    /// 2000000000000000000: Other, exact: false
     /// ```
     pub fn category_for_decimal(&self, number: &Decimal) -> PluralCategory
         ensures kept { IsKeptChoice self.now number.now.absolute 0 result }
@@ -36,10 +46,17 @@ impl<'data> PluralRules<'data> {
     /// the exponent. If [`PluralRules::is_exact_for`] holds and the rules come from texts, it is
     /// the category of the number itself, whatever its length. It allocates nothing.
     ///
-    /// In French, whose rules `french` returns,
+    /// In French
     ///
-    /// <!-- snippet crates/using/src/numbers.rt: body of fn print_numbers -->
+    /// <!-- snippet crates/using/src/numbers.rt: fn french; body of fn print_numbers -->
     /// ```
+    /// fn french(alloc: Global) -> anyhow::Result<PluralRules<'static>> {
+    ///     let one = Some("i = 0,1");
+    ///     let many = Some("e = 0 and i != 0 and i % 1000000 = 0 and v = 0 or e != 0..5");
+    ///     let data = PluralRulesData::from_texts(alloc, None, one, None, None, many)?;
+    ///     Ok(PluralRules::from_data(data))
+    /// }
+    ///
     /// let rules = french(alloc)?;
     /// for text in ["1", "1.50", "1000000", "1000000.0", "1.2c6", "-2"] {
     ///     let number = CompactDecimal::from_str(alloc, text)?;

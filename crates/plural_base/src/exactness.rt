@@ -24,8 +24,15 @@ impl<'data> PluralRules<'data> {
     /// rules whose moduli on `n` and `i` all divide `10^18`. Places count as they are written, with
     /// leading and trailing zeros. It allocates nothing.
     ///
-    /// <!-- snippet crates/using/src/numbers.rt: body of fn print_exactness -->
+    /// <!-- snippet crates/using/src/numbers.rt: fn french; body of fn print_exactness -->
     /// ```
+    /// fn french(alloc: Global) -> anyhow::Result<PluralRules<'static>> {
+    ///     let one = Some("i = 0,1");
+    ///     let many = Some("e = 0 and i != 0 and i % 1000000 = 0 and v = 0 or e != 0..5");
+    ///     let data = PluralRulesData::from_texts(alloc, None, one, None, None, many)?;
+    ///     Ok(PluralRules::from_data(data))
+    /// }
+    ///
     /// let rules = french(alloc)?;
     /// for text in [
     ///     "100000000000000000000000000000",
@@ -39,7 +46,7 @@ impl<'data> PluralRules<'data> {
     /// }
     /// ```
     ///
-    /// With the rules of French, this prints
+    /// This prints
     ///
     /// <!-- snippet crates/using/stdout: section exact -->
     /// ```text
@@ -56,14 +63,24 @@ impl<'data> PluralRules<'data> {
 
     /// As [`PluralRules::is_exact_for`], for a number without an exponent.
     ///
-    /// <!-- snippet crates/tests_libraries/src/tests/plural_base_rules.rt: example body of fn integers_of_64_bits_are_whole -->
+    /// <!-- snippet crates/using/src/calls/rules.rt: body of fn print_decimals -->
     /// ```
-    /// let rules = rules_of(alloc, "i % 3 = 2")?;
-    /// let operands = PluralOperands::from(2_000_000_000_000_000_000u64);
-    /// assert!(rt; rules.category_for(operands) == ONE);
-    /// let number = Decimal::from_str(alloc, "2000000000000000000")?;
-    /// assert!(rt; rules.category_for_decimal(&number) == OTHER);
-    /// assert!(rt; !rules.is_exact_for_decimal(&number));
+    /// let data = PluralRulesData::from_texts(alloc, None, Some("i % 3 = 2"), None, None, None)?;
+    /// let rules = PluralRules::from_data(data);
+    /// for text in ["5.0", "2000000000000000000"] {
+    ///     let number = Decimal::from_str(alloc, text)?;
+    ///     let category = rules.category_for_decimal(&number);
+    ///     let is_exact = rules.is_exact_for_decimal(&number);
+    ///     println!(rt; "{text}: {category:?}, exact: {is_exact}")?;
+    /// }
+    /// ```
+    ///
+    /// This prints
+    ///
+    /// <!-- snippet crates/using/stdout: section category_for_decimal -->
+    /// ```text
+    /// 5.0: One, exact: true
+    /// 2000000000000000000: Other, exact: false
     /// ```
     pub fn is_exact_for_decimal(&self, number: &Decimal) -> bool
         ensures { IsTrue result ↔ IsWithinBound number.now.absolute 0 (moduli_of self.now) }

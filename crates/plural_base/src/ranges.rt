@@ -16,19 +16,21 @@ use std::marker::Model;
 /// absent has its end's category. Tables are equal if they hold the same pairs. Of its calls only
 /// [`PluralRanges::to_json`] allocates.
 ///
-/// <!-- snippet crates/tests_libraries/src/tests/plural_base_ranges.rt:
-///      example "let mut ranges" to "holds!(rt; ranges.len()" of fn a_pair_has_the_category_that_was_put_last -->
+/// <!-- snippet crates/using/src/calls/ranges.rt: body of fn print_table -->
 /// ```
+/// let (one, few) = (RawPluralCategory::One, RawPluralCategory::Few);
 /// let mut ranges = PluralRanges::new();
-/// assert!(rt; ranges == PluralRanges::default());
-/// assert!(rt; ranges.is_empty());
-/// assert!(rt; ranges.insert(OTHER, ONE, FEW) == None);
-/// assert!(rt; ranges.get(OTHER, ONE) == Some(FEW));
-/// assert!(rt; ranges.get(ONE, OTHER) == None);
-/// assert!(rt; ranges.insert(OTHER, ONE, MANY) == Some(FEW));
-/// assert!(rt; ranges.insert(ONE, OTHER, OTHER) == None);
-/// assert!(rt; ranges.get(OTHER, ONE) == Some(MANY));
-/// assert!(rt; ranges.len() == 2);
+/// ranges.insert(one, few, few);
+/// println!(rt; "{}", ranges.get(one, few) == Some(few))?;
+/// println!(rt; "{}", ranges.get(few, one).is_none())?;
+/// ```
+///
+/// This prints
+///
+/// <!-- snippet crates/using/stdout: section a table of ranges -->
+/// ```text
+/// true
+/// true
 /// ```
 #[derive(Clone, Copy, Debug, PartialEq)]
 pub struct PluralRanges {

@@ -71,12 +71,23 @@ impl<'data> PluralRules<'data> {
 
     /// The category of a number by its operands. It allocates nothing.
     ///
-    /// <!-- snippet crates/tests_libraries/src/tests/plural_base_rules.rt:
-    ///      example "let rules" to "holds!" of fn integers_of_64_bits_are_whole -->
+    /// <!-- snippet crates/using/src/calls/rules.rt: body of fn print_integers -->
     /// ```
-    /// let rules = rules_of(alloc, "i % 3 = 2")?;
-    /// let operands = PluralOperands::from(2_000_000_000_000_000_000u64);
-    /// assert!(rt; rules.category_for(operands) == ONE);
+    /// let data = PluralRulesData::from_texts(alloc, None, Some("i % 3 = 2"), None, None, None)?;
+    /// let rules = PluralRules::from_data(data);
+    /// for number in [5u64, 6, 2_000_000_000_000_000_000] {
+    ///     let category = rules.category_for(PluralOperands::from(number));
+    ///     println!(rt; "{number}: {category:?}")?;
+    /// }
+    /// ```
+    ///
+    /// This prints
+    ///
+    /// <!-- snippet crates/using/stdout: section category_for -->
+    /// ```text
+    /// 5: One
+    /// 6: Other
+    /// 2000000000000000000: One
     /// ```
     // Inlined with the two below, the operands of an integer stay constants: a sixth of the
     // instructions less.

@@ -7,18 +7,25 @@ use std::fmt;
 
 /// Why there is no message for a number.
 ///
-/// <!-- snippet crates/tests_libraries/src/tests/plural_message_messages.rt: example "let rows" to "}" of fn what_is_no_number_has_no_message -->
+/// <!-- snippet crates/using/src/calls/messages.rt: body of fn print_faults -->
 /// ```
-/// let rows = [
-///     ("x", DecimalError::Syntax),
-///     ("", DecimalError::Syntax),
-///     ("1c0256", DecimalError::Syntax),
-///     ("1c256", DecimalError::Limit),
-/// ];
-/// for (number, fault) in rows {
-///     let answer = message.format(alloc, number, &rules);
-///     assert!(rt; answer.err() == Some(MessageError::Number(fault)));
+/// let texts = PluralElements::new("{} items");
+/// let packed = PluralElementsPackedCow::from_elements(alloc, &texts)?;
+/// let message = Message::new(packed.as_packed());
+/// for number in ["x", "1c0256", "1c256"] {
+///     if let Err(error) = message.format(alloc, number, rules) {
+///         println!(rt; "{number}: {error}")?;
+///     }
 /// }
+/// ```
+///
+/// This prints
+///
+/// <!-- snippet crates/using/stdout: section no message -->
+/// ```text
+/// x: bad number
+/// 1c0256: bad number
+/// 1c256: number out of limits
 /// ```
 #[derive(Clone, Copy, Debug, PartialEq, Eq)]
 pub enum MessageError {

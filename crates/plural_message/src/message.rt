@@ -68,24 +68,26 @@ impl<'a> Message<'a> {
     /// Plural Rules), and in the element's text each `{}`, from the left, is replaced by the
     /// number's text as it was given. There is no escape for `{}`. It allocates the message.
     ///
-    /// With elements for `{} item` and `{} items`, and others with `none` for exactly 0:
+    /// For example:
     ///
-    /// <!-- snippet crates/tests_libraries/src/tests/plural_message_messages.rt:
-    ///      example "let rows" to "}" of fn the_number_chooses_the_text_that_it_stands_in -->
+    /// <!-- snippet crates/using/src/calls/messages.rt: body of fn print_written -->
     /// ```
-    /// let rows = [
-    ///     (ITEMS, "1", "1 item"),
-    ///     (ITEMS, "1.0", "1.0 items"),
-    ///     (ITEMS, "1c6", "1c6 items"),
-    ///     (ITEMS, "-1", "-1 item"),
-    ///     (NONE_AT_ZERO, "0", "none"),
-    ///     (NONE_AT_ZERO, "0.0", "0.0 items"),
-    /// ];
-    /// for (elements, number, text) in rows {
-    ///     let message = Message::new(PluralElementsPackedULE::parse_bytes(elements)?);
-    ///     let filled = message.format(alloc, number, &rules)?;
-    ///     assert!(rt; filled.as_str() == text);
+    /// let texts = PluralElements::new("{} items").with_one_value(Some("{} item"));
+    /// let packed = PluralElementsPackedCow::from_elements(alloc, &texts)?;
+    /// let message = Message::new(packed.as_packed());
+    /// for number in ["1", "1.0", "1c6", "-1"] {
+    ///     println!(rt; "{}", message.format(alloc, number, rules)?)?;
     /// }
+    /// ```
+    ///
+    /// With the rules of English, this prints
+    ///
+    /// <!-- snippet crates/using/stdout: section format -->
+    /// ```text
+    /// 1 item
+    /// 1.0 items
+    /// 1c6 items
+    /// -1 item
     /// ```
     ///
     /// The errors: [`MessageError::Number`] with `Syntax` if the text isn't a number, and with

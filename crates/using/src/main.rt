@@ -3,6 +3,7 @@
 #![tactic(auto)]
 
 mod bytes;
+mod calls;
 mod elements;
 mod english;
 mod json;
@@ -59,5 +60,7 @@ fn main(rt: HostRuntime) -> anyhow::Result<()> {
     let rules = PluralRules::try_new_cardinal_unstable(&provider, "en")?;
     show_rules(&rt, alloc, &provider)?;
     show_choices(&rt, alloc, &rules)?;
-    show_own(&rt, alloc, &provider)
+    show_own(&rt, alloc, &provider)?;
+    calls::show_elements(&rt, alloc, &rules)?;
+    calls::show_rules(&rt, alloc, &provider)
 }

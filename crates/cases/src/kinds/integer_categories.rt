@@ -70,19 +70,22 @@ fn integers_of(
     found: &[PluralCategory],
 ) -> Result<String, RowFault> {
     let mut shown = String::new(alloc);
-    let mut start = None;
+    let mut run = None;
     let mut number = first;
     for other in found {
         if *other == category {
-            start = start.or(Some(number));
-        } else if let Some(begun) = start {
-            push_run(alloc, &mut shown, begun, number.saturating_sub(1))?;
-            start = None;
+            run = match run {
+                Some((begun, _)) => Some((begun, number)),
+                None => Some((number, number)),
+            };
+        } else if let Some((begun, ended)) = run {
+            push_run(alloc, &mut shown, begun, ended)?;
+            run = None;
         }
         number = number.saturating_add(1);
     }
-    if let Some(begun) = start {
-        push_run(alloc, &mut shown, begun, number.saturating_sub(1))?;
+    if let Some((begun, ended)) = run {
+        push_run(alloc, &mut shown, begun, ended)?;
     }
     Ok(shown)
 }

@@ -9,16 +9,25 @@ use super::PluralElements;
 
 impl<T> PluralElements<T> {
     /// Calls the closure for other, zero, one, two, few, many, explicit zero and explicit one, in
-    /// this order, if they are present. With `seen`, which notes the calls:
+    /// this order, if they are present.
     ///
-    /// <!-- snippet crates/tests_libraries/src/tests/icu_plurals_closures.rt: example body of fn absent_values_are_skipped -->
+    /// <!-- snippet crates/using/src/calls/closures.rt: body of fn print_widest -->
     /// ```
-    /// let elements = PluralElements::new(11u8).with_one_value(Some(15));
-    /// let doubled = elements.map(|value| u32::from(value) * 2);
-    /// assert!(rt; values(&doubled) == [22, 22, 30, 22, 22, 22, 0, 0]);
-    /// let mut seen = Seen::refusing(0);
-    /// doubled.for_each(|value| seen.see(*value));
-    /// assert!(rt; (seen.calls, seen.values) == (2, [22, 30, 0, 0, 0, 0, 0, 0]));
+    /// let widths = PluralElements::new(5u8).with_one_value(Some(4));
+    /// let mut widest = 0;
+    /// widths.for_each(|width| {
+    ///     if widest < *width {
+    ///         widest = *width;
+    ///     }
+    /// });
+    /// println!(rt; "{widest}")?;
+    /// ```
+    ///
+    /// This prints
+    ///
+    /// <!-- snippet crates/using/stdout: section for_each -->
+    /// ```text
+    /// 5
     /// ```
     pub fn for_each<F: FnMut(&T)>(&self, mut f: F)
         requires { F.IsAlwaysCallable f }
@@ -28,18 +37,22 @@ impl<T> PluralElements<T> {
     }
 
     /// As [`PluralElements::for_each`] up to the first `Err` of the closure, which is then the
-    /// result; the closure isn't called again. With `seen`, which gives `Err(refused)` at call
-    /// `refused`:
+    /// result; the closure isn't called again.
     ///
-    /// <!-- snippet crates/tests_libraries/src/tests/icu_plurals_closures.rt:
-    ///      example "let answer = eight().try_for_each" to "holds!(rt; seen.calls" -->
+    /// <!-- snippet crates/using/src/calls/closures.rt: body of fn print_first_wide -->
     /// ```
-    /// let answer = eight().try_for_each(|value| {
-    ///     seen.see(*value);
-    ///     seen.answer()
-    /// });
-    /// assert!(rt; answer == Err(refused));
-    /// assert!(rt; seen.calls == refused);
+    /// let widths = PluralElements::new(4u8).with_one_value(Some(5));
+    /// let answer = widths.try_for_each(|width| if *width < 5 { Ok(()) } else { Err(*width) });
+    /// if let Err(width) = answer {
+    ///     println!(rt; "{width} is refused")?;
+    /// }
+    /// ```
+    ///
+    /// This prints
+    ///
+    /// <!-- snippet crates/using/stdout: section try_for_each -->
+    /// ```text
+    /// 5 is refused
     /// ```
     pub fn try_for_each<E, F: FnMut(&T) -> Result<(), E>>(&self, mut f: F) -> Result<(), E>
         requires { F.IsAlwaysCallable f }

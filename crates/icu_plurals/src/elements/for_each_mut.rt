@@ -9,15 +9,20 @@ use super::PluralElements;
 
 impl<T> PluralElements<T> {
     /// Calls the closure, which may change the value that it gets, for other, zero, one, two, few,
-    /// many, explicit zero and explicit one, in this order, if they are present. With `seen`, which
-    /// notes the calls:
+    /// many, explicit zero and explicit one, in this order, if they are present.
     ///
-    /// <!-- snippet crates/tests_libraries/src/tests/icu_plurals_closures.rt: example "elements.for_each_mut" to "});" -->
+    /// <!-- snippet crates/using/src/calls/closures.rt: body of fn print_widened -->
     /// ```
-    /// elements.for_each_mut(|value| {
-    ///     seen.see(*value);
-    ///     *value = value.saturating_add(100);
-    /// });
+    /// let mut widths = PluralElements::new(5u8).with_one_value(Some(4));
+    /// widths.for_each_mut(|width| *width = width.saturating_add(100));
+    /// println!(rt; "one {}, other {}", widths.one(), widths.other())?;
+    /// ```
+    ///
+    /// This prints
+    ///
+    /// <!-- snippet crates/using/stdout: section for_each_mut -->
+    /// ```text
+    /// one 104, other 105
     /// ```
     pub fn for_each_mut<F: FnMut(&mut T)>(&mut self, mut f: F)
         requires { F.IsAlwaysCallable f }
@@ -36,15 +41,28 @@ impl<T> PluralElements<T> {
     /// As [`PluralElements::for_each_mut`] up to the first `Err` of the closure, which is then the
     /// result; the closure isn't called again, and what it has changed before stays changed.
     ///
-    /// <!-- snippet crates/tests_libraries/src/tests/icu_plurals_closures.rt:
-    ///      example "let answer = elements.try_for_each_mut" to "holds!(rt; values" of fn calls_without_an_error_answer_ok -->
+    /// <!-- snippet crates/using/src/calls/closures.rt: body of fn print_limited -->
     /// ```
-    /// let answer = elements.try_for_each_mut(|value| {
-    ///     *value = value.saturating_add(1);
-    ///     Ok::<(), ()>(())
+    /// let mut widths = PluralElements::new(5u8).with_one_value(Some(200));
+    /// let answer = widths.try_for_each_mut(|width| match width.checked_add(100) {
+    ///     Some(more) => {
+    ///         *width = more;
+    ///         Ok(())
+    ///     }
+    ///     None => Err(*width),
     /// });
-    /// assert!(rt; answer == Ok(()));
-    /// assert!(rt; values(&elements) == [11, 12, 13, 14, 15, 16, 17, 18]);
+    /// if let Err(width) = answer {
+    ///     println!(rt; "{width} is refused")?;
+    /// }
+    /// println!(rt; "one {}, other {}", widths.one(), widths.other())?;
+    /// ```
+    ///
+    /// This prints
+    ///
+    /// <!-- snippet crates/using/stdout: section try_for_each_mut -->
+    /// ```text
+    /// 200 is refused
+    /// one 200, other 105
     /// ```
     pub fn try_for_each_mut<E, F: FnMut(&mut T) -> Result<(), E>>(
         &mut self,

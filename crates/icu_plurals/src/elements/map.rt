@@ -9,14 +9,20 @@ use super::PluralElements;
 impl<T> PluralElements<T> {
     /// Returns the closure's results for the values, at the same keys. It is called for other,
     /// zero, one, two, few, many, explicit zero and explicit one, in this order, if they are
-    /// present. With `values`, which lists the values as the accessors return them:
+    /// present.
     ///
-    /// <!-- snippet crates/tests_libraries/src/tests/icu_plurals_closures.rt:
-    ///      example "let elements" to "holds!" of fn absent_values_are_skipped -->
+    /// <!-- snippet crates/using/src/calls/closures.rt: body of fn print_mapped -->
     /// ```
-    /// let elements = PluralElements::new(11u8).with_one_value(Some(15));
-    /// let doubled = elements.map(|value| u32::from(value) * 2);
-    /// assert!(rt; values(&doubled) == [22, 22, 30, 22, 22, 22, 0, 0]);
+    /// let texts = PluralElements::new("files").with_one_value(Some("file"));
+    /// let widths = texts.map(|text| text.len());
+    /// println!(rt; "one {}, other {}", widths.one(), widths.other())?;
+    /// ```
+    ///
+    /// This prints
+    ///
+    /// <!-- snippet crates/using/stdout: section map -->
+    /// ```text
+    /// one 4, other 5
     /// ```
     pub fn map<B, F: FnMut(T) -> B>(self, mut f: F) -> PluralElements<B>
         requires { F.IsAlwaysCallable f }
@@ -37,15 +43,18 @@ impl<T> PluralElements<T> {
     /// As [`PluralElements::map`] up to the first `Err` of the closure, which is then the result;
     /// the closure isn't called again.
     ///
-    /// <!-- snippet crates/tests_libraries/src/tests/icu_plurals_closures.rt: example fn lists -->
+    /// <!-- snippet crates/using/src/calls/closures.rt: body of fn print_parsed -->
     /// ```
-    /// fn lists(alloc: Global) -> Result<PluralElements<Vec<u32>>, AllocError> {
-    ///     eight().try_map(|value| {
-    ///         let mut list = Vec::new(alloc);
-    ///         list.push(value)?;
-    ///         Ok(list)
-    ///     })
-    /// }
+    /// let texts = PluralElements::new("10").with_one_value(Some("x"));
+    /// let numbers = texts.try_map(|text| text.parse::<u8>());
+    /// println!(rt; "{}", numbers.is_ok())?;
+    /// ```
+    ///
+    /// This prints
+    ///
+    /// <!-- snippet crates/using/stdout: section try_map -->
+    /// ```text
+    /// false
     /// ```
     pub fn try_map<B, E, F: FnMut(T) -> Result<B, E>>(
         self,

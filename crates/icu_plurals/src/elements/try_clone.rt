@@ -12,13 +12,18 @@ impl<T: Clone> PluralElements<T> {
     /// error is out of memory, and there is none if clones of `T` never fail. It equals what was
     /// cloned if clones of `T` equal their sources.
     ///
-    /// <!-- snippet crates/tests_libraries/src/tests/icu_plurals_closures.rt: example body of fn a_clone_equals_its_source -->
+    /// <!-- snippet crates/using/src/calls/closures.rt: body of fn print_cloned -->
     /// ```
-    /// let source = lists(alloc)?;
-    /// let clone = source.try_clone()?;
-    /// assert!(rt; clone == source);
-    /// let few = PluralElements::new(1).with_few_value(Some(4));
-    /// assert!(rt; few.try_clone()? == few);
+    /// let texts = PluralElements::new(format!(in alloc; "files")?);
+    /// let clone = texts.try_clone()?;
+    /// println!(rt; "{}", clone == texts)?;
+    /// ```
+    ///
+    /// This prints
+    ///
+    /// <!-- snippet crates/using/stdout: section try_clone -->
+    /// ```text
+    /// true
     /// ```
     pub fn try_clone(&self) -> Result<PluralElements<T>, AllocError>
         ensures clones { IfOk result (λ e. AreClones T.is_clone self.now e) }

@@ -52,15 +52,12 @@ impl PluralRanges {
     /// of each range that has a category to the category's name. It allocates; the only error is
     /// [`JsonError::Memory`].
     ///
-    /// <!-- snippet crates/tests_libraries/src/tests/plural_base_ranges.rt:
-    ///      example "let mut two" to "holds!(rt; written.as_str() == wanted" of fn a_full_table_is_written_and_read -->
+    /// <!-- snippet crates/using/src/calls/ranges.rt:
+    ///      "let mut ranges" to "let value" of fn print_json -->
     /// ```
-    /// let mut two = PluralRanges::new();
-    /// two.insert(ONE, RawPluralCategory::Two, FEW);
-    /// two.insert(FEW, MANY, OTHER);
-    /// let written = two.to_json(alloc)?.to_string(alloc)?;
-    /// let wanted = "{\"ranges\":{\"few--many\":\"other\",\"one--two\":\"few\"}}";
-    /// assert!(rt; written.as_str() == wanted);
+    /// let mut ranges = PluralRanges::new();
+    /// ranges.insert(one, few, few);
+    /// let value = ranges.to_json(alloc)?;
     /// ```
     pub fn to_json(&self, alloc: Global) -> Result<Value, JsonError>
         ensures written { IfOk result (λ value. IsJsonOfRanges (view value) self.now) }
@@ -79,12 +76,24 @@ impl PluralRanges {
     /// [`JsonError::Shape`] if the value isn't a text, [`JsonError::RangeValue`] if it isn't a
     /// category's name.
     ///
-    /// With `full`, a table that has all 36 pairs:
+    /// For example:
     ///
-    /// <!-- snippet crates/tests_libraries/src/tests/plural_base_ranges.rt: example "let written = full" to "holds!" -->
+    /// <!-- snippet crates/using/src/calls/ranges.rt: body of fn print_json -->
     /// ```
-    /// let written = full.to_json(alloc)?;
-    /// assert!(rt; PluralRanges::from_json(&written) == Ok(full));
+    /// let (one, few) = (RawPluralCategory::One, RawPluralCategory::Few);
+    /// let mut ranges = PluralRanges::new();
+    /// ranges.insert(one, few, few);
+    /// let value = ranges.to_json(alloc)?;
+    /// println!(rt; "{}", value.to_string(alloc)?)?;
+    /// println!(rt; "{}", PluralRanges::from_json(&value) == Ok(ranges))?;
+    /// ```
+    ///
+    /// This prints
+    ///
+    /// <!-- snippet crates/using/stdout: section ranges as JSON -->
+    /// ```text
+    /// {"ranges":{"one--few":"few"}}
+    /// true
     /// ```
     pub fn from_json(value: &Value) -> Result<PluralRanges, JsonError>
         ensures answers { result ≡ ranges_of_json (view value.now) }

@@ -11,25 +11,21 @@ impl<'data> PluralRules<'data> {
     /// borrowed from the provider. [`DataError::NotFound`] if and only if it has none. It allocates
     /// nothing.
     ///
-    /// <!-- snippet crates/tests_libraries/src/tests/plural_base_rules.rt: example body of fn options_say_which_rules_are_loaded -->
+    /// <!-- snippet crates/using/src/calls/rules.rt: body of fn print_types -->
     /// ```
-    /// let provider = provider(alloc, DOCUMENT)?;
-    /// let two = PluralOperands::from(2u64);
-    /// let rows = [
-    ///     (PluralRulesOptions::default(), PluralCategory::Other),
-    ///     (
-    ///         PluralRulesOptions::from(PluralRuleType::Cardinal),
-    ///         PluralCategory::Other,
-    ///     ),
-    ///     (
-    ///         PluralRulesOptions::from(PluralRuleType::Ordinal),
-    ///         PluralCategory::Two,
-    ///     ),
-    /// ];
-    /// for (options, category) in rows {
-    ///     let rules = PluralRules::try_new_unstable(&provider, "a", options)?;
-    ///     assert!(rt; rules.category_for(two) == category);
+    /// for rule_type in [PluralRuleType::Cardinal, PluralRuleType::Ordinal] {
+    ///     let options = PluralRulesOptions::from(rule_type);
+    ///     let rules = PluralRules::try_new_unstable(provider, "en", options)?;
+    ///     println!(rt; "{:?}", rules.category_for(PluralOperands::from(2u8)))?;
     /// }
+    /// ```
+    ///
+    /// With a provider of the rules of English, this prints
+    ///
+    /// <!-- snippet crates/using/stdout: section options -->
+    /// ```text
+    /// Other
+    /// Two
     /// ```
     pub fn try_new_unstable<P: PluralsProvider>(
         provider: &'data P,

@@ -15,31 +15,31 @@ use crate::category::raw::RawPluralCategory;
 ///
 /// The order is that of the bytes.
 ///
-/// <!-- snippet crates/tests_libraries/src/tests/plural_base_ranges.rt: example body of fn keys_are_ordered_by_their_bytes -->
+/// <!-- snippet crates/using/src/calls/ranges.rt: body of fn print_key -->
 /// ```
-/// let low = UnvalidatedPluralRange::from_range(OTHER, MANY);
-/// let high = UnvalidatedPluralRange::from_range(ONE, OTHER);
-/// assert!(rt; low < high);
-/// assert!(rt; high < UnvalidatedPluralRange(255));
+/// let key = UnvalidatedPluralRange::from_range(RawPluralCategory::Two, RawPluralCategory::One);
+/// println!(rt; "{}", key.0)?;
+/// let named = UnvalidatedPluralRange::from_text("two--one");
+/// println!(rt; "{}", named == Some(key))?;
+/// ```
+///
+/// This prints
+///
+/// <!-- snippet crates/using/stdout: section a key -->
+/// ```text
+/// 50
+/// true
 /// ```
 #[derive(Clone, Copy, Debug, PartialEq, Eq, PartialOrd, Ord, Hash)]
 pub struct UnvalidatedPluralRange(pub u8);
 
 impl UnvalidatedPluralRange {
-    /// Returns the byte of a start and an end. With rows such as `one`, `other`, 32 and
-    /// `"one--other"`:
+    /// Returns the byte of a start and an end.
     ///
-    /// <!-- snippet crates/tests_libraries/src/tests/plural_base_ranges.rt:
-    ///      example "for (start, end, byte, text)" to "}" of fn a_range_has_a_byte_and_a_text -->
+    /// <!-- snippet crates/using/src/calls/ranges.rt: "let key" to "println" of fn print_key -->
     /// ```
-    /// for (start, end, byte, text) in rows {
-    ///     let range = UnvalidatedPluralRange::from_range(start, end);
-    ///     assert!(rt; range.0 == byte);
-    ///     assert!(rt; UnvalidatedPluralRange::from_text(text) == Some(range));
-    ///     let written = range.to_json(alloc)?;
-    ///     assert!(rt; written.as_str() == Some(text));
-    ///     assert!(rt; UnvalidatedPluralRange::from_json(&written) == Ok(range));
-    /// }
+    /// let key = UnvalidatedPluralRange::from_range(RawPluralCategory::Two, RawPluralCategory::One);
+    /// println!(rt; "{}", key.0)?;
     /// ```
     pub fn from_range(start: RawPluralCategory, end: RawPluralCategory) -> UnvalidatedPluralRange
         ensures { result ≡ range_key start end }

@@ -24,17 +24,14 @@ impl<'data> PluralRulesData<'data> {
     /// present, each after the byte of its key, 0 zero, 1 one, 2 two, 3 few, 4 many. No rules are
     /// no bytes.
     ///
-    /// With `read_rules`, which reads the texts of one and few, and `ONE_AND_FEW`, the bytes of
-    /// these rules:
+    /// For example:
     ///
-    /// <!-- snippet crates/tests_libraries/src/tests/plural_base_rules.rt:
-    ///      example body of fn packs_each_rule_after_its_key -->
+    /// <!-- snippet crates/using/src/calls/rules.rt:
+    ///      "let (one, few)" to "let bytes" of fn print_stored_rules -->
     /// ```
-    /// let rules = read_rules(alloc, Some("n = 1"), Some("n = 2"))?;
-    /// let bytes = rules.to_bytes(alloc)?;
-    /// assert!(rt; bytes.as_slice() == ONE_AND_FEW);
-    /// let stored = PluralRulesData::from_bytes(&bytes)?;
-    /// assert!(rt; stored == rules);
+    /// let (one, few) = (Some("n = 1"), Some("n = 2"));
+    /// let data = PluralRulesData::from_texts(alloc, None, one, None, few, None)?;
+    /// let bytes = data.to_bytes(alloc)?;
     /// ```
     ///
     /// The errors: a rule would start after place 65535 of the data
@@ -51,19 +48,25 @@ impl<'data> PluralRulesData<'data> {
 
     /// Returns the rules in these bytes, borrowed from them. It allocates nothing.
     ///
-    /// <!-- snippet crates/tests_libraries/src/tests/plural_base_rules.rt:
-    ///      example "let rules" to "}" of fn rules_that_are_read_choose_as_before -->
+    /// <!-- snippet crates/using/src/calls/rules.rt: body of fn print_stored_rules -->
     /// ```
-    /// let rules = PluralRules::from_data(PluralRulesData::from_bytes(ONE_AND_FEW)?);
-    /// let rows = [
-    ///     (0u8, PluralCategory::Other),
-    ///     (1, PluralCategory::One),
-    ///     (2, PluralCategory::Few),
-    ///     (3, PluralCategory::Other),
-    /// ];
-    /// for (number, category) in rows {
-    ///     assert!(rt; rules.category_for(PluralOperands::from(number)) == category);
+    /// let (one, few) = (Some("n = 1"), Some("n = 2"));
+    /// let data = PluralRulesData::from_texts(alloc, None, one, None, few, None)?;
+    /// let bytes = data.to_bytes(alloc)?;
+    /// let stored = PluralRules::from_data(PluralRulesData::from_bytes(&bytes)?);
+    /// for number in [0u8, 1, 2] {
+    ///     let category = stored.category_for(PluralOperands::from(number));
+    ///     println!(rt; "{number}: {category:?}")?;
     /// }
+    /// ```
+    ///
+    /// This prints
+    ///
+    /// <!-- snippet crates/using/stdout: section rules as bytes -->
+    /// ```text
+    /// 0: Other
+    /// 1: One
+    /// 2: Few
     /// ```
     ///
     /// The error is that the bytes aren't a packed list ([`RulesBytesError::List`]), or the fault

@@ -15,22 +15,21 @@ impl PluralOperands {
     /// than 18 written places, leading zeros counted, `i` is the value of its last 18 digits plus
     /// `10^18`. Of the fraction the first 18 places count. At most 36 digits are read.
     ///
-    /// Rows of a number and its operands i, v, w, f, t and c:
+    /// For example:
     ///
-    /// <!-- snippet crates/tests_libraries/src/tests/plural_reference_examples.rt:
-    /// example "("1.00000020c6"" to "("1c0"" of fn a_compact_decimal_moves_its_point; example "for (text"
-    /// to "}" of fn a_compact_decimal_moves_its_point -->
+    /// <!-- snippet crates/using/src/calls/numbers.rt: body of fn print_operands -->
     /// ```
-    /// ("1.00000020c6", six(1_000_000, 2, 1, 20, 2, 6)),
-    /// ("1c0", six(1, 0, 0, 0, 0, 0)),
+    /// let number = CompactDecimal::from_str(alloc, "1.00000020c6")?;
+    /// let operands = RawPluralOperands::from(PluralOperands::from(&number));
+    /// let RawPluralOperands { i, v, w, f, t, c } = operands;
+    /// println!(rt; "i = {i}, v = {v}, w = {w}, f = {f}, t = {t}, c = {c}")?;
+    /// ```
     ///
-    /// for (text, want) in rows {
-    ///     let number = CompactDecimal::from_str(alloc, text)?;
-    ///     assert!(rt; PluralOperands::from(&number) == want);
-    ///     let absolute = &number.significand().absolute;
-    ///     let exponent = number.exponent();
-    ///     assert!(rt; PluralOperands::from_significand_and_exponent(absolute, exponent) == want);
-    /// }
+    /// This prints
+    ///
+    /// <!-- snippet crates/using/stdout: section operands -->
+    /// ```text
+    /// i = 1000000, v = 2, w = 1, f = 20, t = 2, c = 6
     /// ```
     #[inline]
     pub fn from_significand_and_exponent(

@@ -1,0 +1,52 @@
+//! Packed elements: bytes, values by key, JSON.
+
+use icu_plurals::provider::{FourBitMetadata, PluralElementsPackedCow, PluralElementsPackedULE};
+use icu_plurals::{PluralElements, PluralOperands, PluralRules};
+use serde_json::Value;
+use std::alloc::Global;
+
+// Prints what each call returns.
+pub(crate) fn show(rt: &impl Print, alloc: Global, rules: &PluralRules<'_>) -> anyhow::Result<()> {
+    println!(rt; "== encode")?;
+    print_encoded(rt, alloc, rules)?;
+    println!(rt; "== decode")?;
+    print_decoded(rt)?;
+    println!(rt; "== elements as JSON")?;
+    print_json(rt, alloc)
+}
+
+fn print_encoded(rt: &impl Print, alloc: Global, rules: &PluralRules<'_>) -> anyhow::Result<()> {
+    let elements = PluralElements::new((FourBitMetadata::zero(), "files")).with_one_value(Some((
+        FourBitMetadata::zero(),
+        "file",
+    )));
+    let bytes = PluralElementsPackedULE::encode(alloc, &elements)?;
+    let packed = PluralElementsPackedULE::parse_bytes(&bytes)?;
+    for number in [1u8, 2] {
+        let (metadata, text) = packed.get(PluralOperands::from(number), rules);
+        let metadata = metadata.get();
+        println!(rt; "{number}: {text}, {metadata}")?;
+    }
+    Ok(())
+}
+
+fn print_decoded(rt: &impl Print) -> anyhow::Result<()> {
+    let packed = PluralElementsPackedULE::parse_bytes(b"\x85\x05files\x01\0\x10file")?;
+    let elements = packed.decode();
+    let (metadata, text) = *elements.other();
+    let metadata = metadata.get();
+    println!(rt; "{text}, {metadata}")?;
+    let (_, text) = *elements.one();
+    println!(rt; "{text}")?;
+    Ok(())
+}
+
+fn print_json(rt: &impl Print, alloc: Global) -> anyhow::Result<()> {
+    let value = Value::from_str(alloc, r#"{"other":[0,"files"],"one":[0,"file"]}"#)?;
+    let elements = PluralElementsPackedCow::from_json(alloc, &value)?;
+    println!(rt; "{} bytes", elements.as_packed().as_bytes().len())?;
+    let written = elements.to_json(alloc)?;
+    let again = PluralElementsPackedCow::from_json(alloc, &written)?;
+    println!(rt; "{}", again == elements)?;
+    Ok(())
+}
