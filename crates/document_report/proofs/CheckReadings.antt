@@ -5,12 +5,12 @@ use Rattle.std.specs.Io.KnownBytes.{IsAtEnd, Keeps}
 use Rattle.serde_json.specs.Data.{Data, Members, no_members, member}
 use Rattle.serde_json.specs.Find.{as_null, as_object, get}
 use Rattle.serde_json.specs.Written.{has_float}
-use Rattle.document_report.specs.CheckAnswer.{Answer, AnswersDocument, AnswersInput, IsAnswered, IsAnswerTo, IsInput, IsRead}
-use Rattle.document_report.specs.CheckedDocument.{◌>>=◌, document_formed, document_with, has_form, json_of, locales_formed, most_bytes}
+use Rattle.document_report.specs.CheckAnswer.{Answer, AnswersDocument, AnswersInput, IsAnswered, IsAnswerTo, check_origin}
+use Rattle.document_report.specs.CheckedDocument.{◌>>=◌, document_formed, document_with, has_form, locales_formed}
 use Rattle.document_report.specs.CheckedDocument.{object_formed, or_fault, part_formed, parts_formed, value_in, value_of}
 use Rattle.document_report.specs.Inner.CheckCalls.{Gives, GivesAfterReading, GivesFault}
+use Rattle.document_report.specs.Inner.CheckInputFaults.{input_fault}
 use Rattle.document_report.specs.Inner.CheckViews.{answer_view}
-use Rattle.document_report.specs.Inner.CheckedBytes.{GivesInput}
 use Rattle.document_report.specs.Parts.{part_name}
 use Rattle.document_report.specs.declared.error.CheckError.{CheckError}
 use Rattle.document_report.specs.declared.error.CheckError.TheVariants.{Usage, Read, TooLong, Json, Float, NoObject, Write, Memory}
@@ -20,7 +20,11 @@ use Rattle.document_report.specs.declared.place.Place.TheVariants as place
 use Rattle.document_report.specs.declared.report.Verdict.{Verdict}
 use Rattle.document_report.specs.declared.run.Answer.{Answer as CodeAnswer}
 use Rattle.document_report.proofs.CheckFaults.{mapped}
-use Rattle.document_report.proofs.CheckedInputs.{beyond, some_input, within}
+use Rattle.plural_documents.specs.Inputs.{GivesInput, IsInput, IsRead, IsReadAfter, input_origin, most_bytes}
+use Rattle.plural_documents.specs.JsonTexts.{json_of}
+use Rattle.plural_documents.specs.declared.InputError.{InputError}
+use Rattle.plural_documents.specs.declared.InputError.TheVariants as cause
+use Rattle.plural_documents.proofs.InputLemmas.{beyond, some_input, within}
 
 -- ---- The bytes of a document aren't too long
 
@@ -131,34 +135,45 @@ without_reading IsAnswer (Err Write) h = h
 without_reading IsAnswer (Err Memory) h = tt
 
 -- if the input is too long or can't be read, that fault is the answer
-of_input : (left : Option (List ℕ)) (e : CheckError) → GivesInput left (Err e)
-    → (input : List ℕ) × IsInput left input × GivesAfterReading (AnswersDocument (value_in input)) (Err e)
-of_input left Usage h = absurd h
-of_input left Read h = let i = some_input left in (i.0, i.1, tt)
-of_input left TooLong h =
-    (h.0, h.1, subst (λ (value : Result Data CheckError). AnswersDocument value (Err TooLong)) (sym (beyond h.0 h.2)) refl)
-of_input left Json h = absurd h
-of_input left Float h = absurd h
-of_input left (NoObject at) h = absurd h
-of_input left Write h = absurd h
-of_input left Memory h = let i = some_input left in (i.0, i.1, tt)
+of_input : (left : Option (List ℕ)) (e : InputError) → GivesInput left (Err e)
+    → (bytes : List ℕ) × IsInput left bytes × GivesAfterReading (AnswersDocument (value_in bytes)) (Err (input_fault e))
+of_input left cause.Read h = let i = some_input left in (i.0, i.1, tt)
+of_input left cause.TooLong h = (
+  h.0,
+  h.1,
+  subst (λ (value : Result Data CheckError). AnswersDocument value (Err TooLong)) (sym (beyond TooLong value_of h.0 h.2)) refl,
+)
+of_input left cause.Memory h = let i = some_input left in (i.0, i.1, tt)
 
 -- `?` passes on such a fault
-pub no_input : (left : Option (List ℕ)) (e : CheckError) (r : Result CodeAnswer CheckError) → r ≡ Err e → GivesInput left (Err e)
-    → (input : List ℕ) × IsInput left input × GivesAfterReading (AnswersDocument (value_in input)) r
+pub no_input : (left : Option (List ℕ)) (e : InputError) (r : Result CodeAnswer CheckError)
+    → r ≡ Err (input_fault e) → GivesInput left (Err e)
+    → (bytes : List ℕ) × IsInput left bytes × GivesAfterReading (AnswersDocument (value_in bytes)) r
 no_input left e r is h = rw is (of_input left e h)
 
+-- what was read at an error of the input was read at its fault
+read_at : (old new : Option (List ℕ)) (e : InputError)
+    → IsReadAfter (input_origin e) old new → IsReadAfter (check_origin (input_fault e)) old new
+read_at old new cause.Read h = tt
+read_at old new cause.TooLong h = h
+read_at old new cause.Memory h = tt
+
+-- `?` passes on such a fault
+pub read_on : {B : Type 0} (old new : Option (List ℕ)) (e : InputError) (r : Result B CheckError)
+    → r ≡ Err (input_fault e) → IsReadAfter (input_origin e) old new → IsRead check_origin old new r
+read_on old new e r is h = rw is (read_at old new e h)
+
 -- the answer to the bytes is the answer to the input
-pub of_all : (input bytes : List ℕ) → length input ≤ most_bytes → bytes ≡ input → (r : Result CodeAnswer CheckError)
-    → Gives answer_view (AnswersDocument (value_of bytes)) r → GivesAfterReading (AnswersDocument (value_in input)) r
-of_all input bytes short same r h =
+pub of_all : (whole bytes : List ℕ) → length whole ≤ most_bytes → bytes ≡ whole → (r : Result CodeAnswer CheckError)
+    → Gives answer_view (AnswersDocument (value_of bytes)) r → GivesAfterReading (AnswersDocument (value_in whole)) r
+of_all whole bytes short same r h =
     let all = subst (λ (read : List ℕ). Gives answer_view (AnswersDocument (value_of read)) r) same h in
-    subst (λ (value : Result Data CheckError). GivesAfterReading (AnswersDocument value) r) (sym (within input short))
-    (without_reading (AnswersDocument (value_of input)) r all)
+    subst (λ (value : Result Data CheckError). GivesAfterReading (AnswersDocument value) r) (sym (within TooLong value_of whole short))
+    (without_reading (AnswersDocument (value_of whole)) r all)
 
 -- if no answer says that the input is too long, it was read to its end
 pub to_the_end : (IsAnswer : Result Answer CheckError → Type 0) (old new : Option (List ℕ)) → (IsAnswer (Err TooLong) → ⊥) → IsAtEnd new
-    → (r : Result CodeAnswer CheckError) → Gives answer_view IsAnswer r → IsRead old new r
+    → (r : Result CodeAnswer CheckError) → Gives answer_view IsAnswer r → IsRead check_origin old new r
 to_the_end IsAnswer old new none end (Ok answer) h = end
 to_the_end IsAnswer old new none end (Err Usage) h = end
 to_the_end IsAnswer old new none end (Err Read) h = tt

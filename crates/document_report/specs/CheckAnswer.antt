@@ -1,11 +1,12 @@
 -- The program's answer to its input, and what it reads and writes.
 --     AnswersInput has_words input answer      the answer: a report's text with its verdict, or the first fault
-use Rattle.std.specs.Prelude.{◌≡◌, ℕ, ◌+◌, ◌==◌, Bool, List, length, Option, Some, None, Result, Ok, Err, ⊤, if◌then◌else◌}
-use Rattle.std.specs.Io.KnownBytes.{Appends, Consumes, IsAtEnd, Keeps}
+use Rattle.std.specs.Prelude.{◌≡◌, ℕ, ◌==◌, Bool, List, length, Option, Result, Ok, Err, if◌then◌else◌}
+use Rattle.std.specs.Io.KnownBytes.{Appends, Keeps}
 use Rattle.serde_json.specs.Data.{Data}
-use Rattle.document_report.specs.CheckedDocument.{most_bytes, value_in}
+use Rattle.document_report.specs.CheckedDocument.{value_in}
 use Rattle.document_report.specs.DocumentReport.{IsReportOf}
 use Rattle.document_report.specs.ReportText.{report_text}
+use Rattle.plural_documents.specs.Inputs.{Origin, from_reader, from_length, from_writer, from_memory, from_answer}
 use Rattle.document_report.specs.declared.error.CheckError.{CheckError}
 use Rattle.document_report.specs.declared.error.CheckError.TheVariants.{Usage, Read, TooLong, Write, Memory}
 use Rattle.document_report.specs.declared.report.Report.{Report}
@@ -41,10 +42,13 @@ AnswersInput has_words input = AnswersDocument (if has_words then Err Usage else
 
 -- ---- What is read and written
 
--- the input is what remains in the reader, if that is known
-abbrev pub IsInput : Option (List ℕ) → List ℕ → Type 0
-IsInput None input = ⊤
-IsInput (Some left) input = input ≡ left
+-- where a fault comes from; `IsRead` says what was read by then
+abbrev pub check_origin : CheckError → Origin
+check_origin Read = from_reader
+check_origin TooLong = from_length
+check_origin Write = from_writer
+check_origin Memory = from_memory
+check_origin fault = from_answer
 
 -- The result, and what the writer took: the answer's text and nothing else, or a fault and nothing at all. Out of memory, a
 -- failed read and a failed write come from outside; only after a failed write may something have been written.
@@ -56,14 +60,6 @@ IsAnswered IsAnswer old new (Err Memory) = Keeps old new
 IsAnswered IsAnswer old new (Err Read) = Keeps old new
 IsAnswered IsAnswer old new (Err Write) = (answer : Answer) × IsAnswer (Ok answer)
 IsAnswered IsAnswer old new (Err fault) = IsAnswer (Err fault) × Keeps old new
-
--- What was read: all of the input; if it is too long, one byte more than the limit. If the reader failed or memory ran out, it
--- may be anything.
-abbrev pub IsRead : {A : Type 0} → Option (List ℕ) → Option (List ℕ) → Result A CheckError → Type 0
-IsRead old new (Err Read) = ⊤
-IsRead old new (Err Memory) = ⊤
-IsRead old new (Err TooLong) = (bytes : List ℕ) × Consumes old new bytes × (length bytes ≡ most_bytes + 1)
-IsRead old new result = IsAtEnd new
 
 -- the exit status of the program
 abbrev pub status_of : CheckError → ℕ

@@ -1,14 +1,14 @@
 -- The JSON value of an input whose parts and locales are objects, or the first reason why it has none (docs/JSON.md).
 --     value_in input      the value, or the first fault
 --     members_at part value      the members of a part, by locale
-use Rattle.std.specs.Prelude.{ℕ, List, length, Option, Some, None, is_some, Bool, Result, Ok, Err, ⊤, nat_lt, codes}
+use Rattle.std.specs.Prelude.{ℕ, List, Option, Some, None, is_some, Bool, Result, Ok, Err, ⊤, codes}
 use Rattle.std.specs.Prelude.{if◌then◌else◌}
 use Rattle.std.specs.Option.{option_and_then}
-use Rattle.std.specs.Str.{is_utf8}
 use Rattle.serde_json.specs.Data.{Data, Members, no_members, member}
 use Rattle.serde_json.specs.Find.{get, as_null, as_object}
-use Rattle.serde_json.specs.Read.{read}
 use Rattle.serde_json.specs.Written.{has_float}
+use Rattle.plural_documents.specs.Inputs.{within_limit}
+use Rattle.plural_documents.specs.JsonTexts.{json_of}
 use Rattle.document_report.specs.Parts.{part_name}
 use Rattle.document_report.specs.declared.error.CheckError.{CheckError}
 use Rattle.document_report.specs.declared.error.CheckError.TheVariants.{TooLong, Json, Float, NoObject}
@@ -72,10 +72,6 @@ document_formed value =
 
 -- ---- The value of an input
 
--- the JSON value that the bytes write
-abbrev pub json_of : List ℕ → Option Data
-json_of bytes = if is_utf8 bytes then read bytes else None
-
 -- the value, if it is a document
 abbrev pub document_with : Data → Result Data CheckError
 document_with value = document_formed value >>= λ _. Ok value
@@ -84,13 +80,9 @@ document_with value = document_formed value >>= λ _. Ok value
 abbrev pub value_of : List ℕ → Result Data CheckError
 value_of bytes = or_fault Json (json_of bytes) >>= document_with
 
--- the most bytes that an input may have
-abbrev pub most_bytes : ℕ
-most_bytes = 4194304
-
 -- the value of an input; its length is checked first
 abbrev pub value_in : List ℕ → Result Data CheckError
-value_in input = if nat_lt most_bytes (length input) then Err TooLong else value_of input
+value_in input = within_limit TooLong value_of input
 
 -- ---- What a document has
 

@@ -2,4 +2,4 @@
 pub mod Additions
 pub mod CheckViews
 pub mod CheckCalls
-pub mod CheckedBytes
+pub mod CheckInputFaults

@@ -4,14 +4,16 @@ ghost use Rattle.std.specs.Prelude.{◌≡◌, option_map};
 ghost use Rattle.std.specs.Option.{option_and_then};
 ghost use Rattle.serde_json.specs.Find.{as_object, get};
 ghost use Rattle.serde_json.specs.View.{members_view, view};
-ghost use Rattle.document_report.specs.CheckedDocument.{json_of, or_fault, value_of};
+ghost use Rattle.document_report.specs.CheckedDocument.{or_fault, value_of};
 ghost use Rattle.document_report.specs.Inner.CheckCalls.{GivesValue};
 ghost use Rattle.document_report.specs.Parts.{part_name};
 ghost use Rattle.document_report.specs.declared.error.CheckError.TheVariants.{Json};
+ghost use Rattle.plural_documents.specs.JsonTexts.{json_of};
 
 use crate::error::CheckError;
 use crate::form::check_document;
 use crate::place::Part;
+use plural_documents::{JsonTextError, json_value};
 use serde_json::{Map, Value};
 use std::alloc::Global;
 
@@ -28,15 +30,10 @@ pub(crate) fn value_of(alloc: Global, bytes: &[u8]) -> Result<Value, CheckError>
 fn json_of(alloc: Global, bytes: &[u8]) -> Result<Value, CheckError>
     ensures { GivesValue view (or_fault Json (json_of bytes.now)) result }
 {
-    match Value::from_slice(alloc, bytes) {
+    match json_value(alloc, bytes) {
         Ok(value) => Ok(value),
-        Err(fault) => {
-            if fault.is_memory() {
-                Err(CheckError::Memory)
-            } else {
-                Err(CheckError::Json)
-            }
-        }
+        Err(JsonTextError::Json) => Err(CheckError::Json),
+        Err(JsonTextError::Memory) => Err(CheckError::Memory),
     }
 }
 

@@ -1,9 +1,11 @@
 //! Why there is no report.
 
 ghost use Rattle.document_report.specs.CheckAnswer.{status_of};
+ghost use Rattle.document_report.specs.Inner.CheckInputFaults.{input_fault};
 ghost use Rattle.std.specs.Prelude.{◌≡◌};
 
 use crate::place::Place;
+use plural_documents::InputError;
 use thiserror::Error;
 
 const USAGE: &str = "usage: plurals_check < DOCUMENT";
@@ -35,6 +37,18 @@ pub enum CheckError {
     /// Memory ran out. Nothing was written.
     #[error("out of memory")]
     Memory,
+}
+
+impl From<InputError> for CheckError {
+    ghost from_gives = { λ error fault. fault ≡ input_fault error };
+
+    fn from(error: InputError) -> CheckError {
+        match error {
+            InputError::Read => CheckError::Read,
+            InputError::TooLong => CheckError::TooLong,
+            InputError::Memory => CheckError::Memory,
+        }
+    }
 }
 
 impl CheckError {

@@ -7,7 +7,6 @@ mod entry;
 mod error;
 mod form;
 mod found;
-mod input;
 mod languages;
 mod locales;
 mod place;

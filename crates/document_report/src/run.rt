@@ -1,17 +1,18 @@
 //! Reads an input and writes the answer to it.
 
 ghost use Rattle.std.specs.Prelude.{◌≡◌, Err, IfOk, List, ℕ, IsFalse, IsTrue};
-ghost use Rattle.document_report.specs.CheckAnswer.{AnswersDocument, AnswersInput, IsAnswered, IsAnswerTo, IsInput, IsRead};
+ghost use Rattle.document_report.specs.CheckAnswer.{AnswersDocument, AnswersInput, IsAnswered, IsAnswerTo, check_origin};
 ghost use Rattle.document_report.specs.CheckedDocument.{value_in, value_of};
 ghost use Rattle.document_report.specs.Inner.CheckCalls.{Gives, GivesAfterReading};
 ghost use Rattle.document_report.specs.Inner.CheckViews.{answer_view};
 ghost use Rattle.document_report.specs.declared.error.CheckError.TheVariants.{Usage};
+ghost use Rattle.plural_documents.specs.Inputs.{IsInput, IsRead};
 ghost use Rattle.serde_json.specs.View.{view};
 
 use crate::document::value_of;
 use crate::error::CheckError;
-use crate::input::read_input;
 use crate::report::{Verdict, report_of};
+use plural_documents::read_input;
 use serde_json::Value;
 use std::alloc::{AllocError, Global};
 use std::io::{Read, Write};
@@ -46,7 +47,7 @@ pub fn run<R: Read, W: Write>(
     // The answer is that of some input: what remained in the reader, if that is known.
     ensures answers { (input : List ℕ) × IsInput (R.remaining reader.old) input
         × IsAnswered (AnswersInput has_words input) (W.contents writer.old) (W.contents writer.new) result }
-    ensures reads { IsFalse has_words → IsRead (R.remaining reader.old) (R.remaining reader.new) result }
+    ensures reads { IsFalse has_words → IsRead check_origin (R.remaining reader.old) (R.remaining reader.new) result }
     ensures reads_nothing { IsTrue has_words → (reader.new ≡ reader.old) × (result ≡ Err Usage) }
 {
     if has_words {
@@ -63,7 +64,7 @@ pub fn run<R: Read, W: Write>(
 fn answer_to_reader<R: Read>(alloc: Global, reader: &mut R) -> Result<Answer, CheckError>
     ensures answers { (input : List ℕ) × IsInput (R.remaining reader.old) input
         × GivesAfterReading (AnswersDocument (value_in input)) result }
-    ensures reads { IsRead (R.remaining reader.old) (R.remaining reader.new) result }
+    ensures reads { IsRead check_origin (R.remaining reader.old) (R.remaining reader.new) result }
 {
     let input = read_input(alloc, reader)?;
     answer_to(alloc, input.as_slice())

@@ -6,11 +6,12 @@ use Rattle.icu_plurals.specs.declared.JsonError.{JsonError}
 use Rattle.icu_plurals.specs.declared.PluralRuleType.{PluralRuleType}
 use Rattle.icu_plurals.specs.DocumentJson.{document_of_json, found}
 use Rattle.plural_commands.specs.Answer.{AnswersFrom, AnswersLookup}
-use Rattle.plural_commands.specs.Input.{WholeDocument, document_of, document_with, json_of, or_bad}
+use Rattle.plural_commands.specs.Input.{WholeDocument, document_of, document_with, or_bad}
 use Rattle.plural_commands.specs.Input.{elements_at_key, elements_for, ranged_for, rows_for, rules_for, ruled_with}
 use Rattle.plural_commands.specs.Lines.{AreRuleLines, IsCategoryLine, IsElementLine, IsMessageLine, IsRangeLine}
 use Rattle.plural_commands.specs.Queries.{Lookup, number_category, range_category, number_element, number_message, printed_rules}
 use Rattle.plural_commands.specs.Steps.{After, ◌>>=◌, or_fault}
+use Rattle.plural_documents.specs.JsonTexts.{json_of}
 use Rattle.plural_commands.specs.declared.error.RunError.{RunError}
 use Rattle.plural_commands.specs.declared.error.RunError.TheVariants.{TooLong, Json, Locale}
 

@@ -1,6 +1,4 @@
 pub mod Integers
-pub mod Documents
-pub mod Inputs
 pub mod Faults
 pub mod Lengths
 pub mod Readings

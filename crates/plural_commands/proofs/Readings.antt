@@ -2,15 +2,18 @@
 use Rattle.std.proofs.Common.{◌≡◌, ◌≤◌, ℕ, List, length, Option, Some, None, Result, Ok, Err, refl, sym, subst}
 use Rattle.std.specs.Prelude.{⊤}
 use Rattle.std.specs.Io.KnownBytes.{IsAtEnd, Keeps}
-use Rattle.plural_commands.specs.Answer.{IsAnswered, IsInput, IsNotRead, IsRead}
+use Rattle.plural_commands.specs.Answer.{IsAnswered, IsNotRead, run_origin}
 use Rattle.plural_commands.specs.Inner.CallAnswers.{GivesAfterReading, GivesFault, GivesText, Text}
-use Rattle.plural_commands.specs.Inner.InputBytes.{GivesInput}
-use Rattle.plural_commands.specs.Input.{WholeDocument, document_in, document_of, most_bytes}
+use Rattle.plural_commands.specs.Inner.InputFaults.{input_fault}
+use Rattle.plural_commands.specs.Input.{WholeDocument, document_in, document_of}
 use Rattle.plural_commands.specs.Steps.{After}
 use Rattle.plural_commands.specs.declared.error.RunError.{RunError}
 use Rattle.plural_commands.specs.declared.error.RunError.TheVariants.{Usage, Condition, Number, Read, TooLong}
 use Rattle.plural_commands.specs.declared.error.RunError.TheVariants.{Json, Document, Locale, Write, Memory}
-use Rattle.plural_commands.proofs.Inputs.{beyond, some_input, within}
+use Rattle.plural_documents.specs.Inputs.{GivesInput, IsInput, IsRead, IsReadAfter, input_origin, most_bytes}
+use Rattle.plural_documents.specs.declared.InputError.{InputError}
+use Rattle.plural_documents.specs.declared.InputError.TheVariants as cause
+use Rattle.plural_documents.proofs.InputLemmas.{beyond, some_input, within}
 
 -- ---- The answer of a call that may read
 
@@ -47,40 +50,50 @@ implied P Q f (Err Memory) h = tt
 -- ---- The input can't be read
 
 -- if the input is too long or can't be read, that fault is the answer
-of_input : (Next : WholeDocument → Result (List ℕ) RunError → Type 0) (left : Option (List ℕ)) (e : RunError)
-    → GivesInput left (Err e) → (input : List ℕ) × IsInput left input × GivesAfterReading (After Next (document_in input)) (Err e)
-of_input Next left Usage h = absurd h
-of_input Next left (Condition k) h = absurd h
-of_input Next left (Number k) h = absurd h
-of_input Next left Read h = let i = some_input left in (i.0, i.1, tt)
-of_input Next left TooLong h =
-    (h.0, h.1, subst (λ (document : Result WholeDocument RunError). After Next document (Err TooLong)) (sym (beyond h.0 h.2)) refl)
-of_input Next left Json h = absurd h
-of_input Next left (Document k) h = absurd h
-of_input Next left Locale h = absurd h
-of_input Next left Write h = absurd h
-of_input Next left Memory h = let i = some_input left in (i.0, i.1, tt)
+of_input : (Next : WholeDocument → Result (List ℕ) RunError → Type 0) (left : Option (List ℕ)) (e : InputError)
+    → GivesInput left (Err e)
+    → (bytes : List ℕ) × IsInput left bytes × GivesAfterReading (After Next (document_in bytes)) (Err (input_fault e))
+of_input Next left cause.Read h = let i = some_input left in (i.0, i.1, tt)
+of_input Next left cause.TooLong h = (
+  h.0,
+  h.1,
+  subst (λ (document : Result WholeDocument RunError). After Next document (Err TooLong))
+      (sym (beyond TooLong document_of h.0 h.2)) refl,
+)
+of_input Next left cause.Memory h = let i = some_input left in (i.0, i.1, tt)
 
 -- `?` passes on such a fault
-pub no_input : (Next : WholeDocument → Result (List ℕ) RunError → Type 0) (left : Option (List ℕ)) (e : RunError)
-    (r : Result Text RunError) → r ≡ Err e → GivesInput left (Err e)
-    → (input : List ℕ) × IsInput left input × GivesAfterReading (After Next (document_in input)) r
+pub no_input : (Next : WholeDocument → Result (List ℕ) RunError → Type 0) (left : Option (List ℕ)) (e : InputError)
+    (r : Result Text RunError) → r ≡ Err (input_fault e) → GivesInput left (Err e)
+    → (bytes : List ℕ) × IsInput left bytes × GivesAfterReading (After Next (document_in bytes)) r
 no_input Next left e r is h = rw is (of_input Next left e h)
+
+-- what was read at an error of the input was read at its fault
+read_at : (old new : Option (List ℕ)) (e : InputError)
+    → IsReadAfter (input_origin e) old new → IsReadAfter (run_origin (input_fault e)) old new
+read_at old new cause.Read h = tt
+read_at old new cause.TooLong h = h
+read_at old new cause.Memory h = tt
+
+-- `?` passes on such a fault
+pub read_on : {B : Type 0} (old new : Option (List ℕ)) (e : InputError) (r : Result B RunError)
+    → r ≡ Err (input_fault e) → IsReadAfter (input_origin e) old new → IsRead run_origin old new r
+read_on old new e r is h = rw is (read_at old new e h)
 
 -- ---- The input was read to its end
 
 -- the answer to the bytes is the answer to the input
-pub of_all : (Next : WholeDocument → Result (List ℕ) RunError → Type 0) (input bytes : List ℕ)
-    → length input ≤ most_bytes → bytes ≡ input → (r : Result Text RunError)
-    → GivesText (After Next (document_of bytes)) r → GivesAfterReading (After Next (document_in input)) r
-of_all Next input bytes short same r h =
+pub of_all : (Next : WholeDocument → Result (List ℕ) RunError → Type 0) (whole bytes : List ℕ)
+    → length whole ≤ most_bytes → bytes ≡ whole → (r : Result Text RunError)
+    → GivesText (After Next (document_of bytes)) r → GivesAfterReading (After Next (document_in whole)) r
+of_all Next whole bytes short same r h =
     let all = subst (λ (read : List ℕ). GivesText (After Next (document_of read)) r) same h in
-    subst (λ (document : Result WholeDocument RunError). GivesAfterReading (After Next document) r) (sym (within input short))
-    (without_reading (After Next (document_of input)) r all)
+    subst (λ (document : Result WholeDocument RunError). GivesAfterReading (After Next document) r) (sym (within TooLong document_of whole short))
+    (without_reading (After Next (document_of whole)) r all)
 
 -- if no answer says that the input is too long, it was read to its end
 pub to_the_end : (IsAnswer : Result (List ℕ) RunError → Type 0) (old new : Option (List ℕ)) → (IsAnswer (Err TooLong) → ⊥) → IsAtEnd new
-    → (r : Result Text RunError) → GivesText IsAnswer r → IsRead old new r
+    → (r : Result Text RunError) → GivesText IsAnswer r → IsRead run_origin old new r
 to_the_end IsAnswer old new none end (Ok text) h = end
 to_the_end IsAnswer old new none end (Err Usage) h = end
 to_the_end IsAnswer old new none end (Err (Condition k)) h = end
@@ -97,7 +110,7 @@ to_the_end IsAnswer old new none end (Err Memory) h = tt
 
 -- if the words have no fault, the only error is out of memory, after which anything may have been read
 pub faultless : (A : Type 0) (IsFault : RunError → Type 0) (old new : Option (List ℕ)) → ((fault : RunError) → ¬ (IsFault fault))
-    → (e : RunError) → GivesFault IsFault e → IsRead {A = A} old new (Err e)
+    → (e : RunError) → GivesFault IsFault e → IsRead {A = A} run_origin old new (Err e)
 faultless A IsFault old new none Usage h = absurd (none _ h)
 faultless A IsFault old new none (Condition k) h = absurd (none _ h)
 faultless A IsFault old new none (Number k) h = absurd (none _ h)

@@ -1,15 +1,16 @@
 -- The program's answer to the words of its command line and its input, and what it reads and writes.
 --     AnswersQuery query input answer      the answer to a query
 --     AnswersWords words input answer      the answer to the words and the input
-use Rattle.std.specs.Prelude.{◌≡◌, ℕ, ◌+◌, List, [], ◌∷◌, ◌++◌, Bool, Option, Some, None, Result, Ok, Err, ⊤, codes, if◌then◌else◌, length}
-use Rattle.std.specs.Io.KnownBytes.{Appends, Consumes, IsAtEnd, Keeps}
+use Rattle.std.specs.Prelude.{◌≡◌, ℕ, List, [], ◌∷◌, ◌++◌, Bool, Option, Result, Ok, Err, ⊤, codes, if◌then◌else◌}
+use Rattle.std.specs.Io.KnownBytes.{Appends, Keeps}
 use Rattle.icu_plurals.specs.Operands.{of_whole}
 use Rattle.icu_plurals.specs.Truth.{tree_truth}
-use Rattle.plural_commands.specs.Input.{WholeDocument, document_in, elements_for, most_bytes, ranged_for, rules_for}
+use Rattle.plural_commands.specs.Input.{WholeDocument, document_in, elements_for, ranged_for, rules_for}
 use Rattle.plural_commands.specs.Lines.{AreRuleLines, IsCategoryLine, IsElementLine, IsMessageLine, IsRangeLine}
 use Rattle.plural_commands.specs.Queries.{Asks, Lookup, number_category, range_category, printed_rules, number_element, number_message}
 use Rattle.plural_commands.specs.Queries.{Query, of_document, truth}
 use Rattle.plural_commands.specs.Steps.{After, Then}
+use Rattle.plural_documents.specs.Inputs.{Origin, from_reader, from_length, from_writer, from_memory, from_answer}
 use Rattle.plural_commands.specs.declared.error.RunError.{RunError}
 use Rattle.plural_commands.specs.declared.error.RunError.TheVariants.{Usage, Read, TooLong, Write, Memory}
 
@@ -44,10 +45,13 @@ AnswersWords words input = Then (Asks words) (λ query. AnswersQuery query input
 
 -- ---- What is read and written
 
--- the input is what remains in the reader, if that is known
-abbrev pub IsInput : Option (List ℕ) → List ℕ → Type 0
-IsInput None input = ⊤
-IsInput (Some left) input = input ≡ left
+-- where a fault comes from; `IsRead` says what was read by then
+abbrev pub run_origin : RunError → Origin
+run_origin Read = from_reader
+run_origin TooLong = from_length
+run_origin Write = from_writer
+run_origin Memory = from_memory
+run_origin fault = from_answer
 
 -- The result, and what the writer took: the answer's text and nothing else, or the answer's fault and nothing at all. Out of
 -- memory, a failed read and a failed write come from outside; only after a failed write may something have been written.
@@ -57,14 +61,6 @@ IsAnswered IsAnswer old new (Err Memory) = Keeps old new
 IsAnswered IsAnswer old new (Err Read) = Keeps old new
 IsAnswered IsAnswer old new (Err Write) = (text : List ℕ) × IsAnswer (Ok text)
 IsAnswered IsAnswer old new (Err fault) = IsAnswer (Err fault) × Keeps old new
-
--- What was read: all of the input; if it is too long, one byte more than the limit. If the reader failed or memory ran out, it
--- may be anything.
-abbrev pub IsRead : {A : Type 0} → Option (List ℕ) → Option (List ℕ) → Result A RunError → Type 0
-IsRead old new (Err Read) = ⊤
-IsRead old new (Err Memory) = ⊤
-IsRead old new (Err TooLong) = (bytes : List ℕ) × Consumes old new bytes × (length bytes ≡ most_bytes + 1)
-IsRead old new result = IsAtEnd new
 
 -- no read error is returned
 abbrev pub IsNotRead : {A : Type 0} → Result A RunError → Type 0

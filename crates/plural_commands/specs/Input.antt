@@ -1,9 +1,7 @@
 -- The document that an input writes, and what it has for a locale (docs/JSON.md).
-use Rattle.std.specs.Prelude.{ℕ, List, length, Option, Some, None, Result, Ok, Err, nat_lt, if◌then◌else◌, codes}
-use Rattle.std.specs.Str.{is_utf8}
+use Rattle.std.specs.Prelude.{ℕ, List, Option, Some, None, Result, Ok, Err, codes}
 use Rattle.serde_json.specs.Data.{Data}
 use Rattle.serde_json.specs.Find.{get}
-use Rattle.serde_json.specs.Read.{read}
 use Rattle.icu_plurals.specs.declared.JsonError.{JsonError}
 use Rattle.icu_plurals.specs.declared.JsonError.TheVariants.{Shape}
 use Rattle.icu_plurals.specs.declared.PluralRuleType.{PluralRuleType}
@@ -13,6 +11,8 @@ use Rattle.icu_plurals.specs.ElementsJson.{packed_of_json}
 use Rattle.icu_plurals.specs.FiveRules.{FiveRules}
 use Rattle.icu_plurals.specs.PackedElements.{PackedElements}
 use Rattle.icu_plurals.specs.Providers.{WithRanges}
+use Rattle.plural_documents.specs.Inputs.{within_limit}
+use Rattle.plural_documents.specs.JsonTexts.{json_of}
 use Rattle.plural_commands.specs.Steps.{◌>>=◌, or_fault}
 use Rattle.plural_commands.specs.declared.error.RunError.{RunError}
 use Rattle.plural_commands.specs.declared.error.RunError.TheVariants.{TooLong, Json, Document as BadDocument, Locale}
@@ -29,10 +29,6 @@ abbrev pub or_bad : {A : Type 0} → Result A JsonError → Result A RunError
 or_bad (Ok x) = Ok x
 or_bad (Err refusal) = Err (BadDocument refusal)
 
--- the JSON value that the bytes write
-abbrev pub json_of : List ℕ → Option Data
-json_of bytes = if is_utf8 bytes then read bytes else None
-
 -- the document with this value
 abbrev pub document_with : Data → Result WholeDocument RunError
 document_with value = do
@@ -43,13 +39,9 @@ document_with value = do
 abbrev pub document_of : List ℕ → Result WholeDocument RunError
 document_of bytes = or_fault Json (json_of bytes) >>= document_with
 
--- the most bytes that an input may have
-abbrev pub most_bytes : ℕ
-most_bytes = 4194304
-
 -- the document of an input, whose length is checked first
 abbrev pub document_in : List ℕ → Result WholeDocument RunError
-document_in input = if nat_lt most_bytes (length input) then Err TooLong else document_of input
+document_in input = within_limit TooLong document_of input
 
 -- ---- What it has for a locale
 

@@ -3,11 +3,12 @@
 ghost use Rattle.serde_json.specs.View.{view};
 ghost use Rattle.icu_plurals.specs.DocumentJson.{document_of_json};
 ghost use Rattle.icu_plurals.specs.FiveRules.{rules_of as data_of};
-ghost use Rattle.plural_commands.specs.Input.{document_of, json_of, or_bad, ranged_for, rules_for};
+ghost use Rattle.plural_commands.specs.Input.{document_of, or_bad, ranged_for, rules_for};
 ghost use Rattle.plural_commands.specs.Inner.CallAnswers.{GivesValue};
 ghost use Rattle.plural_commands.specs.Inner.PrivateViews.{document_view};
 ghost use Rattle.plural_commands.specs.Steps.{or_fault};
 ghost use Rattle.plural_commands.specs.declared.error.RunError.TheVariants.{Json};
+ghost use Rattle.plural_documents.specs.JsonTexts.{json_of};
 
 use crate::error::RunError;
 use icu_plurals::provider::PluralRulesData;
@@ -15,6 +16,7 @@ use icu_plurals::{
     JsonError, JsonProvider, PluralRuleType, PluralRules, PluralRulesOptions,
     PluralRulesWithRanges, PluralsProvider,
 };
+use plural_documents::{JsonTextError, json_value};
 use serde_json::Value;
 use std::alloc::Global;
 
@@ -38,15 +40,10 @@ pub(crate) fn document_of(alloc: Global, bytes: &[u8]) -> Result<Document, RunEr
 fn value_of(alloc: Global, bytes: &[u8]) -> Result<Value, RunError>
     ensures { GivesValue view (or_fault Json (json_of bytes.now)) result }
 {
-    match Value::from_slice(alloc, bytes) {
+    match json_value(alloc, bytes) {
         Ok(value) => Ok(value),
-        Err(fault) => {
-            if fault.is_memory() {
-                Err(RunError::Memory)
-            } else {
-                Err(RunError::Json)
-            }
-        }
+        Err(JsonTextError::Json) => Err(RunError::Json),
+        Err(JsonTextError::Memory) => Err(RunError::Memory),
     }
 }
 

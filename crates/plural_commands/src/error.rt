@@ -1,10 +1,12 @@
 //! Why the program fails.
 
 ghost use Rattle.plural_commands.specs.Answer.{status_of};
+ghost use Rattle.plural_commands.specs.Inner.InputFaults.{input_fault};
 ghost use Rattle.std.specs.Prelude.{◌≡◌};
 
 use icu_plurals::provider::rules::reference::ParseError;
 use icu_plurals::{DecimalError, JsonError};
+use plural_documents::InputError;
 use thiserror::Error;
 
 const USAGE: &str =
@@ -43,6 +45,18 @@ pub enum RunError {
     /// Out of memory. Nothing was written.
     #[error("out of memory")]
     Memory,
+}
+
+impl From<InputError> for RunError {
+    ghost from_gives = { λ error fault. fault ≡ input_fault error };
+
+    fn from(error: InputError) -> RunError {
+        match error {
+            InputError::Read => RunError::Read,
+            InputError::TooLong => RunError::TooLong,
+            InputError::Memory => RunError::Memory,
+        }
+    }
 }
 
 impl RunError {

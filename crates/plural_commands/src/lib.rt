@@ -9,7 +9,6 @@ mod condition;
 mod document;
 mod elements;
 mod error;
-mod input;
 mod integer;
 mod line;
 mod message_command;

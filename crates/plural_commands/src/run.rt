@@ -1,16 +1,17 @@
 //! Runs the words of a command line.
 
 ghost use Rattle.std.specs.Prelude.{◌≡◌, List, ℕ, map};
-ghost use Rattle.plural_commands.specs.Answer.{AnswersQuery, AnswersWords, IsAnswered, IsInput, IsNotRead, IsRead};
+ghost use Rattle.plural_commands.specs.Answer.{AnswersQuery, AnswersWords, IsAnswered, IsNotRead, run_origin};
 ghost use Rattle.plural_commands.specs.Inner.CallAnswers.{GivesAfterReading, IsOfDocument};
 ghost use Rattle.plural_commands.specs.Inner.PrivateViews.{lookup_view, query_view};
 ghost use Rattle.plural_commands.specs.Queries.{NeedsInput, of_document};
+ghost use Rattle.plural_documents.specs.Inputs.{IsInput, IsRead};
 
 use crate::answer::text_in;
 use crate::error::RunError;
-use crate::input::read_input;
 use crate::query::{Lookup, Query, query_of};
 use crate::test_command::truth_line;
+use plural_documents::read_input;
 use std::alloc::Global;
 use std::borrow::CowStr;
 use std::io::{Read, Write};
@@ -47,7 +48,7 @@ pub fn run<R: Read, W: Write>(
     // The answer is that of some input: what remained in the reader, if that is known.
     ensures answers { (input : List ℕ) × IsInput (R.remaining reader.old) input
         × IsAnswered (AnswersWords (map (λ w. w.now) words.now) input) (W.contents writer.old) (W.contents writer.new) result }
-    ensures reads { NeedsInput (map (λ w. w.now) words.now) → IsRead (R.remaining reader.old) (R.remaining reader.new) result }
+    ensures reads { NeedsInput (map (λ w. w.now) words.now) → IsRead run_origin (R.remaining reader.old) (R.remaining reader.new) result }
     ensures reads_nothing { ¬ (NeedsInput (map (λ w. w.now) words.now)) → (reader.new ≡ reader.old) × IsNotRead result }
 {
     let query = query_of(alloc, words)?;
@@ -66,7 +67,7 @@ fn answer<R: Read>(
 ) -> Result<CowStr<'static>, RunError>
     ensures answers { (input : List ℕ) × IsInput (R.remaining reader.old) input
         × GivesAfterReading (AnswersQuery (query_view query.now) input) result }
-    ensures reads { IsOfDocument (query_view query.now) → IsRead (R.remaining reader.old) (R.remaining reader.new) result }
+    ensures reads { IsOfDocument (query_view query.now) → IsRead run_origin (R.remaining reader.old) (R.remaining reader.new) result }
     ensures reads_nothing { ¬ (IsOfDocument (query_view query.now)) → (reader.new ≡ reader.old) × IsNotRead result }
 {
     match query {
@@ -83,7 +84,7 @@ fn looked_up<R: Read>(
 ) -> Result<CowStr<'static>, RunError>
     ensures answers { (input : List ℕ) × IsInput (R.remaining reader.old) input
         × GivesAfterReading (AnswersQuery (of_document (lookup_view lookup.now)) input) result }
-    ensures reads { IsRead (R.remaining reader.old) (R.remaining reader.new) result }
+    ensures reads { IsRead run_origin (R.remaining reader.old) (R.remaining reader.new) result }
 {
     let input = read_input(alloc, reader)?;
     text_in(alloc, input.as_slice(), lookup)

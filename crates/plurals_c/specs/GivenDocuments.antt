@@ -6,9 +6,7 @@
 --     AreElementsIn json answer      the packed bytes. Faults: those of the JSON text, of the
 --         elements
 use Rattle.std.specs.Prelude.{◌≡◌, ℕ, ◌<◌, List, length, ◌==◌, if◌then◌else◌, Some, None, Result, Ok, Err, ⊤}
-use Rattle.std.specs.Str.{IsUtf8}
 use Rattle.serde_json.specs.Data.{Data}
-use Rattle.serde_json.specs.Read.{read}
 use Rattle.icu_plurals.specs.declared.JsonError.{JsonError}
 use Rattle.icu_plurals.specs.declared.PluralRuleType.{PluralRuleType}
 use Rattle.icu_plurals.specs.declared.PluralRuleType.TheVariants.{Cardinal, Ordinal}
@@ -16,6 +14,7 @@ use Rattle.icu_plurals.specs.DocumentJson.{Document as Maps, Rows, document_of_j
 use Rattle.icu_plurals.specs.ElementsJson.{packed_of_json}
 use Rattle.icu_plurals.specs.FiveRules.{FiveRules}
 use Rattle.icu_plurals.specs.PackedElements.{PackedElements, ElementsBytes}
+use Rattle.plural_documents.specs.JsonTexts.{json_of}
 use Rattle.plurals_c.specs.GivenBytes.{ReadsText}
 use Rattle.plurals_c.specs.GivenTexts.{PackRules}
 use Rattle.plurals_c.specs.Results.{Then}
@@ -32,12 +31,12 @@ ReadsType n answer = answer ≡ type_of n
 -- the bytes aren't JSON; or there are some, and memory ran out
 abbrev pub IsJsonFault : List ℕ → Fault → Type 0
 IsJsonFault bytes Memory = 0 < length bytes
-IsJsonFault bytes Json = IsUtf8 bytes → read bytes ≡ None
+IsJsonFault bytes Json = json_of bytes ≡ None
 IsJsonFault bytes fault = ⊥
 
 -- the JSON value that the bytes write
 abbrev pub ReadsJson : List ℕ → Result Data Fault → Type 0
-ReadsJson bytes (Ok value) = IsUtf8 bytes × (read bytes ≡ Some value)
+ReadsJson bytes (Ok value) = json_of bytes ≡ Some value
 ReadsJson bytes (Err fault) = IsJsonFault bytes fault
 
 -- a value that is refused, for this reason; or memory ran out

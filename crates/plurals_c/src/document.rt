@@ -10,6 +10,7 @@ ghost use Rattle.plurals_c.specs.Inner.GivenResults.{Gives};
 use crate::fault::Fault;
 use icu_plurals::provider::PluralRulesData;
 use icu_plurals::{JsonProvider, PluralRuleType, PluralsProvider};
+use plural_documents::{JsonTextError, json_value};
 use serde_json::Value;
 use std::alloc::Global;
 
@@ -28,15 +29,10 @@ pub(crate) fn rule_type_of(number: u8) -> Result<PluralRuleType, Fault>
 pub(crate) fn value_in(alloc: Global, bytes: &[u8]) -> Result<Value, Fault>
     ensures { Gives view (ReadsJson bytes.now) result }
 {
-    match Value::from_slice(alloc, bytes) {
+    match json_value(alloc, bytes) {
         Ok(value) => Ok(value),
-        Err(fault) => {
-            if fault.is_memory() {
-                Err(Fault::Memory)
-            } else {
-                Err(Fault::Json)
-            }
-        }
+        Err(JsonTextError::Json) => Err(Fault::Json),
+        Err(JsonTextError::Memory) => Err(Fault::Memory),
     }
 }
 

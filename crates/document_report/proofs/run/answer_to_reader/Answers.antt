@@ -1,14 +1,22 @@
 use Rattle.std.proofs.lemmas.Result.{err_from_is_err_and}
 use Rattle.document_report.specs.CheckAnswer.{AnswersDocument}
 use Rattle.document_report.specs.CheckedDocument.{value_of}
+use Rattle.document_report.specs.Inner.CheckInputFaults.{input_fault}
 use Rattle.document_report.proofs.CheckFaults.{handed_on}
-use Rattle.document_report.proofs.CheckReadings.{answer_not_long, no_input, of_all, to_the_end}
+use Rattle.document_report.proofs.CheckReadings.{answer_not_long, no_input, of_all, read_on, to_the_end}
 use Rattle.document_report.proofs.run.answer_to_reader.Goals as goal
 
 pub returns-in_err-input-clause-answers : goal.returns-in_err-input-clause-answers
 returns-in_err-input-clause-answers g c =
     no_input (g.R.Read.remaining c.args.reader.now) c.in_err-input.field-0.0 c.from_residual.result
-    (handed_on _ _ (err_from_is_err_and c.from_residual.result c.from_residual.ensures.1)) c.in_err-input.ensures.input
+    (handed_on _ (input_fault c.in_err-input.field-0.0) (err_from_is_err_and c.from_residual.result c.from_residual.ensures.1))
+    c.in_err-input.ensures.input
+
+pub returns-in_err-input-clause-reads : goal.returns-in_err-input-clause-reads
+returns-in_err-input-clause-reads g c =
+    read_on _ _ c.in_err-input.field-0.0 c.from_residual.result
+    (handed_on _ (input_fault c.in_err-input.field-0.0) (err_from_is_err_and c.from_residual.result c.from_residual.ensures.1))
+    c.in_err-input.ensures.read
 
 pub returns-clause-answers : goal.returns-clause-answers
 returns-clause-answers g c = (

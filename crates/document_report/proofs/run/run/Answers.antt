@@ -5,7 +5,7 @@ use Rattle.document_report.specs.CheckedDocument.{value_in}
 use Rattle.document_report.specs.Inner.CheckViews.{answer_view}
 use Rattle.document_report.proofs.CheckFaults.{handed_on}
 use Rattle.document_report.proofs.CheckReadings.{implied, kept, not_written, with_words, without_words}
-use Rattle.document_report.proofs.CheckedInputs.{some_input}
+use Rattle.plural_documents.proofs.InputLemmas.{some_input}
 use Rattle.document_report.proofs.run.run.Goals as goal
 
 pub returns-then-has_words-clause-answers : goal.returns-then-has_words-clause-answers

@@ -3,7 +3,7 @@ use Rattle.plural_commands.specs.Answer.{AnswersQuery}
 use Rattle.plural_commands.specs.Inner.CallAnswers.{GivesAfterReading, IsOfDocument}
 use Rattle.plural_commands.specs.Inner.PrivateViews.{query_view}
 use Rattle.plural_commands.specs.declared.query.Query.{Query as CodeQuery}
-use Rattle.plural_commands.proofs.Inputs.{some_input}
+use Rattle.plural_documents.proofs.InputLemmas.{some_input}
 use Rattle.plural_commands.proofs.run.answer.Goals as goal
 
 pub returns-in-Test-clause-answers : goal.returns-in-Test-clause-answers

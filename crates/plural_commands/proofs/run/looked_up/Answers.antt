@@ -1,18 +1,26 @@
 use Rattle.std.proofs.lemmas.Result.{err_from_is_err_and}
 use Rattle.plural_commands.specs.Answer.{AnswersLookup}
 use Rattle.plural_commands.specs.Input.{document_of}
+use Rattle.plural_commands.specs.Inner.InputFaults.{input_fault}
 use Rattle.plural_commands.specs.Inner.PrivateViews.{lookup_view}
 use Rattle.plural_commands.specs.Steps.{After}
 use Rattle.plural_commands.proofs.Faults.{handed_on}
 use Rattle.plural_commands.proofs.Lengths.{text_not_long}
-use Rattle.plural_commands.proofs.Readings.{no_input, of_all, to_the_end}
+use Rattle.plural_commands.proofs.Readings.{no_input, of_all, read_on, to_the_end}
 use Rattle.plural_commands.proofs.run.looked_up.Goals as goal
 
 pub returns-in_err-input-clause-answers : goal.returns-in_err-input-clause-answers
 returns-in_err-input-clause-answers g c =
     no_input (AnswersLookup (lookup_view c.args.lookup.now)) (g.R.Read.remaining c.args.reader.now)
     c.in_err-input.field-0.0 c.from_residual.result
-    (handed_on _ _ (err_from_is_err_and c.from_residual.result c.from_residual.ensures.1)) c.in_err-input.ensures.input
+    (handed_on _ (input_fault c.in_err-input.field-0.0) (err_from_is_err_and c.from_residual.result c.from_residual.ensures.1))
+    c.in_err-input.ensures.input
+
+pub returns-in_err-input-clause-reads : goal.returns-in_err-input-clause-reads
+returns-in_err-input-clause-reads g c =
+    read_on _ _ c.in_err-input.field-0.0 c.from_residual.result
+    (handed_on _ (input_fault c.in_err-input.field-0.0) (err_from_is_err_and c.from_residual.result c.from_residual.ensures.1))
+    c.in_err-input.ensures.read
 
 pub returns-clause-answers : goal.returns-clause-answers
 returns-clause-answers g c = (

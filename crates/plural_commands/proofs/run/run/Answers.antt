@@ -7,7 +7,7 @@ use Rattle.plural_commands.specs.Commands.{command_of}
 use Rattle.plural_commands.specs.Inner.PrivateViews.{query_view}
 use Rattle.plural_commands.specs.Queries.{Asks}
 use Rattle.plural_commands.proofs.Faults.{fault_of_first, handed_on}
-use Rattle.plural_commands.proofs.Inputs.{some_input}
+use Rattle.plural_documents.proofs.InputLemmas.{some_input}
 use Rattle.plural_commands.proofs.Questions.{needs, settled}
 use Rattle.plural_commands.proofs.Readings.{faultless, implied, not_blamed, not_written, without_reading}
 use Rattle.plural_commands.proofs.run.run.Goals as goal

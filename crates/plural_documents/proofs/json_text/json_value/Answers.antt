@@ -1,6 +1,6 @@
 use Rattle.std.proofs.Common.{rules}
-use Rattle.document_report.proofs.Documents.{value_there, value_refused}
-use Rattle.document_report.proofs.document.json_of.Goals as goal
+use Rattle.plural_documents.proofs.JsonTextLemmas.{value_there, value_refused}
+use Rattle.plural_documents.proofs.json_text.json_value.Goals as goal
 
 pub returns-in-Ok : goal.returns-in-Ok
 returns-in-Ok c = value_there _ _ c.in-Ok.ensures.ok.0 c.in-Ok.ensures.ok.1

@@ -1,43 +1,43 @@
-//! The bytes of the input.
+//! The bytes of an input.
 
-ghost use Rattle.std.specs.Prelude.{◌≡◌, ◌+◌, ◌≤◌, List, ℕ, length, Ok, Err, IfOk, vec_len};
+ghost use Rattle.std.specs.Prelude.{◌≡◌, ◌+◌, ◌≤◌, List, ℕ, length, Err, IfOk};
 ghost use Rattle.std.specs.Io.KnownBytes.{Consumes, IsAtEnd};
-ghost use Rattle.document_report.specs.CheckAnswer.{IsRead};
-ghost use Rattle.document_report.specs.Inner.CheckedBytes.{GivesInput};
+ghost use Rattle.plural_documents.specs.Inputs.{IsRead, GivesInput, input_origin};
 
-use crate::error::CheckError;
 use std::alloc::Global;
 use std::io::{ErrorKind, Read};
 
 // The most bytes that an input may have.
 const MOST_BYTES: usize = 4_194_304;
 
-// Why there is no input.
+/// Why there is no input.
 #[derive(Clone, Copy, Debug, PartialEq, Eq)]
-enum InputError {
+pub enum InputError {
+    /// The reader failed.
     Read,
+    /// The input has more than 4194304 bytes.
     TooLong,
+    /// Out of memory.
     Memory,
 }
 
-// Returns the input: all that remains in the reader. If it is too long, one byte more than the limit is read.
-pub(crate) fn read_input<R: Read>(alloc: Global, reader: &mut R) -> Result<Vec<u8>, CheckError>
+/// Returns the input: all that remains in the reader. It allocates.
+///
+/// The errors: [`InputError::Read`] if the reader failed; [`InputError::TooLong`] if there are more
+/// than 4194304 bytes, and then one more than these is read; [`InputError::Memory`] if memory ran
+/// out. An interrupted read is repeated.
+pub fn read_input<R: Read>(alloc: Global, reader: &mut R) -> Result<Vec<u8>, InputError>
     ensures input { GivesInput (R.remaining reader.old) result }
-    ensures read { IsRead (R.remaining reader.old) (R.remaining reader.new) result }
+    ensures read { IsRead input_origin (R.remaining reader.old) (R.remaining reader.new) result }
 {
-    match read_bytes(alloc, reader) {
-        Ok(bytes) => Ok(bytes),
-        Err(InputError::Read) => Err(CheckError::Read),
-        Err(InputError::TooLong) => Err(CheckError::TooLong),
-        Err(InputError::Memory) => Err(CheckError::Memory),
-    }
+    read_bytes(alloc, reader)
 }
 
 // Reads to the end, or one byte past the limit.
 fn read_bytes<R: Read>(alloc: Global, reader: &mut R) -> Result<Vec<u8>, InputError>
     ensures bytes { IfOk result (λ bytes. Consumes (R.remaining reader.old) (R.remaining reader.new) bytes.items) }
     ensures end { IfOk result (λ _. IsAtEnd (R.remaining reader.new)) }
-    ensures limit { IfOk result (λ bytes. vec_len bytes ≤ MOST_BYTES) }
+    ensures limit { IfOk result (λ bytes. length bytes.items ≤ MOST_BYTES) }
     ensures too_long { result ≡ Err InputError.TooLong
         → (bytes : List ℕ) × Consumes (R.remaining reader.old) (R.remaining reader.new) bytes × (length bytes ≡ MOST_BYTES + 1) }
 {

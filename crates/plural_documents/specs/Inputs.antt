@@ -1,0 +1,61 @@
+-- An input of limited length, and what is read of it.
+--     IsInput left input      the input is what remains in the reader, if that is known
+--     within_limit fault value input      the value of an input, or this fault if it is too long
+--     IsRead origin old new result      what was read of the reader when a call has this result
+use Rattle.std.specs.Prelude.{◌≡◌, ℕ, ◌+◌, ◌≤◌, ◌<◌, List, length, Option, Some, None, Result, Ok, Err, ⊤, Vec, nat_lt, if◌then◌else◌}
+use Rattle.std.specs.Io.KnownBytes.{Consumes, IsAtEnd}
+use Rattle.std.specs.declared.alloc.Global.{Global}
+use Rattle.plural_documents.specs.declared.input.InputError.{InputError}
+use Rattle.plural_documents.specs.declared.input.InputError.TheVariants.{Read, TooLong, Memory}
+
+-- the most bytes that an input may have
+abbrev pub most_bytes : ℕ
+most_bytes = 4194304
+
+-- the input is what remains in the reader, if that is known
+abbrev pub IsInput : Option (List ℕ) → List ℕ → Type 0
+IsInput None input = ⊤
+IsInput (Some left) input = input ≡ left
+
+-- the value of an input, whose length is checked first
+abbrev pub within_limit : {A E : Type 0} → E → (List ℕ → Result A E) → List ℕ → Result A E
+within_limit fault value input = if nat_lt most_bytes (length input) then Err fault else value input
+
+-- the bytes are the input, which isn't too long; an error is from the reader, for the length, or out of memory
+abbrev pub GivesInput : Option (List ℕ) → Result (Vec ℕ Global) InputError → Type 0
+GivesInput left (Ok bytes) = IsInput left bytes.items × (length bytes.items ≤ most_bytes)
+GivesInput left (Err TooLong) = (input : List ℕ) × IsInput left input × (most_bytes < length input)
+GivesInput left (Err Read) = ⊤
+GivesInput left (Err Memory) = ⊤
+
+-- ---- Where a fault comes from
+
+-- of a program: from a reader that failed, an input that is too long, a writer that failed, a lack of memory; or it is the answer
+-- to the words and the input
+pub data Origin : Type 0 where
+  from_reader : Origin
+  from_length : Origin
+  from_writer : Origin
+  from_memory : Origin
+  from_answer : Origin
+
+abbrev pub input_origin : InputError → Origin
+input_origin Read = from_reader
+input_origin TooLong = from_length
+input_origin Memory = from_memory
+
+-- ---- What is read
+
+-- after a fault of this origin: all of the input; if it is too long, one byte more than the limit. If the reader failed or memory
+-- ran out, it may be anything.
+abbrev pub IsReadAfter : Origin → Option (List ℕ) → Option (List ℕ) → Type 0
+IsReadAfter from_reader old new = ⊤
+IsReadAfter from_memory old new = ⊤
+IsReadAfter from_length old new = (bytes : List ℕ) × Consumes old new bytes × (length bytes ≡ most_bytes + 1)
+IsReadAfter from_writer old new = IsAtEnd new
+IsReadAfter from_answer old new = IsAtEnd new
+
+-- the same after a result; with a value, all of the input was read
+abbrev pub IsRead : {A E : Type 0} → (E → Origin) → Option (List ℕ) → Option (List ℕ) → Result A E → Type 0
+IsRead origin old new (Ok x) = IsAtEnd new
+IsRead origin old new (Err fault) = IsReadAfter (origin fault) old new
