@@ -40,6 +40,7 @@ pub use Rattle.plural_base.specs.FiveRules
 pub use Rattle.plural_base.specs.RuleTexts
 pub use Rattle.plural_base.specs.RulesBytes
 pub use Rattle.plural_base.specs.DecimalChoice
+pub use Rattle.plural_base.specs.SureChoice
 -- ranges
 pub use Rattle.plural_base.specs.Ranges
 pub use Rattle.plural_base.specs.Providers

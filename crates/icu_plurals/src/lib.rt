@@ -182,6 +182,6 @@ pub use plural_base::{
     AllCategories, AsPluralRules, Categories, DataError, ElementsPackError, JsonError,
     JsonProvider, PluralCategory, PluralRuleType, PluralRules, PluralRulesOptions,
     PluralRulesWithRanges, PluralsProvider, RulesBytesError, RulesPackError, RulesTextError,
-    rule_from_json, rule_to_json,
+    SureCategoryError, rule_from_json, rule_to_json, sure_category,
 };
 pub use plural_reference::{OperandsError, PluralOperands, RawPluralOperands, Sequence};

@@ -46,7 +46,7 @@ pub refused_for_one : TextsGiveOneAnswer → (text : Option (List ℕ)) (found e
 refused_for_one one None found error is refused other = absurd is
 refused_for_one one (Some text) found error (inl told) (inl gives) other =
     let h : ◌≡◌ {A = RuleAnswer} (Err found) (Err error) =
-      (one text (Err found)).0 told ∙ sym ((one text (Err error)).0 gives) in
+    (one text (Err found)).0 told ∙ sym ((one text (Err error)).0 gives) in
     inl cc
 refused_for_one one (Some text) found error (inr memory) refused other = inr memory
 refused_for_one one (Some text) found error (inl told) (inr memory) other = absurd (other memory)
@@ -154,7 +154,7 @@ within_leaves_memory one text x number_fault.Memory within is = refl
 pub refused_number : {A : Type 0} (text : List ℕ) (error : DecimalError)
     → (◌≡◌ {A = Result A DecimalError} (Err error) (Err number_fault.Syntax)) ↔ ((x : CompactNumber) → ¬ (WritesCompact text x))
     → (◌≡◌ {A = Result A DecimalError} (Err error) (Err number_fault.Limit))
-        ↔ ((x : CompactNumber) × WritesCompact text x × IsCompactOverLimit x)
+    ↔ ((x : CompactNumber) × WritesCompact text x × IsCompactOverLimit x)
     → IsNumberFault text error
 refused_number text number_fault.Syntax syntax limit = syntax.0 refl
 refused_number text number_fault.Limit syntax limit = limit.0 refl

@@ -25,6 +25,7 @@ pub fn result(
         "category_of_integer" => category_of_integer(alloc, arguments),
         "category_of_decimal" => category_of_decimal(alloc, arguments),
         "category_of_compact" => category_of_compact(alloc, arguments),
+        "sure_category" => sure_category(alloc, arguments),
         _ => return None,
     })
 }
@@ -172,4 +173,23 @@ fn category_of_compact(alloc: Global, arguments: &mut Arguments) -> Result<Strin
 fn chosen(alloc: Global, category: PluralCategory, is_exact: bool) -> Result<String, RowFault> {
     let exact = if is_exact { "exact" } else { "not exact" };
     Ok(format!(in alloc; "{}, {exact}", name_of(category))?)
+}
+
+// The category of a number's text under five texts, where it is sure.
+fn sure_category(alloc: Global, arguments: &mut Arguments) -> Result<String, RowFault> {
+    let texts = arguments.five_texts(alloc)?;
+    let number = arguments.text(alloc)?;
+    let found = plural_base::sure_category(
+        alloc,
+        texts.zero.as_deref(),
+        texts.one.as_deref(),
+        texts.two.as_deref(),
+        texts.few.as_deref(),
+        texts.many.as_deref(),
+        number.as_str(),
+    );
+    match found {
+        Ok(category) => show::word(alloc, name_of(category)),
+        Err(error) => Ok(format!(in alloc; "error {error}")?),
+    }
 }
