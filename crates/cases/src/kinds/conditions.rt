@@ -67,6 +67,8 @@ fn equal_conditions(alloc: Global, arguments: &mut Arguments) -> Result<String, 
 // Whether a condition is true of operands.
 fn truth(alloc: Global, arguments: &mut Arguments) -> Result<String, RowFault> {
     let condition = next_condition(alloc, arguments)?;
-    let operands = arguments.operands(alloc)?;
+    let Ok(operands) = arguments.operands(alloc) else {
+        return Err(RowFault::Not("operands"));
+    };
     show::truth(alloc, test_condition(&condition, &operands))
 }

@@ -149,7 +149,9 @@ fn text_operands(alloc: Global, arguments: &mut Arguments) -> Result<String, Row
 
 // Operands, made of raw ones and turned into raw ones again.
 fn raw_operands(alloc: Global, arguments: &mut Arguments) -> Result<String, RowFault> {
-    let operands = arguments.operands(alloc)?;
+    let Ok(operands) = arguments.operands(alloc) else {
+        return Err(RowFault::Not("operands"));
+    };
     let raw = RawPluralOperands::from(operands);
     shown(alloc, &PluralOperands::from(raw))
 }
@@ -181,7 +183,9 @@ fn compact_is_exactly(alloc: Global, arguments: &mut Arguments) -> Result<String
 
 // The value of an operand, if it has one.
 fn operand_value(alloc: Global, arguments: &mut Arguments) -> Result<String, RowFault> {
-    let operands = arguments.operands(alloc)?;
+    let Ok(operands) = arguments.operands(alloc) else {
+        return Err(RowFault::Not("operands"));
+    };
     let letter = arguments.text(alloc)?;
     let operand = operand_of(letter.as_str()).ok_or(RowFault::Not("an operand"))?;
     match operands.value(operand) {

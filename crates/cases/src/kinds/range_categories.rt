@@ -60,8 +60,12 @@ fn range_of_rules(alloc: Global, arguments: &mut Arguments) -> Result<String, Ro
     let provider = provider(alloc, arguments)?;
     let locale = arguments.text(alloc)?;
     let rules = PluralRules::from_data(arguments.rules(alloc)?);
-    let start = operands(alloc, arguments)?;
-    let end = operands(alloc, arguments)?;
+    let Ok(start) = operands(alloc, arguments) else {
+        return Err(RowFault::Not("a decimal"));
+    };
+    let Ok(end) = operands(alloc, arguments) else {
+        return Err(RowFault::Not("a decimal"));
+    };
     let both = PluralRulesWithRanges::try_new_with_rules_unstable(&provider, &locale, rules);
     shown(
         alloc,

@@ -48,7 +48,9 @@ fn counted(alloc: Global, rule: &Rule<'_>, numbers: &[Value]) -> Result<String, 
     let mut shown = String::new(alloc);
     let mut steps = Steps::new();
     for number in numbers {
-        let operands = operands_of(&text_of(alloc, number)?)?;
+        let Ok(operands) = operands_of(&text_of(alloc, number)?) else {
+            return Err(RowFault::Not("operands"));
+        };
         let answer = test_rule_counted(rule, &operands, &mut steps);
         if test_rule(rule, &operands) != answer {
             return show::word(alloc, "another truth without a count");
@@ -68,7 +70,9 @@ fn operands_of(text: &str) -> Result<PluralOperands, RowFault> {
 // The truth of a text's packed rule and of its condition.
 fn both_truths(alloc: Global, arguments: &mut Arguments) -> Result<String, RowFault> {
     let text = arguments.text(alloc)?;
-    let operands = arguments.operands(alloc)?;
+    let Ok(operands) = arguments.operands(alloc) else {
+        return Err(RowFault::Not("operands"));
+    };
     let Ok(rule) = Rule::from_str(alloc, text.as_str()) else {
         return show::word(alloc, "no rule");
     };

@@ -82,10 +82,10 @@ fn rule_has_condition(alloc: Global, arguments: &mut Arguments) -> Result<String
 // The samples of a rule: after each list's type its ranges, each after a bar, and a star for an ellipsis.
 fn samples(alloc: Global, arguments: &mut Arguments) -> Result<String, RowFault> {
     let rule = next_rule(alloc, arguments)?;
-    let Some(samples) = rule.samples else {
+    let Some(samples) = &rule.samples else {
         return show::word(alloc, "none");
     };
-    shown_samples(alloc, &samples)
+    shown_samples(alloc, samples)
 }
 
 // Both lists of samples, where they are present.

@@ -53,7 +53,10 @@ fn element_for(alloc: Global, arguments: &mut Arguments) -> Result<String, RowFa
     };
     let mut shown = String::new(alloc);
     for number in &numbers {
-        let value = elements.get(operands(number.as_str())?, &rules);
+        let Ok(operands) = operands(number.as_str()) else {
+            return Err(RowFault::Not("operands"));
+        };
+        let value = elements.get(operands, &rules);
         push_value(alloc, &mut shown, value)?;
     }
     Ok(shown)

@@ -95,7 +95,10 @@ fn text_for(alloc: Global, arguments: &mut Arguments) -> Result<String, RowFault
     let packed = source.packed(alloc)?;
     let mut shown = String::new(alloc);
     for number in &numbers {
-        let text = packed.get(operands(number.as_str())?, &rules);
+        let Ok(operands) = operands(number.as_str()) else {
+            return Err(RowFault::Not("operands"));
+        };
+        let text = packed.get(operands, &rules);
         push(&mut shown, show::quoted(alloc, text)?.as_str())?;
     }
     Ok(shown)

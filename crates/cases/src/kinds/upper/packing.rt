@@ -60,7 +60,9 @@ fn packed_elements_for(alloc: Global, arguments: &mut Arguments) -> Result<Strin
     };
     let mut shown = String::new(alloc);
     for number in &numbers {
-        let operands = operands(number.as_str())?;
+        let Ok(operands) = operands(number.as_str()) else {
+            return Err(RowFault::Not("operands"));
+        };
         let value = packed.get(operands, &rules);
         push_value(alloc, &mut shown, value)?;
         if value != *elements.get(operands, &rules) {
@@ -91,7 +93,10 @@ fn chosen_text(alloc: Global, arguments: &mut Arguments) -> Result<String, RowFa
     let elements = borrowed_texts(&texts);
     let mut shown = String::new(alloc);
     for number in &numbers {
-        let text = *elements.get(operands(number.as_str())?, &rules);
+        let Ok(operands) = operands(number.as_str()) else {
+            return Err(RowFault::Not("operands"));
+        };
+        let text = *elements.get(operands, &rules);
         push(&mut shown, show::quoted(alloc, text)?.as_str())?;
     }
     Ok(shown)
