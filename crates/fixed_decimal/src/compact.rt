@@ -43,7 +43,7 @@ impl CompactDecimal {
     /// Returns the number that a text writes: a decimal, then nothing, or `c` and one to three
     /// digits. The whole text is judged before anything is allocated: `Syntax` if it isn't of this
     /// form, `Limit` if it has more than 32767 places on a side or an exponent above 255, and
-    /// `Memory` if the digits can't be allocated.
+    /// `Memory` if the digits can't be allocated, never of a text of at most 16 bytes.
     pub fn from_str(alloc: Global, text: &str) -> Result<CompactDecimal, DecimalError>
         ensures number { IfOk result (λ x.
             WritesCompact text.now x
