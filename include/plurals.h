@@ -1,5 +1,4 @@
-/* Which form of a message does a number take? The plural rules of Fonuresse, for C. In C++ the type of
- * a category is `enum plurals_category`, since plurals_category is a function too.
+/* Which form of a message does a number take? The plural rules of Fonuresse, for C, and for C++ under plurals.hpp.
  *
  * A language's rules are one block of bytes, and so are the elements of a message, which are its texts by category. A
  * program makes the blocks once and asks with them as often as it likes:
@@ -31,8 +30,9 @@
  * What the caller has to see to
  *     A pointer and the length after it are one slice: that many bytes can be read there, and in out written. A text needs
  *     no byte 0 at its end; if it has one, the length doesn't count it.
- *     No pointer is null, not even with length 0: any other pointer, as that of "", goes with length 0, and is the empty
- *     text or the empty block. A length is at most that of one object, so below 2^63.
+ *     In the installed library a pointer with length 0 is any pointer, also null, and is the empty text, the empty block
+ *     or no room. In the archives that tools/archive prints no pointer is null: there that of "" goes with length 0. A
+ *     length is at most that of one object, so below 2^63.
  *     out overlaps no other slice of the call. During a call no other thread writes to its slices, nor reads out.
  *     Everything else is checked: any bytes may be given as a text, a block or a number, and are refused by a fault where
  *     they are none.
@@ -41,7 +41,11 @@
  *     Calls may run at once in any number of threads, also with the same blocks. No call is made from a signal handler, or
  *     in the forked child of a process with threads.
  *
- * tools/header compares this file with the exports of crates/plurals_c and their faults.
+ * What is proved
+ *     Each export of crates/plurals_c, which is the first part of the declarations. The second part, and what lets a null
+ *     pointer go with length 0, is C of the folder install, which no proof covers.
+ *
+ * tools/header compares this file with the exports of crates/plurals_c and their faults, and with the folder install.
  */
 #ifndef FONURESSE_PLURALS_H
 #define FONURESSE_PLURALS_H
@@ -49,12 +53,18 @@
 #include <stddef.h>
 #include <stdint.h>
 
+/* The version of this header; plurals_version returns that of the library. docs/C.md says what a later one may change. */
+#define PLURALS_VERSION "0.1.0"
+#define PLURALS_VERSION_MAJOR 0
+#define PLURALS_VERSION_MINOR 1
+#define PLURALS_VERSION_PATCH 0
+
 #ifdef __cplusplus
 extern "C" {
 #endif
 
 /* The plural categories (UTS 35 Part 3, Language Plural Rules), as calls return them. */
-enum plurals_category {
+enum plurals_category_number {
     PLURALS_ZERO = 0,
     PLURALS_ONE = 1,
     PLURALS_TWO = 2,
@@ -145,8 +155,8 @@ int64_t plurals_rules_from_texts(const char *zero, size_t zero_len, const char *
  * memory. */
 int32_t plurals_check_rules(const uint8_t *rules, size_t rules_len);
 
-/* Returns the category of an integer, PLURALS_ZERO to PLURALS_OTHER, or the fault of the rules. number is
- * unsigned: pass the absolute value of a negative one, which has the same category. Allocates nothing. */
+/* Returns the category of an integer, PLURALS_ZERO to PLURALS_OTHER, or the fault of the rules. number is unsigned, so C
+ * makes a huge number of a negative int: plurals_category_of_signed_integer takes those. Allocates nothing. */
 int32_t plurals_category_of_integer(const uint8_t *rules, size_t rules_len, uint64_t number);
 
 /* Returns the category of a number as it is written: 1 and 1.0 are two numbers. It may have a sign, zeros at both ends and
@@ -172,6 +182,22 @@ int64_t plurals_element(const uint8_t *rules, size_t rules_len, const uint8_t *e
  * Allocates for the number and for the message. */
 int64_t plurals_message(const uint8_t *rules, size_t rules_len, const uint8_t *elements, size_t elements_len,
                         const char *number, size_t number_len, char *out, size_t out_len);
+
+/* ---- What follows is in the installed library alone, and isn't proved. None of it allocates. */
+
+/* Returns the version of the library, as "0.1.0". The text is the library's, and ends with a byte 0. */
+const char *plurals_version(void);
+
+/* Returns the category of an integer, which is that of its absolute value, or the fault of the rules. */
+int32_t plurals_category_of_signed_integer(const uint8_t *rules, size_t rules_len, int64_t number);
+
+/* Returns the name of a category, as "one", or null if the number is that of none. The text is the library's, and ends
+ * with a byte 0. */
+const char *plurals_category_name(int32_t category);
+
+/* Returns in a few English words what a fault is, as "out of memory", or null if no fault has the number. The text is the
+ * library's, and ends with a byte 0. A later version may word it otherwise. */
+const char *plurals_fault_text(int64_t fault);
 
 #ifdef __cplusplus
 }

@@ -1,0 +1,75 @@
+/* The calls of plurals.h that are in the installed library alone. They aren't proved. */
+#include <plurals.h>
+
+const char *plurals_version(void) { return PLURALS_VERSION; }
+
+int32_t plurals_category_of_signed_integer(const uint8_t *rules, size_t rules_len, int64_t number) {
+    /* The absolute value of the least integer is above the largest one, so it is taken of the unsigned number. */
+    uint64_t absolute = number < 0 ? 0 - (uint64_t)number : (uint64_t)number;
+    return plurals_category_of_integer(rules, rules_len, absolute);
+}
+
+const char *plurals_category_name(int32_t category) {
+    switch (category) {
+    case PLURALS_ZERO: return "zero";
+    case PLURALS_ONE: return "one";
+    case PLURALS_TWO: return "two";
+    case PLURALS_FEW: return "few";
+    case PLURALS_MANY: return "many";
+    case PLURALS_OTHER: return "other";
+    default: return NULL;
+    }
+}
+
+const char *plurals_fault_text(int64_t fault) {
+    switch (fault) {
+    case PLURALS_MEMORY: return "out of memory";
+    case PLURALS_UTF8: return "a text isn't UTF-8";
+    case PLURALS_TYPE: return "the type of rules is neither cardinal nor ordinal";
+
+    case PLURALS_NUMBER_SYNTAX: return "the text isn't a number";
+    case PLURALS_NUMBER_LIMIT: return "the number is over a limit";
+
+    case PLURALS_TEXT_EXPECTED_AND_CONDITION: return "the rule's text ends after \"or\"";
+    case PLURALS_TEXT_EXPECTED_RELATION: return "the rule's text ends after \"and\"";
+    case PLURALS_TEXT_EXPECTED_OPERATOR: return "the rule's text lacks \"=\" or \"!=\"";
+    case PLURALS_TEXT_EXPECTED_OPERAND: return "the rule's text lacks an operand";
+    case PLURALS_TEXT_EXPECTED_VALUE: return "the rule's text lacks a number";
+    case PLURALS_TEXT_EXPECTED_SAMPLE_TYPE: return "the rule's text lacks \"integer\" or \"decimal\" after \"@\"";
+    case PLURALS_TEXT_VALUE_TOO_LARGE: return "the rule's text has a value above 4294967295";
+    case PLURALS_TEXT_START_LIMIT: return "the rule is too long";
+
+    case PLURALS_RULES_LIST_HEADER: return "the block of rules: its head is cut off";
+    case PLURALS_RULES_LIST_ZERO_COUNT: return "the block of rules counts no item, and isn't empty";
+    case PLURALS_RULES_LIST_START: return "the block of rules: an item has a wrong start";
+    case PLURALS_RULES_ITEM_EMPTY: return "the block of rules: an item is empty";
+    case PLURALS_RULES_KEY: return "the block of rules: an item has a wrong key";
+    case PLURALS_RULES_RULE_LIST_HEADER: return "a rule of the block: its head is cut off";
+    case PLURALS_RULES_RULE_LIST_ZERO_COUNT: return "a rule of the block counts no relation, and isn't empty";
+    case PLURALS_RULES_RULE_LIST_START: return "a rule of the block: a relation has a wrong start";
+    case PLURALS_RULES_RULE_ITEM_LENGTH: return "a rule of the block: a relation has a wrong length";
+    case PLURALS_RULES_RULE_OPERAND: return "a rule of the block: a relation has no operand";
+    case PLURALS_RULES_LIMIT: return "the rules are too long for one block";
+
+    case PLURALS_ELEMENTS_EMPTY: return "the block of elements is empty";
+    case PLURALS_ELEMENTS_SHORT: return "the block of elements: its default is cut off";
+    case PLURALS_ELEMENTS_PADDING: return "the block of elements: a padding bit is set";
+    case PLURALS_ELEMENTS_DEFAULT_TEXT: return "the block of elements: its default isn't UTF-8";
+    case PLURALS_ELEMENTS_LIST_HEADER: return "the block of elements: the head of its list is cut off";
+    case PLURALS_ELEMENTS_LIST_ZERO_COUNT: return "the block of elements: its list counts no item, and isn't empty";
+    case PLURALS_ELEMENTS_LIST_START: return "the block of elements: an item has a wrong start";
+    case PLURALS_ELEMENTS_ITEM_EMPTY: return "the block of elements: an item is empty";
+    case PLURALS_ELEMENTS_KEY: return "the block of elements: an item has a wrong key";
+    case PLURALS_ELEMENTS_ITEM_TEXT: return "the block of elements: an item isn't UTF-8";
+    case PLURALS_ELEMENTS_DEFAULT_LIMIT: return "the elements: the default's text is above 255 bytes beside others";
+    case PLURALS_ELEMENTS_START_LIMIT: return "the elements are too long for one block";
+
+    case PLURALS_JSON: return "the text isn't JSON";
+    case PLURALS_DOCUMENT_FLOAT: return "the JSON has a number that isn't an integer of 64 bits";
+    case PLURALS_DOCUMENT_SHAPE: return "the JSON has a value of another kind than its place asks for";
+    case PLURALS_DOCUMENT_RANGE_KEY: return "the document has a key that names no range";
+    case PLURALS_DOCUMENT_RANGE_VALUE: return "the document has a range whose value names no category";
+    case PLURALS_LOCALE: return "the document has no rules of the type for the locale";
+    default: return NULL;
+    }
+}
