@@ -1,0 +1,92 @@
+// Checks what plurals.hpp returns, and prints the line of each check that fails. It is compiled without exceptions.
+#include <cstdio>
+#include <limits>
+#include <plurals.hpp>
+#include <string>
+#include <string_view>
+#include <type_traits>
+#include <utility>
+
+static int failed = 0;
+#define CHECK(CONDITION) ((CONDITION) ? (void)0 : (void)(++failed, std::printf("%s:%d: %s\n", __FILE__, __LINE__, #CONDITION)))
+
+using plurals::Category;
+using plurals::Elements;
+using plurals::Rules;
+using plurals::Texts;
+
+static void integers() {
+    Texts texts;
+    texts.one = "i = 1 and v = 0";
+    texts.many = "i = 9223372036854775808";
+    CHECK(Rules::from_texts(texts).fault().number() == PLURALS_TEXT_EXPECTED_VALUE);
+    texts.many = "i % 10 = 8";
+    auto rules = Rules::from_texts(texts);
+    CHECK(rules.has_value());
+    CHECK(rules->category(1) == Category::one);
+    CHECK(rules->category(-1) == Category::one);
+    CHECK(rules->category(1u) == Category::one);
+    CHECK(rules->category(static_cast<short>(-1)) == Category::one);
+    CHECK(rules->category('\1') == Category::one);
+    CHECK(rules->category(2L) == Category::other);
+    // Its absolute value ends in 8, and isn't an int64_t.
+    CHECK(rules->category(std::numeric_limits<std::int64_t>::min()) == Category::many);
+    CHECK(rules->category(std::numeric_limits<std::uint64_t>::max()) == Category::other);
+}
+
+static void texts_of_numbers() {
+    Texts texts;
+    texts.one = "i = 1 and v = 0";
+    auto rules = Rules::from_texts(texts);
+    CHECK(*rules->category("1") == Category::one);
+    CHECK(*rules->category("1.0") == Category::other);
+    CHECK(*rules->category(std::string("-1")) == Category::one);
+    CHECK(rules->category("").fault().number() == PLURALS_NUMBER_SYNTAX);
+    // A view without a pointer.
+    CHECK(rules->category(std::string_view()).fault().number() == PLURALS_NUMBER_SYNTAX);
+    CHECK(rules->category("\xff").fault().number() == PLURALS_UTF8);
+    CHECK(*rules->is_exact("1"));
+    CHECK(rules->category("x").fault().text() == "the text isn't a number");
+}
+
+static void rules_and_documents() {
+    std::string_view json = R"({"cardinal":{"en":{"one":"i = 1 and v = 0"}},"ordinal":{"en":{"two":"n % 10 = 2 and n % 100 != 12"}}})";
+    auto cardinal = Rules::from_document(json, "en", plurals::Type::cardinal);
+    auto ordinal = Rules::from_document(json, "en", plurals::Type::ordinal);
+    CHECK(cardinal->category(1) == Category::one);
+    CHECK(ordinal->category(22) == Category::two);
+    CHECK(ordinal->category(12) == Category::other);
+    CHECK(Rules::from_document(json, "de", plurals::Type::cardinal).fault().number() == PLURALS_LOCALE);
+    CHECK(Rules::from_document("", "de", plurals::Type::cardinal).fault().number() == PLURALS_JSON);
+    auto none = Rules::from_texts({});
+    CHECK(none.has_value() && none->category(1) == Category::other);
+    Rules moved = *std::move(cardinal);
+    CHECK(moved.category(1) == Category::one);
+    CHECK(cardinal->category(1) == Category::other);
+    static_assert(!std::is_copy_constructible_v<Rules> && std::is_nothrow_move_constructible_v<Rules>);
+}
+
+static void elements() {
+    std::string long_text(1000, 'x');
+    auto found = Elements::from_json(R"({"other":[0,"{} items"],"explicit_zero":[0,"none"]})");
+    auto large = Elements::from_json(R"({"other":[0,")" + long_text + R"("]})");
+    auto rules = Rules::from_texts({});
+    CHECK(found->message(*rules, "2")->view() == "2 items");
+    CHECK(found->element(*rules, "2")->view() == "{} items");
+    CHECK(found->message(*rules, "0")->view() == "none");
+    CHECK(found->message(*rules, "0.0")->view() == "0.0 items");
+    CHECK(large->message(*rules, "1")->view() == long_text);
+    CHECK(Elements::from_json("{}").fault().number() == PLURALS_DOCUMENT_SHAPE);
+}
+
+int main() {
+    static_assert(PLURALS_VERSION_MAJOR == 0);
+    CHECK(plurals_version() == std::string_view(PLURALS_VERSION));
+    CHECK(plurals::name(Category::few) == "few");
+    integers();
+    texts_of_numbers();
+    rules_and_documents();
+    elements();
+    std::printf("%d failed\n", failed);
+    return failed != 0;
+}

@@ -1,0 +1,23 @@
+// Prints the messages of some numbers, as ../c/formatter.c does.
+#include <iostream>
+#include <plurals.hpp>
+
+int main() {
+    plurals::Texts texts;
+    texts.one = "i = 1 and v = 0";
+    auto rules = plurals::Rules::from_texts(texts);
+    auto elements = plurals::Elements::from_json(R"({"other":[0,"{} items"],"one":[0,"{} item"]})");
+    if (!rules || !elements) return 1;
+    for (const char *number : {"0", "1", "1.0", "2", "1c6", "-1", "x", "1c256"}) {
+        auto message = elements->message(*rules, number);
+        if (message) {
+            std::cout << message->view() << '\n';
+        } else if (message.fault().number() == PLURALS_NUMBER_SYNTAX) {
+            std::cout << number << ": it isn't a number\n";
+        } else if (message.fault().number() == PLURALS_NUMBER_LIMIT) {
+            std::cout << number << ": it is over a limit\n";
+        } else {
+            return 1;
+        }
+    }
+}

@@ -1,0 +1,202 @@
+"""The plural category of a number, by CLDR's plural rules, over the installed library of Fonuresse.
+
+    >>> import plurals
+    >>> rules = plurals.Rules.of_locale("ru")
+    >>> [str(rules.category(number)) for number in (1, 2, 5, 1.5, "1.0", Decimal("21"))]
+    ['one', 'few', 'many', 'other', 'other', 'one']
+
+What decides is proved, in the library; this file isn't. The library is the file that PLURALS_LIBRARY names, else the one of the
+folder that this file is installed in, else the system's. Calls may run in any number of threads.
+"""
+
+from __future__ import annotations
+
+import ctypes
+import ctypes.util
+import os
+from decimal import Decimal
+from enum import Enum
+from pathlib import Path
+from typing import Any, Optional, Union
+
+__all__ = ["Category", "Elements", "Fault", "Number", "Rules", "text_of", "version"]
+
+Number = Union[int, float, Decimal, str]
+_HERE = Path(__file__).resolve()
+# The number of digits beside the point above which the library refuses a number.
+_MOST_DIGITS = 32767
+
+
+class Category(str, Enum):
+    """A plural category. It equals its name: Category.ONE == "one"."""
+
+    ZERO = "zero"
+    ONE = "one"
+    TWO = "two"
+    FEW = "few"
+    MANY = "many"
+    OTHER = "other"
+
+    def __str__(self) -> str:
+        return self.value
+
+
+class Fault(ValueError):
+    """Why a call has no result: number is one of plurals_fault in plurals.h."""
+
+    def __init__(self, number: int) -> None:
+        found = _library.plurals_fault_text(number)
+        super().__init__(found.decode() if found else f"unknown fault {number}")
+        self.number = number
+
+
+def _found() -> str:
+    """Returns the path of the library."""
+    given = os.environ.get("PLURALS_LIBRARY")
+    if given:
+        return given
+    # This file is share/plurals/examples/python/plurals.py below the folder that the library was installed to.
+    if len(_HERE.parents) > 4:
+        for path in sorted([*_HERE.parents[4].glob("lib/libplurals.so.0"), *_HERE.parents[4].glob("lib/*/libplurals.so.0")]):
+            return str(path)
+    return ctypes.util.find_library("plurals") or "libplurals.so.0"
+
+
+def _opened() -> ctypes.CDLL:
+    library = ctypes.CDLL(_found())
+    given = [ctypes.c_char_p, ctypes.c_size_t]
+    forms: dict[str, tuple[Any, list[Any]]] = {
+        "plurals_rules_from_document": (ctypes.c_int64, [*given, *given, ctypes.c_uint8, *given]),
+        "plurals_rules_from_texts": (ctypes.c_int64, [*given * 5, *given]),
+        "plurals_category_of_integer": (ctypes.c_int32, [*given, ctypes.c_uint64]),
+        "plurals_category": (ctypes.c_int32, [*given, *given]),
+        "plurals_is_exact": (ctypes.c_int32, [*given, *given]),
+        "plurals_elements_from_json": (ctypes.c_int64, [*given, *given]),
+        "plurals_element": (ctypes.c_int64, [*given * 3, *given]),
+        "plurals_message": (ctypes.c_int64, [*given * 3, *given]),
+        "plurals_category_name": (ctypes.c_char_p, [ctypes.c_int32]),
+        "plurals_fault_text": (ctypes.c_char_p, [ctypes.c_int64]),
+        "plurals_version": (ctypes.c_char_p, []),
+    }
+    for name, (result, words) in forms.items():
+        export = getattr(library, name)
+        export.restype, export.argtypes = result, words
+    return library
+
+
+_library = _opened()
+
+
+def version() -> str:
+    """Returns the version of the library."""
+    return str(_library.plurals_version().decode())
+
+
+def text_of(number: Number) -> str:
+    """Returns the text that a number is asked by.
+
+    A text is itself. An integer of any size has its digits. A float has its shortest text without exponent, and without a fraction of
+    zeros: 1.0 is 1, and 1e22 is 1 and 22 zeros; a text or a Decimal keeps the zeros that are shown. A Decimal has all its digits, also
+    its zeros, without exponent.
+    """
+    if isinstance(number, str):
+        return number
+    if isinstance(number, bool) or not isinstance(number, (int, float, Decimal)):
+        raise TypeError(f"a number is an int, a float, a Decimal or a str, not {type(number).__name__}")
+    exact = Decimal(repr(number)) if isinstance(number, float) else Decimal(number)
+    if not exact.is_finite():
+        raise Fault(-10)
+    exponent = exact.as_tuple().exponent
+    assert isinstance(exponent, int)
+    if exact.adjusted() >= _MOST_DIGITS or -exponent > _MOST_DIGITS:
+        raise Fault(-11)
+    text = format(exact, "f")
+    return text.rstrip("0").rstrip(".") if isinstance(number, float) and "." in text else text
+
+
+def _bytes(text: str) -> bytes:
+    # A lone surrogate becomes bytes that aren't UTF-8, so the library refuses it.
+    return text.encode("utf-8", "surrogatepass")
+
+
+def _words(texts: tuple[bytes, ...]) -> list[Any]:
+    return [word for text in texts for word in (text, len(text))]
+
+
+def _checked(result: int) -> int:
+    if result == -1:
+        raise MemoryError
+    if result < 0:
+        raise Fault(result)
+    return result
+
+
+def _written(export: Any, *words: Any) -> bytes:
+    """Returns the bytes that an export writes. It is called again if they are more than there is room for."""
+    room = 256
+    while True:
+        out = ctypes.create_string_buffer(room)
+        length = _checked(export(*words, out, room))
+        if length <= room:
+            return out.raw[:length]
+        room = length
+
+
+class Rules:
+    """The rules of a language, which category a number has. Their bytes are the block of docs/FORMATS.md."""
+
+    __slots__ = ("block",)
+    block: bytes
+
+    def __init__(self, zero: str = "", one: str = "", two: str = "", few: str = "", many: str = "") -> None:
+        """Reads the texts of the categories, as CLDR has them. A category without a text has no rule."""
+        texts = tuple(map(_bytes, (zero, one, two, few, many)))
+        self.block = _written(_library.plurals_rules_from_texts, *_words(texts))
+
+    @classmethod
+    def of_locale(cls, locale: str, ordinal: bool = False, document: Optional[Union[str, bytes]] = None) -> Rules:
+        """Reads a locale's rules of a document (docs/JSON.md), which is the installed one of CLDR 41 unless another is given.
+
+        The locale is compared byte by byte: CLDR has ru and pt-PT, not ru-RU.
+        """
+        if document is None:
+            document = (_HERE.parents[2] / "cldr.json").read_bytes()
+        json = document if isinstance(document, bytes) else _bytes(document)
+        rules = cls.__new__(cls)
+        words = [*_words((json, _bytes(locale))), int(ordinal)]
+        rules.block = _written(_library.plurals_rules_from_document, *words)
+        return rules
+
+    def category(self, number: Number) -> Category:
+        """Returns the category of a number. 1 and "1.0" are two numbers."""
+        if type(number) is int and -(2**64) < number < 2**64:
+            found = _library.plurals_category_of_integer(self.block, len(self.block), abs(number))
+        else:
+            found = _library.plurals_category(*_words((self.block, _bytes(text_of(number)))))
+        return Category(_library.plurals_category_name(_checked(found)).decode())
+
+    def is_exact(self, number: Number) -> bool:
+        """Returns whether the category is that of all digits of the number, however many it has."""
+        return _checked(_library.plurals_is_exact(*_words((self.block, _bytes(text_of(number)))))) == 1
+
+
+class Elements:
+    """The texts of a message by category."""
+
+    __slots__ = ("block",)
+    block: bytes
+
+    def __init__(self, json: str) -> None:
+        """Reads a JSON text, as {"other":[0,"{} items"],"one":[0,"{} item"]} (docs/JSON.md)."""
+        self.block = _written(_library.plurals_elements_from_json, *_words((_bytes(json),)))
+
+    def text(self, rules: Rules, number: Number) -> str:
+        """Returns the text that the number takes."""
+        return self._asked(_library.plurals_element, rules, number)
+
+    def message(self, rules: Rules, number: Number) -> str:
+        """Returns this text with the number in the place of each {}."""
+        return self._asked(_library.plurals_message, rules, number)
+
+    def _asked(self, export: Any, rules: Rules, number: Number) -> str:
+        return _written(export, *_words((rules.block, self.block, _bytes(text_of(number))))).decode()

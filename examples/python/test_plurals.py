@@ -1,0 +1,150 @@
+"""Tests of plurals.py, over the rules of CLDR 41. What is expected comes from UTS 35 and CLDR's samples."""
+import subprocess
+import sys
+import threading
+from decimal import Decimal
+
+import plurals
+import pytest
+from plurals import Category, Elements, Fault, Rules, text_of
+
+ENGLISH = Rules(one="i = 1 and v = 0")
+
+
+@pytest.mark.parametrize(
+    "number, text",
+    [
+        (0, "0"),
+        (-1, "-1"),
+        (10**40, "1" + "0" * 40),
+        (10**6000, "1" + "0" * 6000),  # str() refuses this one
+        (1.0, "1"),
+        (-0.0, "-0"),
+        (1.5, "1.5"),
+        (0.1, "0.1"),
+        (1e22, "1" + "0" * 22),
+        (1e-7, "0.0000001"),
+        (123456789012345680.0, "123456789012345680"),
+        (5e-324, "0." + "0" * 323 + "5"),
+        (Decimal("1.0"), "1.0"),
+        (Decimal("1.20"), "1.20"),
+        (Decimal("1E+2"), "100"),
+        (Decimal("1E-2"), "0.01"),
+        (Decimal("0E-3"), "0.000"),
+        ("1.2c6", "1.2c6"),
+    ],
+)
+def test_text_of(number, text):
+    assert text_of(number) == text
+
+
+@pytest.mark.parametrize("number", [float("nan"), float("inf"), Decimal("NaN"), Decimal("-Infinity"), "x", "", "1e6", "1c"])
+def test_what_is_no_number(number):
+    with pytest.raises(Fault) as fault:
+        ENGLISH.category(number)
+    assert fault.value.number == -10 and str(fault.value) == "the text isn't a number"
+
+
+@pytest.mark.parametrize("number", [10**32767, Decimal("1E+999999"), Decimal("1E-999999"), "1c256"])
+def test_what_is_over_a_limit(number):
+    with pytest.raises(Fault) as fault:
+        ENGLISH.category(number)
+    assert fault.value.number == -11
+
+
+@pytest.mark.parametrize("number", [None, True, b"1", [1], 1j])
+def test_what_has_another_type(number):
+    with pytest.raises(TypeError):
+        ENGLISH.category(number)
+
+
+def test_a_lone_surrogate_is_not_utf8():
+    with pytest.raises(Fault) as fault:
+        ENGLISH.category("\ud800")
+    assert fault.value.number == -2
+
+
+@pytest.mark.parametrize(
+    "number, category",
+    [(1, "one"), (-1, "one"), (1.0, "one"), ("1", "one"), ("1.0", "other"), (Decimal(1), "one"), (Decimal("1.0"), "other"), (2, "other")],
+)
+def test_english(number, category):
+    assert ENGLISH.category(number) == category
+
+
+@pytest.mark.parametrize("locale, categories", [
+    ("ru", {1: "one", 22: "few", 11: "many", 1.5: "other", 10**30 + 21: "one", -3: "few"}),
+    ("ar", {0: "zero", 1: "one", 2: "two", 103: "few", 111: "many", 100: "other", 0.5: "other"}),
+    ("fr", {0: "one", 1.5: "one", 2: "other", 10**6: "many", "1c6": "many", 2**64: "other"}),
+    ("ja", {0: "other", 1: "other"}),
+])  # fmt: skip
+def test_languages(locale, categories):
+    rules = Rules.of_locale(locale)
+    assert {number: rules.category(number).value for number in categories} == categories
+
+
+def test_ordinals():
+    rules = Rules.of_locale("en", ordinal=True)
+    assert [str(rules.category(it)) for it in (1, 2, 3, 4, 11, 22)] == ["one", "two", "few", "other", "other", "two"]
+
+
+def test_the_ends_of_the_range_without_a_text():
+    rules = Rules(one="i % 10 = 5", few="i % 10 = 6")
+    for number in (2**64 - 1, 2**64, 1 - 2**64, -(2**64)):
+        assert rules.category(number) == rules.category(str(number)) == ("one" if number % 2 else "few")
+
+
+def test_exact():
+    assert ENGLISH.is_exact(1) is True
+    assert Rules(few="n % 7 = 1").is_exact(10**40) is False
+
+
+def test_documents():
+    document = '{"cardinal":{"x":{"two":"n = 2"}}}'
+    assert Rules.of_locale("x", document=document).category(2) is Category.TWO
+    assert Rules.of_locale("x", document=document.encode()).category(2) is Category.TWO
+    for locale, text, number in (("y", document, -75), ("x", "{", -70), ("x", "[]", -72), ("x", '{"a":1.5}', -71)):
+        with pytest.raises(Fault) as fault:
+            Rules.of_locale(locale, document=text)
+        assert fault.value.number == number
+
+
+def test_texts_that_are_no_rules():
+    with pytest.raises(Fault) as fault:
+        Rules(two="n 2")
+    assert fault.value.number == -22
+
+
+def test_elements():
+    elements = Elements('{"other":[0,"{} items"],"one":[0,"{} item"],"explicit_zero":[0,"nothing"]}')
+    assert [elements.message(ENGLISH, it) for it in (0, 0.0, "0.0", 1, 1.5, Decimal("2.50"))] == [
+        "nothing", "nothing", "0.0 items", "1 item", "1.5 items", "2.50 items",
+    ]  # fmt: skip
+    assert elements.text(ENGLISH, 1) == "{} item"
+    long = "ж" * 1000
+    assert Elements(f'{{"other":[0,"{long}"]}}').text(ENGLISH, 1) == long
+
+
+def test_byte_0_is_no_end():
+    assert Elements('{"other":[0,"a\\u0000b"]}').text(ENGLISH, 1) == "a\0b"
+    with pytest.raises(Fault):
+        ENGLISH.category("1\0")
+
+
+def test_threads():
+    rules, found = Rules.of_locale("ru"), []
+    threads = [threading.Thread(target=lambda: found.extend(rules.category(it) for it in range(1000))) for _ in range(8)]
+    for thread in threads:
+        thread.start()
+    for thread in threads:
+        thread.join()
+    assert len(found) == 8000 and found.count("one") == 8 * 90
+
+
+def test_the_version():
+    assert plurals.version() == "0.1.0"
+
+
+def test_the_documentation():
+    ran = subprocess.run([sys.executable, "-m", "doctest", plurals.__file__], capture_output=True, text=True)
+    assert (ran.returncode, ran.stdout) == (0, "")

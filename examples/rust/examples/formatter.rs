@@ -1,0 +1,16 @@
+//! Prints the messages of some numbers, as ../../c/formatter.c does.
+use plurals::{Message, PluralRules, PluralsError};
+
+fn main() -> Result<(), PluralsError> {
+    let rules = PluralRules::try_from_texts(["", "i = 1 and v = 0", "", "", ""])?;
+    let message = Message::from_json(r#"{"other":[0,"{} items"],"one":[0,"{} item"]}"#)?;
+    for number in ["0", "1", "1.0", "2", "1c6", "-1", "x", "1c256"] {
+        match message.format(number, &rules) {
+            Ok(text) => println!("{text}"),
+            Err(error) if error.number() == -10 => println!("{number}: it isn't a number"),
+            Err(error) if error.number() == -11 => println!("{number}: it is over a limit"),
+            Err(error) => return Err(error),
+        }
+    }
+    Ok(())
+}

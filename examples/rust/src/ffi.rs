@@ -1,0 +1,125 @@
+//! The calls of `plurals.h`, over slices. All that is unsafe is here.
+#![allow(unsafe_code)]
+use crate::PluralsError;
+
+mod raw {
+    extern "C" {
+        #[rustfmt::skip]
+        pub fn plurals_rules_from_document(
+            json: *const u8, json_len: usize, locale: *const u8, locale_len: usize, rule_type: u8, out: *mut u8, out_len: usize,
+        ) -> i64;
+        #[rustfmt::skip]
+        pub fn plurals_rules_from_texts(
+            zero: *const u8, zero_len: usize, one: *const u8, one_len: usize, two: *const u8, two_len: usize,
+            few: *const u8, few_len: usize, many: *const u8, many_len: usize, out: *mut u8, out_len: usize,
+        ) -> i64;
+        pub fn plurals_category_of_integer(rules: *const u8, rules_len: usize, number: u64) -> i32;
+        pub fn plurals_category(rules: *const u8, rules_len: usize, number: *const u8, number_len: usize) -> i32;
+        pub fn plurals_is_exact(rules: *const u8, rules_len: usize, number: *const u8, number_len: usize) -> i32;
+        pub fn plurals_elements_from_json(json: *const u8, json_len: usize, out: *mut u8, out_len: usize) -> i64;
+        #[rustfmt::skip]
+        pub fn plurals_element(
+            rules: *const u8, rules_len: usize, elements: *const u8, elements_len: usize, number: *const u8, number_len: usize,
+            out: *mut u8, out_len: usize,
+        ) -> i64;
+        #[rustfmt::skip]
+        pub fn plurals_message(
+            rules: *const u8, rules_len: usize, elements: *const u8, elements_len: usize, number: *const u8, number_len: usize,
+            out: *mut u8, out_len: usize,
+        ) -> i64;
+        pub fn plurals_fault_text(fault: i64) -> *const std::os::raw::c_char;
+    }
+}
+
+/// What a call writes: it is called again if its result has no room.
+fn written(call: impl Fn(&mut [u8]) -> i64) -> Result<Vec<u8>, PluralsError> {
+    let mut out = vec![0; 256];
+    loop {
+        let length = call(&mut out);
+        let length = usize::try_from(length).map_err(|_| PluralsError(length))?;
+        let had_room = length <= out.len();
+        out.resize(length, 0);
+        if had_room {
+            return Ok(out);
+        }
+    }
+}
+
+fn checked(result: i32) -> Result<i32, PluralsError> {
+    if result < 0 {
+        Err(PluralsError(result.into()))
+    } else {
+        Ok(result)
+    }
+}
+
+// Safety of each call below: a pointer and a length are those of one slice; the buffer is a unique slice, so it overlaps no other;
+// nothing is kept after the call.
+
+pub fn rules_from_document(json: &str, locale: &str, rule_type: u8) -> Result<Vec<u8>, PluralsError> {
+    written(|out| unsafe {
+        let (json, json_len) = (json.as_ptr(), json.len());
+        raw::plurals_rules_from_document(json, json_len, locale.as_ptr(), locale.len(), rule_type, out.as_mut_ptr(), out.len())
+    })
+}
+
+pub fn rules_from_texts(texts: [&str; 5]) -> Result<Vec<u8>, PluralsError> {
+    let [zero, one, two, few, many] = texts;
+    #[rustfmt::skip]
+    let found = written(|out| unsafe {
+        raw::plurals_rules_from_texts(
+            zero.as_ptr(), zero.len(), one.as_ptr(), one.len(), two.as_ptr(), two.len(), few.as_ptr(), few.len(),
+            many.as_ptr(), many.len(), out.as_mut_ptr(), out.len(),
+        )
+    });
+    found
+}
+
+pub fn category_of_integer(rules: &[u8], number: u64) -> Result<i32, PluralsError> {
+    checked(unsafe { raw::plurals_category_of_integer(rules.as_ptr(), rules.len(), number) })
+}
+
+pub fn category(rules: &[u8], number: &str) -> Result<i32, PluralsError> {
+    checked(unsafe { raw::plurals_category(rules.as_ptr(), rules.len(), number.as_ptr(), number.len()) })
+}
+
+pub fn is_exact(rules: &[u8], number: &str) -> Result<bool, PluralsError> {
+    let found = checked(unsafe { raw::plurals_is_exact(rules.as_ptr(), rules.len(), number.as_ptr(), number.len()) })?;
+    Ok(found == 1)
+}
+
+pub fn elements_from_json(json: &str) -> Result<Vec<u8>, PluralsError> {
+    written(|out| unsafe { raw::plurals_elements_from_json(json.as_ptr(), json.len(), out.as_mut_ptr(), out.len()) })
+}
+
+pub fn element(rules: &[u8], elements: &[u8], number: &str) -> Result<Vec<u8>, PluralsError> {
+    #[rustfmt::skip]
+    let found = written(|out| unsafe {
+        raw::plurals_element(
+            rules.as_ptr(), rules.len(), elements.as_ptr(), elements.len(), number.as_ptr(), number.len(),
+            out.as_mut_ptr(), out.len(),
+        )
+    });
+    found
+}
+
+pub fn message(rules: &[u8], elements: &[u8], number: &str) -> Result<Vec<u8>, PluralsError> {
+    #[rustfmt::skip]
+    let found = written(|out| unsafe {
+        raw::plurals_message(
+            rules.as_ptr(), rules.len(), elements.as_ptr(), elements.len(), number.as_ptr(), number.len(),
+            out.as_mut_ptr(), out.len(),
+        )
+    });
+    found
+}
+
+/// The library's text of a fault.
+pub fn fault_text(fault: i64) -> &'static str {
+    // Safety: the text is the library's own, ends with a byte 0, and lives as long as the library.
+    let found = unsafe { raw::plurals_fault_text(fault) };
+    if found.is_null() {
+        return "unknown fault";
+    }
+    unsafe { std::ffi::CStr::from_ptr(found) }.to_str().unwrap_or("unknown fault")
+}

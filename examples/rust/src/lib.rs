@@ -1,0 +1,234 @@
+//! The plural category of a number, by CLDR's plural rules, over the installed static library of Fonuresse. Types and calls have the
+//! names of the crate `icu_plurals`; rules come from a document of CLDR's rules, as [`CLDR`] is one, or from their texts.
+//!
+//! ```
+//! use plurals::{PluralCategory, PluralRules};
+//!
+//! let rules = PluralRules::try_new_cardinal(plurals::CLDR, "pl")?;
+//! assert_eq!(rules.category_for(1), PluralCategory::One);
+//! assert_eq!(rules.category_for(3), PluralCategory::Few);
+//! assert_eq!(rules.category_for(5), PluralCategory::Many);
+//! assert_eq!(rules.category_for("0.5".parse::<plurals::PluralOperands>()?), PluralCategory::Other);
+//! # Ok::<(), plurals::PluralsError>(())
+//! ```
+//!
+//! What decides is proved, in the library; this crate isn't. A call that finds no memory panics, unless it returns a `Result`.
+#![deny(unsafe_code, missing_docs)]
+
+mod elements;
+mod ffi;
+mod operands;
+
+pub use elements::PluralElements;
+pub use operands::PluralOperands;
+use operands::Written;
+use std::fmt;
+
+/// The document of the rules of CLDR 41 that is installed with the library.
+pub const CLDR: &str = include_str!(env!("PLURALS_CLDR"));
+
+/// Why a call has no result: a number of `plurals_fault` in `plurals.h`. Its text is the library's.
+#[derive(Clone, Copy, PartialEq, Eq, Hash)]
+pub struct PluralsError(i64);
+
+impl PluralsError {
+    /// The number of the fault, as -75 if the document has no rules for the locale.
+    pub fn number(self) -> i64 {
+        self.0
+    }
+}
+
+impl fmt::Display for PluralsError {
+    fn fmt(&self, to: &mut fmt::Formatter<'_>) -> fmt::Result {
+        to.write_str(ffi::fault_text(self.0))
+    }
+}
+
+impl fmt::Debug for PluralsError {
+    fn fmt(&self, to: &mut fmt::Formatter<'_>) -> fmt::Result {
+        write!(to, "PluralsError({}: {self})", self.0)
+    }
+}
+
+impl std::error::Error for PluralsError {}
+
+/// A plural category of UTS 35 Part 3, Language Plural Rules.
+#[derive(Clone, Copy, Debug, PartialEq, Eq, Hash, PartialOrd, Ord)]
+#[repr(u8)]
+pub enum PluralCategory {
+    /// `zero`, as of 0 in Arabic.
+    Zero = 0,
+    /// `one`, as of 1 in English.
+    One = 1,
+    /// `two`, as of 2 in Welsh.
+    Two = 2,
+    /// `few`, as of 3 in Russian.
+    Few = 3,
+    /// `many`, as of 5 in Russian.
+    Many = 4,
+    /// `other`, which every language has.
+    Other = 5,
+}
+
+impl PluralCategory {
+    /// All categories, from zero to other.
+    pub fn all() -> impl ExactSizeIterator<Item = Self> {
+        use PluralCategory::*;
+        [Zero, One, Two, Few, Many, Other].into_iter()
+    }
+
+    /// The category of a name of CLDR.
+    ///
+    /// ```
+    /// use plurals::PluralCategory;
+    /// assert_eq!(PluralCategory::get_for_cldr_string("two"), Some(PluralCategory::Two));
+    /// assert_eq!(PluralCategory::get_for_cldr_string("Two"), None);
+    /// ```
+    pub fn get_for_cldr_string(category: &str) -> Option<PluralCategory> {
+        PluralCategory::all().find(|it| it.as_str() == category)
+    }
+
+    /// The name of the category in CLDR.
+    pub fn as_str(self) -> &'static str {
+        match self {
+            PluralCategory::Zero => "zero",
+            PluralCategory::One => "one",
+            PluralCategory::Two => "two",
+            PluralCategory::Few => "few",
+            PluralCategory::Many => "many",
+            PluralCategory::Other => "other",
+        }
+    }
+
+    fn of(number: i32) -> PluralCategory {
+        PluralCategory::all().find(|it| *it as i32 == number).unwrap_or(PluralCategory::Other)
+    }
+}
+
+impl fmt::Display for PluralCategory {
+    fn fmt(&self, to: &mut fmt::Formatter<'_>) -> fmt::Result {
+        to.pad(self.as_str())
+    }
+}
+
+/// What the numbers are for.
+#[derive(Clone, Copy, Debug, PartialEq, Eq, Hash)]
+#[non_exhaustive]
+pub enum PluralRuleType {
+    /// How many: `1 door`, `2 doors`.
+    Cardinal,
+    /// Which one: `1st door`, `2nd door`.
+    Ordinal,
+}
+
+/// How rules are chosen: cardinal ones, unless it is said otherwise.
+#[derive(Clone, Copy, Debug, Default, PartialEq, Eq)]
+#[non_exhaustive]
+pub struct PluralRulesOptions {
+    /// The type of the rules, which is cardinal if there is none.
+    pub rule_type: Option<PluralRuleType>,
+}
+
+impl PluralRulesOptions {
+    /// The options with this type.
+    pub fn with_type(mut self, rule_type: PluralRuleType) -> Self {
+        self.rule_type = Some(rule_type);
+        self
+    }
+}
+
+impl From<PluralRuleType> for PluralRulesOptions {
+    fn from(rule_type: PluralRuleType) -> Self {
+        PluralRulesOptions::default().with_type(rule_type)
+    }
+}
+
+/// The rules of a language.
+///
+/// ```
+/// use plurals::{PluralCategory, PluralRuleType, PluralRules};
+///
+/// let rules = PluralRules::try_new(plurals::CLDR, "en", PluralRuleType::Ordinal.into())?;
+/// assert_eq!(rules.category_for(22), PluralCategory::Two);
+/// assert_eq!(rules.category_for(12), PluralCategory::Other);
+/// # Ok::<(), plurals::PluralsError>(())
+/// ```
+#[derive(Clone, Debug, PartialEq, Eq)]
+pub struct PluralRules {
+    /// Bytes that the library wrote, so it reads them without a fault.
+    block: Vec<u8>,
+}
+
+impl PluralRules {
+    /// The rules that a document has for a locale, which is compared byte by byte.
+    pub fn try_new(document: &str, locale: &str, options: PluralRulesOptions) -> Result<PluralRules, PluralsError> {
+        match options.rule_type {
+            None | Some(PluralRuleType::Cardinal) => PluralRules::try_new_cardinal(document, locale),
+            Some(PluralRuleType::Ordinal) => PluralRules::try_new_ordinal(document, locale),
+        }
+    }
+
+    /// Its cardinal rules.
+    pub fn try_new_cardinal(document: &str, locale: &str) -> Result<PluralRules, PluralsError> {
+        Ok(PluralRules { block: ffi::rules_from_document(document, locale, 0)? })
+    }
+
+    /// Its ordinal rules.
+    pub fn try_new_ordinal(document: &str, locale: &str) -> Result<PluralRules, PluralsError> {
+        Ok(PluralRules { block: ffi::rules_from_document(document, locale, 1)? })
+    }
+
+    /// The rules of five texts, from zero to many. An empty text isn't a rule.
+    pub fn try_from_texts(texts: [&str; 5]) -> Result<PluralRules, PluralsError> {
+        Ok(PluralRules { block: ffi::rules_from_texts(texts)? })
+    }
+
+    /// The category of a number.
+    ///
+    /// # Panics
+    ///
+    /// If there is no memory. An integer of at most 64 bits takes none.
+    pub fn category_for(&self, number: impl Into<PluralOperands>) -> PluralCategory {
+        let found = match number.into().0 {
+            Written::Integer(number) => ffi::category_of_integer(&self.block, number),
+            Written::Text(text) => ffi::category(&self.block, &text),
+        };
+        PluralCategory::of(found.unwrap_or_else(|error| panic!("{error}")))
+    }
+
+    /// Whether the category of the number is that of all its digits, however many it has.
+    ///
+    /// # Panics
+    ///
+    /// If there is no memory.
+    pub fn is_exact_for(&self, number: impl Into<PluralOperands>) -> bool {
+        ffi::is_exact(&self.block, &number.into().0.text()).unwrap_or_else(|error| panic!("{error}"))
+    }
+}
+
+/// Texts by category with a place for the number.
+///
+/// ```
+/// let rules = plurals::PluralRules::try_new_cardinal(plurals::CLDR, "en")?;
+/// let message = plurals::Message::from_json(r#"{"other":[0,"{} items"],"one":[0,"{} item"]}"#)?;
+/// assert_eq!(message.format("1", &rules)?, "1 item");
+/// assert_eq!(message.format("1.0", &rules)?, "1.0 items");
+/// # Ok::<(), plurals::PluralsError>(())
+/// ```
+#[derive(Clone, Debug, PartialEq, Eq)]
+pub struct Message {
+    block: Vec<u8>,
+}
+
+impl Message {
+    /// The texts of a JSON text.
+    pub fn from_json(json: &str) -> Result<Message, PluralsError> {
+        Ok(Message { block: ffi::elements_from_json(json)? })
+    }
+
+    /// The text that the number takes, with the number as it is written in the place of each `{}`.
+    pub fn format(&self, number: &str, rules: &PluralRules) -> Result<String, PluralsError> {
+        let text = ffi::message(&rules.block, &self.block, number)?;
+        Ok(String::from_utf8(text).expect("the library writes UTF-8"))
+    }
+}

@@ -1,0 +1,145 @@
+//! Categories, operands and values by category, over the document of CLDR 41. What is expected comes from UTS 35 and CLDR's samples.
+use plurals::PluralCategory::{self, *};
+use plurals::{PluralElements, PluralOperands, PluralRuleType, PluralRules, PluralRulesOptions, CLDR};
+
+fn cardinal(locale: &str) -> PluralRules {
+    PluralRules::try_new_cardinal(CLDR, locale).unwrap()
+}
+
+fn written(number: &str) -> PluralOperands {
+    number.parse().unwrap()
+}
+
+fn categories(rules: &PluralRules, numbers: &[&str]) -> Vec<PluralCategory> {
+    numbers.iter().map(|it| rules.category_for(written(it))).collect()
+}
+
+#[test]
+fn a_number_has_a_category() {
+    let rules = PluralRules::try_new(CLDR, "en", Default::default()).unwrap();
+    assert_eq!(rules.category_for(7_usize), Other);
+    assert_eq!(rules.category_for(1_u8), One);
+    assert_eq!(rules.category_for(-1), One);
+    assert_eq!(rules.category_for(written("1.0")), Other);
+}
+
+#[test]
+fn the_type_of_rules_decides() {
+    let options = PluralRulesOptions::default().with_type(PluralRuleType::Ordinal);
+    let ordinal = PluralRules::try_new(CLDR, "en", options).unwrap();
+    assert_eq!(categories(&ordinal, &["1", "2", "3", "4", "11", "21", "102", "113"]), [One, Two, Few, Other, Other, One, Two, Other]);
+    assert_eq!(categories(&cardinal("en"), &["1", "2", "3", "21"]), [One, Other, Other, Other]);
+}
+
+#[test]
+fn languages_have_other_categories() {
+    assert_eq!(categories(&cardinal("pl"), &["1", "4", "12", "25", "1.5"]), [One, Few, Many, Many, Other]);
+    assert_eq!(categories(&cardinal("ar"), &["0", "1", "2", "3", "11", "100"]), [Zero, One, Two, Few, Many, Other]);
+    assert_eq!(categories(&cardinal("lv"), &["0", "1", "2", "10", "21", "0.1"]), [Zero, One, Other, Zero, One, One]);
+    assert_eq!(categories(&cardinal("ja"), &["0", "1", "2"]), [Other; 3]);
+}
+
+#[test]
+fn a_compact_exponent_counts() {
+    let rules = cardinal("fr");
+    assert_eq!(rules.category_for(1_000_000), Many);
+    assert_eq!(rules.category_for(written("1c6")), Many);
+    assert_eq!(rules.category_for(written("1000000.20")), Other);
+    assert_eq!(rules.category_for(written("1.00000020c6")), Many);
+}
+
+#[test]
+fn operands_are_what_rules_see() {
+    assert_eq!(written("2"), 2_usize.into());
+    assert_eq!(written("-02"), PluralOperands::from(-2));
+    assert_eq!(written("123.45"), written("+0123.45"));
+    assert_eq!(written(".5"), written("0.5"));
+    assert_eq!(written("1c6"), written("1.000c06"));
+    assert_eq!(written("5c0"), 5.into());
+    assert_eq!(written("0.0c0"), written("0.0"));
+    assert_ne!(written("1.00000020c6"), written("1000000.20"));
+    assert_ne!(written("2.0"), 2.into());
+    assert_ne!(written("1.0000000c6"), written("1c6"));
+    assert_eq!(written("340282366920938463463374607431768211455"), u128::MAX.into());
+    assert_eq!(PluralOperands::from(i64::MIN), written("9223372036854775808"));
+    assert_eq!(PluralOperands::from(i128::MIN), written("170141183460469231731687303715884105728"));
+}
+
+#[test]
+fn what_is_no_number_is_refused() {
+    for text in ["", "x", "1.", "1e6", "1c", " 1"] {
+        assert_eq!(text.parse::<PluralOperands>().unwrap_err().number(), -10, "{text}");
+    }
+    assert_eq!("1c256".parse::<PluralOperands>().unwrap_err().number(), -11);
+}
+
+#[test]
+fn long_numbers_are_exact_within_the_bound() {
+    let rules = cardinal("ru");
+    let number = written("100000000000000000000000000021");
+    assert!(rules.is_exact_for(number.clone()));
+    assert_eq!(rules.category_for(number), One);
+}
+
+#[test]
+fn values_by_category() {
+    let rules = cardinal("en");
+    let texts = PluralElements::new("doors").with_one_value(Some("door"));
+    assert_eq!((texts.get(0, &rules), texts.get(1, &rules), texts.get(2, &rules)), (&"doors", &"door", &"doors"));
+    assert_eq!((texts.one(), texts.few(), texts.other()), (&"door", &"doors", &"doors"));
+    let texts = texts.with_explicit_zero_value(Some("no door")).with_explicit_one_value(Some("the door"));
+    assert_eq!((texts.get(0, &rules), texts.get(1, &rules)), (&"no door", &"the door"));
+    assert_eq!((texts.get(written("0.0"), &rules), texts.get(written("1c0"), &rules)), (&"doors", &"the door"));
+    assert_eq!((texts.explicit_zero(), texts.explicit_one()), (Some(&"no door"), Some(&"the door")));
+    let lengths = texts.map(str::len);
+    assert_eq!((lengths.get(0, &rules), lengths.get(5, &rules)), (&7, &5));
+}
+
+#[test]
+fn a_value_that_equals_that_of_other_is_left_out() {
+    let texts = PluralElements::new("x").with_few_value(Some("x"));
+    assert_eq!(texts, PluralElements::new("x"));
+    assert_ne!(texts.clone().with_explicit_one_value(Some("x")), texts);
+    assert_eq!(texts.clone().with_two_value(Some("y")).with_two_value(None), texts);
+}
+
+#[test]
+fn each_category_has_its_value() {
+    let rules = cardinal("ar");
+    let texts = PluralElements::new(Other)
+        .with_zero_value(Some(Zero))
+        .with_one_value(Some(One))
+        .with_two_value(Some(Two))
+        .with_few_value(Some(Few))
+        .with_many_value(Some(Many));
+    for number in 0..=111 {
+        assert_eq!(*texts.get(number, &rules), rules.category_for(number), "{number}");
+    }
+}
+
+#[test]
+fn names_of_categories() {
+    for category in PluralCategory::all() {
+        assert_eq!(PluralCategory::get_for_cldr_string(category.as_str()), Some(category));
+    }
+    assert_eq!(PluralCategory::all().len(), 6);
+    assert_eq!(format!("{Few:>5}"), "  few");
+}
+
+#[test]
+fn documents_and_texts_are_refused_by_a_number() {
+    let fault = PluralRules::try_new_cardinal(CLDR, "xx").unwrap_err();
+    assert_eq!((fault.number(), fault.to_string()), (-75, "the document has no rules of the type for the locale".to_string()));
+    assert_eq!(PluralRules::try_new_ordinal("{", "en").unwrap_err().number(), -70);
+    assert_eq!(PluralRules::try_from_texts(["", "i 1", "", "", ""]).unwrap_err().number(), -22);
+}
+
+#[test]
+fn rules_are_for_any_thread() {
+    let rules = cardinal("en");
+    std::thread::scope(|threads| {
+        for _ in 0..4 {
+            threads.spawn(|| (0..100).for_each(|number| assert_eq!(rules.category_for(number) == One, number == 1)));
+        }
+    });
+}

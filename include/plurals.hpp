@@ -1,0 +1,210 @@
+/* The plural rules of Fonuresse for C++17, over plurals.h, whose promises and limits hold here too. Nothing here throws, and all of
+ * it compiles without exceptions: what may fail returns a Result, which has a value or a fault. Nothing here is proved.
+ *
+ *     auto rules = plurals::Rules::from_texts({.one = "i = 1 and v = 0"});      in C++17: plurals::Texts texts; texts.one = "..";
+ *     if (!rules) return complain(rules.fault().text());
+ *     plurals::Category category = rules->category(1);                          Category::one
+ */
+#ifndef FONURESSE_PLURALS_HPP
+#define FONURESSE_PLURALS_HPP
+
+#include <cstddef>
+#include <cstdint>
+#include <memory>
+#include <new>
+#include <optional>
+#include <string_view>
+#include <type_traits>
+#include <utility>
+
+#include "plurals.h"
+
+namespace plurals {
+
+enum class Category : std::int32_t {
+    zero = PLURALS_ZERO,
+    one = PLURALS_ONE,
+    two = PLURALS_TWO,
+    few = PLURALS_FEW,
+    many = PLURALS_MANY,
+    other = PLURALS_OTHER
+};
+
+enum class Type : std::uint8_t { cardinal = PLURALS_CARDINAL, ordinal = PLURALS_ORDINAL };
+
+/* Returns the name of a category, as "one". */
+inline std::string_view name(Category category) noexcept { return plurals_category_name(static_cast<std::int32_t>(category)); }
+
+/* Why there is no result: one of the numbers of plurals_fault. */
+class Fault {
+public:
+    explicit Fault(std::int64_t number) noexcept : number_(number) {}
+    std::int64_t number() const noexcept { return number_; }
+    /* Returns in a few English words what it is. */
+    std::string_view text() const noexcept {
+        const char *found = plurals_fault_text(number_);
+        return found ? found : "unknown fault";
+    }
+
+private:
+    std::int64_t number_;
+};
+
+/* A value or a fault. Without a value, * and -> are undefined, as those of std::optional. */
+template <class Value>
+class [[nodiscard]] Result {
+public:
+    Result(Value value) noexcept : value_(std::move(value)), fault_(0) {}
+    Result(Fault fault) noexcept : fault_(fault) {}
+    explicit operator bool() const noexcept { return value_.has_value(); }
+    bool has_value() const noexcept { return value_.has_value(); }
+    Value &operator*() & noexcept { return *value_; }
+    const Value &operator*() const & noexcept { return *value_; }
+    Value &&operator*() && noexcept { return *std::move(value_); }
+    Value *operator->() noexcept { return &*value_; }
+    const Value *operator->() const noexcept { return &*value_; }
+    /* Returns the fault; its number is 0 if there is a value. */
+    Fault fault() const noexcept { return fault_; }
+
+private:
+    std::optional<Value> value_;
+    Fault fault_;
+};
+
+/* Bytes that a call has written. They are moved, never copied; those that are moved from are empty. */
+class Bytes {
+public:
+    Bytes() noexcept = default;
+    Bytes(Bytes &&from) noexcept : bytes_(std::move(from.bytes_)), size_(std::exchange(from.size_, 0)) {}
+    Bytes &operator=(Bytes &&from) noexcept {
+        bytes_ = std::move(from.bytes_);
+        size_ = std::exchange(from.size_, 0);
+        return *this;
+    }
+    const std::uint8_t *data() const noexcept { return bytes_.get(); }
+    std::size_t size() const noexcept { return size_; }
+    std::string_view view() const noexcept { return {reinterpret_cast<const char *>(bytes_.get()), size_}; }
+    operator std::string_view() const noexcept { return view(); }
+
+    /* Returns what a call writes, which takes a buffer and its length, and returns the length of the result or a fault. */
+    template <class Call>
+    static Result<Bytes> written(Call call) noexcept {
+        std::size_t room = 256;
+        for (;;) {
+            Bytes found;
+            found.bytes_.reset(new (std::nothrow) std::uint8_t[room]);
+            if (!found.bytes_) return Fault(PLURALS_MEMORY);
+            std::int64_t length = call(found.bytes_.get(), room);
+            if (length < 0) return Fault(length);
+            found.size_ = static_cast<std::size_t>(length);
+            if (found.size_ <= room) return found;
+            room = found.size_;
+        }
+    }
+
+private:
+    std::unique_ptr<std::uint8_t[]> bytes_;
+    std::size_t size_ = 0;
+};
+
+/* The texts of a language's rules, as CLDR has them, with samples or without. A category with an empty text has no rule. */
+struct Texts {
+    std::string_view zero{}, one{}, two{}, few{}, many{};
+};
+
+/* The rules of a language. Rules that are moved from are no rules, under which every number is other. */
+class Rules {
+public:
+    static Result<Rules> from_texts(const Texts &texts) noexcept {
+        return of(Bytes::written([&](std::uint8_t *out, std::size_t room) {
+            return plurals_rules_from_texts(texts.zero.data(), texts.zero.size(), texts.one.data(), texts.one.size(), texts.two.data(),
+                                            texts.two.size(), texts.few.data(), texts.few.size(), texts.many.data(),
+                                            texts.many.size(), out, room);
+        }));
+    }
+
+    /* The rules that a JSON document has for a locale, which is compared byte by byte. */
+    static Result<Rules> from_document(std::string_view json, std::string_view locale, Type type) noexcept {
+        return of(Bytes::written([&](std::uint8_t *out, std::size_t room) {
+            return plurals_rules_from_document(json.data(), json.size(), locale.data(), locale.size(), static_cast<std::uint8_t>(type),
+                                               out, room);
+        }));
+    }
+
+    /* Returns the category of an integer; one that is negative has that of its absolute value. */
+    template <class Integer, class = std::enable_if_t<std::is_integral_v<Integer> && !std::is_same_v<Integer, bool>>>
+    Category category(Integer number) const noexcept {
+        static_assert(sizeof(Integer) <= 8, "an integer has at most 64 bits: pass a larger one as a text");
+        /* The block is one that the library wrote, so there is no fault. */
+        if constexpr (std::is_signed_v<Integer>) {
+            return static_cast<Category>(plurals_category_of_signed_integer(block_.data(), block_.size(), number));
+        } else {
+            return static_cast<Category>(plurals_category_of_integer(block_.data(), block_.size(), number));
+        }
+    }
+
+    /* Returns the category of a number as it is written: "1" and "1.0" are two numbers. */
+    Result<Category> category(std::string_view number) const noexcept {
+        std::int32_t found = plurals_category(block_.data(), block_.size(), number.data(), number.size());
+        if (found < 0) return Fault(found);
+        return static_cast<Category>(found);
+    }
+
+    /* Returns whether the category of the number is that of all its digits, however many it has. */
+    Result<bool> is_exact(std::string_view number) const noexcept {
+        std::int32_t found = plurals_is_exact(block_.data(), block_.size(), number.data(), number.size());
+        if (found < 0) return Fault(found);
+        return found == 1;
+    }
+
+    /* The block of the rules, as calls of plurals.h take it. */
+    const Bytes &block() const noexcept { return block_; }
+
+private:
+    explicit Rules(Bytes block) noexcept : block_(std::move(block)) {}
+    static Result<Rules> of(Result<Bytes> block) noexcept {
+        if (!block) return block.fault();
+        return Rules(*std::move(block));
+    }
+    Bytes block_;
+};
+
+/* The texts of a message by category. */
+class Elements {
+public:
+    /* The elements of a JSON text, as {"other":[0,"{} items"],"one":[0,"{} item"]}. */
+    static Result<Elements> from_json(std::string_view json) noexcept {
+        auto block = Bytes::written(
+            [&](std::uint8_t *out, std::size_t room) { return plurals_elements_from_json(json.data(), json.size(), out, room); });
+        if (!block) return block.fault();
+        return Elements(*std::move(block));
+    }
+
+    /* Returns the text that the number takes. */
+    Result<Bytes> element(const Rules &rules, std::string_view number) const noexcept {
+        return asked(plurals_element, rules, number);
+    }
+
+    /* Returns this text with the number in the place of each {}. */
+    Result<Bytes> message(const Rules &rules, std::string_view number) const noexcept {
+        return asked(plurals_message, rules, number);
+    }
+
+    /* The block of the elements, as calls of plurals.h take it. */
+    const Bytes &block() const noexcept { return block_; }
+
+private:
+    explicit Elements(Bytes block) noexcept : block_(std::move(block)) {}
+    template <class Call>
+    Result<Bytes> asked(Call call, const Rules &rules, std::string_view number) const noexcept {
+        return Bytes::written([&](std::uint8_t *out, std::size_t room) {
+            return call(rules.block().data(), rules.block().size(), block_.data(), block_.size(), number.data(), number.size(),
+                        reinterpret_cast<char *>(out), room);
+        });
+    }
+    Bytes block_;
+};
+
+}  // namespace plurals
+
+#endif
