@@ -1,0 +1,61 @@
+/* Checks what the installed library adds to the proved exports: null with length 0, signed integers, names and texts. */
+#include <plurals.h>
+#include <stdio.h>
+#include <string.h>
+
+static int failed = 0;
+#define CHECK(CONDITION) ((CONDITION) ? (void)0 : (void)(++failed, printf("%s:%d: %s\n", __FILE__, __LINE__, #CONDITION)))
+
+static void null_with_length_0(void) {
+    const char *one = "n % 10 = 8", *json = "{\"cardinal\":{\"\":{\"one\":\"n = 1\"}}}", *texts = "{\"other\":[0,\"{} items\"]}";
+    uint8_t rules[64], elements[64];
+    int64_t length = plurals_rules_from_texts(NULL, 0, one, strlen(one), NULL, 0, NULL, 0, NULL, 0, NULL, 0);
+    CHECK(length > 0);
+    CHECK(plurals_rules_from_texts(NULL, 0, one, strlen(one), NULL, 0, NULL, 0, NULL, 0, rules, sizeof rules) == length);
+    CHECK(plurals_rules_from_texts(NULL, 0, NULL, 0, NULL, 0, NULL, 0, NULL, 0, NULL, 0) == 0);
+    CHECK(plurals_rules_from_document(NULL, 0, NULL, 0, PLURALS_CARDINAL, NULL, 0) == PLURALS_JSON);
+    CHECK(plurals_rules_from_document(json, strlen(json), NULL, 0, PLURALS_CARDINAL, NULL, 0) > 0);
+    CHECK(plurals_check_rules(NULL, 0) == 0);
+    CHECK(plurals_category_of_integer(NULL, 0, 1) == PLURALS_OTHER);
+    CHECK(plurals_category(NULL, 0, "1", 1) == PLURALS_OTHER);
+    CHECK(plurals_category(rules, (size_t)length, NULL, 0) == PLURALS_NUMBER_SYNTAX);
+    CHECK(plurals_is_exact(NULL, 0, "1", 1) == 1);
+    CHECK(plurals_elements_from_json(NULL, 0, NULL, 0) == PLURALS_JSON);
+    int64_t elements_len = plurals_elements_from_json(texts, strlen(texts), elements, sizeof elements);
+    CHECK(plurals_element(NULL, 0, elements, (size_t)elements_len, "1", 1, NULL, 0) == 8);
+    CHECK(plurals_message(NULL, 0, elements, (size_t)elements_len, "12", 2, NULL, 0) == 8);
+    CHECK(plurals_message(NULL, 0, NULL, 0, "1", 1, NULL, 0) == PLURALS_ELEMENTS_EMPTY);
+    /* The absolute value of the least integer ends in 8. */
+    CHECK(plurals_category_of_signed_integer(rules, (size_t)length, INT64_MIN) == PLURALS_ONE);
+    CHECK(plurals_category_of_signed_integer(rules, (size_t)length, -18) == PLURALS_ONE);
+    CHECK(plurals_category_of_signed_integer(rules, (size_t)length, 18) == PLURALS_ONE);
+    CHECK(plurals_category_of_signed_integer(rules, (size_t)length, INT64_MAX) == PLURALS_OTHER);
+    CHECK(plurals_category_of_signed_integer(NULL, 0, 18) == PLURALS_OTHER);
+    CHECK(plurals_category_of_signed_integer((const uint8_t *)"x", 1, 18) == plurals_check_rules((const uint8_t *)"x", 1));
+}
+
+static void names_and_texts(void) {
+    const char *names[] = {"zero", "one", "two", "few", "many", "other"};
+    for (int32_t category = -2; category < 8; category++) {
+        const char *name = plurals_category_name(category);
+        CHECK(0 <= category && category <= 5 ? name && !strcmp(name, names[category]) : !name);
+    }
+    /* Each number that has a text has one of its own. */
+    for (int64_t fault = -200; fault < 10; fault++) {
+        const char *text = plurals_fault_text(fault);
+        for (int64_t other = -200; text && other < fault; other++) {
+            CHECK(!plurals_fault_text(other) || strcmp(text, plurals_fault_text(other)));
+        }
+        CHECK(fault < 0 || !text);
+    }
+    CHECK(plurals_fault_text(PLURALS_MEMORY) && !strcmp(plurals_fault_text(PLURALS_LOCALE), "the document has no rules of the type for the locale"));
+    CHECK(!plurals_fault_text(INT64_MIN) && !plurals_fault_text(PLURALS_MEMORY + (INT64_C(1) << 32)));
+    CHECK(!strcmp(plurals_version(), PLURALS_VERSION));
+}
+
+int main(void) {
+    null_with_length_0();
+    names_and_texts();
+    printf("%d failed\n", failed);
+    return failed != 0;
+}
