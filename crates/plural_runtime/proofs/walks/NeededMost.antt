@@ -6,8 +6,8 @@ use Rattle.plural_reference.specs.Operands.{Operands}
 use Rattle.plural_runtime.specs.PackedRelations.{PackedRelation}
 use Rattle.plural_reference.specs.Truth.{range_holds, operand_value, remainder}
 use Rattle.plural_runtime.specs.PackedTruth.{is_true_at, needed_of_value, needed_of_relation, needed_ranges, range_count}
-use Rattle.plural_runtime.proofs.NeededGroups.{needed_from, needed_of_list-is}
-use Rattle.plural_runtime.proofs.Walks.{ends_true, is_looked_at, holds_after, needed_left, needed_left-is}
+use Rattle.plural_runtime.proofs.counting.NeededGroups.{needed_from, needed_of_list-is}
+use Rattle.plural_runtime.proofs.walks.Walks.{ends_true, is_looked_at, holds_after, needed_left, needed_left-is}
 
 -- no more ranges of a list are needed than there are
 pub needed_from-le : (value : ℕ) (ranges : List (ℕ × ℕ)) → needed_from value ranges ≤ length ranges

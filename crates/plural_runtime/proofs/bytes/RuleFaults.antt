@@ -5,7 +5,7 @@ use Rattle.packed_list.specs.declared.error.ListError.{ListError}
 use Rattle.plural_runtime.specs.PackedRelations.{HasRuleFault, first_relation_fault}
 use Rattle.plural_runtime.specs.declared.error.RuleBytesError.{RuleBytesError}
 use Rattle.plural_runtime.specs.declared.error.RuleBytesError.TheVariants as errors
-use Rattle.plural_runtime.proofs.RuleItems.{first_relation_fault-list}
+use Rattle.plural_runtime.proofs.bytes.RuleItems.{first_relation_fault-list}
 
 -- bytes that aren't a packed list have the list's fault alone
 pub list_refused : (bytes : List ℕ) (found : ListError) → ((items : List (List ℕ)) → ListBytes items bytes → ⊥)

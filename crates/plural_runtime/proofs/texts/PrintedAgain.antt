@@ -7,9 +7,9 @@ use Rattle.plural_reference.specs.PrintingLaws.{IsSpellable, ConditionsOfTextsAr
 use Rattle.plural_runtime.specs.PackedRelations.{PackedRelation, relation_bytes}
 use Rattle.plural_runtime.specs.PackedTree.{packed, unpacked, has_large_value, packing}
 use Rattle.plural_runtime.specs.RuleText.{PrintedRulesPackAgain}
-use Rattle.plural_runtime.proofs.PackedTrees.{packing-high, packing-ok}
-use Rattle.plural_runtime.proofs.SpellableTrees.{spellable_is_small, spellable_again}
-use Rattle.plural_runtime.proofs.TreeGroups.{packed-unpacked}
+use Rattle.plural_runtime.proofs.trees.PackedTrees.{packing-high, packing-ok}
+use Rattle.plural_runtime.proofs.texts.SpellableTrees.{spellable_is_small, spellable_again}
+use Rattle.plural_runtime.proofs.truth.TreeGroups.{packed-unpacked}
 
 -- what packs has no high start, and is the tree's relations
 packs_low : (condition : Condition) (relations : List PackedRelation) → has_large_value condition ≡ false

@@ -19,9 +19,9 @@ use Rattle.plural_base.specs.Json.{◌>>=◌, there_or}
 use Rattle.serde_json.specs.Data.{Data, object, Members, no_members, member}
 use Rattle.serde_json.specs.Find.{get_member}
 use Rattle.serde_json.specs.Written.{has_float, members_have_float}
-use Rattle.plural_base.proofs.RangeMembers.{Below, InOrder, wanted, wanted_of, wanted_at}
-use Rattle.plural_base.proofs.RangeNames.{category_named_as, range_named_as, range_named_is}
-use Rattle.plural_base.proofs.RawCategories.{at-each, at-put_at, by_category, same_number, same_things}
+use Rattle.plural_base.proofs.pairs.RangeMembers.{Below, InOrder, wanted, wanted_of, wanted_at}
+use Rattle.plural_base.proofs.pairs.RangeNames.{category_named_as, range_named_as, range_named_is}
+use Rattle.plural_base.proofs.encoding.RawCategories.{at-each, at-put_at, by_category, same_number, same_things}
 
 -- ---- Members in the order of their keys
 

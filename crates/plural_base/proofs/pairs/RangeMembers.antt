@@ -17,8 +17,8 @@ use Rattle.plural_base.specs.Inner.JsonSteps.{put_range, put_row, range_members}
 use Rattle.serde_json.specs.Data.{Data, Members, no_members, member, put}
 use Rattle.serde_json.specs.Find.{get_member}
 use Rattle.serde_json.proofs.Views.{get_member-put, get_member-put_other}
-use Rattle.plural_base.proofs.RangeNames.{range_named_as, range_named_is}
-use Rattle.plural_base.proofs.RawCategories.{by_category}
+use Rattle.plural_base.proofs.pairs.RangeNames.{range_named_as, range_named_is}
+use Rattle.plural_base.proofs.encoding.RawCategories.{by_category}
 
 -- ---- Folds
 

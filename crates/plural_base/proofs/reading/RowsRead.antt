@@ -7,7 +7,7 @@ use Rattle.std.specs.BTreeMap.{insert_entry}
 use Rattle.std.specs.Cmp.Lexicographic.{slice_cmp}
 use Rattle.std.specs.Map.{keys_of}
 use Rattle.std.specs.Ordering.{nat_cmp}
-use Rattle.plural_base.proofs.Rows.{Ascend, put_last, ascend_push}
+use Rattle.plural_base.proofs.reading.Rows.{Ascend, put_last, ascend_push}
 use Rattle.serde_json.specs.Data.{Data, Members, member}
 
 -- rows that are read after others

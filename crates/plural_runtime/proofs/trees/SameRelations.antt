@@ -16,7 +16,7 @@ use Rattle.plural_runtime.specs.Inner.RuleViews.{lent_relation}
 use Rattle.plural_runtime.specs.declared.first_byte.AndOrPolarityOperand.{AndOrPolarityOperand}
 use Rattle.plural_runtime.specs.declared.relation.Relation.{Relation}
 use Rattle.plural_runtime.specs.RuleKinds.{operator_of, tree_operand_of, polarity_of, packed_operand_of}
-use Rattle.plural_runtime.proofs.KindsAgain.{packed_again, polarity_again}
+use Rattle.plural_runtime.proofs.bytes.KindsAgain.{packed_again, polarity_again}
 
 -- the relation of numbers
 abbrev pairs : List ℕ → List (ℕ × ℕ)

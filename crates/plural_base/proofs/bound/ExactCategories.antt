@@ -18,9 +18,9 @@ use Rattle.plural_runtime.specs.PackedTruth.{packed_truth}
 use Rattle.plural_runtime.specs.RuleOfText.{IsPackedFrom, TextsGiveOneAnswer}
 use Rattle.plural_base.specs.FiveRules.{Five, FiveRules, Paired, passes, first_category, moduli_of_relation, moduli_of_rule, moduli_of}
 use Rattle.plural_base.specs.RuleTexts.{IsRuleOf, AreRulesOf, AreReadAs}
-use Rattle.plural_base.proofs.Choice.{same_choice}
-use Rattle.plural_base.proofs.ConditionsAdmitted.{Covers, condition_admitted}
-use Rattle.plural_base.proofs.PackedConditions.{AreLaterFilled, packed_truth-packed, read_is_filled}
+use Rattle.plural_base.proofs.choice.Choice.{same_choice}
+use Rattle.plural_base.proofs.bound.ConditionsAdmitted.{Covers, condition_admitted}
+use Rattle.plural_base.proofs.bound.PackedConditions.{AreLaterFilled, packed_truth-packed, read_is_filled}
 
 -- ---- What is packed
 

@@ -6,7 +6,7 @@ use Rattle.std.specs.List.{list_any}
 use Rattle.std.proofs.lemmas.Bool.{eqb-true, eqb-false}
 use Rattle.plural_runtime.specs.Inner.RuleReading.{range_in, ranges_in}
 use Rattle.plural_reference.specs.Truth.{range_holds}
-use Rattle.plural_runtime.proofs.NeededGroups.{needed_from}
+use Rattle.plural_runtime.proofs.counting.NeededGroups.{needed_from}
 
 -- fewer than eight bytes hold no range
 pub ranges-short : (bytes : List ℕ) → length bytes < 8 → ranges_in bytes ≡ []

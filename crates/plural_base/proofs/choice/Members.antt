@@ -5,7 +5,7 @@ use Rattle.std.proofs.lemmas.List.Elements.{Contains-append_left, Contains-appen
 use Rattle.plural_base.specs.declared.category.PluralCategory.{PluralCategory}
 use Rattle.plural_base.specs.declared.category.PluralCategory.TheVariants.{Zero, One, Two, Few, Many, Other}
 use Rattle.plural_base.specs.FiveRules.{Five, passes, first_category, listed, categories_of}
-use Rattle.plural_base.proofs.Choice.{chosen}
+use Rattle.plural_base.proofs.choice.Choice.{chosen}
 
 -- what passes is listed
 listed_has : {A : Type 0} (test : A → Bool) (category : PluralCategory) (thing : Option A) → passes test thing ≡ true

@@ -7,7 +7,7 @@ use Rattle.plural_base.specs.declared.category.PluralCategory.{PluralCategory}
 use Rattle.plural_base.specs.declared.category.PluralCategory.TheVariants as category
 use Rattle.plural_base.specs.Categories.{name_of, raw_category_of, raw_name_of, all_raw_categories}
 use Rattle.plural_base.specs.Ranges.{Range, all_category_ranges, range_text, range_named, category_named}
-use Rattle.plural_base.proofs.RawCategories.{by_category}
+use Rattle.plural_base.proofs.encoding.RawCategories.{by_category}
 
 -- what is found passes
 found_passes : {X : Type 0} (p : X → Bool) (b : Bool) (y x : X) (rest : Option X) → p y ≡ b → (rest ≡ Some x → p x ≡ true)

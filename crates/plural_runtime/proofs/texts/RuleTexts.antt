@@ -15,8 +15,8 @@ use Rattle.plural_runtime.specs.PackedTree.{unpacked}
 use Rattle.plural_runtime.specs.RuleKinds.{range_or_value}
 use Rattle.plural_runtime.specs.RuleText.{mark_text, modulus_text, operator_shown, range_shown, ranges_shown, relation_shown}
 use Rattle.plural_runtime.specs.RuleText.{others_shown, relations_shown}
-use Rattle.plural_runtime.proofs.JoinedTexts.{joined-flat_map, joined-map}
-use Rattle.plural_runtime.proofs.Walks.{first_group}
+use Rattle.plural_runtime.proofs.texts.JoinedTexts.{joined-flat_map, joined-map}
+use Rattle.plural_runtime.proofs.walks.Walks.{first_group}
 
 -- ---- a relation
 

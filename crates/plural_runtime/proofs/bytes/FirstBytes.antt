@@ -6,8 +6,8 @@ use Rattle.plural_runtime.specs.declared.kinds.Operand.{Operand}
 use Rattle.plural_runtime.specs.declared.first_byte.AndOrPolarityOperand.{AndOrPolarityOperand}
 use Rattle.plural_runtime.specs.RuleKinds.{byte_of, operator_of, packed_operand_of, polarity_of, tree_operand_of}
 use Rattle.plural_runtime.specs.Inner.RuleReading.{and_or_in, operand_in, operator_in}
-use Rattle.plural_runtime.proofs.ItemBytes.{kind_again}
-use Rattle.plural_runtime.proofs.KindsAgain.{packed_again, polarity_again}
+use Rattle.plural_runtime.proofs.bytes.ItemBytes.{kind_again}
+use Rattle.plural_runtime.proofs.bytes.KindsAgain.{packed_again, polarity_again}
 
 -- what a byte spells is what it says
 pub parts_found : (byte : ℕ) (parts : AndOrPolarityOperand) (and_or : AndOr) (polarity : Polarity) (operand : Operand)

@@ -20,7 +20,7 @@ use Rattle.plural_runtime.specs.PackedTree.{packed, packed_groups, packed_and_co
 use Rattle.plural_runtime.specs.PackedTree.{unpacked_meaning, unpacked_modulus, unpacked_range, unpacked_relation}
 use Rattle.plural_runtime.specs.PackedTree.{condition_of_groups, has_large_value, is_large, is_large_item, is_large_modulus}
 use Rattle.plural_runtime.specs.PackedTree.{is_large_relation}
-use Rattle.plural_runtime.proofs.Walks.{first_group}
+use Rattle.plural_runtime.proofs.walks.Walks.{first_group}
 
 -- ---- no value is large
 

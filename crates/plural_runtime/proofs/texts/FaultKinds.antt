@@ -17,7 +17,7 @@ use Rattle.plural_reference.specs.Samples.{fault_in_samples, FaultyRule}
 use Rattle.plural_runtime.specs.declared.error.RuleError.TheVariants.{Parse}
 use Rattle.plural_runtime.specs.PackedRelations.{relation_bytes}
 use Rattle.plural_runtime.specs.PackedTree.{packed, has_large_value, packing}
-use Rattle.plural_runtime.proofs.PackedTrees.{packing-high, packing-ok}
+use Rattle.plural_runtime.proofs.trees.PackedTrees.{packing-high, packing-ok}
 
 -- a test that names another fault never gives this one
 one_fault : (found : Bool) (kind : ParseError) → kind ≢ ValueTooLarge → (if found then None else Some kind) ≡ Some ValueTooLarge → ⊥

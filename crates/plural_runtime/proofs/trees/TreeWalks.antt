@@ -7,7 +7,7 @@ use Rattle.plural_runtime.specs.declared.kinds.AndOr.{AndOr}
 use Rattle.plural_runtime.specs.declared.kinds.AndOr.TheVariants.{And}
 use Rattle.plural_runtime.specs.PackedTree.{packed_and_condition, packed_relation}
 use Rattle.plural_runtime.specs.PackedRelations.{relation_bytes}
-use Rattle.plural_runtime.proofs.ItemBytes.{length-ranges}
+use Rattle.plural_runtime.proofs.bytes.ItemBytes.{length-ranges}
 
 -- an and-condition whose first relation is marked And too
 pub all_and : (relations : List Relation) → packed_and_condition And relations ≡ map (packed_relation And) relations

@@ -17,9 +17,9 @@ use Rattle.plural_runtime.specs.PackedRelations.{PackedRelation, groups, at_fron
 use Rattle.plural_runtime.specs.PackedTruth.{is_true_at, group_truth, packed_truth}
 use Rattle.plural_runtime.specs.PackedTree.{unpacked_meaning, unpacked_relation, unpacked_groups, unpacked, is_negated_n}
 use Rattle.plural_runtime.specs.PackedTree.{has_no_negated_n}
-use Rattle.plural_runtime.proofs.Meanings.{ranges_again, modulus_again, modulus_not_zero}
-use Rattle.plural_runtime.proofs.TreeGroups.{wrapped}
-use Rattle.plural_runtime.proofs.Walks.{first_group}
+use Rattle.plural_runtime.proofs.truth.Meanings.{ranges_again, modulus_again, modulus_not_zero}
+use Rattle.plural_runtime.proofs.truth.TreeGroups.{wrapped}
+use Rattle.plural_runtime.proofs.walks.Walks.{first_group}
 
 -- a relation of which both truths are the same: the fraction is zero, or `!=` doesn't test n
 abbrev pub Agrees : Operands → PackedRelation → Type 0

@@ -7,7 +7,7 @@ use Rattle.plural_runtime.specs.declared.kinds.AndOr.{AndOr}
 use Rattle.plural_runtime.specs.declared.kinds.AndOr.TheVariants.{And, Or}
 use Rattle.plural_runtime.specs.PackedRelations.{PackedRelation, groups, at_front, cut_before}
 use Rattle.plural_runtime.specs.PackedTruth.{group_truth, is_true_at, packed_truth, needed_of_relation, needed_ranges}
-use Rattle.plural_runtime.proofs.NeededGroups.{groups-behind, needed_in_group, needed_in_groups}
+use Rattle.plural_runtime.proofs.counting.NeededGroups.{groups-behind, needed_in_group, needed_in_groups}
 
 -- a true group ends where the next one begins
 abbrev pub ends_true : AndOr → Bool → Bool

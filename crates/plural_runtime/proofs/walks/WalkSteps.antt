@@ -10,9 +10,9 @@ use Rattle.plural_runtime.specs.declared.kinds.AndOr.TheVariants.{And, Or}
 use Rattle.plural_runtime.specs.Inner.RuleReading.{relation_in}
 use Rattle.plural_runtime.specs.PackedRelations.{PackedRelation, is_relation}
 use Rattle.plural_runtime.specs.PackedTruth.{is_true_at, needed_of_relation, needed_ranges, packed_truth}
-use Rattle.plural_runtime.proofs.Counts.{steps_left}
-use Rattle.plural_runtime.proofs.Walks.{is_read, needed_left, needed_left-is, truth_left, truth_left-is}
-use Rattle.plural_runtime.proofs.Walks.{walk_ends, walk_reads, walk_skips}
+use Rattle.plural_runtime.proofs.counting.Counts.{steps_left}
+use Rattle.plural_runtime.proofs.walks.Walks.{is_read, needed_left, needed_left-is, truth_left, truth_left-is}
+use Rattle.plural_runtime.proofs.walks.Walks.{walk_ends, walk_reads, walk_skips}
 
 -- the remaining walk decides the result, if an item is read next
 abbrev pub truth_at : Operands → List ℕ → List (List ℕ) → Bool

@@ -6,9 +6,9 @@ use Rattle.plural_base.specs.declared.ranges.key.UnvalidatedPluralRange.{Unvalid
 use Rattle.plural_base.specs.declared.category.raw.RawPluralCategory.{RawPluralCategory}
 use Rattle.plural_base.specs.Categories.{raw_name_of}
 use Rattle.plural_base.specs.Ranges.{Range, range_key, range_text, range_named, category_named, IsKeyOfText}
-use Rattle.plural_base.proofs.RawCategories.{by_category}
-use Rattle.plural_base.proofs.RangeNames.{category_named_is, category_named_as, range_named_is, named_range, range_named_none}
-use Rattle.plural_base.proofs.FirstHyphens.{has_no_hyphen, SplitsAtHyphens, split_after_front}
+use Rattle.plural_base.proofs.encoding.RawCategories.{by_category}
+use Rattle.plural_base.proofs.pairs.RangeNames.{category_named_is, category_named_as, range_named_is, named_range, range_named_none}
+use Rattle.plural_base.proofs.pairs.FirstHyphens.{has_no_hyphen, SplitsAtHyphens, split_after_front}
 
 -- no name has a hyphen
 no_hyphen_in : (c : RawPluralCategory) → has_no_hyphen (raw_name_of c) ≡ true

@@ -15,7 +15,7 @@ use Rattle.plural_runtime.specs.PackedRelations.{relation_fault, or_else, first_
 use Rattle.plural_runtime.specs.Inner.RuleReading.{relation_in, relations_in, IsRule}
 use Rattle.plural_runtime.specs.declared.error.RuleBytesError.{RuleBytesError}
 use Rattle.plural_runtime.specs.declared.error.RuleBytesError.TheVariants as errors
-use Rattle.plural_runtime.proofs.ItemBytes.{packed_is_relation, relation-fits, relation_again, relation_spelled}
+use Rattle.plural_runtime.proofs.bytes.ItemBytes.{packed_is_relation, relation-fits, relation_again, relation_spelled}
 
 -- the items that relations are packed to hold these relations
 pub relations_again : (relations : List PackedRelation) → AllByRecursion FitsBytes relations
