@@ -1,9 +1,9 @@
 //! The answer to a document.
 
-use crate::error::CheckError;
-use crate::run::run;
 use crate::tests::assertion::holds;
-use crate::tests::inputs::Input;
+use crate::tests::report::inputs::Input;
+use document_report::CheckError;
+use document_report::run::run;
 use std::alloc::Global;
 use std::io;
 use std::io::{Read, Write};

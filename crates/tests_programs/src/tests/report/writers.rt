@@ -1,8 +1,8 @@
 //! Writers that fail.
 
-use crate::error::CheckError;
-use crate::run::run;
 use crate::tests::assertion::holds;
+use document_report::CheckError;
+use document_report::run::run;
 use std::alloc::Global;
 use std::io;
 use std::io::Write;

@@ -1,6 +1,6 @@
 //! A document with rules of CLDR's size, with their samples, through each command.
 
-use crate::tests::tables::table_holds;
+use crate::tests::commands::tables::table_holds;
 
 // The cardinal rules of Arabic, Polish and Russian, the ordinal ones of Bengali, ranges of Arabic and elements of Russian.
 const CLDR: &str = r#"{"cardinal":{

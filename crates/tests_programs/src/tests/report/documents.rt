@@ -1,7 +1,7 @@
 //! Documents and their reports.
 
-use crate::tests::answers::{gives, table_holds};
 use crate::tests::assertion::holds;
+use crate::tests::report::answers::{gives, table_holds};
 use std::test::Fail;
 
 // A document with a fault of each kind.

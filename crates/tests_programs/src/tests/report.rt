@@ -1,17 +1,16 @@
 //! What no contract says: worked documents, texts and statuses, failing readers and writers.
 
 mod answers;
-mod assertion;
 mod documents;
 mod growth;
 mod inputs;
 mod words;
 mod writers;
 
-use crate::error::CheckError;
-use crate::tests::answers::{gives, is_told};
 use crate::tests::assertion::holds;
-use crate::tests::inputs::Input;
+use crate::tests::report::answers::{gives, is_told};
+use crate::tests::report::inputs::Input;
+use document_report::CheckError;
 
 const USAGE: &str = "2: usage: plurals_check < DOCUMENT\n";
 

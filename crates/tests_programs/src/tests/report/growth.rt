@@ -1,8 +1,8 @@
 //! Refused growths: this runs under `rt try --test --fail-alloc N` for each N, and with memory too.
 
-use crate::tests::answers::gives;
 use crate::tests::assertion::holds;
-use crate::tests::documents::UNFORMED;
+use crate::tests::report::answers::gives;
+use crate::tests::report::documents::UNFORMED;
 use std::alloc::Global;
 use std::process::Abort;
 

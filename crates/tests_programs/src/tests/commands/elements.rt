@@ -1,7 +1,7 @@
 //! Elements and messages.
 
-use crate::tests::documents::DOCUMENT;
-use crate::tests::tables::{documents_hold, table_holds};
+use crate::tests::commands::documents::DOCUMENT;
+use crate::tests::commands::tables::{documents_hold, table_holds};
 use std::alloc::Global;
 use std::process::Abort;
 use std::test::Fail;

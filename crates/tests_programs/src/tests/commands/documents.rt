@@ -1,7 +1,7 @@
 //! Commands over documents.
 
 use crate::tests::assertion::holds;
-use crate::tests::tables::{documents_hold, gives, table_holds};
+use crate::tests::commands::tables::{documents_hold, gives, table_holds};
 use std::test::Fail;
 
 // Rules of two locales, ranges of one, and elements.

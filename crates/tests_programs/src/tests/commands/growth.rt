@@ -1,8 +1,8 @@
 //! Refused growths: these run under `rt try --test --fail-alloc N` for each N, and with memory too.
 
 use crate::tests::assertion::holds;
-use crate::tests::documents::DOCUMENT;
-use crate::tests::tables::{gives, row_gives};
+use crate::tests::commands::documents::DOCUMENT;
+use crate::tests::commands::tables::{gives, row_gives};
 use std::alloc::Global;
 use std::process::Abort;
 
@@ -40,7 +40,7 @@ true
 #[test]
 fn growth_without_words(rt: HostRuntime) {
     let mut reader = DOCUMENT;
-    let usage = crate::tests::USAGE;
+    let usage = crate::tests::commands::USAGE;
     holds!(rt; gives(rt.alloc(), &[], &mut reader, usage) == Some(true));
 }
 

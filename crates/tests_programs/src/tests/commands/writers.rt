@@ -1,9 +1,9 @@
 //! Writers that fail.
 
-use crate::error::RunError;
-use crate::run::run;
 use crate::tests::assertion::holds;
-use crate::tests::documents::DOCUMENT;
+use crate::tests::commands::documents::DOCUMENT;
+use plural_commands::RunError;
+use plural_commands::run::run;
 use std::alloc::Global;
 use std::io;
 use std::io::Write;

@@ -1,7 +1,7 @@
 //! Ranges of numbers.
 
-use crate::tests::documents::DOCUMENT;
-use crate::tests::tables::{documents_hold, table_holds};
+use crate::tests::commands::documents::DOCUMENT;
+use crate::tests::commands::tables::{documents_hold, table_holds};
 
 #[test]
 fn ranges_have_their_categories(rt: HostRuntime) {

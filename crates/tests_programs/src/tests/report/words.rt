@@ -1,7 +1,7 @@
 //! The arguments of the command line.
 
-use crate::arguments::has_words;
 use crate::tests::assertion::holds;
+use document_report::arguments::has_words;
 use std::env::FillError;
 use std::rt::Env;
 

@@ -1,8 +1,8 @@
 //! Long inputs, deep ones, and readers that fail.
 
 use crate::tests::assertion::holds;
-use crate::tests::documents::DOCUMENT;
-use crate::tests::tables::{gives, table_holds};
+use crate::tests::commands::documents::DOCUMENT;
+use crate::tests::commands::tables::{gives, table_holds};
 use std::io;
 use std::io::Read;
 use std::test::Fail;

@@ -1,9 +1,9 @@
 //! Tables of commands and what they print.
 
-use crate::error::RunError;
-use crate::run::run;
 use crate::tests::assertion::holds;
-use crate::tests::inputs::Input;
+use crate::tests::commands::inputs::Input;
+use plural_commands::RunError;
+use plural_commands::run::run;
 use std::alloc::Global;
 use std::io;
 use std::io::{Read, Write};

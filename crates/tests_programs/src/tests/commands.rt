@@ -1,7 +1,6 @@
 //! What no contract says: worked commands, texts and statuses, failing readers and writers.
 
 mod arguments;
-mod assertion;
 mod cldr;
 mod documents;
 mod elements;
@@ -12,11 +11,11 @@ mod ranges;
 mod tables;
 mod writers;
 
-use crate::error::RunError;
 use crate::tests::assertion::holds;
-use crate::tests::inputs::Input;
-use crate::tests::tables::{gives, is_told, row_gives, table_holds};
+use crate::tests::commands::inputs::Input;
+use crate::tests::commands::tables::{gives, is_told, row_gives, table_holds};
 use icu_plurals::{ElementsPackError, JsonError};
+use plural_commands::RunError;
 
 #[test]
 fn answers_worked_conditions(rt: HostRuntime) {

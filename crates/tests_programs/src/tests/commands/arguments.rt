@@ -1,8 +1,8 @@
 //! The words of the command line.
 
-use crate::arguments::arguments;
-use crate::error::RunError;
 use crate::tests::assertion::holds;
+use plural_commands::RunError;
+use plural_commands::arguments::arguments;
 use std::env::FillError;
 use std::rt::Env;
 

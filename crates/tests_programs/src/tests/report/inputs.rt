@@ -1,7 +1,7 @@
 //! Long inputs, and readers that fail.
 
-use crate::tests::answers::gives;
 use crate::tests::assertion::holds;
+use crate::tests::report::answers::gives;
 use std::io;
 use std::io::Read;
 
