@@ -18,11 +18,11 @@ NUMBERS = 20  # of each set of rules
 def program():
     """Builds the program that asks ICU4C, and returns its path."""
     cxx = compiler("CXX", "c++")
-    if subprocess.run([cxx, "-E", "-x", "c++", "-"], input=HEADER, text=True, capture_output=True).returncode:
+    if subprocess.run([*cxx, "-E", "-x", "c++", "-"], input=HEADER, text=True, capture_output=True).returncode:
         raise Missing("ICU4C's headers are missing (Debian: libicu-dev)")
     BUILD.mkdir(exist_ok=True)
     path = BUILD / "icu4c"
-    output([cxx, "-std=c++17", "-O2", "-Wall", "-Wextra", TOP / "peers/icu4c.cpp", "-licui18n", "-licuuc", "-o", path])
+    output([*cxx, "-std=c++17", "-O2", "-Wall", "-Wextra", TOP / "peers/icu4c.cpp", "-licui18n", "-licuuc", "-o", path])
     return path
 
 

@@ -1,6 +1,7 @@
 """The library for C (include/plurals.h), as the other programs are compared with it."""
 import ctypes
 import os
+import shlex
 import shutil
 import subprocess
 from pathlib import Path
@@ -32,9 +33,10 @@ def output(words, **options):
 
 
 def compiler(variable, name):
-    found = os.environ.get(variable, name)
-    if not shutil.which(found):
-        raise Missing(f"there is no compiler {found} on the PATH (Debian: g++)")
+    """Returns the words of a compiler's command, as `gcc -m64`."""
+    found = shlex.split(os.environ.get(variable, "")) or [name]
+    if not shutil.which(found[0]):
+        raise Missing(f"there is no compiler {found[0]} on the PATH (Debian: g++)")
     return found
 
 
@@ -45,7 +47,7 @@ def shared_object():
     archive, heap = output([TOP / "tools/archive"]).split("\n")[:2]
     BUILD.mkdir(exist_ok=True)
     path = BUILD / "libplurals.so"
-    output([compiler("CC", "cc"), "-shared", "-Wl,--whole-archive", archive, "-Wl,--no-whole-archive", heap, "-o", path])
+    output([*compiler("CC", "cc"), "-shared", "-Wl,--whole-archive", archive, "-Wl,--no-whole-archive", heap, "-o", path])
     return path
 
 

@@ -13,8 +13,6 @@ mod place;
 mod report;
 pub mod run;
 mod tables;
-#[cfg(test)]
-mod tests;
 
 pub use error::CheckError;
 pub use place::{Locale, Part, Place};

@@ -69,6 +69,14 @@ text_of_number n h = decimal_by_steps_wide IsText one_digit more_digits n h
 pub decimal_bytes : (n : ℕ) → n < 10 ^ 64 → AllDigitBytes (decimal n)
 decimal_bytes n h = (text_of_number n h).digits
 
+-- It isn't empty.
+pub decimal_some : (n : ℕ) → n < 10 ^ 64 → 0 < length (decimal n)
+decimal_some n h = (text_of_number n h).some
+
+-- Its digits write the number.
+pub decimal_value : (n : ℕ) → n < 10 ^ 64 → value_of (digits_in (decimal n)) ≡ n
+decimal_value n h = (text_of_number n h).value
+
 -- The digits of such a text are the number's numeral.
 numeral : (n : ℕ) (text : List ℕ) → IsText n text → IsNumeral (or_zero (digits_in text)) n
 numeral n text t =

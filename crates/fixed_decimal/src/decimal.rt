@@ -77,6 +77,17 @@ impl Decimal {
         })
     }
 
+    /// Returns the number as [`Decimal::from_i128`] does.
+    pub fn from_i64(alloc: Global, number: i64) -> Result<Decimal, DecimalError>
+        ensures digits { IfOk result (λ x.
+            IsNumeral x.absolute.whole (nat_abs number) × (x.absolute.fraction ≡ [])) }
+        ensures sign { IfOk result (λ x.
+            x.sign ≡ (if int_lt number (pos 0) then sign.Negative else sign.None)) }
+        ensures only_memory { IfErr result (λ e. e ≡ DecimalError.Memory) }
+    {
+        Decimal::from_i128(alloc, i128::from(number))
+    }
+
     /// Moves the point as [`UnsignedDecimal::multiply_pow10`] does; the sign stays.
     pub fn multiply_pow10(&mut self, places: i16) -> Result<(), DecimalError>
         ensures shifted { OnOk result

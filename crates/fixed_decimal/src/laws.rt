@@ -1,6 +1,7 @@
 //! What holds of the texts of all decimals.
 
 ghost use Rattle.fixed_decimal.specs.Digits.{ReadAlike};
+ghost use Rattle.fixed_decimal.specs.Shown.{UnsignedReadAgain, DecimalReadAgain, CompactReadAgain};
 ghost use Rattle.fixed_decimal.specs.Written.{OneUnsigned, OneSigned, OneCompact};
 
 /// A text writes at most one number: it determines the sign, every place and the exponent.
@@ -13,4 +14,12 @@ pub fn texts_write_one_number()
 /// Digits write the number that std reads when it parses their text.
 pub fn digits_are_read_alike()
     ensures { ReadAlike }
+{}
+
+/// The text that a number prints writes this number: the same sign, places and exponent are read
+/// from it again.
+pub fn numbers_are_read_again()
+    ensures unsigned { UnsignedReadAgain }
+    ensures signed { DecimalReadAgain }
+    ensures compact { CompactReadAgain }
 {}

@@ -8,6 +8,7 @@ mod error;
 mod exponent;
 pub mod laws;
 mod point;
+mod shown;
 mod sign;
 mod span;
 mod unsigned;

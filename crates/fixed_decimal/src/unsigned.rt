@@ -84,6 +84,14 @@ impl UnsignedDecimal {
         Ok(UnsignedDecimal::from_digits(alloc, digits, &[])?)
     }
 
+    /// Returns the number as [`UnsignedDecimal::from_u128`] does.
+    pub fn from_u64(alloc: Global, number: u64) -> Result<UnsignedDecimal, DecimalError>
+        ensures digits { IfOk result (λ x. IsNumeral x.whole number × (x.fraction ≡ [])) }
+        ensures only_memory { IfErr result (λ e. e ≡ DecimalError.Memory) }
+    {
+        UnsignedDecimal::from_u128(alloc, u128::from(number))
+    }
+
     // The number with these digits before and after the point.
     // Inlined, it isn't returned through memory: a tenth of the instructions that read a decimal.
     #[inline(always)]
@@ -145,7 +153,7 @@ impl UnsignedDecimal {
 
     // The digit at an index among all written ones, and 0 after the last.
     #[inline]
-    fn digit(&self, index: usize) -> u8
+    pub(crate) fn digit(&self, index: usize) -> u8
         ensures { result ≡ slice_index (self.now.whole ++ self.now.fraction) index }
     {
         let leading = self.leading_zeros as usize;
@@ -172,6 +180,15 @@ impl UnsignedDecimal {
             -(self.fraction_places as i16),
             (self.whole_places - 1) as i16,
         )
+    }
+
+    // How many integer places and how many fraction places are written.
+    pub(crate) fn written_places(&self) -> (u16, u16)
+        ensures whole { result.0 ≡ length self.now.whole }
+        ensures fraction { result.1 ≡ length self.now.fraction }
+        ensures written { IsWritten self.now }
+    {
+        (self.whole_places, self.fraction_places)
     }
 
     /// Returns how many integer places and how many fraction places are written after the point has

@@ -3,4 +3,4 @@ mod ListPlaces
 mod OneList
 mod Accepted
 mod Refused
-mod ListRows
+mod WorkedLists

@@ -103,7 +103,7 @@ impl<'data> PluralRules<'data> {
     }
 
     // Whether each modulus on n and i in the five rules divides 10 to the power 18.
-    #[tactic(auto, using(crate::proofs::Moduli::tests_of_both))]
+    #[tactic(auto, using(crate::proofs::bound::Moduli::tests_of_both))]
     fn all_moduli_divide(&self) -> bool
         ensures { result ≡ list_all divides_ten_to_18 (moduli_of self.now) }
     {
@@ -142,7 +142,7 @@ fn moduli_of_rule_divide(rule: &Option<Rule<'_>>) -> bool
 }
 
 // Whether each modulus on n and i in this rule divides 10 to the power 18.
-#[tactic(auto, using(crate::proofs::Moduli::tests_of_both))]
+#[tactic(auto, using(crate::proofs::bound::Moduli::tests_of_both))]
 fn moduli_divide(rule: &Rule<'_>) -> bool
     ensures { result ≡ list_all divides_ten_to_18 (moduli_of_rule (Some rule.now)) }
 {

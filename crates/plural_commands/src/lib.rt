@@ -19,7 +19,5 @@ mod range_command;
 pub mod run;
 mod select_command;
 mod test_command;
-#[cfg(test)]
-mod tests;
 
 pub use error::RunError;

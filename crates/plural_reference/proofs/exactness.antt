@@ -3,4 +3,4 @@ pub mod Folds
 pub mod Agreement
 pub mod GroupsAgree
 pub mod ExactnessLawsProved
-mod OperandRows
+mod WorkedOperands

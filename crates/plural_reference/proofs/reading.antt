@@ -7,5 +7,5 @@ pub mod RuleReadings
 pub mod RuleTexts
 pub mod Answered
 pub mod ParserSteps
-pub mod Rows
-pub mod RuleRows
+pub mod WorkedConditions
+pub mod WorkedRuleTexts

@@ -4,4 +4,4 @@ pub mod SampleSound
 pub mod SampleComplete
 pub mod SampleParserSteps
 pub mod SampleSinks
-pub mod SampleRows
+pub mod WorkedSamples

@@ -1,25 +1,7 @@
-mod KindsAgain
-mod ItemBytes
-mod FirstBytes
-mod ItemRanges
-mod RuleItems
-mod RuleFaults
-mod Meanings
-mod Walks
-mod TreeWalks
-mod TreeGroups
-mod Counts
-mod WalkSteps
-mod NeededGroups
-mod RangeSteps
-mod NeededMost
-mod TwoTruths
-mod PackedTrees
-mod JoinedTexts
-mod RuleTexts
-mod SameRelations
+pub mod bytes
+pub mod truth
+pub mod counting
+pub mod walks
+pub mod trees
+pub mod texts
 mod WorkedRules
-mod SpellableTrees
-mod PrintedAgain
-mod FaultKinds
-mod TextAnswers

@@ -106,7 +106,7 @@ fn head_of(and_or: AndOr, relation: &ast::Relation) -> [u8; HEAD_LENGTH]
 }
 
 // The first byte of a relation.
-#[tactic(auto, using(crate::proofs::KindsAgain::byte_again))]
+#[tactic(auto, using(crate::proofs::bytes::KindsAgain::byte_again))]
 fn first_byte_of(and_or: AndOr, relation: &ast::Relation) -> u8
     ensures { result ≡ first_byte and_or relation.now.operator relation.now.expression.operand }
 {

@@ -1,4 +1,4 @@
-use Rattle.plural_base.proofs.WidestChoice.{widest_choice}
+use Rattle.plural_base.proofs.choice.WidestChoice.{widest_choice}
 use Rattle.plural_base.proofs.laws.bound_is_widest.Goals as goal
 
 pub returns : goal.returns

@@ -1,4 +1,4 @@
-use Rattle.plural_base.proofs.RawCategories.{same_byte}
+use Rattle.plural_base.proofs.encoding.RawCategories.{same_byte}
 use Rattle.plural_base.proofs.laws.range_bytes_differ.Goals as goal
 
 pub returns : goal.returns

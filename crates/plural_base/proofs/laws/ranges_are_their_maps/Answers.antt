@@ -1,5 +1,5 @@
 use Rattle.plural_base.specs.Ranges.{at}
-use Rattle.plural_base.proofs.RawCategories.{same_things}
+use Rattle.plural_base.proofs.encoding.RawCategories.{same_things}
 use Rattle.plural_base.proofs.laws.ranges_are_their_maps.Goals as goal
 
 pub returns : goal.returns

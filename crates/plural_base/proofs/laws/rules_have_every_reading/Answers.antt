@@ -1,4 +1,4 @@
-use Rattle.plural_base.proofs.EveryReading.{every_rule, every_condition, every_answer}
+use Rattle.plural_base.proofs.reading.EveryReading.{every_rule, every_condition, every_answer}
 use Rattle.plural_base.proofs.laws.rules_have_every_reading.Goals as goal
 
 pub returns-clause-rules : goal.returns-clause-rules

@@ -1,7 +1,7 @@
 use Rattle.std.proofs.Common.{◌∙◌, ap, sym}
 use Rattle.packed_list.specs.ListBytes.{list_bytes}
 use Rattle.plural_base.specs.RulesBytes.{rule_items}
-use Rattle.plural_base.proofs.OneRulesEncoding.{same_items}
+use Rattle.plural_base.proofs.encoding.OneRulesEncoding.{same_items}
 use Rattle.plural_base.proofs.laws.rules_have_one_encoding.Goals as goal
 
 pub returns : goal.returns

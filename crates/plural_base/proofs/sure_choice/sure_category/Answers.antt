@@ -2,7 +2,7 @@ use Rattle.std.proofs.Common.{None, refl, subst, sym}
 use Rattle.plural_base.specs.FiveRules.{rules_of}
 use Rattle.plural_base.specs.RuleTexts.{AreRulesOf, texts_of}
 use Rattle.plural_base.specs.declared.sure_choice.SureCategoryError.TheVariants.{Rules, Number, OutsideBound}
-use Rattle.plural_base.proofs.SureFaults.{no_category, one_sure_fault, refused_number, sure_leaves_memory}
+use Rattle.plural_base.proofs.choice.SureFaults.{no_category, one_sure_fault, refused_number, sure_leaves_memory}
 use Rattle.plural_base.proofs.sure_choice.sure_category.Goals as goal
 
 pub returns-in-Err-clause-told : goal.returns-in-Err-clause-told

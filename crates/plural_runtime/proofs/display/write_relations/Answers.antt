@@ -3,7 +3,7 @@ use Rattle.std.specs.Fmt.{HasWritten}
 use Rattle.std.proofs.lemmas.Grind.{put_two}
 use Rattle.plural_runtime.specs.RuleText.{mark_text, relation_shown, relations_shown}
 use Rattle.plural_runtime.specs.Inner.RuleViews.{lent_relation}
-use Rattle.plural_runtime.proofs.RuleTexts.{shown_from, shown_more, shown_none}
+use Rattle.plural_runtime.proofs.texts.RuleTexts.{shown_from, shown_more, shown_none}
 use Rattle.plural_runtime.proofs.display.write_relations.Goals as goal
 
 pub loop-item-init : goal.loop-item-init

@@ -1,7 +1,7 @@
 use Rattle.std.proofs.Common.{◌≡◌, ◌++◌, List, ℕ}
 use Rattle.std.specs.Fmt.{HasWritten, IsPlainFormatter}
 use Rattle.plural_runtime.specs.RuleText.{relations_shown}
-use Rattle.plural_runtime.proofs.RuleTexts.{shown_from}
+use Rattle.plural_runtime.proofs.texts.RuleTexts.{shown_from}
 use Rattle.plural_runtime.proofs.display.write_relations.Given as goal
 
 -- What is printed and the text of the remaining relations are the whole text.

@@ -1,6 +1,6 @@
 use Rattle.std.proofs.Common.{◌≡◌, ◌∙◌, ◌+◌, arith, length, sym, ap}
 use Rattle.plural_runtime.specs.PackedRelations.{first_relation_fault, or_else}
-use Rattle.plural_runtime.proofs.RuleItems.{or_else_some, or_else_none}
+use Rattle.plural_runtime.proofs.bytes.RuleItems.{or_else_some, or_else_none}
 use Rattle.plural_runtime.proofs.from_bytes.first_fault_of.Goals as goal
 
 pub loop-place-init : goal.loop-place-init

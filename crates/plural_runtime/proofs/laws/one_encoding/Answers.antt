@@ -1,7 +1,7 @@
 use Rattle.std.proofs.Common.{sym, ap, ◌∙◌}
 use Rattle.plural_runtime.specs.Inner.RuleReading.{relations_in}
 use Rattle.plural_runtime.specs.PackedRelations.{packed_bytes}
-use Rattle.plural_runtime.proofs.RuleItems.{relations_in_one}
+use Rattle.plural_runtime.proofs.bytes.RuleItems.{relations_in_one}
 use Rattle.plural_runtime.proofs.laws.one_encoding.Goals as goal
 
 pub returns : goal.returns

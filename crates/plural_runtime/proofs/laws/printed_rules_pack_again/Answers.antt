@@ -1,4 +1,4 @@
-use Rattle.plural_runtime.proofs.PrintedAgain.{packs_again_when_printed}
+use Rattle.plural_runtime.proofs.texts.PrintedAgain.{packs_again_when_printed}
 use Rattle.plural_runtime.proofs.laws.printed_rules_pack_again.Goals as goal
 
 pub returns : goal.returns

@@ -1,5 +1,5 @@
 use Rattle.std.proofs.Common.{arith}
-use Rattle.plural_runtime.proofs.ItemBytes.{range_spelled}
+use Rattle.plural_runtime.proofs.bytes.ItemBytes.{range_spelled}
 use Rattle.plural_runtime.proofs.range.spelled.Goals as goal
 
 pub returns : goal.returns

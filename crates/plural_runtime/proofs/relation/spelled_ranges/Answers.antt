@@ -1,6 +1,6 @@
 use Rattle.std.proofs.Common.{arith}
 use Rattle.std.proofs.lemmas.Bool.{eqb-true}
-use Rattle.plural_runtime.proofs.ItemBytes.{ranges_spelled}
+use Rattle.plural_runtime.proofs.bytes.ItemBytes.{ranges_spelled}
 use Rattle.plural_runtime.proofs.relation.spelled_ranges.Goals as goal
 
 pub returns-clause-spelled : goal.returns-clause-spelled

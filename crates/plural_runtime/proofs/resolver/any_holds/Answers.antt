@@ -1,9 +1,9 @@
 use Rattle.std.proofs.Common.{◌∙◌, sym, ap, true, false}
 use Rattle.std.specs.Fn.{iterate}
 use Rattle.plural_runtime.specs.Inner.RuleReading.{ranges_in}
-use Rattle.plural_runtime.proofs.Counts.{step_left}
-use Rattle.plural_runtime.proofs.NeededGroups.{needed_from, needed_of_list-is}
-use Rattle.plural_runtime.proofs.RangeSteps.{range_step, nothing_needed, none_holds, whole_rest}
+use Rattle.plural_runtime.proofs.counting.Counts.{step_left}
+use Rattle.plural_runtime.proofs.counting.NeededGroups.{needed_from, needed_of_list-is}
+use Rattle.plural_runtime.proofs.counting.RangeSteps.{range_step, nothing_needed, none_holds, whole_rest}
 use Rattle.plural_runtime.proofs.resolver.any_holds.Goals as goal
 
 pub returns-then-holds-clause-count : goal.returns-then-holds-clause-count

@@ -2,7 +2,7 @@ use Rattle.std.proofs.Common.{◌≡◌, ◌≤◌, ◌%◌, ◌==◌, length, I
 use Rattle.std.specs.Fn.{iterate}
 use Rattle.plural_reference.specs.Truth.{is_in_ranges}
 use Rattle.plural_runtime.specs.Inner.RuleReading.{ranges_in}
-use Rattle.plural_runtime.proofs.NeededGroups.{needed_from}
+use Rattle.plural_runtime.proofs.counting.NeededGroups.{needed_from}
 use Rattle.plural_runtime.proofs.resolver.any_holds.Given as goal
 
 -- No range so far contains the value, so the remaining ranges (at least one) decide, and need the

@@ -1,5 +1,5 @@
 use Rattle.std.proofs.Common.{sym}
-use Rattle.plural_runtime.proofs.WalkSteps.{relations_behind, skips_one}
+use Rattle.plural_runtime.proofs.walks.WalkSteps.{relations_behind, skips_one}
 use Rattle.plural_runtime.proofs.resolver.first_of_next_group.Goals as goal
 
 pub loop-item-preserved : goal.loop-item-preserved

@@ -1,7 +1,7 @@
 use Rattle.std.proofs.Common.{length, IsTrue}
 use Rattle.std.specs.List.{list_all}
 use Rattle.plural_runtime.specs.PackedRelations.{is_relation}
-use Rattle.plural_runtime.proofs.WalkSteps.{HasSkipped}
+use Rattle.plural_runtime.proofs.walks.WalkSteps.{HasSkipped}
 use Rattle.plural_runtime.proofs.resolver.first_of_next_group.Given as goal
 
 -- All items so far are of the group that is open.

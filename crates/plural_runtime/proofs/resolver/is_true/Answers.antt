@@ -2,8 +2,8 @@ use Rattle.std.proofs.Common.{◌∙◌, ◌∷◌, ap, map, refl, subst, sym, t
 use Rattle.std.specs.List.{list_all}
 use Rattle.plural_runtime.specs.PackedRelations.{is_relation}
 use Rattle.plural_runtime.specs.Inner.RuleReading.{relation_in}
-use Rattle.plural_runtime.proofs.WalkSteps.{is_done, none_is_left, reads_next_group, reads_on, relations_after, relations_behind}
-use Rattle.plural_runtime.proofs.WalkSteps.{walk_begins, walk_is_done, walk_is_none, walks_on}
+use Rattle.plural_runtime.proofs.walks.WalkSteps.{is_done, none_is_left, reads_next_group, reads_on, relations_after, relations_behind}
+use Rattle.plural_runtime.proofs.walks.WalkSteps.{walk_begins, walk_is_done, walk_is_none, walks_on}
 use Rattle.plural_runtime.proofs.resolver.is_true.Goals as goal
 
 pub relations-init : goal.relations-init

@@ -3,7 +3,7 @@ use Rattle.std.specs.Fn.{iterate}
 use Rattle.std.specs.List.{list_all}
 use Rattle.plural_runtime.specs.PackedRelations.{is_relation}
 use Rattle.plural_runtime.specs.PackedTruth.{packed_truth, needed_ranges}
-use Rattle.plural_runtime.proofs.WalkSteps.{WalksFrom}
+use Rattle.plural_runtime.proofs.walks.WalkSteps.{WalksFrom}
 use Rattle.plural_runtime.proofs.resolver.is_true.Given as goal
 
 -- The item and the remaining ones decide, and need the rest of the count.

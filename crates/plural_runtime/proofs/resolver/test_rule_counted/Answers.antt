@@ -1,6 +1,6 @@
 use Rattle.std.proofs.Common.{◌∙◌, arith}
 use Rattle.plural_runtime.specs.PackedTruth.{needed_ranges}
-use Rattle.plural_runtime.proofs.Counts.{capped_count}
+use Rattle.plural_runtime.proofs.counting.Counts.{capped_count}
 use Rattle.plural_runtime.proofs.resolver.test_rule_counted.Goals as goal
 
 pub returns-clause-count : goal.returns-clause-count

@@ -4,7 +4,7 @@ use Rattle.plural_reference.specs.declared.ast.AndCondition.{AndCondition}
 use Rattle.plural_reference.specs.declared.ast.Relation.{Relation}
 use Rattle.plural_runtime.specs.Inner.TreeWalk.{done_before, open_before}
 use Rattle.plural_runtime.specs.Inner.RuleViews.{lent_relation}
-use Rattle.plural_runtime.proofs.TreeGroups.{no_relations, glued, glued-all, whole_tree}
+use Rattle.plural_runtime.proofs.truth.TreeGroups.{no_relations, glued, glued-all, whole_tree}
 use Rattle.plural_runtime.proofs.unpack.condition_of.Goals as goal
 
 pub returns-then-is_empty : goal.returns-then-is_empty

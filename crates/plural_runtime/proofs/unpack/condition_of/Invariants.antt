@@ -1,7 +1,7 @@
 use Rattle.std.proofs.Common.{◌≡◌, map}
 use Rattle.plural_reference.specs.declared.ast.AndCondition.{AndCondition}
 use Rattle.plural_runtime.specs.PackedTree.{unpacked_groups}
-use Rattle.plural_runtime.proofs.TreeGroups.{glued}
+use Rattle.plural_runtime.proofs.truth.TreeGroups.{glued}
 use Rattle.plural_runtime.proofs.unpack.condition_of.Given as goal
 
 -- The groups that are done, the open group and the remaining relations make the tree.

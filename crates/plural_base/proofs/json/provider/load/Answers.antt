@@ -1,6 +1,6 @@
 use Rattle.std.proofs.Common.{Some, option_map, sym, ap, ◌∙◌}
 use Rattle.plural_base.specs.FiveRules.{rules_of}
-use Rattle.plural_base.proofs.Rows.{found_rows}
+use Rattle.plural_base.proofs.reading.Rows.{found_rows}
 use Rattle.plural_base.proofs.json.provider.load.Goals as goal
 
 pub returns-in-Some : goal.returns-in-Some

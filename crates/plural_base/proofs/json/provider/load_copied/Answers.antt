@@ -1,6 +1,6 @@
 use Rattle.std.proofs.Common.{option_map, sym, ap, ◌∙◌}
 use Rattle.plural_base.specs.declared.ranges.PluralRanges.{PluralRanges}
-use Rattle.plural_base.proofs.Rows.{found_rows}
+use Rattle.plural_base.proofs.reading.Rows.{found_rows}
 use Rattle.plural_base.proofs.json.provider.load_copied.Goals as goal
 
 pub returns-in-Some : goal.returns-in-Some

@@ -1,6 +1,6 @@
 use Rattle.std.proofs.lemmas.Result.{err_from_is_err_and}
 use Rattle.serde_json.specs.View.{view}
-use Rattle.plural_base.proofs.DocumentRefusals.{ranges_refused}
+use Rattle.plural_base.proofs.reading.DocumentRefusals.{ranges_refused}
 use Rattle.plural_base.proofs.json.provider.read_document.Goals as goal
 
 pub returns-in_err-read_map-3-clause-answers : goal.returns-in_err-read_map-3-clause-answers

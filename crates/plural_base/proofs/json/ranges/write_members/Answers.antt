@@ -3,7 +3,7 @@ use Rattle.plural_base.specs.declared.category.raw.RawPluralCategory.TheVariants
 use Rattle.plural_base.specs.Categories.{all_raw_categories}
 use Rattle.plural_base.specs.Inner.JsonSteps.{put_row}
 use Rattle.serde_json.specs.View.{members_view}
-use Rattle.plural_base.proofs.RangesWritten.{next_fold}
+use Rattle.plural_base.proofs.pairs.RangesWritten.{next_fold}
 use Rattle.plural_base.proofs.json.ranges.write_members.Goals as goal
 
 pub loop-start-init : goal.loop-start-init

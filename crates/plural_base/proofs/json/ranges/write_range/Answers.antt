@@ -5,7 +5,7 @@ use Rattle.serde_json.specs.Data.{string, put}
 use Rattle.serde_json.specs.View.{members_view}
 use Rattle.serde_json.specs.declared.value.Value as json
 use Rattle.serde_json.proofs.Views.{members_view-insert_entry}
-use Rattle.plural_base.proofs.RangesWritten.{view-String}
+use Rattle.plural_base.proofs.pairs.RangesWritten.{view-String}
 use Rattle.plural_base.proofs.json.ranges.write_range.Goals as goal
 
 pub returns : goal.returns

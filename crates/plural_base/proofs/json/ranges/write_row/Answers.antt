@@ -4,7 +4,7 @@ use Rattle.plural_base.specs.Categories.{all_raw_categories}
 use Rattle.plural_base.specs.Inner.JsonSteps.{put_range}
 use Rattle.plural_base.specs.Ranges.{category_at}
 use Rattle.serde_json.specs.View.{members_view}
-use Rattle.plural_base.proofs.RangesWritten.{next_fold}
+use Rattle.plural_base.proofs.pairs.RangesWritten.{next_fold}
 use Rattle.plural_base.proofs.json.ranges.write_row.Goals as goal
 
 pub loop-end-preserved : goal.loop-end-preserved

@@ -1,6 +1,6 @@
 use Rattle.std.proofs.Common.{ap, ◌∙◌}
 use Rattle.plural_base.specs.Inner.JsonSteps.{rows_by}
-use Rattle.plural_base.proofs.Rows.{rows_by-insert_entry}
+use Rattle.plural_base.proofs.reading.Rows.{rows_by-insert_entry}
 use Rattle.plural_base.proofs.json.rows.put.Goals as goal
 
 pub returns : goal.returns

@@ -6,8 +6,8 @@ use Rattle.std.specs.Ordering.{nat_cmp}
 use Rattle.plural_base.specs.DocumentJson.{rows_meant}
 use Rattle.plural_base.specs.Inner.JsonSteps.{rows_by}
 use Rattle.serde_json.specs.View.{view, members_view}
-use Rattle.plural_base.proofs.Rows.{Ascend, key_bytes, ascend_bytes}
-use Rattle.plural_base.proofs.RowsRead.{behind, behind_none, rows_kept, order_kept}
+use Rattle.plural_base.proofs.reading.Rows.{Ascend, key_bytes, ascend_bytes}
+use Rattle.plural_base.proofs.reading.RowsRead.{behind, behind_none, rows_kept, order_kept}
 use Rattle.plural_base.proofs.json.rows.read_rows.Goals as goal
 use Rattle.plural_base.proofs.json.rows.read_rows.Goals.{After-into_iter-locale-iterator, In_ok-put}
 

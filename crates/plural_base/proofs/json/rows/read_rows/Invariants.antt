@@ -2,8 +2,8 @@ use Rattle.std.proofs.Common.{◌≡◌, ◌++◌}
 use Rattle.std.specs.Map.{keys_of}
 use Rattle.plural_base.specs.DocumentJson.{rows_meant}
 use Rattle.plural_base.specs.Inner.JsonSteps.{rows_by}
-use Rattle.plural_base.proofs.Rows.{Ascend, key_bytes}
-use Rattle.plural_base.proofs.RowsRead.{behind}
+use Rattle.plural_base.proofs.reading.Rows.{Ascend, key_bytes}
+use Rattle.plural_base.proofs.reading.RowsRead.{behind}
 use Rattle.serde_json.specs.View.{members_view}
 use Rattle.plural_base.proofs.json.rows.read_rows.Given as goal
 

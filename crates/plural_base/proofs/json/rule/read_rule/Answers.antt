@@ -1,5 +1,5 @@
 use Rattle.std.proofs.Common.{sym}
-use Rattle.plural_base.proofs.RuleRefusals.{text_refused}
+use Rattle.plural_base.proofs.choice.RuleRefusals.{text_refused}
 use Rattle.plural_base.proofs.json.rule.read_rule.Goals as goal
 
 pub returns-in-Err-clause-answers : goal.returns-in-Err-clause-answers

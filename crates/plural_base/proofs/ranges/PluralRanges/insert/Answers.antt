@@ -1,5 +1,5 @@
 use Rattle.std.proofs.Common.{Some}
-use Rattle.plural_base.proofs.RawCategories.{others_stay}
+use Rattle.plural_base.proofs.encoding.RawCategories.{others_stay}
 use Rattle.plural_base.proofs.ranges.PluralRanges.insert.Goals as goal
 
 pub returns-clause-others : goal.returns-clause-others

@@ -3,7 +3,7 @@ use Rattle.plural_base.specs.RangesJson.{object_under}
 use Rattle.plural_base.specs.Inner.JsonSteps.{range_members}
 use Rattle.serde_json.specs.Data.{object}
 use Rattle.serde_json.proofs.Views.{view-Object}
-use Rattle.plural_base.proofs.RangeMembers.{are_members}
+use Rattle.plural_base.proofs.pairs.RangeMembers.{are_members}
 use Rattle.plural_base.proofs.ranges.PluralRanges.to_json.Goals as goal
 
 pub returns-clause-written : goal.returns-clause-written

@@ -1,6 +1,6 @@
 use Rattle.std.proofs.Common.{◌≡◌, Some, None, sym, ap, ◌∙◌}
 use Rattle.plural_base.specs.Categories.{category_of, raw_category_of}
-use Rattle.plural_base.proofs.RangeNames.{category_named_none, named_category, same_name}
+use Rattle.plural_base.proofs.pairs.RangeNames.{category_named_none, named_category, same_name}
 use Rattle.plural_base.proofs.ranges.key.category_of_name.Goals as goal
 
 pub returns-in_err-get_for_cldr_string : goal.returns-in_err-get_for_cldr_string

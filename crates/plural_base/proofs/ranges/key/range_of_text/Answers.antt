@@ -1,5 +1,5 @@
 use Rattle.std.proofs.Common.{◌∙◌}
-use Rattle.plural_base.proofs.RangeTexts.{not_split, start_unnamed, end_unnamed, both_named}
+use Rattle.plural_base.proofs.pairs.RangeTexts.{not_split, start_unnamed, end_unnamed, both_named}
 use Rattle.plural_base.proofs.ranges.key.range_of_text.Goals as goal
 
 pub returns-in_err-start : goal.returns-in_err-start

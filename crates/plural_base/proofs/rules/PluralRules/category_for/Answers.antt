@@ -3,7 +3,7 @@ use Rattle.std.specs.Prelude.{Contains}
 use Rattle.plural_runtime.specs.PackedTruth.{packed_truth}
 use Rattle.plural_base.specs.declared.category.PluralCategory.{PluralCategory}
 use Rattle.plural_base.specs.FiveRules.{categories_of}
-use Rattle.plural_base.proofs.Members.{first_category-member}
+use Rattle.plural_base.proofs.choice.Members.{first_category-member}
 use Rattle.plural_base.proofs.rules.PluralRules.category_for.Goals as goal
 
 pub returns-clause-member : goal.returns-clause-member

@@ -1,7 +1,7 @@
 use Rattle.std.proofs.Common.{◌∙◌}
 use Rattle.plural_reference.specs.ExactnessLaws.{IsKept}
 use Rattle.plural_base.specs.FiveRules.{moduli_of}
-use Rattle.plural_base.proofs.ExactCategories.{first_category-exact}
+use Rattle.plural_base.proofs.bound.ExactCategories.{first_category-exact}
 use Rattle.plural_base.proofs.rules.PluralRules.category_for_decimal.Goals as goal
 
 pub returns-clause-exact : goal.returns-clause-exact

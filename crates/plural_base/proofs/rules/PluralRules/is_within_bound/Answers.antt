@@ -1,6 +1,6 @@
 use Rattle.std.proofs.Common.{◌∙◌, refl, sym, inl, inr, arith}
 use Rattle.plural_base.specs.FiveRules.{moduli_of}
-use Rattle.plural_base.proofs.Moduli.{tests_tell}
+use Rattle.plural_base.proofs.bound.Moduli.{tests_tell}
 use Rattle.plural_base.proofs.rules.PluralRules.is_within_bound.Goals as goal
 
 pub returns-then-is_long_after : goal.returns-then-is_long_after

@@ -1,4 +1,4 @@
-use Rattle.plural_base.proofs.Answered.{answered_told, answered_ok, answered_err}
+use Rattle.plural_base.proofs.reading.Answered.{answered_told, answered_ok, answered_err}
 use Rattle.plural_base.proofs.rules.text.packed.Goals as goal
 
 pub returns-clause-told : goal.returns-clause-told

@@ -1,6 +1,6 @@
 use Rattle.std.proofs.Common.{sym, subst}
 use Rattle.std.specs.Fmt.{HasWritten}
-use Rattle.plural_runtime.proofs.RuleTexts.{condition_text-is}
+use Rattle.plural_runtime.proofs.texts.RuleTexts.{condition_text-is}
 use Rattle.plural_runtime.proofs.display.RuleDisplay.fmt.Goals as goal
 
 pub returns-clause-writes : goal.returns-clause-writes

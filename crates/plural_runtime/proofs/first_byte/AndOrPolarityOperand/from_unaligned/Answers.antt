@@ -1,5 +1,5 @@
 use Rattle.std.proofs.Common.{ap, Some}
-use Rattle.plural_runtime.proofs.FirstBytes.{parts_found}
+use Rattle.plural_runtime.proofs.bytes.FirstBytes.{parts_found}
 use Rattle.plural_runtime.proofs.first_byte.AndOrPolarityOperand.from_unaligned.Goals as goal
 
 pub returns-clause-found : goal.returns-clause-found

@@ -2,7 +2,7 @@ use Rattle.std.proofs.Common.{ap, sym, ◌∙◌}
 use Rattle.plural_runtime.specs.PackedRelations.{range_bytes}
 use Rattle.plural_runtime.specs.RuleKinds.{ends, range_or_value}
 use Rattle.plural_runtime.specs.Inner.RuleReading.{range_in}
-use Rattle.plural_runtime.proofs.ItemRanges.{ends_again}
+use Rattle.plural_runtime.proofs.bytes.ItemRanges.{ends_again}
 use Rattle.plural_runtime.proofs.range.RangeOrValue.from_unaligned.Goals as goal
 
 pub returns-clause-bytes : goal.returns-clause-bytes

@@ -2,7 +2,7 @@ use Rattle.std.proofs.Common.{◌∙◌, ◌≤◌, ◌∷◌, arith, length, ma
 use Rattle.std.proofs.lemmas.Bool.{eqb-true, eqb-false}
 use Rattle.plural_runtime.specs.RuleKinds.{range_or_value}
 use Rattle.plural_runtime.specs.Inner.RuleReading.{range_in, ranges_in}
-use Rattle.plural_runtime.proofs.RangeSteps.{ranges-long}
+use Rattle.plural_runtime.proofs.counting.RangeSteps.{ranges-long}
 use Rattle.plural_runtime.proofs.ranges.RangesIterator.next.Goals as goal
 
 pub returns-clause-steps : goal.returns-clause-steps

@@ -3,7 +3,7 @@ use Rattle.std.specs.Prelude.{option_map}
 use Rattle.plural_runtime.specs.RuleKinds.{range_or_value}
 use Rattle.plural_runtime.specs.Inner.RuleReading.{ranges_in}
 use Rattle.std.proofs.lemmas.Option.{slice_get_past}
-use Rattle.plural_runtime.proofs.ItemRanges.{length-ranges_in, slice_get-ranges_in}
+use Rattle.plural_runtime.proofs.bytes.ItemRanges.{length-ranges_in, slice_get-ranges_in}
 use Rattle.plural_runtime.proofs.relation.Relation.range.Goals as goal
 
 pub range_at-requires : goal.range_at-requires

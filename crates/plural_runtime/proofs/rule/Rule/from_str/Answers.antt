@@ -4,9 +4,9 @@ use Rattle.plural_reference.specs.Reading.{IsAnswer}
 use Rattle.plural_reference.specs.Lexer.{TextFaulty, TextReads}
 use Rattle.plural_reference.specs.Samples.{ReadsCondition, FaultyRule}
 use Rattle.plural_runtime.specs.PackedTree.{has_large_value}
-use Rattle.plural_runtime.proofs.FaultKinds.{never_too_large, packing_not_large}
-use Rattle.plural_runtime.proofs.SpellableTrees.{spellable_is_small}
-use Rattle.plural_runtime.proofs.TextAnswers.{gives_when_read}
+use Rattle.plural_runtime.proofs.texts.FaultKinds.{never_too_large, packing_not_large}
+use Rattle.plural_runtime.proofs.texts.SpellableTrees.{spellable_is_small}
+use Rattle.plural_runtime.proofs.texts.TextAnswers.{gives_when_read}
 use Rattle.plural_runtime.proofs.rule.Rule.from_str.Goals as goal
 
 pub returns-in-Ok-clause-gives : goal.returns-in-Ok-clause-gives

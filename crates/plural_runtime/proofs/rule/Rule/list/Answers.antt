@@ -5,7 +5,7 @@ use Rattle.std.specs.List.{list_all}
 use Rattle.packed_list.specs.Inner.ListReading.{items_in}
 use Rattle.plural_runtime.specs.PackedRelations.{relation_bytes, is_relation}
 use Rattle.plural_runtime.specs.Inner.RuleReading.{relation_in, relations_in}
-use Rattle.plural_runtime.proofs.RuleItems.{packed_are_relations}
+use Rattle.plural_runtime.proofs.bytes.RuleItems.{packed_are_relations}
 use Rattle.plural_runtime.proofs.rule.Rule.list.Goals as goal
 
 pub returns-clause-relations : goal.returns-clause-relations

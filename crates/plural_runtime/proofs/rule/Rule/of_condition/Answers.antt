@@ -3,7 +3,7 @@ use Rattle.std.specs.Prelude.{Ok}
 use Rattle.packed_list.specs.ListBytes.{ListBytes}
 use Rattle.plural_runtime.specs.PackedTree.{packed}
 use Rattle.plural_runtime.specs.PackedRelations.{RuleBytes}
-use Rattle.plural_runtime.proofs.PackedTrees.{packing-large, packing-high, packing-ok, small_tree}
+use Rattle.plural_runtime.proofs.trees.PackedTrees.{packing-large, packing-high, packing-ok, small_tree}
 use Rattle.plural_runtime.proofs.rule.Rule.of_condition.Goals as goal
 
 pub returns-then-has_large_value-clause-packs : goal.returns-then-has_large_value-clause-packs

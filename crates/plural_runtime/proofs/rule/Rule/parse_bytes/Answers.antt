@@ -5,8 +5,8 @@ use Rattle.packed_list.specs.ListBytes.{ListBytes}
 use Rattle.packed_list.specs.Inner.ListReading.{AreBytes}
 use Rattle.plural_runtime.specs.PackedRelations.{first_relation_fault, is_relation, relation_bytes}
 use Rattle.plural_runtime.specs.declared.error.RuleBytesError.TheVariants as errors
-use Rattle.plural_runtime.proofs.RuleFaults.{list_refused, item_refused, not_refused}
-use Rattle.plural_runtime.proofs.RuleItems.{is_rule, items_pass, no_fault, relations_in_one}
+use Rattle.plural_runtime.proofs.bytes.RuleFaults.{list_refused, item_refused, not_refused}
+use Rattle.plural_runtime.proofs.bytes.RuleItems.{is_rule, items_pass, no_fault, relations_in_one}
 use Rattle.plural_runtime.proofs.rule.Rule.parse_bytes.Goals as goal
 
 pub first_fault_of-requires : goal.first_fault_of-requires

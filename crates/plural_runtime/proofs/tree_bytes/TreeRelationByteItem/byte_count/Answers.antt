@@ -1,5 +1,5 @@
 use Rattle.std.proofs.Common.{ap, arith, length}
-use Rattle.plural_runtime.proofs.TreeWalks.{length-relation_bytes}
+use Rattle.plural_runtime.proofs.trees.TreeWalks.{length-relation_bytes}
 use Rattle.plural_runtime.proofs.tree_bytes.TreeRelationByteItem.byte_count.Goals as goal
 
 pub returns-clause-count : goal.returns-clause-count

@@ -1,5 +1,5 @@
 use Rattle.serde_json.specs.View.{view}
-use Rattle.plural_base.proofs.RulesRead.{are_given, cardinal_read, ordinal_read, ranges_read}
+use Rattle.plural_base.proofs.reading.RulesRead.{are_given, cardinal_read, ordinal_read, ranges_read}
 use Rattle.plural_base.proofs.json.provider.JsonProvider.from_value.Goals as goal
 
 pub returns-clause-cardinal : goal.returns-clause-cardinal

@@ -1,7 +1,7 @@
 use Rattle.std.proofs.Common.{sym, ◌∙◌}
 use Rattle.plural_base.specs.RangesJson.{ranges_meant}
 use Rattle.serde_json.specs.View.{view}
-use Rattle.plural_base.proofs.RangeRefusals.{exactly_answered, ranges_no_float, ranges_no_rule}
+use Rattle.plural_base.proofs.pairs.RangeRefusals.{exactly_answered, ranges_no_float, ranges_no_rule}
 use Rattle.plural_base.proofs.json.ranges.PluralRangesFromJson.read.Goals as goal
 use Rattle.plural_runtime.specs.declared.error.RuleError.TheVariants as fault
 

@@ -1,4 +1,4 @@
-use Rattle.plural_base.proofs.RangeTexts.{no_key, one_key}
+use Rattle.plural_base.proofs.pairs.RangeTexts.{no_key, one_key}
 use Rattle.plural_base.proofs.ranges.key.UnvalidatedPluralRange.from_text.Goals as goal
 
 pub returns-in_err-start : goal.returns-in_err-start

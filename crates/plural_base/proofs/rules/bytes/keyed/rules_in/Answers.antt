@@ -1,5 +1,5 @@
 use Rattle.std.proofs.lemmas.Result.{err_from_is_err_and}
-use Rattle.plural_base.proofs.RuleItemFaults.{then_iff}
+use Rattle.plural_base.proofs.encoding.RuleItemFaults.{then_iff}
 use Rattle.plural_base.proofs.rules.bytes.keyed.rules_in.Goals as goal
 
 pub returns-in_err-many-clause-fault : goal.returns-in_err-many-clause-fault

@@ -1,5 +1,5 @@
 use Rattle.std.proofs.Common.{◌≡◌}
-use Rattle.plural_base.proofs.RuleItemFaults.{are_read, items_refused, read_again}
+use Rattle.plural_base.proofs.encoding.RuleItemFaults.{are_read, items_refused, read_again}
 use Rattle.plural_base.proofs.rules.data.PluralRulesData.from_bytes.Goals as goal
 
 pub returns-clause-accepted : goal.returns-clause-accepted

@@ -1,5 +1,5 @@
 use Rattle.std.proofs.Common.{◌∷◌, ◌∙◌, ap, sym}
-use Rattle.plural_base.proofs.RuleItemFaults.{none_has_key, empty_has_no_key, first_byte_left, other_key}
+use Rattle.plural_base.proofs.encoding.RuleItemFaults.{none_has_key, empty_has_no_key, first_byte_left, other_key}
 use Rattle.plural_base.proofs.rules.bytes.keyed.KeyedRules.bytes_of.Goals as goal
 
 pub returns-in_err-item : goal.returns-in_err-item

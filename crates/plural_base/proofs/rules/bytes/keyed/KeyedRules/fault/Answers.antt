@@ -1,6 +1,6 @@
 use Rattle.std.proofs.Common.{◌∙◌, arith, sym}
 use Rattle.std.proofs.lemmas.Bool.{eqb-true, eqb-false}
-use Rattle.plural_base.proofs.RuleItemFaults.{none_left, nothing_left, empty_left, key_left}
+use Rattle.plural_base.proofs.encoding.RuleItemFaults.{none_left, nothing_left, empty_left, key_left}
 use Rattle.plural_base.proofs.rules.bytes.keyed.KeyedRules.fault.Goals as goal
 
 pub returns-in_err-item-clause-none : goal.returns-in_err-item-clause-none

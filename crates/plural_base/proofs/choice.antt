@@ -1,0 +1,6 @@
+-- The choice of a category, and why there is none that is sure.
+pub mod Choice
+pub mod Members
+pub mod WidestChoice
+pub mod RuleRefusals
+pub mod SureFaults

@@ -1,0 +1,7 @@
+-- Rules that come from texts and documents.
+pub mod Answered
+pub mod EveryReading
+pub mod Rows
+pub mod RowsRead
+pub mod DocumentRefusals
+pub mod RulesRead

@@ -1,0 +1,4 @@
+-- How many ranges a truth needs.
+pub mod Counts
+pub mod NeededGroups
+pub mod RangeSteps

@@ -1,0 +1,4 @@
+-- Trees that are packed.
+pub mod TreeWalks
+pub mod PackedTrees
+pub mod SameRelations

@@ -1,0 +1,161 @@
+//! Long inputs, deep ones, and readers that fail.
+
+use crate::tests::assertion::holds;
+use crate::tests::commands::documents::DOCUMENT;
+use crate::tests::commands::tables::{gives, table_holds};
+use std::io;
+use std::io::Read;
+use std::test::Fail;
+
+// The most bytes that an input may have.
+const MOST: usize = 4_194_304;
+
+// A reader of a text and then a number of spaces, which ends or fails after them; its first calls are interrupted.
+#[derive(Drop)]
+pub(crate) struct Input<'a> {
+    text: &'a [u8],
+    spaces: usize,
+    fails: bool,
+    interrupts: usize,
+}
+
+impl<'a> Read for Input<'a> {
+    fn read(&mut self, buf: &mut [u8]) -> io::Result<usize> {
+        if self.interrupts > 0 {
+            self.interrupts -= 1;
+            return Err(io::Error::from(io::ErrorKind::Interrupted));
+        }
+        if !self.text.is_empty() {
+            return self.text.read(buf);
+        }
+        if self.spaces == 0 && self.fails {
+            return Err(io::Error::from(io::ErrorKind::BrokenPipe));
+        }
+        let count = buf.len().min(self.spaces);
+        buf[..count].fill(b' ');
+        self.spaces -= count;
+        Ok(count)
+    }
+}
+
+impl<'a> Input<'a> {
+    // Returns a reader of the text, or one that fails at each call if there is none.
+    pub(crate) fn of(text: Option<&'a [u8]>) -> Input<'a> {
+        Input {
+            text: text.unwrap_or(b""),
+            spaces: 0,
+            fails: text.is_none(),
+            interrupts: 0,
+        }
+    }
+
+    pub(crate) fn failing() -> Input<'static> {
+        Input::of(None)
+    }
+}
+
+// The document with spaces up to a length.
+fn document_up_to(length: usize, fails: bool) -> Input<'static> {
+    Input {
+        text: DOCUMENT,
+        spaces: length.saturating_sub(DOCUMENT.len()),
+        fails,
+        interrupts: 0,
+    }
+}
+
+#[test]
+fn the_longest_input_is_read(rt: HostRuntime) {
+    let words = ["category", "a", "cardinal", "1"];
+    let mut longest = document_up_to(MOST, false);
+    holds!(rt; gives(rt.alloc(), &words, &mut longest, "one\n") == Some(true));
+    let mut longer = document_up_to(MOST + 1, false);
+    holds!(rt; gives(rt.alloc(), &words, &mut longer, "1: input too long\n") == Some(true));
+}
+
+#[test]
+fn what_is_too_long_is_not_read_on(rt: HostRuntime) {
+    let words = ["print", "b", "cardinal"];
+    let too_long = "1: input too long\n";
+    let mut reader = document_up_to(MOST + 100, false);
+    holds!(rt; gives(rt.alloc(), &words, &mut reader, too_long) == Some(true));
+    holds!(rt; reader.spaces == 99);
+    let mut failing = document_up_to(MOST + 1, true);
+    holds!(rt; gives(rt.alloc(), &words, &mut failing, too_long) == Some(true));
+}
+
+#[test]
+fn an_interrupted_read_is_repeated(rt: HostRuntime) {
+    let words = ["category", "a", "cardinal", "1"];
+    let mut reader = document_up_to(5000, false);
+    reader.interrupts = 3;
+    holds!(rt; gives(rt.alloc(), &words, &mut reader, "one\n") == Some(true));
+}
+
+#[test]
+fn a_failing_reader_is_a_fault(rt: HostRuntime) {
+    let words = ["category", "a", "cardinal", "1"];
+    let cannot = "1: cannot read input\n";
+    for length in [0, 5000, MOST - 1, MOST] {
+        let mut reader = document_up_to(length, true);
+        holds!(rt; gives(rt.alloc(), &words, &mut reader, cannot) == Some(true), at length);
+    }
+    let mut reader = Input {
+        text: b"{",
+        spaces: 0,
+        fails: true,
+        interrupts: 0,
+    };
+    holds!(rt; gives(rt.alloc(), &words, &mut reader, cannot) == Some(true));
+}
+
+#[test]
+fn a_bad_number_reads_nothing(rt: HostRuntime) {
+    let numbers = "$ a|cardinal|x
+1: bad number
+$ a|cardinal|1c300
+1: number out of limits
+$ a|cardinal|1c256
+1: number out of limits
+$ a|cardinal|1
+1: cannot read input
+";
+    table_holds(
+        &rt,
+        rt.alloc(),
+        &["category", "select", "message"],
+        numbers,
+        None,
+    );
+    // The start is checked before the end.
+    let ranges = "$ a|cardinal|x|1
+1: bad number
+$ a|cardinal|1|x
+1: bad number
+$ a|cardinal|1|1c256
+1: number out of limits
+$ a|cardinal|1c256|x
+1: number out of limits
+$ a|cardinal|x|1c256
+1: bad number
+$ a|cardinal|0|1
+1: cannot read input
+";
+    table_holds(&rt, rt.alloc(), &["range"], ranges, None);
+}
+
+#[test]
+fn nesting_has_a_limit(rt: HostRuntime) -> Result<(), Fail> {
+    let rows = [
+        (127usize, "1: bad document: shape\n"),
+        (128, "1: input is not JSON\n"),
+    ];
+    for (depth, answer) in rows {
+        let mut input = vec![in rt.alloc(); b'['; depth]?;
+        input.resize(depth * 2, b']')?;
+        let mut reader = input.as_slice();
+        let words = ["print", "a", "cardinal"];
+        holds!(rt; gives(rt.alloc(), &words, &mut reader, answer) == Some(true), at depth);
+    }
+    Ok(())
+}

@@ -1,0 +1,26 @@
+//! What no contract says: worked documents, texts and statuses, failing readers and writers.
+
+mod answers;
+mod documents;
+mod growth;
+mod inputs;
+mod words;
+mod writers;
+
+use crate::tests::assertion::holds;
+use crate::tests::report::answers::{gives, is_told};
+use crate::tests::report::inputs::Input;
+use document_report::CheckError;
+
+const USAGE: &str = "2: usage: plurals_check < DOCUMENT\n";
+
+#[test]
+fn any_word_is_answered_with_the_usage(rt: HostRuntime) {
+    holds!(rt; gives(rt.alloc(), true, &mut Input::failing(), USAGE) == Some(true));
+}
+
+#[test]
+fn faults_that_no_document_shows_have_their_texts(rt: HostRuntime) {
+    holds!(rt; is_told(&CheckError::Memory, "1: out of memory\n"));
+    holds!(rt; is_told(&CheckError::Write, "1: cannot write output\n"));
+}

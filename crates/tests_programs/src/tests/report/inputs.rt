@@ -1,0 +1,100 @@
+//! Long inputs, and readers that fail.
+
+use crate::tests::assertion::holds;
+use crate::tests::report::answers::gives;
+use std::io;
+use std::io::Read;
+
+// The most bytes that an input may have.
+const MOST: usize = 4_194_304;
+
+// A document without faults, and its report.
+const DOCUMENT: &[u8] =
+    br#"{"cardinal":{"a":{"one":"i = 1 and v = 0 @integer 1","other":"@integer 0, 2~16"}}}"#;
+
+const REPORT: &str = "locales: 1, rules: 2, numbers: 17, faults: 0\n";
+
+// A reader of a text and then this many spaces, which ends or fails after them; its first calls are interrupted.
+#[derive(Drop)]
+pub(crate) struct Input<'a> {
+    text: &'a [u8],
+    spaces: usize,
+    fails: bool,
+    interrupts: usize,
+}
+
+impl<'a> Read for Input<'a> {
+    fn read(&mut self, buf: &mut [u8]) -> io::Result<usize> {
+        if self.interrupts > 0 {
+            self.interrupts -= 1;
+            return Err(io::Error::from(io::ErrorKind::Interrupted));
+        }
+        if !self.text.is_empty() {
+            return self.text.read(buf);
+        }
+        if self.spaces == 0 && self.fails {
+            return Err(io::Error::from(io::ErrorKind::BrokenPipe));
+        }
+        let count = buf.len().min(self.spaces);
+        buf[..count].fill(b' ');
+        self.spaces -= count;
+        Ok(count)
+    }
+}
+
+impl<'a> Input<'a> {
+    // Returns a reader of the text, or one that fails at each call if there is none.
+    pub(crate) fn of(text: Option<&'a [u8]>) -> Input<'a> {
+        Input {
+            text: text.unwrap_or(b""),
+            spaces: 0,
+            fails: text.is_none(),
+            interrupts: 0,
+        }
+    }
+
+    pub(crate) fn failing() -> Input<'static> {
+        Input::of(None)
+    }
+}
+
+// Returns the document with spaces up to a length.
+fn document_up_to(length: usize, fails: bool) -> Input<'static> {
+    Input {
+        text: DOCUMENT,
+        spaces: length.saturating_sub(DOCUMENT.len()),
+        fails,
+        interrupts: 0,
+    }
+}
+
+#[test]
+fn the_longest_input_is_read(rt: HostRuntime) {
+    let mut longest = document_up_to(MOST, false);
+    holds!(rt; gives(rt.alloc(), false, &mut longest, REPORT) == Some(true));
+}
+
+#[test]
+fn what_is_too_long_is_not_read_on(rt: HostRuntime) {
+    let too_long = "1: input too long\n";
+    let mut reader = document_up_to(MOST + 100, false);
+    holds!(rt; gives(rt.alloc(), false, &mut reader, too_long) == Some(true));
+    holds!(rt; reader.spaces == 99);
+    let mut failing = document_up_to(MOST + 1, true);
+    holds!(rt; gives(rt.alloc(), false, &mut failing, too_long) == Some(true));
+}
+
+#[test]
+fn an_interrupted_read_is_repeated(rt: HostRuntime) {
+    let mut reader = document_up_to(5000, false);
+    reader.interrupts = 3;
+    holds!(rt; gives(rt.alloc(), false, &mut reader, REPORT) == Some(true));
+}
+
+#[test]
+fn a_failing_reader_is_a_fault(rt: HostRuntime) {
+    for length in [0, 5000, MOST] {
+        let mut reader = document_up_to(length, true);
+        holds!(rt; gives(rt.alloc(), false, &mut reader, "1: cannot read input\n") == Some(true), at length);
+    }
+}
