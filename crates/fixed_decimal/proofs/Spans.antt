@@ -100,7 +100,7 @@ abbrev pub spread : ℕ → ℕ → ℕ → List ℕ → Places
 spread w f n s = cut_at w (padded n s (rest_zeros w f n s))
 
 -- They are as many as there is room for.
-length-spread : (w f n : ℕ) (s : List ℕ) → n + length s ≤ w + f → length (padded n s (rest_zeros w f n s)) ≡ w + f
+pub length-spread : (w f n : ℕ) (s : List ℕ) → n + length s ≤ w + f → length (padded n s (rest_zeros w f n s)) ≡ w + f
 length-spread w f n s h = length-padded n s _ ∙ omega arith
 
 -- one zero more

@@ -1,7 +1,8 @@
 //! Decimals with a sign.
 
-ghost use Rattle.std.specs.Prelude.{◌≡◌, ◌≢◌, ◌↔◌, ◌++◌, [], pos, nat_abs, int_lt, if◌then◌else◌, IfOk, IfErr, OnOk, OnErr};
-ghost use Rattle.fixed_decimal.specs.Places.{IsWithinLimit, IsOverLimit, shift};
+ghost use Rattle.std.specs.Prelude.{◌≡◌, ◌≢◌, ◌<◌, ◌↔◌, ◌++◌, [], pos, nat_abs, int_lt, if◌then◌else◌, IfOk, IfErr, OnOk, OnErr};
+ghost use Rattle.fixed_decimal.specs.Places.{IsWithinLimit, IsOverLimit, shift, most_places};
+ghost use Rattle.fixed_decimal.specs.FractionEnds.{places_down_to, padded_to, IsTrimmed};
 ghost use Rattle.fixed_decimal.specs.Digits.{IsNumeral};
 ghost use Rattle.fixed_decimal.specs.Written.{WritesDecimal, sign_text};
 ghost use Rattle.fixed_decimal.specs.Inner.TextParts.{HasPointWithin};
@@ -98,6 +99,25 @@ impl Decimal {
         ensures unchanged { OnErr result (self.new ≡ self.old) }
     {
         self.absolute.multiply_pow10(places)
+    }
+
+    /// Adds zeros to the fraction as [`UnsignedDecimal::pad_end`] does; the sign stays.
+    pub fn pad_end(&mut self, position: i16) -> Result<(), DecimalError>
+        ensures padded { OnOk result
+            (self.new ≡ record self.old { absolute = padded_to (places_down_to position) self.old.absolute }) }
+        ensures limit { (result ≡ Err DecimalError.Limit) ↔ (most_places < places_down_to position) }
+        ensures only_limit { IfErr result (λ e. e ≡ DecimalError.Limit) }
+        ensures unchanged { OnErr result (self.new ≡ self.old) }
+    {
+        self.absolute.pad_end(position)
+    }
+
+    /// Cuts the zeros at the end of the fraction; the sign stays. It allocates nothing.
+    pub fn trim_end(&mut self)
+        ensures sign { self.new.sign ≡ self.old.sign }
+        ensures absolute { IsTrimmed self.old.absolute self.new.absolute }
+    {
+        self.absolute.trim_end();
     }
 }
 

@@ -4,7 +4,8 @@ ghost use Rattle.std.specs.Prelude.{◌≡◌, ◌+◌, ◌-◌, ◌*◌, ◌^�
 ghost use Rattle.fixed_decimal.specs.Digits.{IsNumeral, value_of};
 ghost use Rattle.fixed_decimal.specs.Written.{WritesUnsigned};
 ghost use Rattle.fixed_decimal.specs.Inner.TextParts.{AllDigitBytes, HasPointWithin, places_of_sides, places_around};
-ghost use Rattle.fixed_decimal.specs.Places.{Places, IsWritten, IsWithinLimit, IsOverLimit, shift, shift_left, shift_right, digit_at, digits_from, HasDigitFrom};
+ghost use Rattle.fixed_decimal.specs.Places.{Places, IsWritten, IsWithinLimit, IsOverLimit, shift, shift_left, shift_right, digit_at, digits_from, HasDigitFrom, most_places};
+ghost use Rattle.fixed_decimal.specs.FractionEnds.{places_down_to as fraction_places_to, padded_to, IsTrimmed};
 
 use crate::DecimalError;
 use crate::digits::{MOST_PLACES, number_of_digits};
@@ -334,5 +335,48 @@ impl UnsignedDecimal {
             self.whole_places = 1;
         }
         Ok(())
+    }
+
+    /// Adds zeros to the fraction until it reaches down to `10^position`: `1.5` padded to -2 is
+    /// `1.50`. A fraction that reaches as far, or a position from 0 on, changes nothing. `Limit` if
+    /// that would be more than 32767 places, as at -32768 alone; the number is then unchanged. It
+    /// allocates nothing.
+    pub fn pad_end(&mut self, position: i16) -> Result<(), DecimalError>
+        ensures padded { OnOk result (self.new ≡ padded_to (fraction_places_to position) self.old) }
+        ensures limit { (result ≡ Err DecimalError.Limit) ↔ (most_places < fraction_places_to position) }
+        ensures only_limit { IfErr result (λ e. e ≡ DecimalError.Limit) }
+        ensures unchanged { OnErr result (self.new ≡ self.old) }
+    {
+        let places = places_down_to(position);
+        if places > MOST_PLACES {
+            return Err(DecimalError::Limit);
+        }
+        self.fraction_places = self.fraction_places.max(places);
+        Ok(())
+    }
+
+    /// Cuts the zeros at the end of the fraction: `1.50` is then `1.5`, and `100.0` is `100`. It
+    /// allocates nothing.
+    pub fn trim_end(&mut self)
+        ensures { IsTrimmed self.old self.new }
+    {
+        if self.span.is_empty() {
+            self.leading_zeros = 0;
+            self.fraction_places = 0;
+        } else {
+            let end = self.leading_zeros + self.span.len() as u16;
+            self.fraction_places = end.saturating_sub(self.whole_places);
+        }
+    }
+}
+
+// How many fraction places reach down to a power of ten.
+fn places_down_to(position: i16) -> u16
+    ensures { result ≡ fraction_places_to position }
+{
+    if position < 0 {
+        position.unsigned_abs()
+    } else {
+        0
     }
 }
