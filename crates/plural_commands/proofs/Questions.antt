@@ -40,21 +40,21 @@ long_word word none = elim (cases_lt 16 (length word)) [
   | inr short ↦ absurd (none short)
 ]
 
--- a command's words, and those that are no command, are told apart
+-- a word of an integer has no fault of usage
 integer_not_usage : (word : List ℕ) → integer_of word ≡ Err Usage → ⊥
 integer_not_usage word = of_tests (not (is_numeral word)) (nat_lt (digits_value 10 word) (2 ^ 64))
   where
     of_tests : (a b : Bool)
-        → cond a (Err (Number decimal.Syntax)) (cond b (Ok (digits_value 10 word)) (Err (Number decimal.Limit))) ≡ Err Usage → ⊥
+        → ◌≡◌ {A = Result ℕ RunError} (cond a (Err (Number decimal.Syntax)) (cond b (Ok (digits_value 10 word)) (Err (Number decimal.Limit)))) (Err Usage) → ⊥
     of_tests true b h = cc
     of_tests false true h = cc
     of_tests false false h = cc
 
--- a condition has no fault of usage
+-- nor has one of a condition
 condition_not_usage : (word : List ℕ) → ReadsConditionWord word (Err Usage) → ⊥
 condition_not_usage word h = let is = h.1 in cc
 
--- nor has a number
+-- nor has one of a number
 number_not_usage : (word : List ℕ) → ReadsNumberWord word (Err Usage) → ⊥
 number_not_usage word h = let is = h.1 in cc
 

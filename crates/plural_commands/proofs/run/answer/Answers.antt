@@ -34,7 +34,7 @@ returns-in-Document-clause-reads_nothing g c = λ settled.
 pub returns-in-Document-clause-not_usage : goal.returns-in-Document-clause-not_usage
 returns-in-Document-clause-not_usage g c = λ h.
     let a = c.looked_up.ensures.answers in
-    answer_not_usage (of_document (lookup_view c.in-Document.lookup.now)) a.0 c.looked_up.result a.2 h
+    answer_not_usage (of_document (lookup_view c.in-Document.lookup)) a.0 c.looked_up.result a.2 h
 
 pub returns-in-Document-clause-memory : goal.returns-in-Document-clause-memory
 returns-in-Document-clause-memory g c = λ h. rw c.in-Document.is tt
