@@ -25,6 +25,8 @@ fn rules_of_a_text_choose_categories(rt: HostRuntime) {
     let rules = &block[..length];
     holds!(rt; plurals_check_rules(rules) == 0);
     holds!(rt; plurals_category_of_integer(rules, 1) == 1);
+    // 1 above 2^32, so its low half is 1.
+    holds!(rt; plurals_category_of_integer(rules, 4_294_967_297) == 5);
     holds!(rt; plurals_category_of_integer(rules, 18_446_744_073_709_551_615) == 5);
     let rows: [(&[u8], i32); 5] = [(b"1", 1), (b"1.0", 5), (b"-1", 1), (b"1c6", 5), (b"2", 5)];
     for (number, category) in rows {
