@@ -8,4 +8,4 @@ Adds Is old new = (more : Found) × Is more × (new ≡ together old more)
 
 -- only lines
 abbrev pub lines_alone : List (List ℕ) → Found
-lines_alone lines = record { lines = lines; rules = 0; numbers = 0 }
+lines_alone lines = record { lines = lines; faults = 0; rules = 0; numbers = 0 }
