@@ -71,7 +71,7 @@ most_told = 10
 -- how many more there are
 abbrev pub rest_line : Part → List ℕ → PluralCategory → ℕ → List ℕ
 rest_line part name category rest =
-    locale_place part name ++ codes " " ++ name_of category ++ codes ": " ++ decimal rest ++ codes " more faults"
+    locale_place part name ++ codes " " ++ name_of category ++ codes ": and " ++ decimal rest ++ codes " more"
 
 -- that line, if there are more than are told
 abbrev pub rest_lines : Part → List ℕ → PluralCategory → ℕ → List (List ℕ)

@@ -1,14 +1,23 @@
-use Rattle.std.proofs.Common.{ℕ, List, ap, ◌∙◌}
-use Rattle.document_report.specs.DocumentReport.{fault_line}
-use Rattle.document_report.specs.Found.{one_line, together}
-use Rattle.document_report.proofs.FoundParts.{next_line}
+use Rattle.std.proofs.Common.{◌≡◌, ◌≢◌, ◌+◌, List, ◌∷◌, [], ◌++◌, length, take, refl, ap, sym, subst, ◌∙◌, rules}
+use Rattle.std.proofs.lemmas.List.{length-append, take_all}
+use Rattle.std.proofs.lemmas.Result.{on_ok_weaker}
+use Rattle.plural_checker.specs.declared.Fault.{Fault}
+use Rattle.document_report.specs.DocumentReport.{faults_of}
+use Rattle.document_report.proofs.FoundParts.{together-nothing}
+use Rattle.document_report.proofs.Told.{all_told, next_told, none_of, one_of, told_lines}
 use Rattle.document_report.proofs.languages.add_faults.Goals as goal
+
+pub loop-fault-init : goal.loop-fault-init
+loop-fault-init c = (refl, sym (together-nothing c.args.found.now))
+
+pub loop-fault-preserved-then-eq : goal.loop-fault-preserved-then-eq
+loop-fault-preserved-then-eq c =
+    ?
 
 pub loop-fault-preserved : goal.loop-fault-preserved
 loop-fault-preserved c =
-    let line = fault_line c.args.part c.args.locale.now in
-    let now = c.loop-fault.found in
-    next_line line c.args.faults.now c.loop-fault.fault-index c.fault-item.result now c.add_line.new.self c.loop-fault-test.true
-    (c.in_ok-add_line.ensures
-    ∙ ap (λ (text : List ℕ). together now (one_line text)) (c.in_ok-line.ensures ∙ ap line c.fault-item.is))
-    ∙ c.loop-fault.invariant
+    ?
+
+pub returns : goal.returns
+returns c =
+    ?

@@ -6,7 +6,7 @@ use Rattle.document_report.proofs.tables.entry_line.Goals as goal
 
 pub returns : goal.returns
 returns c =
-    let locale = c.args.locale.now in
+    let locale = c.args.name.now in
     let key = c.args.key.now in
     let told = entry_fault_text c.args.fault in
     IfOk-weaker c.format.result
