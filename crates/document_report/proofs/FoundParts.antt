@@ -1,7 +1,7 @@
 -- What is found, put together.
 use Rattle.std.proofs.Common.{◌≡◌, ℕ, suc, ◌+◌, ◌<◌, List, [], ◌∷◌, ◌++◌, length, get_or, drop, map, refl, sym, ap, subst, ◌∙◌}
 use Rattle.std.proofs.Common.{String, Global, string_bytes, false, Some, Result, Ok, Err}
-use Rattle.std.specs.Prelude.{OnOk, is_some}
+use Rattle.std.specs.Prelude.{OnOk, if◌then◌else◌, is_ok, is_some}
 use Rattle.std.proofs.Common.{append_assoc, add-one}
 use Rattle.std.proofs.Math.Seq.{drop-cons}
 use Rattle.std.proofs.Math.Nat.{add_assoc, add-zero, zero-add}
@@ -35,16 +35,6 @@ together_assoc a b c =
       add_assoc a.numbers b.numbers c.numbers,
     ) refl
 
--- adding two things and then numbers
-pub and_numbers : (old a b : Found) (n : ℕ) (one two three : Found)
-    → one ≡ together old a → two ≡ together one b → three ≡ together two (record nothing { numbers = n })
-    → three ≡ together old (together a (together b (record nothing { numbers = n })))
-and_numbers old a b n one two three first second third =
-    third
-    ∙ ap (λ (f : Found). together f (record nothing { numbers = n })) (second ∙ ap (λ (f : Found). together f b) first)
-    ∙ together_assoc (together old a) b (record nothing { numbers = n })
-    ∙ together_assoc old a (together b (record nothing { numbers = n }))
-
 -- three additions, one after the other
 pub three_added : (a b c one two three : Found) → one ≡ together nothing a → two ≡ together one b → three ≡ together two c
     → three ≡ together a (together b c)
@@ -56,6 +46,15 @@ three_added a b c one two three first second third =
 -- two additions, one after the other
 pub two_added : (old a b one two : Found) → one ≡ together old a → two ≡ together one b → two ≡ together old (together a b)
 two_added old a b one two first second = second ∙ ap (λ (f : Found). together f b) first ∙ together_assoc old a b
+
+-- three additions to something
+pub three_more : (old a b c one two three : Found) → one ≡ together old a → two ≡ together one b → three ≡ together two c
+    → three ≡ together old (together a (together b c))
+three_more old a b c one two three first second third =
+    third
+    ∙ ap (λ (f : Found). together f c) (second ∙ ap (λ (f : Found). together f b) first)
+    ∙ together_assoc (together old a) b c
+    ∙ together_assoc old a (together b c)
 
 -- ---- Member by member
 
@@ -155,6 +154,12 @@ numbered lines faults rules numbers new n e = rw (append-nil lines, add-zero fau
 pub on_ok : {A E P Q : Type 0} (r : Result A E) → (P → Q) → OnOk r P → OnOk r Q
 on_ok (Ok x) f h = f h
 on_ok (Err e) f h = tt
+
+-- a text that is changed only by an `Ok`
+pub if_ok : {A E : Type 0} (r : Result A E) (new changed kept : List ℕ) → new ≡ (if is_ok r then changed else kept)
+    → OnOk r (new ≡ changed)
+if_ok (Ok x) new changed kept e = e
+if_ok (Err e) new changed kept h = tt
 
 -- a value that is neither null nor a text has a line
 pub no_text : (part : Part) (locale : List ℕ) (category : PluralCategory) (value : Data)

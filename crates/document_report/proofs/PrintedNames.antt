@@ -1,7 +1,8 @@
 -- Printed names, character by character.
-use Rattle.std.proofs.Common.{◌≡◌, ℕ, ◌+◌, ◌<◌, ◌≤◌, ◌==◌, ◌&&◌, not, Bool, true, false, List, [], ◌∷◌, ◌++◌, length, get_or}
+use Rattle.std.proofs.Common.{◌≡◌, ℕ, ◌+◌, ◌<◌, ◌≤◌, Bool, true, false, List, [], ◌∷◌, ◌++◌, length, get_or}
 use Rattle.std.proofs.Common.{encode_utf8, refl, sym, ap, ◌∙◌, arith, append_assoc}
-use Rattle.std.proofs.lemmas.Grind.{common_steps}
+use Rattle.std.proofs.lemmas.Grind.{common_steps, flat_map-append}
+use Rattle.std.specs.Prelude.{nat_lt}
 use Rattle.std.proofs.lemmas.List.{append-nil}
 use Rattle.std.proofs.lemmas.Str.{encode_ascii, inside_one}
 use Rattle.std.specs.List.{flat_map}
@@ -32,9 +33,9 @@ plain_printed c plain = by (nat_lt c 128) refl
   where
     by : (low : Bool) → nat_lt c 128 ≡ low → flat_map printed_byte (encode_utf8 c) ≡ encode_utf8 c
     by true low =
-        let small : c < 128 = omega arith in
+        let small : c < 128 = grind (arith, common_steps, low) in
         one_printed c small ∙ rw plain refl ∙ sym (encode_ascii c small)
-    by false low = wide_printed (encode_utf8 c) (λ k lt. wide_bytes c k (omega arith) lt)
+    by false low = wide_printed (encode_utf8 c) (λ k lt. wide_bytes c k (grind (arith, common_steps, low)) lt)
 
 -- any other has one byte, and is printed as its escape
 pub low_of : (c : ℕ) → is_plain c ≡ false → c < 128
@@ -42,3 +43,21 @@ low_of c other = grind (arith, common_steps)
 
 pub escape_printed : (c : ℕ) → is_plain c ≡ false → flat_map printed_byte (encode_utf8 c) ≡ byte_escape c
 escape_printed c other = one_printed c (low_of c other) ∙ rw other refl
+
+-- ---- Character after character
+
+-- one character more is printed
+pub next_char : (c : ℕ) (now next old rest whole : List ℕ) → old ≡ encode_utf8 c ++ rest
+    → next ≡ now ++ flat_map printed_byte (encode_utf8 c) → now ++ flat_map printed_byte old ≡ whole
+    → next ++ flat_map printed_byte rest ≡ whole
+next_char c now next old rest whole step wrote so_far =
+    ap (λ l. l ++ flat_map printed_byte rest) wrote
+    ∙ append_assoc now (flat_map printed_byte (encode_utf8 c)) (flat_map printed_byte rest)
+    ∙ ap (λ l. now ++ l) (sym (flat_map-append printed_byte (encode_utf8 c) rest))
+    ∙ ap (λ l. now ++ flat_map printed_byte l) (sym step)
+    ∙ so_far
+
+-- no character is left
+pub no_more : (rest now whole : List ℕ) → length rest ≡ 0 → now ++ flat_map printed_byte rest ≡ whole → now ≡ whole
+no_more [] now whole none so_far = sym (append-nil now) ∙ so_far
+no_more (b ∷ bs) now whole none so_far = absurd (omega arith)

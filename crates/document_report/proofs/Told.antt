@@ -3,6 +3,7 @@ use Rattle.std.proofs.Common.{◌≡◌, ◌≢◌, ℕ, ◌+◌, ◌<◌, ◌�
 use Rattle.std.proofs.Common.{refl, sym, ap, subst, ◌∙◌, arith}
 use Rattle.std.specs.Prelude.{filter, nat_lt, if◌then◌else◌}
 use Rattle.std.proofs.lemmas.Bool.{ne_eqb}
+use Rattle.std.proofs.lemmas.Grind.{common_steps}
 use Rattle.std.proofs.lemmas.List.{append-nil, length-append, map-append, take_all, take_more, take-append-le}
 use Rattle.std.proofs.lemmas.List.Elements.{filter-append}
 use Rattle.std.proofs.Math.Nat.{add-zero, zero-add}
@@ -19,13 +20,11 @@ use Rattle.document_report.proofs.FoundParts.{together_assoc}
 -- ---- Which faults are of a text
 
 -- the category at a place
-at_place : ℕ → PluralCategory
-at_place 0 = Zero
-at_place 1 = One
-at_place 2 = Two
-at_place 3 = Few
-at_place 4 = Many
-at_place place = Other
+abbrev at_place : ℕ → PluralCategory
+at_place place =
+    if place == 0 then Zero
+    else (if place == 1 then One
+    else (if place == 2 then Two else (if place == 3 then Few else (if place == 4 then Many else Other))))
 
 is_at_place : (category : PluralCategory) → at_place (place_of category) ≡ category
 is_at_place Zero = refl
@@ -37,12 +36,6 @@ is_at_place Other = refl
 
 -- the test of a fault of the category, and of any other
 same_place : (a b : PluralCategory) → a ≡ b → (place_of a == place_of b) ≡ true
-same_place Zero Zero e = refl
-same_place One One e = refl
-same_place Two Two e = refl
-same_place Few Few e = refl
-same_place Many Many e = refl
-same_place Other Other e = refl
 same_place a b e = subst (λ (c : PluralCategory). (place_of a == place_of c) ≡ true) e (of_itself a)
   where
     of_itself : (c : PluralCategory) → (place_of c == place_of c) ≡ true
@@ -96,13 +89,13 @@ told_more part name faults fault = by (nat_lt (length faults) most_told) refl
     by : (few : Bool) → nat_lt (length faults) most_told ≡ few
         → told_lines part name (faults ++ fault ∷ []) ≡ told_lines part name faults ++ told_after part name (length faults) fault
     by true few =
-        let short : length faults + 1 ≤ most_told = omega arith in
+        let short : length faults + 1 ≤ most_told = grind (arith, common_steps, few) in
         let whole : length (faults ++ fault ∷ []) ≤ most_told = omega (arith, length-append faults (fault ∷ [])) in
         rw few (ap (map (fault_line part name)) (take_all most_told (faults ++ fault ∷ []) whole)
         ∙ map-append (fault_line part name) faults (fault ∷ [])
         ∙ ap (λ l. map (fault_line part name) l ++ fault_line part name fault ∷ []) (sym (take_all most_told faults (omega arith))))
     by false few =
-        rw few (ap (map (fault_line part name)) (take-append-le most_told faults (fault ∷ []) (omega arith))
+        rw few (ap (map (fault_line part name)) (take-append-le most_told faults (fault ∷ []) (grind (arith, common_steps, few)))
         ∙ sym (append-nil (told_lines part name faults)))
 
 -- the lines so far, and that of the next fault
@@ -139,4 +132,4 @@ all_told part name category mine count first now rest next counted so_far more a
     joined : together (lines_alone (told_lines part name mine))
         (together (lines_alone (rest_lines part name category count)) (record nothing { faults = count }))
         ≡ found_told part name category mine
-    joined = rw (counted, append-nil (rest_lines part name category (length mine)), zero-add (length mine)) refl
+    joined = rw (counted, append-nil (rest_lines part name category (length mine)), zero-add (length mine), zero-add (length mine)) refl

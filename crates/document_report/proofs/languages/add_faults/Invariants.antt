@@ -1,4 +1,4 @@
-use Rattle.std.proofs.Common.{◌≡◌, ◌×◌, length, take}
+use Rattle.std.proofs.Common.{◌≡◌, length, take}
 use Rattle.document_report.specs.DocumentReport.{faults_of}
 use Rattle.document_report.specs.Found.{together}
 use Rattle.document_report.specs.Inner.Additions.{lines_alone}

@@ -99,9 +99,9 @@ cardinal a one: sample 2 is other
 cardinal a one: sample 2 is other
 cardinal a one: sample 2 is other
 cardinal a one: sample 3 is other
-cardinal a one: and 3 more
+cardinal a one: and 2 more
 cardinal a other: expected operator
-locales: 1, rules: 2, numbers: 13, faults: 14
+locales: 1, rules: 2, numbers: 13, faults: 13
 "#;
     table_holds(&rt, rt.alloc(), table)
 }
