@@ -5,6 +5,7 @@ use Rattle.std.specs.Io.KnownBytes.{Keeps}
 use Rattle.serde_json.specs.Data.{Data, Members, no_members, member}
 use Rattle.serde_json.specs.Find.{as_null, as_object, get}
 use Rattle.serde_json.specs.Written.{has_float}
+use Rattle.document_report.specs.Names.{name_text}
 use Rattle.document_report.specs.CheckAnswer.{Answer, AnswersDocument, AnswersInput, IsAnswered, IsAnswerTo, check_origin}
 use Rattle.document_report.specs.CheckedDocument.{◌>>=◌, document_formed, document_with, has_form, locales_formed}
 use Rattle.document_report.specs.CheckedDocument.{object_formed, or_fault, part_formed, parts_formed, value_in, value_of}
@@ -44,7 +45,7 @@ chosen_not_long false x y first second h = second h
 locales_not_long : (part : Part) (members : Members) → locales_formed part members ≡ Err TooLong → ⊥
 locales_not_long part no_members h = cc
 locales_not_long part (member locale value members) h =
-    chosen_not_long (has_form part value) (locales_formed part members) (Err (NoObject (place.Locale part locale)))
+    chosen_not_long (has_form part value) (locales_formed part members) (Err (NoObject (place.Locale part (name_text locale))))
     (locales_not_long part members) (λ none. cc) h
 
 -- nor the form of an object

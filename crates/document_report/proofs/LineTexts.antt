@@ -17,3 +17,8 @@ seven a b c d e f g = simp append_assoc
 pub nine : (a b c d e f g h i : List ℕ)
     → (((((((a ++ b) ++ c) ++ d) ++ e) ++ f) ++ g) ++ h) ++ i ≡ a ++ (b ++ (c ++ (d ++ (e ++ (f ++ (g ++ (h ++ i)))))))
 nine a b c d e f g h i = simp append_assoc
+
+-- eight
+pub eight : (a b c d e f g h : List ℕ)
+    → ((((((a ++ b) ++ c) ++ d) ++ e) ++ f) ++ g) ++ h ≡ a ++ (b ++ (c ++ (d ++ (e ++ (f ++ (g ++ h))))))
+eight a b c d e f g h = simp append_assoc

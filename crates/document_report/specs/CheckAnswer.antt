@@ -1,6 +1,6 @@
 -- The program's answer to its input, and what it reads and writes.
 --     AnswersInput has_words input answer      the answer: a report's text with its verdict, or the first fault
-use Rattle.std.specs.Prelude.{◌≡◌, ℕ, ◌==◌, Bool, List, length, Option, Result, Ok, Err, if◌then◌else◌}
+use Rattle.std.specs.Prelude.{◌≡◌, ℕ, ◌==◌, Bool, List, Option, Result, Ok, Err, if◌then◌else◌}
 use Rattle.std.specs.Io.KnownBytes.{Appends, Keeps}
 use Rattle.serde_json.specs.Data.{Data}
 use Rattle.document_report.specs.CheckedDocument.{value_in}
@@ -22,7 +22,7 @@ pub record Answer : Type 0 where
   pub verdict : Verdict
 
 abbrev pub verdict_of : Report → Verdict
-verdict_of report = if length report.found.lines == 0 then NoFaults else Faults
+verdict_of report = if report.found.faults == 0 then NoFaults else Faults
 
 abbrev pub answer_with : Report → Answer
 answer_with report = record { text = report_text report; verdict = verdict_of report }
@@ -62,10 +62,9 @@ IsAnswered IsAnswer old new (Err Read) = Keeps old new
 IsAnswered IsAnswer old new (Err Write) = (answer : Answer) × IsAnswer (Ok answer) × IsPartWritten old new answer.text
 IsAnswered IsAnswer old new (Err fault) = IsAnswer (Err fault) × Keeps old new
 
--- the exit status of the program
+-- the exit status of the program: without a report 2, whatever the reason
 abbrev pub status_of : CheckError → ℕ
-status_of Usage = 2
-status_of fault = 1
+status_of fault = 2
 
 abbrev pub verdict_status : Verdict → ℕ
 verdict_status NoFaults = 0

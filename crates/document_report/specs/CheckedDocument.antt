@@ -9,6 +9,7 @@ use Rattle.serde_json.specs.Find.{get, as_null, as_object}
 use Rattle.serde_json.specs.Written.{has_float}
 use Rattle.plural_documents.specs.Inputs.{within_limit}
 use Rattle.plural_documents.specs.JsonTexts.{json_of}
+use Rattle.document_report.specs.Names.{name_text}
 use Rattle.document_report.specs.Parts.{part_name}
 use Rattle.document_report.specs.declared.error.CheckError.{CheckError}
 use Rattle.document_report.specs.declared.error.CheckError.TheVariants.{TooLong, Json, Float, NoObject}
@@ -45,7 +46,7 @@ has_form Ranges value = is_some (table_in value)
 abbrev pub locales_formed : Part → Members → Result ⊤ CheckError
 locales_formed part no_members = Ok tt
 locales_formed part (member locale value members) =
-    if has_form part value then locales_formed part members else Err (NoObject (place.Locale part locale))
+    if has_form part value then locales_formed part members else Err (NoObject (place.Locale part (name_text locale)))
 
 -- the object of a part
 abbrev pub object_formed : Part → Option Members → Result ⊤ CheckError

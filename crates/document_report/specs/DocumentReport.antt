@@ -2,7 +2,7 @@
 -- ranges, and how many locales it has (docs/JSON.md). The locales of a part are in the order of their bytes, and so are the
 -- entries of a locale's ranges.
 --     IsReportOf value report      this is the report of a document's value
-use Rattle.std.specs.Prelude.{◌≡◌, ◌≢◌, ℕ, ◌+◌, ◌&&◌, not, List, [], ◌∷◌, ◌++◌, codes, count_by, map}
+use Rattle.std.specs.Prelude.{◌≡◌, ◌≢◌, ℕ, ◌+◌, ◌&&◌, not, ◌-◌, ◌==◌, nat_lt, List, [], ◌∷◌, ◌++◌, length, codes, count_by, filter, map, take}
 use Rattle.std.specs.Prelude.{Bool, true, IsTrue, IsFalse}
 use Rattle.std.specs.Prelude.{Option, Some, None, is_some, if◌then◌else◌}
 use Rattle.serde_json.specs.Data.{Data}
@@ -10,7 +10,8 @@ use Rattle.serde_json.specs.Find.{get, as_null, as_str}
 use Rattle.icu_plurals.specs.declared.PluralCategory.{PluralCategory}
 use Rattle.icu_plurals.specs.declared.PluralCategory.TheVariants.{Zero, One, Two, Few, Many, Other}
 use Rattle.icu_plurals.specs.declared.provider.UnvalidatedPluralRange.{UnvalidatedPluralRange}
-use Rattle.icu_plurals.specs.Categories.{name_of}
+use Rattle.std.specs.Fmt.{decimal}
+use Rattle.icu_plurals.specs.Categories.{name_of, place_of}
 use Rattle.icu_plurals.specs.DocumentJson.{value_of_locale}
 use Rattle.icu_plurals.specs.FiveRules.{five}
 use Rattle.icu_plurals.specs.Ranges.{IsKeyOfText}
@@ -22,7 +23,8 @@ use Rattle.plural_checker.specs.TextChecks.{AreFindingsOf}
 use Rattle.plural_checker.specs.declared.Fault.{Fault}
 use Rattle.plural_checker.specs.declared.Report.{Report as Checked}
 use Rattle.document_report.specs.CheckedDocument.{members_at, members_or_none, table_in}
-use Rattle.document_report.specs.Found.{Found, nothing, one_line, one_rule, together, IsFoundIn}
+use Rattle.document_report.specs.Found.{Found, nothing, one_fault, one_rule, together, IsFoundIn}
+use Rattle.document_report.specs.Names.{is_long_name, name_text}
 use Rattle.document_report.specs.Parts.{part_name}
 use Rattle.document_report.specs.declared.entry.EntryFault.{EntryFault}
 use Rattle.document_report.specs.declared.entry.EntryFault.TheVariants.{RangeKey, NoText, RangeValue, NoRule}
@@ -30,51 +32,87 @@ use Rattle.document_report.specs.declared.place.Part.{Part}
 use Rattle.document_report.specs.declared.place.Part.TheVariants.{Cardinal, Ordinal, Ranges}
 use Rattle.document_report.specs.declared.report.Report.{Report}
 
--- ---- The rules of a locale
+-- ---- The key of a locale
 
 -- `cardinal ru`
 abbrev pub locale_place : Part → List ℕ → List ℕ
-locale_place part locale = part_name part ++ codes " " ++ locale
+locale_place part name = part_name part ++ codes " " ++ name
+
+-- a long key has a line
+abbrev pub found_of_key : Part → List ℕ → Found
+found_of_key part locale =
+    if is_long_name locale then one_fault (locale_place part (name_text locale) ++ codes ": key too long") else nothing
+
+-- ---- The rules of a locale, whose printed name is given
 
 -- the value of a category is no text
 abbrev pub no_text_line : Part → List ℕ → PluralCategory → List ℕ
-no_text_line part locale category = locale_place part locale ++ codes " " ++ name_of category ++ codes ": no text"
+no_text_line part name category = locale_place part name ++ codes " " ++ name_of category ++ codes ": no text"
 
 -- a fault of a text, which names its category
 abbrev pub fault_line : Part → List ℕ → Fault → List ℕ
-fault_line part locale fault = locale_place part locale ++ codes " " ++ fault_text fault
+fault_line part name fault = locale_place part name ++ codes " " ++ fault_text fault
 
 -- a text is counted; a value that is neither null nor a text has a line
 abbrev pub found_under : Part → List ℕ → PluralCategory → Option Data → Found
-found_under part locale category None = nothing
-found_under part locale category (Some value) =
+found_under part name category None = nothing
+found_under part name category (Some value) =
     if is_some (as_null value) then nothing
-    else (if is_some (as_str value) then one_rule else one_line (no_text_line part locale category))
+    else (if is_some (as_str value) then one_rule else one_fault (no_text_line part name category))
 
--- what is found under each of these categories
-abbrev pub found_under_all : Part → List ℕ → Data → List PluralCategory → Found
-found_under_all part locale value [] = nothing
-found_under_all part locale value (category ∷ categories) =
-    together (found_under part locale category (get (name_of category) value)) (found_under_all part locale value categories)
+-- the faults of one category's text
+abbrev pub faults_of : PluralCategory → List Fault → List Fault
+faults_of category faults = filter (λ fault. place_of fault.category == place_of category) faults
+
+-- the most faults of a text that are told
+abbrev pub most_told : ℕ
+most_told = 10
+
+-- how many more there are
+abbrev pub rest_line : Part → List ℕ → PluralCategory → ℕ → List ℕ
+rest_line part name category rest =
+    locale_place part name ++ codes " " ++ name_of category ++ codes ": and " ++ decimal rest ++ codes " more"
+
+-- that line, if there are more than are told
+abbrev pub rest_lines : Part → List ℕ → PluralCategory → ℕ → List (List ℕ)
+rest_lines part name category count =
+    if nat_lt most_told count then rest_line part name category (count - most_told) ∷ [] else []
+
+-- the first faults of a text have a line each, and the others are counted in one
+abbrev pub found_told : Part → List ℕ → PluralCategory → List Fault → Found
+found_told part name category faults = record {
+  lines = map (fault_line part name) (take most_told faults) ++ rest_lines part name category (length faults);
+  faults = length faults;
+  rules = 0;
+  numbers = 0;
+}
+
+-- what is found under each of these categories, and in its text
+abbrev pub found_under_all : Part → List ℕ → Data → List Fault → List PluralCategory → Found
+found_under_all part name value faults [] = nothing
+found_under_all part name value faults (category ∷ categories) =
+    together (found_under part name category (get (name_of category) value))
+    (together (found_told part name category (faults_of category faults)) (found_under_all part name value faults categories))
 
 -- the categories, in the order of the rules
 abbrev pub text_order : List PluralCategory
 text_order = Zero ∷ One ∷ Two ∷ Few ∷ Many ∷ Other ∷ []
 
 -- the faults of the texts, and the count of their numbers
-abbrev pub found_by_check : Part → List ℕ → Checked → Found
-found_by_check part locale checked =
-    record { lines = map (fault_line part locale) checked.faults; rules = 0; numbers = checked.numbers }
+abbrev pub found_by_check : Part → List ℕ → Data → Checked → Found
+found_by_check part name value checked =
+    together (found_under_all part name value checked.faults text_order) (record nothing { numbers = checked.numbers })
 
 -- the texts of all six categories
 abbrev pub all_texts_in : Data → SixTexts
 all_texts_in value = record { five = texts_in value; other = text_under Other value }
 
--- what is found in the rules of a locale: first the values that are no texts, then the faults of the texts
+-- what is found in the rules of a locale: first that its key is long, then category by category that the value is no text, or
+-- the faults of the text
 abbrev pub IsFoundInRules : Part → List ℕ → Data → Found → Type 0
 IsFoundInRules part locale value found =
     (checked : Checked) × AreFindingsOf (all_texts_in value) checked
-    × (found ≡ together (found_under_all part locale value text_order) (found_by_check part locale checked))
+    × (found ≡ together (found_of_key part locale) (found_by_check part (name_text locale) value checked))
 
 -- ---- The ranges of a locale
 
@@ -111,27 +149,28 @@ entry_fault_text (NoRule category) = name_of category ++ codes " has no rule"
 
 -- `ranges ru one--two: range value`
 abbrev pub entry_line : List ℕ → List ℕ → EntryFault → List ℕ
-entry_line locale key fault = locale_place Ranges locale ++ codes " " ++ key ++ codes ": " ++ entry_fault_text fault
+entry_line name key fault = locale_place Ranges name ++ codes " " ++ name_text key ++ codes ": " ++ entry_fault_text fault
 
 abbrev pub found_of_entry : List ℕ → List ℕ → Option EntryFault → Found
-found_of_entry locale key None = nothing
-found_of_entry locale key (Some fault) = one_line (entry_line locale key fault)
+found_of_entry name key None = nothing
+found_of_entry name key (Some fault) = one_fault (entry_line name key fault)
 
 abbrev pub IsFoundInEntry : SixTexts → List ℕ → List ℕ → Data → Found → Type 0
-IsFoundInEntry texts locale key value found =
-    (fault : Option EntryFault) × HasEntryFault texts key value fault × (found ≡ found_of_entry locale key fault)
+IsFoundInEntry texts name key value found =
+    (fault : Option EntryFault) × HasEntryFault texts key value fault × (found ≡ found_of_entry name key fault)
 
 -- a locale without cardinal rules has a line
 abbrev pub found_of_rules : List ℕ → Option Data → Found
-found_of_rules locale None = one_line (locale_place Ranges locale ++ codes ": no cardinal rules")
-found_of_rules locale (Some rules) = nothing
+found_of_rules name None = one_fault (locale_place Ranges name ++ codes ": no cardinal rules")
+found_of_rules name (Some rules) = nothing
 
--- what is found in the ranges of a locale: first that it has no cardinal rules, then the faults of its entries
+-- what is found in the ranges of a locale: first that its key is long, then that it has no cardinal rules, then the faults of its
+-- entries
 abbrev pub IsFoundInRanges : Data → List ℕ → Data → Found → Type 0
 IsFoundInRanges document locale value found =
     let rules = value_of_locale (part_name Cardinal) locale document in
-    (entries : Found) × IsFoundIn (IsFoundInEntry (texts_at rules) locale) (members_or_none (table_in value)) entries
-    × (found ≡ together (found_of_rules locale rules) entries)
+    (entries : Found) × IsFoundIn (IsFoundInEntry (texts_at rules) (name_text locale)) (members_or_none (table_in value)) entries
+    × (found ≡ together (found_of_key Ranges locale) (together (found_of_rules (name_text locale) rules) entries))
 
 -- ---- The document
 

@@ -1,4 +1,5 @@
 pub mod Parts
+pub mod Names
 pub mod CheckedDocument
 pub mod Found
 pub mod DocumentReport

@@ -1,5 +1,5 @@
--- The text of a report: a line for each fault, and one with the counts.
-use Rattle.std.specs.Prelude.{ℕ, List, [], ◌∷◌, ◌++◌, length, codes}
+-- The text of a report: its lines, and one with the counts.
+use Rattle.std.specs.Prelude.{ℕ, List, [], ◌∷◌, ◌++◌, codes}
 use Rattle.std.specs.Fmt.{decimal}
 use Rattle.std.specs.List.{flat_map}
 use Rattle.document_report.specs.declared.report.Report.{Report}
@@ -15,7 +15,7 @@ counts_line locales rules numbers faults =
     ++ codes ", faults: " ++ decimal faults ++ codes "\n"
 
 abbrev pub counts_of : Report → List ℕ
-counts_of report = counts_line report.locales report.found.rules report.found.numbers (length report.found.lines)
+counts_of report = counts_line report.locales report.found.rules report.found.numbers report.found.faults
 
 abbrev pub report_text : Report → List ℕ
 report_text report = flat_map ended_line report.found.lines ++ counts_of report

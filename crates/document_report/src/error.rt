@@ -52,19 +52,11 @@ impl From<InputError> for CheckError {
 }
 
 impl CheckError {
-    /// Returns the exit status of the program: 2 for [`Usage`](CheckError::Usage), otherwise 1.
+    /// Returns the exit status of the program without a report, which is 2. With one it is that of the
+    /// [`Verdict`](crate::Verdict).
     pub fn status(&self) -> u8
         ensures { result ≡ status_of self.now }
     {
-        match self {
-            CheckError::Usage => 2,
-            CheckError::Read
-            | CheckError::TooLong
-            | CheckError::Json
-            | CheckError::Float
-            | CheckError::NoObject(_)
-            | CheckError::Write
-            | CheckError::Memory => 1,
-        }
+        2
     }
 }

@@ -7,6 +7,7 @@ ghost use Rattle.serde_json.specs.View.{members_view, view};
 ghost use Rattle.document_report.specs.CheckedDocument.{document_formed, has_form, locales_formed, part_formed};
 ghost use Rattle.document_report.specs.CheckedDocument.{parts_formed, table_in};
 ghost use Rattle.document_report.specs.Inner.CheckCalls.{GivesFault, GivesValue};
+ghost use Rattle.document_report.specs.Names.{name_text};
 ghost use Rattle.document_report.specs.Parts.{part_name};
 ghost use Rattle.document_report.specs.declared.error.CheckError.TheVariants.{NoObject};
 ghost use Rattle.document_report.specs.declared.place.Place.TheVariants as place;
@@ -93,7 +94,7 @@ pub(crate) fn table_in(value: &Value) -> Option<&Map<String, Value>>
 
 // Returns the error for a locale.
 fn no_object(alloc: Global, part: Part, locale: &str) -> CheckError
-    ensures { GivesFault (λ fault. fault ≡ NoObject (place.Locale part locale.now)) result }
+    ensures { GivesFault (λ fault. fault ≡ NoObject (place.Locale part (name_text locale.now))) result }
 {
     match Locale::from_str(alloc, locale) {
         Ok(locale) => CheckError::NoObject(Place::Locale(part, locale)),

@@ -1,9 +1,9 @@
 //! What is found in a document.
 
-ghost use Rattle.std.specs.Prelude.{◌≡◌, ◌+◌, ℕ, List, IfOk, OnOk, length, map, option_map, string_bytes};
-ghost use Rattle.document_report.specs.Found.{nothing, one_line, one_rule, together, IsFoundIn};
+ghost use Rattle.std.specs.Prelude.{◌≡◌, ◌+◌, ◌∷◌, [], ℕ, List, IfOk, OnOk, map, option_map, string_bytes};
+ghost use Rattle.document_report.specs.Found.{nothing, one_fault, one_rule, together, IsFoundIn};
 ghost use Rattle.document_report.specs.Found as seen;
-ghost use Rattle.document_report.specs.Inner.Additions.{Adds};
+ghost use Rattle.document_report.specs.Inner.Additions.{Adds, lines_alone};
 ghost use Rattle.document_report.specs.CheckedDocument.{members_or_none};
 ghost use Rattle.serde_json.specs.Data.{Data};
 ghost use Rattle.serde_json.specs.View.{members_view, view};
@@ -12,10 +12,11 @@ use serde_json::{Map, Value};
 use std::alloc::{AllocError, Global};
 use std::marker::Model;
 
-// The line of each fault, and how many rule texts and numbers were checked.
+// Lines, how many faults there are, and how many rule texts and numbers were checked.
 #[derive(Debug, Drop)]
 pub struct Found {
     lines: Vec<String>,
+    faults: u64,
     rules: u64,
     numbers: u64,
 }
@@ -28,6 +29,7 @@ impl Model for Found {
 
     ghost view = { λ found. record {
       lines = map string_bytes found.lines.items;
+      faults = found.faults;
       rules = found.rules;
       numbers = found.numbers;
     } };
@@ -40,6 +42,7 @@ impl Found {
     {
         Found {
             lines: Vec::new(alloc),
+            faults: 0,
             rules: 0,
             numbers: 0,
         }
@@ -52,11 +55,11 @@ impl Found {
         self.lines.as_slice()
     }
 
-    // Returns how many lines there are.
-    pub(crate) fn len(&self) -> usize
-        ensures { result ≡ length self.now.lines }
+    // Returns how many faults there are.
+    pub(crate) fn faults(&self) -> u64
+        ensures { result ≡ self.now.faults }
     {
-        self.lines.len()
+        self.faults
     }
 
     // Returns how many rule texts were checked.
@@ -75,9 +78,26 @@ impl Found {
 
     // Adds a line.
     pub(crate) fn add_line(&mut self, line: String) -> Result<(), AllocError>
-        ensures { OnOk result (self.new ≡ together self.old (one_line (string_bytes line))) }
+        ensures { OnOk result (self.new ≡ together self.old (lines_alone (string_bytes line ∷ []))) }
     {
         self.lines.push(line)?;
+        Ok(())
+    }
+
+    // Adds a fault with its line. A count that is too large is reported as out of memory.
+    pub(crate) fn add_fault(&mut self, line: String) -> Result<(), AllocError>
+        ensures { OnOk result (self.new ≡ together self.old (one_fault (string_bytes line))) }
+    {
+        self.faults = sum(self.faults, 1)?;
+        self.lines.push(line)?;
+        Ok(())
+    }
+
+    // Counts faults. A count that is too large is reported as out of memory.
+    pub(crate) fn add_faults(&mut self, faults: u64) -> Result<(), AllocError>
+        ensures { OnOk result (self.new ≡ together self.old (record nothing { faults = faults })) }
+    {
+        self.faults = sum(self.faults, faults)?;
         Ok(())
     }
 

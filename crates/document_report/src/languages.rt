@@ -1,23 +1,28 @@
 //! What is found in the rules of a part.
 
-ghost use Rattle.std.specs.Prelude.{◌≡◌, Some, IfOk, OnOk, map, option_map, string_bytes};
+ghost use Rattle.std.specs.Prelude.{◌≡◌, Some, IfOk, OnOk, option_map, string_bytes};
 ghost use Rattle.std.specs.Option.{option_copied};
 ghost use Rattle.icu_plurals.specs.RulesJson.{text_under};
 ghost use Rattle.icu_plurals.specs.Categories.{name_of};
 ghost use Rattle.plural_checker.specs.LanguageTexts.{six_texts};
-ghost use Rattle.document_report.specs.DocumentReport.{all_texts_in, fault_line, found_under, found_under_all};
-ghost use Rattle.document_report.specs.DocumentReport.{no_text_line, text_order, IsFoundInRules};
+ghost use Rattle.document_report.specs.DocumentReport.{all_texts_in, fault_line, faults_of, found_of_key, found_told};
+ghost use Rattle.document_report.specs.DocumentReport.{found_under, found_under_all, no_text_line, rest_line, rest_lines};
+ghost use Rattle.document_report.specs.DocumentReport.{text_order, IsFoundInRules};
 ghost use Rattle.document_report.specs.Found.{together};
-ghost use Rattle.document_report.specs.Inner.Additions.{lines_alone};
+ghost use Rattle.document_report.specs.Inner.Additions.{lines_alone, told_after};
 ghost use Rattle.serde_json.specs.View.{view};
 
-use crate::found::{Found, MemberCheck};
+use crate::found::{Found, MemberCheck, sum};
+use crate::names::{is_long_name, name_text};
 use crate::place::Part;
 use icu_plurals::PluralCategory;
 use icu_plurals::provider::RawPluralCategory;
 use plural_checker::{Fault, LanguageTexts, check_texts};
 use serde_json::Value;
 use std::alloc::{AllocError, Global};
+
+// The most faults of a text that have a line each.
+const MOST_TOLD: u64 = 10;
 
 // The categories in the order of the rules.
 const TEXT_ORDER: [PluralCategory; 6] = [
@@ -46,10 +51,11 @@ impl MemberCheck for LanguageCheck {
         found: &mut Found,
     ) -> Result<(), AllocError> {
         let checked = check_texts(alloc, &texts_of(value))?;
-        add_texts(alloc, self.part, locale, value, found)?;
-        add_faults(alloc, self.part, locale, checked.faults.as_slice(), found)?;
-        found.add_numbers(checked.numbers)?;
-        Ok(())
+        add_key(alloc, self.part, locale, found)?;
+        let name = name_text(alloc, locale)?;
+        let faults = checked.faults.as_slice();
+        add_texts(alloc, self.part, name.as_str(), value, faults, found)?;
+        found.add_numbers(checked.numbers)
     }
 }
 
@@ -81,19 +87,38 @@ pub(crate) fn name_of(category: PluralCategory) -> &'static str
     RawPluralCategory::from(category).as_str()
 }
 
-// Adds a line for each category whose value is no text, and counts the texts.
-fn add_texts(
+// Adds a line for a locale's key if it is long.
+pub(crate) fn add_key(
     alloc: Global,
     part: Part,
     locale: &str,
-    value: &Value,
     found: &mut Found,
 ) -> Result<(), AllocError>
-    ensures { OnOk result (found.new ≡ together found.old (found_under_all part locale.now (view value.now) text_order)) }
+    ensures { OnOk result (found.new ≡ together found.old (found_of_key part locale.now)) }
+{
+    if !is_long_name(locale) {
+        return Ok(());
+    }
+    let name = name_text(alloc, locale)?;
+    let line = format!(in alloc; "{} {}: key too long", part.as_str(), name.as_str())?;
+    found.add_fault(line)
+}
+
+// Adds, category by category, a line if the value is no text, and the faults of the text; counts the texts.
+fn add_texts(
+    alloc: Global,
+    part: Part,
+    name: &str,
+    value: &Value,
+    faults: &[Fault],
+    found: &mut Found,
+) -> Result<(), AllocError>
+    ensures { OnOk result (found.new ≡ together found.old (found_under_all part name.now (view value.now) faults.now text_order)) }
 {
     for category in &TEXT_ORDER {
         let under = value.get(name_of(*category));
-        add_text(alloc, part, locale, *category, under, found)?;
+        add_text(alloc, part, name, *category, under, found)?;
+        add_faults(alloc, part, name, *category, faults, found)?;
     }
     Ok(())
 }
@@ -102,16 +127,16 @@ fn add_texts(
 fn add_text(
     alloc: Global,
     part: Part,
-    locale: &str,
+    name: &str,
     category: PluralCategory,
     value: Option<&Value>,
     found: &mut Found,
 ) -> Result<(), AllocError>
     ensures { OnOk result (found.new
-        ≡ together found.old (found_under part locale.now category (option_map (λ v. view v.now) value.entry))) }
+        ≡ together found.old (found_under part name.now category (option_map (λ v. view v.now) value.entry))) }
 {
     match value {
-        Some(value) => add_value(alloc, part, locale, category, value, found),
+        Some(value) => add_value(alloc, part, name, category, value, found),
         None => Ok(()),
     }
 }
@@ -120,12 +145,12 @@ fn add_text(
 fn add_value(
     alloc: Global,
     part: Part,
-    locale: &str,
+    name: &str,
     category: PluralCategory,
     value: &Value,
     found: &mut Found,
 ) -> Result<(), AllocError>
-    ensures { OnOk result (found.new ≡ together found.old (found_under part locale.now category (Some (view value.now)))) }
+    ensures { OnOk result (found.new ≡ together found.old (found_under part name.now category (Some (view value.now)))) }
 {
     if value.is_null() {
         return Ok(());
@@ -133,43 +158,104 @@ fn add_value(
     if value.is_string() {
         return found.add_rule();
     }
-    let line = no_text_line(alloc, part, locale, category)?;
-    found.add_line(line)
+    let line = no_text_line(alloc, part, name, category)?;
+    found.add_fault(line)
 }
 
 // Returns the line for a category whose value is no text.
 fn no_text_line(
     alloc: Global,
     part: Part,
-    locale: &str,
+    name: &str,
     category: PluralCategory,
 ) -> Result<String, AllocError>
-    ensures { IfOk result (λ line. string_bytes line ≡ no_text_line part locale.now category) }
+    ensures { IfOk result (λ line. string_bytes line ≡ no_text_line part name.now category) }
 {
-    let name = name_of(category);
-    format!(in alloc; "{} {} {}: no text", part.as_str(), locale, name)
+    let category = name_of(category);
+    format!(in alloc; "{} {} {}: no text", part.as_str(), name, category)
 }
 
-// Adds a line for each fault of a language's texts.
+// Adds the faults of one category's text.
 fn add_faults(
     alloc: Global,
     part: Part,
-    locale: &str,
+    name: &str,
+    category: PluralCategory,
     faults: &[Fault],
     found: &mut Found,
 ) -> Result<(), AllocError>
-    ensures { OnOk result (found.new ≡ together found.old (lines_alone (map (fault_line part locale.now) faults.now))) }
+    ensures { OnOk result (found.new ≡ together found.old (found_told part name.now category (faults_of category faults.now))) }
 {
+    let mut count = 0;
     for fault in faults {
-        let line = fault_line(alloc, part, locale, fault)?;
-        found.add_line(line)?;
+        if fault.category == category {
+            tell(alloc, part, name, fault, count, found)?;
+            count = sum(count, 1)?;
+        }
     }
-    Ok(())
+    tell_rest(alloc, part, name, category, count, found)?;
+    found.add_faults(count)
+}
+
+// Adds the line of a fault if at most nine of the same text come before it.
+fn tell(
+    alloc: Global,
+    part: Part,
+    name: &str,
+    fault: &Fault,
+    before: u64,
+    found: &mut Found,
+) -> Result<(), AllocError>
+    ensures { OnOk result (found.new ≡ together found.old (lines_alone (told_after part name.now before fault.now))) }
+{
+    if before >= MOST_TOLD {
+        return Ok(());
+    }
+    let line = fault_line(alloc, part, name, fault)?;
+    found.add_line(line)
+}
+
+// Adds a line for the faults of a text that aren't told, if there are any.
+fn tell_rest(
+    alloc: Global,
+    part: Part,
+    name: &str,
+    category: PluralCategory,
+    count: u64,
+    found: &mut Found,
+) -> Result<(), AllocError>
+    ensures { OnOk result (found.new ≡ together found.old (lines_alone (rest_lines part name.now category count))) }
+{
+    if count <= MOST_TOLD {
+        return Ok(());
+    }
+    let line = rest_line(alloc, part, name, category, count - MOST_TOLD)?;
+    found.add_line(line)
+}
+
+// Returns the line for this many faults.
+fn rest_line(
+    alloc: Global,
+    part: Part,
+    name: &str,
+    category: PluralCategory,
+    rest: u64,
+) -> Result<String, AllocError>
+    ensures { IfOk result (λ line. string_bytes line ≡ rest_line part name.now category rest) }
+{
+    let category = name_of(category);
+    format!(in alloc;
+        "{} {} {}: and {} more",
+        part.as_str(),
+        name,
+        category,
+        rest
+    )
 }
 
 // Returns the line for a fault of a text.
-fn fault_line(alloc: Global, part: Part, locale: &str, fault: &Fault) -> Result<String, AllocError>
-    ensures { IfOk result (λ line. string_bytes line ≡ fault_line part locale.now fault.now) }
+fn fault_line(alloc: Global, part: Part, name: &str, fault: &Fault) -> Result<String, AllocError>
+    ensures { IfOk result (λ line. string_bytes line ≡ fault_line part name.now fault.now) }
 {
-    format!(in alloc; "{} {} {}", part.as_str(), locale, fault)
+    format!(in alloc; "{} {} {}", part.as_str(), name, fault)
 }

@@ -9,6 +9,7 @@ mod form;
 mod found;
 mod languages;
 mod locales;
+mod names;
 mod place;
 mod report;
 pub mod run;

@@ -1,8 +1,10 @@
 //! The parts of a document, and the places where an object is expected.
 
 ghost use Rattle.std.specs.Prelude.{◌≡◌, Some, IfOk};
+ghost use Rattle.document_report.specs.Names.{name_text};
 ghost use Rattle.document_report.specs.Parts.{part_name, place_text};
 
+use crate::names::name_text;
 use std::alloc::{AllocError, Global};
 use std::fmt;
 use std::marker::Model;
@@ -31,7 +33,8 @@ impl Part {
     }
 }
 
-/// A locale's key, with its own copy of the text.
+/// The printed text of a locale's key: control characters of ASCII and the backslash as `\x` and two
+/// hexadecimal digits, and `\(300 bytes)` in place of a key of more than 255 bytes.
 #[derive(Debug, Drop)]
 pub struct Locale {
     text: String,
@@ -46,16 +49,16 @@ impl Model for Locale {
 }
 
 impl Locale {
-    /// Copies the key of a locale. It takes memory; the only error is out of memory.
+    /// Returns the printed text of a key. It takes memory; the only error is out of memory.
     pub fn from_str(alloc: Global, key: &str) -> Result<Locale, AllocError>
-        ensures { IfOk result (λ locale. locale ≡ key.now) }
+        ensures { IfOk result (λ locale. locale ≡ name_text key.now) }
     {
         Ok(Locale {
-            text: String::from_str(alloc, key)?,
+            text: name_text(alloc, key)?,
         })
     }
 
-    /// Returns the text of the key.
+    /// Returns the text.
     pub fn as_str(&self) -> &str
         ensures { result.now ≡ self.now }
     {

@@ -86,14 +86,14 @@ impl Report {
     pub(crate) fn verdict(&self) -> Verdict
         ensures { result ≡ verdict_of self.now }
     {
-        if self.found.lines().is_empty() {
+        if self.found.faults() == 0 {
             Verdict::NoFaults
         } else {
             Verdict::Faults
         }
     }
 
-    // Returns the text of the report: a line for each fault, and a line with the counts.
+    // Returns the text of the report: its lines, and a line with the counts.
     pub(crate) fn text(&self, alloc: Global) -> Result<String, AllocError>
         ensures { IfOk result (λ text. string_bytes text ≡ report_text self.now) }
     {
@@ -113,7 +113,7 @@ impl Report {
             self.locales,
             found.rules(),
             found.numbers(),
-            found.len(),
+            found.faults(),
         )
     }
 }
@@ -124,7 +124,7 @@ fn counts_line(
     locales: u64,
     rules: u64,
     numbers: u64,
-    faults: usize,
+    faults: u64,
 ) -> Result<String, AllocError>
     ensures { IfOk result (λ line. string_bytes line ≡ counts_line locales rules numbers faults) }
 {

@@ -10,7 +10,8 @@ use crate::document::value_at;
 use crate::entry::{EntryFault, entry_fault};
 use crate::form::table_in;
 use crate::found::{Found, MemberCheck, add_members};
-use crate::languages::texts_of;
+use crate::languages::{add_key, texts_of};
+use crate::names::name_text;
 use crate::place::Part;
 use plural_checker::LanguageTexts;
 use serde_json::Value;
@@ -32,11 +33,13 @@ impl<'a> MemberCheck for TableCheck<'a> {
         value: &Value,
         found: &mut Found,
     ) -> Result<(), AllocError> {
+        add_key(alloc, Part::Ranges, locale, found)?;
         let rules = value_at(self.document, Part::Cardinal, locale);
-        add_rules(alloc, locale, rules, found)?;
+        let name = name_text(alloc, locale)?;
+        add_rules(alloc, name.as_str(), rules, found)?;
         let entries = EntryCheck {
             texts: texts_at(rules),
-            locale,
+            name: name.as_str(),
         };
         add_members(alloc, &entries, table_in(value), found)?;
         Ok(())
@@ -47,11 +50,11 @@ impl<'a> MemberCheck for TableCheck<'a> {
 #[derive(Clone, Copy)]
 struct EntryCheck<'a> {
     texts: LanguageTexts<'a>,
-    locale: &'a str,
+    name: &'a str,
 }
 
 impl<'a> MemberCheck for EntryCheck<'a> {
-    ghost finds = { λ check. IsFoundInEntry (six_texts check.texts) check.locale.now };
+    ghost finds = { λ check. IsFoundInEntry (six_texts check.texts) check.name.now };
 
     fn add(
         &self,
@@ -61,23 +64,19 @@ impl<'a> MemberCheck for EntryCheck<'a> {
         found: &mut Found,
     ) -> Result<(), AllocError> {
         match entry_fault(&self.texts, key, value) {
-            Some(fault) => found.add_line(entry_line(alloc, self.locale, key, fault)?),
+            Some(fault) => found.add_fault(entry_line(alloc, self.name, key, fault)?),
             None => Ok(()),
         }
     }
 }
 
 // Returns the line for a fault of an entry.
-fn entry_line(
-    alloc: Global,
-    locale: &str,
-    key: &str,
-    fault: EntryFault,
-) -> Result<String, AllocError>
-    ensures { IfOk result (λ line. string_bytes line ≡ entry_line locale.now key.now fault) }
+fn entry_line(alloc: Global, name: &str, key: &str, fault: EntryFault) -> Result<String, AllocError>
+    ensures { IfOk result (λ line. string_bytes line ≡ entry_line name.now key.now fault) }
 {
     let part = Part::Ranges.as_str();
-    format!(in alloc; "{} {} {}: {}", part, locale, key, fault)
+    let key = name_text(alloc, key)?;
+    format!(in alloc; "{} {} {}: {}", part, name, key.as_str(), fault)
 }
 
 // Returns the texts of cardinal rules, if there are any.
@@ -100,15 +99,15 @@ fn texts_at(rules: Option<&Value>) -> LanguageTexts<'_>
 // Adds a line if a locale has no cardinal rules.
 fn add_rules(
     alloc: Global,
-    locale: &str,
+    name: &str,
     rules: Option<&Value>,
     found: &mut Found,
 ) -> Result<(), AllocError>
     ensures { OnOk result (found.new
-        ≡ together found.old (found_of_rules locale.now (option_map (λ v. view v.now) rules.entry))) }
+        ≡ together found.old (found_of_rules name.now (option_map (λ v. view v.now) rules.entry))) }
 {
     if rules.is_some() {
         return Ok(());
     }
-    found.add_line(format!(in alloc; "{} {}: no cardinal rules", Part::Ranges.as_str(), locale)?)
+    found.add_fault(format!(in alloc; "{} {}: no cardinal rules", Part::Ranges.as_str(), name)?)
 }

@@ -2,11 +2,12 @@
 -- samples.
 --     six_texts texts      the texts that the references refer to
 --     has_rule texts category      the category is other, or its text is present
-use Rattle.std.specs.Prelude.{ℕ, Bool, true, List, Option, is_some}
+--     is_long text      the text is longer than those that are checked
+use Rattle.std.specs.Prelude.{ℕ, Bool, true, List, length, nat_lt, ◌||◌, Option, is_some}
 use Rattle.std.specs.Option.{option_copied}
 use Rattle.icu_plurals.specs.declared.PluralCategory.{PluralCategory}
 use Rattle.icu_plurals.specs.declared.PluralCategory.TheVariants.{Zero, One, Two, Few, Many, Other}
-use Rattle.icu_plurals.specs.FiveRules.{Five}
+use Rattle.icu_plurals.specs.FiveRules.{Five, passes}
 use Rattle.icu_plurals.specs.RuleTexts.{texts_of}
 use Rattle.plural_checker.specs.declared.texts.LanguageTexts.{LanguageTexts}
 
@@ -27,3 +28,16 @@ has_rule texts Two = is_some texts.five.two
 has_rule texts Few = is_some texts.five.few
 has_rule texts Many = is_some texts.five.many
 has_rule texts Other = true
+
+-- the most bytes that a text may have
+abbrev pub most_text_bytes : ℕ
+most_text_bytes = 1024
+
+abbrev pub is_long : List ℕ → Bool
+is_long text = nat_lt most_text_bytes (length text)
+
+-- one of the five texts is long
+abbrev pub has_long : Five (Option (List ℕ)) → Bool
+has_long texts =
+    passes is_long texts.zero || passes is_long texts.one || passes is_long texts.two || passes is_long texts.few
+    || passes is_long texts.many

@@ -1,5 +1,6 @@
 -- The texts that faults print.
 use Rattle.std.specs.Prelude.{ℕ, List, ◌++◌, codes}
+use Rattle.std.specs.Fmt.{decimal}
 use Rattle.icu_plurals.specs.Categories.{name_of}
 use Rattle.icu_plurals.specs.FixedDecimalErrors.{error_text}
 use Rattle.icu_plurals.specs.PluralRuntimeErrors.{rule_error_text}
@@ -12,7 +13,7 @@ use Rattle.plural_checker.specs.declared.fault.RangeFault.TheVariants.{End, Unev
 use Rattle.plural_checker.specs.declared.fault.SampleFault.{SampleFault}
 use Rattle.plural_checker.specs.declared.fault.SampleFault.TheVariants.{Range, Number}
 use Rattle.plural_checker.specs.declared.fault.TextFault.{TextFault}
-use Rattle.plural_checker.specs.declared.fault.TextFault.TheVariants.{Unread, Partly, Sample}
+use Rattle.plural_checker.specs.declared.fault.TextFault.TheVariants.{TooLong, Unread, Partly, Sample}
 
 abbrev pub range_fault_text : RangeFault → List ℕ
 range_fault_text (End error) = codes ": " ++ error_text error
@@ -32,6 +33,7 @@ sample_fault_text (Range range fault) = sample_range_text range ++ range_fault_t
 sample_fault_text (Number number fault) = number ++ number_fault_text fault
 
 abbrev pub text_fault_text : TextFault → List ℕ
+text_fault_text (TooLong bytes) = codes "text of " ++ decimal bytes ++ codes " bytes"
 text_fault_text (Unread error) = rule_error_text error
 text_fault_text (Partly printed) = codes "read as " ++ printed
 text_fault_text (Sample type fault) = codes "sample " ++ sample_fault_text fault

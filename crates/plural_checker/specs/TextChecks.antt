@@ -1,9 +1,10 @@
 -- What is wrong with the texts of a language's rules.
---     AreRulesIfRead texts rules      the rules of the five texts, if each text gives its rule
+--     AreRulesIfRead texts rules      the rules of the five texts, if none is too long and each gives
+--         its rule
 --     IsFoundInText rules category text found      the faults of one text
 --     AreFindingsOf texts report      the faults of all six, in the order zero, one, two, few,
 --         many, other
-use Rattle.std.specs.Prelude.{◌≡◌, ◌≢◌, ◌⊎◌, ℕ, List, [], ◌∷◌, Option, Some, None, Result, Ok, Err}
+use Rattle.std.specs.Prelude.{◌≡◌, ◌≢◌, ◌⊎◌, ℕ, List, [], ◌∷◌, length, Option, Some, None, Result, Ok, Err, IsTrue, IsFalse}
 use Rattle.icu_plurals.specs.declared.PluralCategory.{PluralCategory}
 use Rattle.icu_plurals.specs.declared.PluralCategory.TheVariants.{Zero, One, Two, Few, Many, Other}
 use Rattle.icu_plurals.specs.declared.provider.rules.reference.Token.{Token}
@@ -21,22 +22,26 @@ use Rattle.icu_plurals.specs.RuleTexts.{AreRulesOf, IsFirstRefused}
 use Rattle.icu_plurals.specs.Samples.{ReadsRule}
 use Rattle.icu_plurals.specs.Serializer.{rule_text}
 use Rattle.plural_checker.specs.Findings.{Findings, nothing, one_fault, Then, EachFinds, IsReportOf}
-use Rattle.plural_checker.specs.LanguageTexts.{SixTexts}
+use Rattle.plural_checker.specs.LanguageTexts.{SixTexts, has_long, is_long}
 use Rattle.plural_checker.specs.NumberChecks.{IsCheckedRange}
 use Rattle.plural_checker.specs.declared.fault.Fault.{Fault}
 use Rattle.plural_checker.specs.declared.fault.SampleFault.{SampleFault}
 use Rattle.plural_checker.specs.declared.fault.SampleType.{SampleType}
 use Rattle.plural_checker.specs.declared.fault.SampleType.TheVariants.{Integer, Decimal}
-use Rattle.plural_checker.specs.declared.fault.TextFault.TheVariants.{Unread, Partly, Sample}
+use Rattle.plural_checker.specs.declared.fault.TextFault.TheVariants.{TooLong, Unread, Partly, Sample}
 use Rattle.plural_checker.specs.declared.report.Report.{Report}
 
 -- ---- The rules
 
--- each text that is present gives its rule; or there are no rules, since one text gives none
+-- a text is present and gives no rule
+abbrev pub IsOneRefused : Five (Option (List ℕ)) → Type 0
+IsOneRefused texts = (category : PluralCategory) × (error : RuleError) × IsFirstRefused texts category error × (error ≢ Memory)
+
+-- no text is long, and each that is present gives its rule; or there are no rules, since one text is
+-- long or gives none
 abbrev pub AreRulesIfRead : Five (Option (List ℕ)) → Option FiveRules → Type 0
-AreRulesIfRead texts (Some rules) = AreRulesOf texts rules
-AreRulesIfRead texts None =
-    (category : PluralCategory) × (error : RuleError) × IsFirstRefused texts category error × (error ≢ Memory)
+AreRulesIfRead texts (Some rules) = IsFalse (has_long texts) × AreRulesOf texts rules
+AreRulesIfRead texts None = IsTrue (has_long texts) ⊎ IsOneRefused texts
 
 -- ---- The samples of one text
 
@@ -89,11 +94,17 @@ IsFoundInReading category text rule found =
     × (found ≡ one_fault (record { category = category; kind = Partly (rule_text rule) })))
 
 -- the text gives no rule; or it gives one, and its samples are checked
-abbrev pub IsFoundInText : Option FiveRules → PluralCategory → List ℕ → Findings → Type 0
-IsFoundInText rules category text found =
+abbrev pub IsFoundInRule : Option FiveRules → PluralCategory → List ℕ → Findings → Type 0
+IsFoundInRule rules category text found =
     ((error : RuleError) × IsRead text (Err error) × (found ≡ one_fault (record { category = category; kind = Unread error })))
     ⊎ ((rule : Rule) × IsRead text (Ok rule)
     × Then (IsFoundInReading category text rule) (IsFoundInSamples rules category rule.samples) found)
+
+-- a long text isn't read
+abbrev pub IsFoundInText : Option FiveRules → PluralCategory → List ℕ → Findings → Type 0
+IsFoundInText rules category text found =
+    (IsTrue (is_long text) × (found ≡ one_fault (record { category = category; kind = TooLong (length text) })))
+    ⊎ (IsFalse (is_long text) × IsFoundInRule rules category text found)
 
 -- in a text, if it is present
 abbrev pub IsFoundIn : Option FiveRules → PluralCategory → Option (List ℕ) → Findings → Type 0

@@ -16,17 +16,21 @@ use std::alloc::{AllocError, Global};
 /// Returns the faults of the texts of a language's rules of one type, and how many numbers their
 /// samples have.
 ///
-/// The faults are in the order of the texts: zero, one, two, few, many, other. A text that gives no
-/// rule has one fault, [`TextFault::Unread`]. Otherwise, [`TextFault::Partly`] comes first if part
+/// The faults are in the order of the texts: zero, one, two, few, many, other. A text of more than
+/// [`MOST_TEXT_BYTES`](crate::MOST_TEXT_BYTES) bytes has one fault, [`TextFault::TooLong`], and so
+/// has one that gives no rule, [`TextFault::Unread`]. Otherwise, [`TextFault::Partly`] comes first if part
 /// of the text isn't read; then the faults of its samples ([`TextFault::Sample`]), the list of
 /// integers before that of decimals, each from left to right: for a range of samples, that it has
 /// no numbers, or the first of its numbers that is wrong. A number is wrong if its text writes no
 /// number, if it is outside the exactness bound, or if the five rules choose another category for
-/// it than the one whose text lists it. If one of the five texts gives no rule, categories aren't
-/// checked.
+/// it than the one whose text lists it. If one of the five texts is too long or gives no rule,
+/// categories aren't checked.
+///
+/// So the time that it takes is at most in proportion to the bytes of the six texts.
 ///
 /// It allocates; the only error is out of memory.
 ///
+/// [`TextFault::TooLong`]: crate::TextFault::TooLong
 /// [`TextFault::Unread`]: crate::TextFault::Unread
 /// [`TextFault::Partly`]: crate::TextFault::Partly
 /// [`TextFault::Sample`]: crate::TextFault::Sample
@@ -61,13 +65,16 @@ fn check_all(
     Ok(report)
 }
 
-// Returns the rules of the five texts, or `None` if one gives no rule.
+// Returns the rules of the five texts, or `None` if one is too long or gives no rule.
 fn rules_of(
     alloc: Global,
     texts: &LanguageTexts<'_>,
 ) -> Result<Option<PluralRules<'static>>, AllocError>
     ensures { IfOk result (λ rules. AreRulesIfRead (six_texts texts.now).five rules) }
 {
+    if texts.has_long() {
+        return Ok(None);
+    }
     match PluralRulesData::from_texts(
         alloc, texts.zero, texts.one, texts.two, texts.few, texts.many,
     ) {

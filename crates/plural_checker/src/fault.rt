@@ -26,6 +26,8 @@ pub struct Fault {
 /// What is wrong with a text.
 #[derive(Debug, Drop)]
 pub enum TextFault {
+    /// It has this many bytes, more than [`MOST_TEXT_BYTES`](crate::MOST_TEXT_BYTES).
+    TooLong(usize),
     /// It can't be read as a rule. The reason is never out of memory.
     Unread(RuleError),
     /// Part of it isn't read: it has other tokens than the printed text of the rule that was read,
@@ -95,6 +97,7 @@ impl fmt::Display for TextFault {
 
     fn fmt<W: fmt::Write>(&self, f: &mut fmt::Formatter<W>) -> fmt::Result {
         match self {
+            TextFault::TooLong(bytes) => write!(f, "text of {bytes} bytes"),
             TextFault::Unread(error) => write!(f, "{error}"),
             TextFault::Partly(printed) => write!(f, "read as {printed}"),
             TextFault::Sample(_, fault) => write!(f, "sample {fault}"),

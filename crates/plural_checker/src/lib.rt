@@ -22,4 +22,4 @@ pub use fault::{Fault, NumberFault, RangeFault, SampleFault, SampleType, TextFau
 pub use printed_rule::PrintedRule;
 pub use report::Report;
 pub use sample_range::{SampleNumbers, Steps};
-pub use texts::LanguageTexts;
+pub use texts::{LanguageTexts, MOST_TEXT_BYTES};

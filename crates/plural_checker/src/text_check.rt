@@ -4,13 +4,14 @@ ghost use Rattle.std.specs.Prelude.{◌≡◌, ◌≢◌, IfOk, OnOk, MatchBool}
 ghost use Rattle.std.specs.Option.{option_copied};
 ghost use Rattle.plural_checker.specs.Findings.{Adds};
 ghost use Rattle.plural_checker.specs.TextChecks.{HaveOtherTokens, HaveSameTokens, IsRead};
-ghost use Rattle.plural_checker.specs.TextChecks.{IsFoundIn, IsFoundInReading, IsFoundInText};
+ghost use Rattle.plural_checker.specs.TextChecks.{IsFoundIn, IsFoundInReading, IsFoundInRule, IsFoundInText};
 ghost use Rattle.plural_checker.specs.Inner.TextAnswers.{IsTreeOf};
 
 use crate::fault::{Fault, TextFault};
 use crate::printed_rule::PrintedRule;
 use crate::range_check::check_samples;
 use crate::report::Report;
+use crate::texts::is_long;
 use icu_plurals::laws::one_list_of_tokens;
 use icu_plurals::provider::rules::reference::ast::Rule;
 use icu_plurals::provider::rules::reference::{Lexer, ReadError, parse};
@@ -35,7 +36,7 @@ pub(crate) fn check_if_there(
     }
 }
 
-// Adds the faults of a category's text.
+// Adds the faults of a category's text. A long text isn't read.
 fn check_text(
     alloc: Global,
     rules: Option<&PluralRules<'_>>,
@@ -44,6 +45,23 @@ fn check_text(
     report: &mut Report,
 ) -> Result<(), AllocError>
     ensures { OnOk result (Adds (IsFoundInText (option_copied rules.entry) category text.now) report.old report.new) }
+{
+    if is_long(text) {
+        let kind = TextFault::TooLong(text.len());
+        return report.add(Fault { category, kind });
+    }
+    check_rule(alloc, rules, category, text, report)
+}
+
+// Adds the faults of a category's text, as a rule.
+fn check_rule(
+    alloc: Global,
+    rules: Option<&PluralRules<'_>>,
+    category: PluralCategory,
+    text: &str,
+    report: &mut Report,
+) -> Result<(), AllocError>
+    ensures { OnOk result (Adds (IsFoundInRule (option_copied rules.entry) category text.now) report.old report.new) }
 {
     match rule_of(alloc, text)? {
         Ok(rule) => {

@@ -1,9 +1,14 @@
 //! The texts of a language's rules.
 
 ghost use Rattle.std.specs.Prelude.{◌≡◌};
-ghost use Rattle.plural_checker.specs.LanguageTexts.{has_rule, six_texts};
+ghost use Rattle.icu_plurals.specs.FiveRules.{passes};
+ghost use Rattle.std.specs.Option.{option_copied};
+ghost use Rattle.plural_checker.specs.LanguageTexts.{has_long, has_rule, is_long, six_texts};
 
 use icu_plurals::PluralCategory;
+
+/// The most bytes that a text may have. The longest of CLDR 41 has 289.
+pub const MOST_TEXT_BYTES: usize = 1024;
 
 /// The texts of a language's rules of one type, as in CLDR (UTS 35 Part 3, Plural Rules Syntax and
 /// Samples): at most one for each category. The text of other has only samples.
@@ -38,4 +43,32 @@ impl<'a> LanguageTexts<'a> {
             PluralCategory::Other => true,
         }
     }
+
+    // Returns whether one of the five texts has more than the most bytes.
+    pub(crate) fn has_long(&self) -> bool
+        ensures { result ≡ has_long (six_texts self.now).five }
+    {
+        is_long_if_there(self.zero)
+            || is_long_if_there(self.one)
+            || is_long_if_there(self.two)
+            || is_long_if_there(self.few)
+            || is_long_if_there(self.many)
+    }
+}
+
+// Returns whether a text is present and has more than the most bytes.
+fn is_long_if_there(text: Option<&str>) -> bool
+    ensures { result ≡ passes is_long (option_copied text.entry) }
+{
+    match text {
+        Some(text) => is_long(text),
+        None => false,
+    }
+}
+
+// Returns whether a text has more than the most bytes.
+pub(crate) fn is_long(text: &str) -> bool
+    ensures { result ≡ is_long text.now }
+{
+    text.len() > MOST_TEXT_BYTES
 }

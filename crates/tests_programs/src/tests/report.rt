@@ -21,6 +21,6 @@ fn any_word_is_answered_with_the_usage(rt: HostRuntime) {
 
 #[test]
 fn faults_that_no_document_shows_have_their_texts(rt: HostRuntime) {
-    holds!(rt; is_told(&CheckError::Memory, "1: out of memory\n"));
-    holds!(rt; is_told(&CheckError::Write, "1: cannot write output\n"));
+    holds!(rt; is_told(&CheckError::Memory, "2: out of memory\n"));
+    holds!(rt; is_told(&CheckError::Write, "2: cannot write output\n"));
 }

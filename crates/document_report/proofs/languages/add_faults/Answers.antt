@@ -1,14 +1,54 @@
-use Rattle.std.proofs.Common.{ℕ, List, ap, ◌∙◌}
-use Rattle.document_report.specs.DocumentReport.{fault_line}
-use Rattle.document_report.specs.Found.{one_line, together}
-use Rattle.document_report.proofs.FoundParts.{next_line}
+use Rattle.std.proofs.Common.{◌≡◌, ◌≢◌, ◌+◌, List, ◌∷◌, [], length, take, refl, ap, sym, subst, ◌∙◌, rules}
+use Rattle.std.proofs.lemmas.List.{length-append, take_all}
+use Rattle.plural_checker.specs.declared.Fault.{Fault}
+use Rattle.document_report.specs.DocumentReport.{faults_of}
+use Rattle.document_report.specs.Found.{together}
+use Rattle.document_report.specs.Inner.Additions.{lines_alone}
+use Rattle.document_report.proofs.FoundParts.{on_ok, together-nothing}
+use Rattle.document_report.proofs.Told.{all_told, next_told, none_of, one_of, told_lines}
 use Rattle.document_report.proofs.languages.add_faults.Goals as goal
+use Rattle.document_report.proofs.languages.add_faults.Goals.{then-eq+in_ok-tell+in_ok-count, else-eq}
+
+pub loop-fault-init : goal.loop-fault-init
+loop-fault-init c = (refl, sym (together-nothing c.args.found.now))
 
 pub loop-fault-preserved : goal.loop-fault-preserved
 loop-fault-preserved c =
-    let line = fault_line c.args.part c.args.locale.now in
-    let now = c.loop-fault.found in
-    next_line line c.args.faults.now c.loop-fault.fault-index c.fault-item.result now c.add_line.new.self c.loop-fault-test.true
-    (c.in_ok-add_line.ensures
-    ∙ ap (λ (text : List ℕ). together now (one_line text)) (c.in_ok-line.ensures ∙ ap line c.fault-item.is))
-    ∙ c.loop-fault.invariant
+    let category = c.args.category in
+    let faults = c.args.faults.now in
+    let i = c.loop-fault.fault-index in
+    let fault = c.fault-item.result in
+    let mine = faults_of category (take i faults) in
+    elim c.if-eq.branch [
+      | then-eq+in_ok-tell+in_ok-count w ↦
+          let same : fault.category ≡ category = search rules in
+          let more = one_of category faults i fault c.loop-fault-test.true c.fault-item.is same in (
+            w.count-is ∙ w.in_ok-count.ensures ∙ ap (λ n. n + 1) c.loop-fault.invariant.0
+                ∙ sym (length-append mine (fault ∷ [])) ∙ ap length (sym more),
+            w.found-is
+                ∙ next_told c.args.part c.args.name.now mine (faults_of category (take (i + 1) faults)) fault c.loop-fault.count
+                c.args.found.now c.loop-fault.found w.tell.new.found more c.loop-fault.invariant.0 c.loop-fault.invariant.1
+                w.in_ok-tell.ensures,
+          )
+      | else-eq w ↦
+          let other : fault.category ≢ category = search rules in
+          let none = none_of category faults i fault c.loop-fault-test.true c.fault-item.is other in (
+            w.count-is ∙ c.loop-fault.invariant.0 ∙ ap length (sym none),
+            w.found-is ∙ c.loop-fault.invariant.1
+                ∙ ap (λ l. together c.args.found.now (lines_alone (told_lines c.args.part c.args.name.now l))) (sym none),
+          )
+    ]
+
+pub returns : goal.returns
+returns c =
+    let category = c.args.category in
+    let all : take c.loop-fault.fault-index c.args.faults.now ≡ c.args.faults.now =
+    take_all c.loop-fault.fault-index c.args.faults.now c.loop-fault-test.false in
+    on_ok c.add_faults.result
+    (λ counted. all_told c.args.part c.args.name.now category (faults_of category c.args.faults.now) c.loop-fault.count
+    c.args.found.now c.loop-fault.found c.tell_rest.new.found c.add_faults.new.self
+    (c.loop-fault.invariant.0 ∙ ap (λ l. length (faults_of category l)) all)
+    (c.loop-fault.invariant.1
+    ∙ ap (λ l. together c.args.found.now (lines_alone (told_lines c.args.part c.args.name.now (faults_of category l)))) all)
+    c.in_ok-tell_rest.ensures counted)
+    c.add_faults.ensures

@@ -1,11 +1,12 @@
-use Rattle.std.proofs.Common.{◌≡◌, drop, map}
-use Rattle.document_report.specs.DocumentReport.{fault_line}
+use Rattle.std.proofs.Common.{◌≡◌, length, take}
+use Rattle.document_report.specs.DocumentReport.{faults_of}
 use Rattle.document_report.specs.Found.{together}
 use Rattle.document_report.specs.Inner.Additions.{lines_alone}
+use Rattle.document_report.proofs.Told.{told_lines}
 use Rattle.document_report.proofs.languages.add_faults.Given as goal
 
--- the lines of the remaining faults complete what was found so far
+-- the faults of the text so far are counted, and the first of them are told
 abbrev pub invariant-loop-fault : goal.invariant-loop-fault
 invariant-loop-fault l =
-    together l.found (lines_alone (map (fault_line l.part l.locale) (drop l.fault-index l.faults)))
-    ≡ together l.initial.found (lines_alone (map (fault_line l.part l.locale) l.faults))
+    let mine = faults_of l.category (take l.fault-index l.faults) in
+    (l.count ≡ length mine) × (l.found ≡ together l.initial.found (lines_alone (told_lines l.part l.name mine)))

@@ -11,12 +11,14 @@ use Rattle.document_report.proofs.languages.add_texts.Goals as goal
 pub loop-category-preserved : goal.loop-category-preserved
 loop-category-preserved c =
     let part = c.args.part in
-    let locale = c.args.locale.now in
+    let name = c.args.name.now in
     let value = view c.args.value.now in
     let now = c.loop-category.found in
     let category = get_or text_order c.loop-category.category-index Zero in
-    next_under part locale value text_order c.loop-category.category-index Zero now c.add_text.new.found c.loop-category-test.true
+    next_under part name value c.args.faults.now text_order c.loop-category.category-index Zero now c.add_text.new.found
+    c.add_faults.new.found c.loop-category-test.true
     (c.in_ok-add_text.ensures
-    ∙ ap (λ (under : Option Data). together now (found_under part locale category under))
-    (c.get-under.ensures ∙ ap (λ (name : List ℕ). get name value) c.name_of.ensures))
+    ∙ ap (λ (under : Option Data). together now (found_under part name category under))
+    (c.get-under.ensures ∙ ap (λ (key : List ℕ). get key value) c.name_of.ensures))
+    c.in_ok-add_faults.ensures
     ∙ c.loop-category.invariant

@@ -7,5 +7,5 @@ use Rattle.document_report.proofs.languages.add_texts.Given as goal
 -- what is found under the remaining categories completes what was found so far
 abbrev pub invariant-loop-category : goal.invariant-loop-category
 invariant-loop-category l =
-    together l.found (found_under_all l.part l.locale (view l.value) (drop l.category-index text_order))
-    ≡ together l.initial.found (found_under_all l.part l.locale (view l.value) text_order)
+    together l.found (found_under_all l.part l.name (view l.value) l.faults (drop l.category-index text_order))
+    ≡ together l.initial.found (found_under_all l.part l.name (view l.value) l.faults text_order)

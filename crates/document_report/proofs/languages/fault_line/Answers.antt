@@ -8,11 +8,11 @@ use Rattle.document_report.proofs.languages.fault_line.Goals as goal
 
 pub returns : goal.returns
 returns c =
-    let locale = c.args.locale.now in
+    let name = c.args.name.now in
     let told = fault_text c.args.fault.now in
-    IfOk-weaker c.format.result (λ s. string_bytes s ≡ c.as_str.result.now ++ (codes " " ++ (locale ++ (codes " " ++ told))))
-    (λ s. string_bytes s ≡ fault_line c.args.part locale c.args.fault.now)
+    IfOk-weaker c.format.result (λ s. string_bytes s ≡ c.as_str.result.now ++ (codes " " ++ (name ++ (codes " " ++ told))))
+    (λ s. string_bytes s ≡ fault_line c.args.part name c.args.fault.now)
     (λ s wrote. wrote
-    ∙ ap (λ (name : List ℕ). name ++ (codes " " ++ (locale ++ (codes " " ++ told)))) c.as_str.ensures
-    ∙ sym (five (part_name c.args.part) (codes " ") locale (codes " ") told))
+    ∙ ap (λ (part : List ℕ). part ++ (codes " " ++ (name ++ (codes " " ++ told)))) c.as_str.ensures
+    ∙ sym (five (part_name c.args.part) (codes " ") name (codes " ") told))
     c.format.ensures.ok

@@ -8,15 +8,15 @@ use Rattle.document_report.proofs.languages.no_text_line.Goals as goal
 
 pub returns : goal.returns
 returns c =
-    let locale = c.args.locale.now in
+    let name = c.args.name.now in
     IfOk-weaker c.format.result
     (λ s. string_bytes s
-    ≡ c.as_str.result.now ++ (codes " " ++ (locale ++ (codes " " ++ (c.name_of-name.result.now ++ codes ": no text")))))
-    (λ s. string_bytes s ≡ no_text_line c.args.part locale c.args.category)
+    ≡ c.as_str.result.now ++ (codes " " ++ (name ++ (codes " " ++ (c.name_of-category.result.now ++ codes ": no text")))))
+    (λ s. string_bytes s ≡ no_text_line c.args.part name c.args.category)
     (λ s wrote. wrote
-    ∙ ap (λ (part : List ℕ). part ++ (codes " " ++ (locale ++ (codes " " ++ (c.name_of-name.result.now ++ codes ": no text")))))
+    ∙ ap (λ (part : List ℕ). part ++ (codes " " ++ (name ++ (codes " " ++ (c.name_of-category.result.now ++ codes ": no text")))))
     c.as_str.ensures
-    ∙ ap (λ (name : List ℕ). part_name c.args.part ++ (codes " " ++ (locale ++ (codes " " ++ (name ++ codes ": no text")))))
-    c.name_of-name.ensures
-    ∙ sym (six (part_name c.args.part) (codes " ") locale (codes " ") (name_of c.args.category) (codes ": no text")))
+    ∙ ap (λ (category : List ℕ). part_name c.args.part ++ (codes " " ++ (name ++ (codes " " ++ (category ++ codes ": no text")))))
+    c.name_of-category.ensures
+    ∙ sym (six (part_name c.args.part) (codes " ") name (codes " ") (name_of c.args.category) (codes ": no text")))
     c.format.ensures.ok

@@ -2,6 +2,7 @@
 
 use crate::tests::assertion::holds;
 use crate::tests::report::answers::{gives, table_holds};
+use std::alloc::{AllocError, Global};
 use std::test::Fail;
 
 // A document with a fault of each kind.
@@ -72,31 +73,116 @@ locales: 1, rules: 2, numbers: 2, faults: 1
 }
 
 #[test]
+fn ten_faults_of_a_text_are_told_and_the_others_counted(rt: HostRuntime) {
+    let table =
+        r#"< {"cardinal":{"a":{"one":"i = 1 @integer 2, 2, 2, 2, 2, 2, 2, 2, 2, 2","other":"@integer 1"}}}
+cardinal a one: sample 2 is other
+cardinal a one: sample 2 is other
+cardinal a one: sample 2 is other
+cardinal a one: sample 2 is other
+cardinal a one: sample 2 is other
+cardinal a one: sample 2 is other
+cardinal a one: sample 2 is other
+cardinal a one: sample 2 is other
+cardinal a one: sample 2 is other
+cardinal a one: sample 2 is other
+cardinal a other: sample 1 is one
+locales: 1, rules: 2, numbers: 11, faults: 11
+< {"cardinal":{"a":{"one":"i = 1 @integer 2, 2, 2, 2, 2, 2, 2, 2, 2, 3, 4 @decimal 2, 1.5","other":"i 1"}}}
+cardinal a one: sample 2 is other
+cardinal a one: sample 2 is other
+cardinal a one: sample 2 is other
+cardinal a one: sample 2 is other
+cardinal a one: sample 2 is other
+cardinal a one: sample 2 is other
+cardinal a one: sample 2 is other
+cardinal a one: sample 2 is other
+cardinal a one: sample 2 is other
+cardinal a one: sample 3 is other
+cardinal a one: and 2 more
+cardinal a other: expected operator
+locales: 1, rules: 2, numbers: 13, faults: 13
+"#;
+    table_holds(&rt, rt.alloc(), table)
+}
+
+#[test]
+fn names_are_printed_with_escapes(rt: HostRuntime) {
+    let table =
+        r#"< {"cardinal":{"a\u000a\u001b\u007f\\x\u0020\u00e9":{"one":5}},"ranges":{"\u0000":{"ranges":{"\u001f":5}}}}
+cardinal a\x0a\x1b\x7f\x5cx é one: no text
+ranges \x00: no cardinal rules
+ranges \x00 \x1f: range key
+locales: 2, rules: 0, numbers: 0, faults: 3
+< {"ordinal":{"\\(3 bytes)":5}}
+2: ordinal \x5c(3 bytes): no object
+"#;
+    table_holds(&rt, rt.alloc(), table)
+}
+
+// Returns the text of a document with a name of this many bytes in each place that prints one.
+fn document_of_names(alloc: Global, length: usize) -> Result<String, AllocError> {
+    let name = String::from_utf8(vec![in alloc; b'n'; length]?).unwrap_or(String::new(alloc));
+    let name = name.as_str();
+    format!(in alloc;
+        r#"{{"ordinal":{{"{name}":{{"one":5}}}},"ranges":{{"{name}":{{"ranges":{{"{name}":5}}}}}}}}"#
+    )
+}
+
+#[test]
+fn a_long_name_is_told_by_its_length(rt: HostRuntime) -> Result<(), Fail> {
+    let alloc = rt.alloc();
+    let longest = document_of_names(alloc, 255)?;
+    let text = longest.as_str();
+    let mut reader = text.as_bytes();
+    let name = text.get(13..268).unwrap_or("");
+    let report = format!(in alloc;
+        "ordinal {name} one: no text
+ranges {name}: no cardinal rules
+ranges {name} {name}: range key
+locales: 1, rules: 0, numbers: 0, faults: 3
+"
+    )?;
+    holds!(rt; gives(alloc, false, &mut reader, report.as_str()) == Some(true));
+    let too_long = document_of_names(alloc, 256)?;
+    let mut reader = too_long.as_str().as_bytes();
+    let report = r"ordinal \(256 bytes): key too long
+ordinal \(256 bytes) one: no text
+ranges \(256 bytes): key too long
+ranges \(256 bytes): no cardinal rules
+ranges \(256 bytes) \(256 bytes): range key
+locales: 1, rules: 0, numbers: 0, faults: 5
+";
+    holds!(rt; gives(alloc, false, &mut reader, report) == Some(true));
+    Ok(())
+}
+
+#[test]
 fn what_is_no_document_is_told_with_its_place(rt: HostRuntime) {
     let table = r#"< 
-1: input is not JSON
+2: input is not JSON
 < {"cardinal":{"a":{"one":"i 1"}}
-1: input is not JSON
+2: input is not JSON
 < []
-1: document: no object
+2: document: no object
 < {"cardinal":[],"ordinal":5.5}
-1: document: float
+2: document: float
 < {"elements":[0.5]}
-1: document: float
+2: document: float
 < {"cardinal":{"a":5},"ordinal":5}
-1: cardinal a: no object
+2: cardinal a: no object
 < {"cardinal":5,"ordinal":5}
-1: cardinal: no object
+2: cardinal: no object
 < {"ordinal":{"b":{},"a":null}}
-1: ordinal a: no object
+2: ordinal a: no object
 < {"cardinal":{"a":{"one":"i 1"}},"ranges":""}
-1: ranges: no object
+2: ranges: no object
 < {"ranges":{"a":{}}}
-1: ranges a: no object
+2: ranges a: no object
 < {"ranges":{"a":{"ranges":null}}}
-1: ranges a: no object
+2: ranges a: no object
 < {"ranges":{"a":5}}
-1: ranges a: no object
+2: ranges a: no object
 "#;
     table_holds(&rt, rt.alloc(), table)
 }
@@ -104,8 +190,8 @@ fn what_is_no_document_is_told_with_its_place(rt: HostRuntime) {
 #[test]
 fn nesting_has_a_limit(rt: HostRuntime) -> Result<(), Fail> {
     let rows = [
-        (127usize, "1: document: no object\n"),
-        (128, "1: input is not JSON\n"),
+        (127usize, "2: document: no object\n"),
+        (128, "2: input is not JSON\n"),
     ];
     for (depth, answer) in rows {
         let mut input = vec![in rt.alloc(); b'['; depth]?;

@@ -32,5 +32,5 @@ locales: 2, rules: 1, numbers: 0, faults: 4
 
 #[test]
 fn growth_of_a_place(rt: HostRuntime) {
-    holds_again(&rt, rt.alloc(), UNFORMED, "1: cardinal b: no object\n")
+    holds_again(&rt, rt.alloc(), UNFORMED, "2: cardinal b: no object\n")
 }

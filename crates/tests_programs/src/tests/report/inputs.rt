@@ -81,7 +81,7 @@ fn the_longest_input_is_read(rt: HostRuntime) {
 
 #[test]
 fn what_is_too_long_is_not_read_on(rt: HostRuntime) {
-    let too_long = "1: input too long\n";
+    let too_long = "2: input too long\n";
     let mut reader = document_up_to(MOST + 100, false);
     holds!(rt; gives(rt.alloc(), false, &mut reader, too_long) == Some(true));
     holds!(rt; reader.spaces == 99);
@@ -100,7 +100,7 @@ fn an_interrupted_read_is_repeated(rt: HostRuntime) {
 fn a_failing_reader_is_a_fault(rt: HostRuntime) {
     for length in [0, 5000, MOST] {
         let mut reader = document_up_to(length, true);
-        holds!(rt; gives(rt.alloc(), false, &mut reader, "1: cannot read input\n") == Some(true), at length);
+        holds!(rt; gives(rt.alloc(), false, &mut reader, "2: cannot read input\n") == Some(true), at length);
         holds!(rt; reader.failures == 1, at length);
     }
 }

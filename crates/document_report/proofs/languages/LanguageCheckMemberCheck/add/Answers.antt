@@ -1,12 +1,12 @@
-use Rattle.std.proofs.Common.{◌≡◌, List, map, refl, subst}
+use Rattle.std.proofs.Common.{◌≡◌, ℕ, List, refl, subst, ◌∙◌}
 use Rattle.serde_json.specs.View.{view}
 use Rattle.plural_checker.specs.LanguageTexts.{SixTexts}
 use Rattle.plural_checker.specs.TextChecks.{AreFindingsOf}
 use Rattle.plural_checker.specs.declared.Fault.{Fault}
-use Rattle.document_report.specs.DocumentReport.{fault_line, found_under_all, text_order}
-use Rattle.document_report.specs.Found.{together}
-use Rattle.document_report.specs.Inner.Additions.{lines_alone}
-use Rattle.document_report.proofs.FoundParts.{lines_and_numbers}
+use Rattle.document_report.specs.DocumentReport.{found_by_check, found_of_key, found_under_all, text_order}
+use Rattle.document_report.specs.Found.{nothing, together}
+use Rattle.document_report.specs.Names.{name_text}
+use Rattle.document_report.proofs.FoundParts.{on_ok, three_more}
 use Rattle.document_report.proofs.languages.LanguageCheckMemberCheck.add.Goals as goal
 
 pub returns : goal.returns
@@ -14,18 +14,25 @@ returns c =
     let part = c.args.self.now.part in
     let locale = c.args.locale.now in
     let value = view c.args.value.now in
-    let checked = c.in_ok-checked.checked in (
-      together (found_under_all part locale value text_order)
-          (record { lines = map (fault_line part locale) checked.faults; rules = 0; numbers = checked.numbers }),
+    let checked = c.in_ok-checked.checked in
+    let named : c.as_str.result.now ≡ name_text locale = c.as_str.ensures.value ∙ c.in_ok-name.ensures in
+    let under : c.add_texts.new.found
+    ≡ together c.add_key.new.found (found_under_all part (name_text locale) value checked.faults text_order) =
+    subst (λ (name : List ℕ). c.add_texts.new.found
+    ≡ together c.add_key.new.found (found_under_all part name value checked.faults text_order)) named
+    (subst (λ (faults : List Fault). c.add_texts.new.found
+    ≡ together c.add_key.new.found (found_under_all part c.as_str.result.now value faults text_order))
+    c.as_slice-faults.ensures c.in_ok-add_texts.ensures) in
+    on_ok c.add_numbers.result
+    (λ numbered. (
+      together (found_of_key part locale) (found_by_check part (name_text locale) value checked),
       (
         checked,
         subst (λ (texts : SixTexts). AreFindingsOf texts checked) c.texts_of.ensures c.in_ok-checked.ensures,
         refl,
       ),
-      lines_and_numbers c.args.found.now (found_under_all part locale value text_order) (map (fault_line part locale) checked.faults)
-          checked.numbers c.add_texts.new.found c.add_faults.new.found c.add_numbers.new.self c.in_ok-add_texts.ensures
-          (subst (λ (faults : List Fault). c.add_faults.new.found
-          ≡ together c.add_texts.new.found (lines_alone (map (fault_line part locale) faults)))
-          c.as_slice.ensures c.in_ok-add_faults.ensures)
-          c.in_ok-add_numbers.ensures,
-    )
+      three_more c.args.found.now (found_of_key part locale)
+          (found_under_all part (name_text locale) value checked.faults text_order) (record nothing { numbers = checked.numbers })
+          c.add_key.new.found c.add_texts.new.found c.add_numbers.new.self c.in_ok-add_key.ensures under numbered,
+    ))
+    c.add_numbers.ensures

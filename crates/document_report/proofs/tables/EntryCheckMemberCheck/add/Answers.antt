@@ -1,18 +1,18 @@
 use Rattle.std.proofs.Common.{ℕ, List, Some, None, ap, refl, sym, ◌∙◌}
 use Rattle.document_report.specs.DocumentReport.{entry_line}
-use Rattle.document_report.specs.Found.{nothing, one_line, together}
+use Rattle.document_report.specs.Found.{nothing, one_fault, together}
 use Rattle.document_report.proofs.FoundParts.{on_ok, together-nothing}
 use Rattle.document_report.proofs.tables.EntryCheckMemberCheck.add.Goals as goal
 
 pub returns-in_ok-entry_line-in-Some : goal.returns-in_ok-entry_line-in-Some
 returns-in_ok-entry_line-in-Some c =
-    on_ok c.add_line.result
+    on_ok c.add_fault.result
     (λ added. (
-      one_line (entry_line c.args.self.now.locale.now c.args.key.now c.in-Some.fault),
+      one_fault (entry_line c.args.self.now.name.now c.args.key.now c.in-Some.fault),
       (Some c.in-Some.fault, c.in-Some.ensures, refl),
-      added ∙ ap (λ (line : List ℕ). together c.args.found.now (one_line line)) c.in_ok-entry_line-in-Some.ensures,
+      added ∙ ap (λ (line : List ℕ). together c.args.found.now (one_fault line)) c.in_ok-entry_line-in-Some.ensures,
     ))
-    c.add_line.ensures
+    c.add_fault.ensures
 
 pub returns-in-None : goal.returns-in-None
 returns-in-None c = (nothing, (None, c.in-None.ensures, refl), sym (together-nothing c.args.found.now))

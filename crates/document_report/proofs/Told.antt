@@ -1,0 +1,135 @@
+-- The faults of one text, fault by fault.
+use Rattle.std.proofs.Common.{◌≡◌, ◌≢◌, ℕ, ◌+◌, ◌<◌, ◌≤◌, ◌==◌, Bool, true, false, List, [], ◌∷◌, ◌++◌, length, get_or, take, map}
+use Rattle.std.proofs.Common.{refl, sym, ap, subst, ◌∙◌, arith}
+use Rattle.std.specs.Prelude.{filter, nat_lt, if◌then◌else◌}
+use Rattle.std.proofs.lemmas.Bool.{ne_eqb}
+use Rattle.std.proofs.lemmas.Grind.{common_steps}
+use Rattle.std.proofs.lemmas.List.{append-nil, length-append, map-append, take_all, take_more, take-append-le}
+use Rattle.std.proofs.lemmas.List.Elements.{filter-append}
+use Rattle.std.proofs.Math.Nat.{add-zero, zero-add}
+use Rattle.icu_plurals.specs.declared.PluralCategory.{PluralCategory}
+use Rattle.icu_plurals.specs.declared.PluralCategory.TheVariants.{Zero, One, Two, Few, Many, Other}
+use Rattle.icu_plurals.specs.Categories.{place_of}
+use Rattle.plural_checker.specs.declared.Fault.{Fault}
+use Rattle.document_report.specs.DocumentReport.{fault_line, faults_of, found_told, most_told, rest_lines}
+use Rattle.document_report.specs.Found.{Found, nothing, together}
+use Rattle.document_report.specs.Inner.Additions.{lines_alone, told_after}
+use Rattle.document_report.specs.declared.place.Part.{Part}
+use Rattle.document_report.proofs.FoundParts.{together_assoc}
+
+-- ---- Which faults are of a text
+
+-- the category at a place
+abbrev at_place : ℕ → PluralCategory
+at_place place =
+    if place == 0 then Zero
+    else (if place == 1 then One
+    else (if place == 2 then Two else (if place == 3 then Few else (if place == 4 then Many else Other))))
+
+is_at_place : (category : PluralCategory) → at_place (place_of category) ≡ category
+is_at_place Zero = refl
+is_at_place One = refl
+is_at_place Two = refl
+is_at_place Few = refl
+is_at_place Many = refl
+is_at_place Other = refl
+
+-- the test of a fault of the category, and of any other
+same_place : (a b : PluralCategory) → a ≡ b → (place_of a == place_of b) ≡ true
+same_place a b e = subst (λ (c : PluralCategory). (place_of a == place_of c) ≡ true) e (of_itself a)
+  where
+    of_itself : (c : PluralCategory) → (place_of c == place_of c) ≡ true
+    of_itself Zero = refl
+    of_itself One = refl
+    of_itself Two = refl
+    of_itself Few = refl
+    of_itself Many = refl
+    of_itself Other = refl
+
+other_place : (a b : PluralCategory) → a ≢ b → (place_of a == place_of b) ≡ false
+other_place a b other =
+    ne_eqb (place_of a) (place_of b) (λ same. other (sym (is_at_place a) ∙ ap at_place same ∙ is_at_place b))
+
+-- a fault of the category is one more
+pub one_of : (category : PluralCategory) (faults : List Fault) (i : ℕ) (fault : Fault) → i < length faults
+    → fault ≡ get_or faults i fault → fault.category ≡ category
+    → faults_of category (take (i + 1) faults) ≡ faults_of category (take i faults) ++ fault ∷ []
+one_of category faults i fault within is same =
+    ap (faults_of category) (take_more faults i fault within ∙ ap (λ (f : Fault). take i faults ++ f ∷ []) (sym is))
+    ∙ filter-append (λ (f : Fault). place_of f.category == place_of category) (take i faults) (fault ∷ [])
+    ∙ ap (λ l. faults_of category (take i faults) ++ l) (kept (same_place fault.category category same))
+  where
+    kept : (place_of fault.category == place_of category) ≡ true → faults_of category (fault ∷ []) ≡ fault ∷ []
+    kept e = rw e refl
+
+-- any other is none
+pub none_of : (category : PluralCategory) (faults : List Fault) (i : ℕ) (fault : Fault) → i < length faults
+    → fault ≡ get_or faults i fault → fault.category ≢ category
+    → faults_of category (take (i + 1) faults) ≡ faults_of category (take i faults)
+none_of category faults i fault within is other =
+    ap (faults_of category) (take_more faults i fault within ∙ ap (λ (f : Fault). take i faults ++ f ∷ []) (sym is))
+    ∙ filter-append (λ (f : Fault). place_of f.category == place_of category) (take i faults) (fault ∷ [])
+    ∙ ap (λ l. faults_of category (take i faults) ++ l) (dropped (other_place fault.category category other))
+    ∙ append-nil (faults_of category (take i faults))
+  where
+    dropped : (place_of fault.category == place_of category) ≡ false → faults_of category (fault ∷ []) ≡ []
+    dropped e = rw e refl
+
+-- ---- The lines of the first ones
+
+-- the lines of the first faults
+abbrev pub told_lines : Part → List ℕ → List Fault → List (List ℕ)
+told_lines part name faults = map (fault_line part name) (take most_told faults)
+
+-- one fault more has its line, if few enough come before it
+pub told_more : (part : Part) (name : List ℕ) (faults : List Fault) (fault : Fault)
+    → told_lines part name (faults ++ fault ∷ []) ≡ told_lines part name faults ++ told_after part name (length faults) fault
+told_more part name faults fault = by (nat_lt (length faults) most_told) refl
+  where
+    by : (few : Bool) → nat_lt (length faults) most_told ≡ few
+        → told_lines part name (faults ++ fault ∷ []) ≡ told_lines part name faults ++ told_after part name (length faults) fault
+    by true few =
+        let short : length faults + 1 ≤ most_told = grind (arith, common_steps, few) in
+        let whole : length (faults ++ fault ∷ []) ≤ most_told = omega (arith, length-append faults (fault ∷ [])) in
+        rw few (ap (map (fault_line part name)) (take_all most_told (faults ++ fault ∷ []) whole)
+        ∙ map-append (fault_line part name) faults (fault ∷ [])
+        ∙ ap (λ l. map (fault_line part name) l ++ fault_line part name fault ∷ []) (sym (take_all most_told faults (omega arith))))
+    by false few =
+        rw few (ap (map (fault_line part name)) (take-append-le most_told faults (fault ∷ []) (grind (arith, common_steps, few)))
+        ∙ sym (append-nil (told_lines part name faults)))
+
+-- the lines so far, and that of the next fault
+pub next_told : (part : Part) (name : List ℕ) (mine more : List Fault) (fault : Fault) (count : ℕ) (first now next : Found)
+    → more ≡ mine ++ fault ∷ [] → count ≡ length mine
+    → now ≡ together first (lines_alone (told_lines part name mine))
+    → next ≡ together now (lines_alone (told_after part name count fault))
+    → next ≡ together first (lines_alone (told_lines part name more))
+next_told part name mine more fault count first now next is counted so_far step =
+    step
+    ∙ ap (λ (f : Found). together f (lines_alone (told_after part name count fault))) so_far
+    ∙ together_assoc first (lines_alone (told_lines part name mine)) (lines_alone (told_after part name count fault))
+    ∙ ap (λ (l : List (List ℕ)). together first (lines_alone l))
+    (ap (λ n. told_lines part name mine ++ told_after part name n fault) counted
+    ∙ sym (told_more part name mine fault) ∙ ap (told_lines part name) (sym is))
+
+-- with the line of those that aren't told, and the count of all
+pub all_told : (part : Part) (name : List ℕ) (category : PluralCategory) (mine : List Fault) (count : ℕ) (first now rest next : Found)
+    → count ≡ length mine
+    → now ≡ together first (lines_alone (told_lines part name mine))
+    → rest ≡ together now (lines_alone (rest_lines part name category count))
+    → next ≡ together rest (record nothing { faults = count })
+    → next ≡ together first (found_told part name category mine)
+all_told part name category mine count first now rest next counted so_far more all =
+    all
+    ∙ ap (λ (f : Found). together f (record nothing { faults = count }))
+    (more ∙ ap (λ (f : Found). together f (lines_alone (rest_lines part name category count))) so_far)
+    ∙ together_assoc (together first (lines_alone (told_lines part name mine))) (lines_alone (rest_lines part name category count))
+    (record nothing { faults = count })
+    ∙ together_assoc first (lines_alone (told_lines part name mine))
+    (together (lines_alone (rest_lines part name category count)) (record nothing { faults = count }))
+    ∙ ap (λ (f : Found). together first f) joined
+  where
+    joined : together (lines_alone (told_lines part name mine))
+        (together (lines_alone (rest_lines part name category count)) (record nothing { faults = count }))
+        ≡ found_told part name category mine
+    joined = rw (counted, append-nil (rest_lines part name category (length mine)), zero-add (length mine), zero-add (length mine)) refl

@@ -1,0 +1,31 @@
+-- How the names in a document are printed: the keys of its locales, of their texts and ranges.
+--     is_long_name name      the name has more bytes than are printed
+--     name_text name      what is printed for a name
+use Rattle.std.specs.Prelude.{ℕ, ◌/◌, ◌%◌, ◌==◌, nat_lt, Bool, not, ◌&&◌, if◌then◌else◌, List, [], ◌∷◌, ◌++◌, length, codes}
+use Rattle.std.specs.Char.{digit_char}
+use Rattle.std.specs.Fmt.{decimal}
+use Rattle.std.specs.List.{flat_map}
+
+-- the most bytes of a name that is printed
+abbrev pub most_name_bytes : ℕ
+most_name_bytes = 255
+
+abbrev pub is_long_name : List ℕ → Bool
+is_long_name name = nat_lt most_name_bytes (length name)
+
+-- a byte that is printed as it is: no control character of ASCII and no backslash
+abbrev pub is_plain : ℕ → Bool
+is_plain byte = not (nat_lt byte 32) && not (byte == 92) && not (byte == 127)
+
+-- `\x` and two hexadecimal digits
+abbrev pub byte_escape : ℕ → List ℕ
+byte_escape byte = codes "\\x" ++ digit_char (byte / 16) ∷ digit_char (byte % 16) ∷ []
+
+-- so a printed backslash always begins an escape
+abbrev pub printed_byte : ℕ → List ℕ
+printed_byte byte = if is_plain byte then byte ∷ [] else byte_escape byte
+
+-- `\(300 bytes)` in place of a long name: no other name is printed so
+abbrev pub name_text : List ℕ → List ℕ
+name_text name =
+    if is_long_name name then codes "\\(" ++ decimal (length name) ++ codes " bytes)" else flat_map printed_byte name
