@@ -1,7 +1,7 @@
 //! Messages: growth that is refused, and the examples of the pages.
 
 use crate::tests::assertion::holds;
-use fixed_decimal::DecimalError;
+use fixed_decimal::{CompactDecimal, DecimalError};
 use icu_plurals::provider::{PluralElementsPackedULE, PluralRulesData};
 use icu_plurals::{PluralRules, RulesTextError};
 use plural_message::{Message, MessageError};
@@ -53,6 +53,21 @@ fn what_is_no_number_has_no_message(rt: HostRuntime) -> Result<(), Fail> {
         let answer = message.format(rt.alloc(), number, &rules);
         holds!(rt; answer.err() == Some(MessageError::Number(fault)), number);
     }
+    Ok(())
+}
+
+#[test]
+fn a_message_is_written_into_a_buffer_that_has_room(rt: HostRuntime) -> Result<(), Fail> {
+    let rules = rules(rt.alloc(), "i = 1 and v = 0")?;
+    let message = Message::new(PluralElementsPackedULE::parse_bytes(ITEMS)?);
+    let number = CompactDecimal::from_str(rt.alloc(), "12")?;
+    let mut room = [7u8; 10];
+    holds!(rt; message.format_number_into(&number, "1 2", &rules, &mut room) == 9);
+    holds!(rt; room == *b"1 2 items\x07");
+    let mut short = [7u8; 8];
+    holds!(rt; message.format_number_into(&number, "1 2", &rules, &mut short) == 9);
+    holds!(rt; short == [7u8; 8]);
+    holds!(rt; message.format_number_into(&number, "", &rules, &mut []) == 6);
     Ok(())
 }
 
