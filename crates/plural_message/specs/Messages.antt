@@ -1,7 +1,7 @@
 -- The text of a message: an element's text with a number's text in the place of each `{}`. There is
 -- no escape for `{}`.
 --     IsFilling number text filled      the text, cut at its `{}`, is joined by the number's text
-use Rattle.std.specs.Prelude.{◌≡◌, ℕ, List, codes}
+use Rattle.std.specs.Prelude.{◌≡◌, ℕ, ◌-◌, ◌^◌, ◌<◌, ◌≤◌, List, ◌++◌, codes, length, drop, min}
 use Rattle.std.specs.List.{AllByRecursion, join_by}
 use Rattle.std.specs.Str.Iter.{HasSubslice}
 use Rattle.icu_plurals.specs.Written.{CompactNumber, WritesCompact}
@@ -47,3 +47,14 @@ IsMessageWith IsChosen x text message =
 -- The text writes a number, and the message is the one of that number with this text.
 abbrev pub IsMessageOf : (Places → ℕ → PackedValue → Type 0) → List ℕ → List ℕ → Type 0
 IsMessageOf IsChosen number message = (x : CompactNumber) × WritesCompact number x × IsMessageWith IsChosen x number message
+
+-- ---- A message in a buffer that the caller has.
+--     IsWrittenTo old new told message      the message is at the front of the buffer, if it fits,
+--         and its length is told
+
+-- If the message fits, it is at the front of the buffer, and what follows it is unchanged; else all
+-- of the buffer is. A length above the greatest `usize` is told as that.
+pub record IsWrittenTo (old new : List ℕ) (told : ℕ) (message : List ℕ) : Type 0 where
+  pub told_is : told ≡ min (length message) (2 ^ 64 - 1)
+  pub fits : length message ≤ length old → new ≡ message ++ drop (length message) old
+  pub too_long : length old < length message → new ≡ old

@@ -36,6 +36,7 @@
 
 mod error;
 mod fill;
+mod fill_into;
 pub mod laws;
 mod message;
 

@@ -1,14 +1,15 @@
 //! Messages by the plural category of a number.
 
-ghost use Rattle.std.specs.Prelude.{◌≡◌, ◌↔◌, IfOk, Err, string_bytes};
+ghost use Rattle.std.specs.Prelude.{◌≡◌, ◌↔◌, List, ℕ, IfOk, Err, string_bytes};
 ghost use Rattle.fixed_decimal.specs.Written.{CompactNumber, WritesCompact, IsCompactOverLimit};
 ghost use Rattle.icu_plurals.specs.Elements.{IsExactElement, IsKeptElement};
 ghost use Rattle.icu_plurals.specs.Inner.ElementsViews.{lent_elements};
 ghost use Rattle.icu_plurals.specs.PackedElements.{elements_of};
-ghost use Rattle.plural_message.specs.Messages.{IsMessageOf, IsMessageWith};
+ghost use Rattle.plural_message.specs.Messages.{IsMessageOf, IsMessageWith, IsWrittenTo};
 
 use crate::error::MessageError;
 use crate::fill::fill;
+use crate::fill_into::fill_into;
 use fixed_decimal::{CompactDecimal, DecimalError};
 use icu_plurals::laws::kept_element_is_exact;
 use icu_plurals::provider::PluralElementsPackedULE;
@@ -146,5 +147,44 @@ impl<'a> Message<'a> {
         let operands = PluralOperands::from(number);
         let (_, element) = self.elements.get(operands, rules);
         fill(alloc, element, text)
+    }
+
+    /// Writes the message of [`Message::format_number`] to the front of a buffer, if it has room
+    /// for it, and returns how many bytes the message has. If there is no room, the buffer is
+    /// unchanged: so an empty one asks for the length. What follows the message in the buffer is
+    /// unchanged too. It allocates nothing, and has no error. A message of more than `usize::MAX`
+    /// bytes, for which no buffer has room, is told as `usize::MAX`.
+    ///
+    /// <!-- snippet crates/using/src/messages.rt: "let mut room" to "}" of fn print_in_place -->
+    /// ```
+    /// let mut room = [0u8; 32];
+    /// let length = message.format_number_into(&number, "1,234,567", rules, &mut room);
+    /// if let Some(written) = room.get(..length) {
+    ///     println!(rt; "{length} bytes: {}", std::str::from_utf8(written)?)?;
+    /// }
+    /// ```
+    ///
+    /// With the text `{} files` this prints
+    ///
+    /// <!-- snippet crates/using/stdout: section in place -->
+    /// ```text
+    /// 15 bytes: 1,234,567 files
+    /// ```
+    pub fn format_number_into(
+        &self,
+        number: &CompactDecimal,
+        text: &str,
+        rules: &PluralRules<'_>,
+        out: &mut [u8],
+    ) -> usize
+        ensures { (message : List ℕ) × IsWrittenTo out.old out.new result message
+            × IsMessageWith (IsKeptElement self.now rules.now) number.now text.now message
+            × IsMessageWith (IsExactElement self.now rules.now) number.now text.now message }
+    {
+        // Within the exactness bound the element is that of the number itself.
+        kept_element_is_exact();
+        let kept = PluralOperands::from(number);
+        let (_, chosen) = self.elements.get(kept, rules);
+        fill_into(chosen, text, out)
     }
 }

@@ -41,7 +41,9 @@ fn show_choices(rt: &impl Print, alloc: Global, rules: &PluralRules<'_>) -> anyh
     println!(rt; "== messages")?;
     messages::print_messages(rt, alloc, rules)?;
     println!(rt; "== marks")?;
-    messages::print_marks(rt, alloc, rules)
+    messages::print_marks(rt, alloc, rules)?;
+    println!(rt; "== in place")?;
+    messages::print_in_place(rt, alloc, rules)
 }
 
 // Ranges, and types of one's own.

@@ -37,3 +37,21 @@ pub(crate) fn print_marks(
     println!(rt; "{text}")?;
     Ok(())
 }
+
+// Prints a message that is written into a buffer.
+pub(crate) fn print_in_place(
+    rt: &impl Print,
+    alloc: Global,
+    rules: &PluralRules<'_>,
+) -> anyhow::Result<()> {
+    let texts = PluralElements::new("{} files");
+    let packed = PluralElementsPackedCow::from_elements(alloc, &texts)?;
+    let message = Message::new(packed.as_packed());
+    let number = CompactDecimal::from_str(alloc, "1234567")?;
+    let mut room = [0u8; 32];
+    let length = message.format_number_into(&number, "1,234,567", rules, &mut room);
+    if let Some(written) = room.get(..length) {
+        println!(rt; "{length} bytes: {}", std::str::from_utf8(written)?)?;
+    }
+    Ok(())
+}

@@ -1,6 +1,7 @@
-//! Messages: growth that is refused.
+//! Messages: a buffer of the caller's, and growth that is refused.
 
 use crate::tests::assertion::holds;
+use fixed_decimal::CompactDecimal;
 use icu_plurals::provider::{PluralElementsPackedULE, PluralRulesData};
 use icu_plurals::{PluralRules, RulesTextError};
 use plural_message::{Message, MessageError};
@@ -17,6 +18,21 @@ const NONE_AT_ZERO: &[u8] = b"\x80\x08{} items\x01\0\x50none";
 fn rules(alloc: Global, one: &str) -> Result<PluralRules<'static>, RulesTextError> {
     let rules = PluralRulesData::from_texts(alloc, None, Some(one), None, None, None)?;
     Ok(PluralRules::from_data(rules))
+}
+
+#[test]
+fn a_message_is_written_into_a_buffer_that_has_room(rt: HostRuntime) -> Result<(), Fail> {
+    let rules = rules(rt.alloc(), "i = 1 and v = 0")?;
+    let message = Message::new(PluralElementsPackedULE::parse_bytes(ITEMS)?);
+    let number = CompactDecimal::from_str(rt.alloc(), "12")?;
+    let mut room = [7u8; 10];
+    holds!(rt; message.format_number_into(&number, "1 2", &rules, &mut room) == 9);
+    holds!(rt; room == *b"1 2 items\x07");
+    let mut short = [7u8; 8];
+    holds!(rt; message.format_number_into(&number, "1 2", &rules, &mut short) == 9);
+    holds!(rt; short == [7u8; 8]);
+    holds!(rt; message.format_number_into(&number, "", &rules, &mut []) == 6);
+    Ok(())
 }
 
 // At most one growth is refused: out of memory is returned at most once, and the call made again succeeds.
