@@ -14,7 +14,8 @@ pub struct Row<'a> {
 }
 
 impl<'a> Row<'a> {
-    /// Returns the parts of a line: the kind ends at the first blank, and the arguments at the first ` => `.
+    /// Returns the parts of a line: the kind ends at the first blank, and the arguments at the
+    /// first ` => `.
     pub fn read(line: &'a str) -> Result<Row<'a>, RowFault> {
         let Some((call, wanted)) = line.split_once(" => ") else {
             return Err(RowFault::NoArrow);
