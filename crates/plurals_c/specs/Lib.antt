@@ -4,5 +4,6 @@ pub mod GivenBytes
 pub mod GivenTexts
 pub mod GivenDocuments
 pub mod NumberAnswers
+pub mod WholeTexts
 -- not definitions of the subject
 pub mod Inner

@@ -9,5 +9,7 @@ mod fault;
 mod given;
 mod message;
 mod rules;
+mod sure;
+mod whole;
 #[cfg(test)]
 mod tests;

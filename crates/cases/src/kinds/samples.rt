@@ -3,7 +3,9 @@
 use crate::call::Call;
 use crate::kinds::conditions::{next_condition, print_condition, print_read_error};
 use plural_reference::ast::{Rule, SampleList};
-use plural_reference::{parse, parse_without_samples, serialize, serialize_sample_list};
+use plural_reference::{
+    is_read_whole, parse, parse_without_samples, serialize, serialize_sample_list,
+};
 
 /// Makes the call of a kind of this file. Returns whether there is such a kind.
 pub fn make(kind: &str, call: &mut Call) -> bool {
@@ -12,6 +14,7 @@ pub fn make(kind: &str, call: &mut Call) -> bool {
         "rule_read_again" => rule_read_again(call),
         "rule_without_samples" => rule_without_samples(call),
         "rule_has_condition" => rule_has_condition(call),
+        "is_read_whole" => whole(call),
         "samples" => samples(call),
         "sample_list" => sample_list(call),
         _ => return false,
@@ -86,6 +89,15 @@ fn rule_has_condition(call: &mut Call) {
     match parse_without_samples(call.alloc, text.as_bytes()) {
         Ok(alone) => call.print_truth(rule.condition == condition && alone == condition),
         Err(_) => call.print("error"),
+    }
+}
+
+// Whether a text is a rule as a whole.
+fn whole(call: &mut Call) {
+    let text = call.text();
+    match is_read_whole(call.alloc, text.as_bytes()) {
+        Ok(is_whole) => call.print_truth(is_whole),
+        Err(_) => call.out_of_memory(),
     }
 }
 
