@@ -4,7 +4,7 @@ use std::alloc::AllocError;
 use std::fmt;
 
 /// Why a row gives no result to compare.
-#[derive(Clone, Copy, Debug)]
+#[derive(Clone, Copy)]
 pub enum RowFault {
     /// The line has no `=>`.
     NoArrow,

@@ -3,7 +3,7 @@
 use crate::fault::RowFault;
 
 /// The three parts of a row.
-#[derive(Clone, Copy, Debug)]
+#[derive(Clone, Copy)]
 pub struct Row<'a> {
     /// The kind, the first word.
     pub kind: &'a str,
