@@ -1,10 +1,10 @@
 //! Why a row gives no result to compare.
 
-use std::alloc::{AllocError, AllocFailed};
+use std::alloc::AllocError;
 use std::fmt;
 
 /// Why a row gives no result to compare.
-#[derive(Clone, Copy, Debug)]
+#[derive(Clone, Copy)]
 pub enum RowFault {
     /// The line has no `=>`.
     NoArrow,
@@ -38,19 +38,6 @@ impl fmt::Display for RowFault {
 
 impl From<AllocError> for RowFault {
     fn from(_: AllocError) -> RowFault {
-        RowFault::Memory
-    }
-}
-
-impl<T: Drop> From<AllocFailed<T>> for RowFault {
-    fn from(_: AllocFailed<T>) -> RowFault {
-        RowFault::Memory
-    }
-}
-
-// A text in memory takes what is written to it, unless memory runs out.
-impl From<fmt::Error> for RowFault {
-    fn from(_: fmt::Error) -> RowFault {
         RowFault::Memory
     }
 }

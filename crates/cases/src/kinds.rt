@@ -21,85 +21,47 @@ mod tokens;
 mod trees;
 mod upper;
 
-use crate::arguments::Arguments;
-use crate::fault::RowFault;
-use std::alloc::Global;
+use crate::call::Call;
 
-/// The result of a call as a short text, or why the row has none; `None` if the kind is another's.
-type Found = Option<Result<String, RowFault>>;
-
-/// Returns the result of the call that a kind names, as a short text.
-pub fn result(alloc: Global, kind: &str, arguments: &mut Arguments) -> Result<String, RowFault> {
-    if let Some(found) = of_texts(alloc, kind, arguments) {
-        return found;
-    }
-    if let Some(found) = of_packed(alloc, kind, arguments) {
-        return found;
-    }
-    if let Some(found) = of_languages(alloc, kind, arguments) {
-        return found;
-    }
-    if let Some(found) = of_documents(alloc, kind, arguments) {
-        return found;
-    }
-    upper::result(alloc, kind, arguments).unwrap_or(Err(RowFault::UnknownKind))
+/// Makes the call of a kind, and prints its result as a short text. Returns whether there is such a
+/// kind.
+pub fn make(kind: &str, call: &mut Call) -> bool {
+    of_texts(kind, call)
+        || of_packed(kind, call)
+        || of_languages(kind, call)
+        || of_documents(kind, call)
+        || upper::make(kind, call)
 }
 
-// The result of a kind of texts and numbers.
-fn of_texts(alloc: Global, kind: &str, arguments: &mut Arguments) -> Found {
-    if let Some(found) = tokens::result(alloc, kind, arguments) {
-        return Some(found);
-    }
-    if let Some(found) = conditions::result(alloc, kind, arguments) {
-        return Some(found);
-    }
-    if let Some(found) = samples::result(alloc, kind, arguments) {
-        return Some(found);
-    }
-    if let Some(found) = decimals::result(alloc, kind, arguments) {
-        return Some(found);
-    }
-    operands::result(alloc, kind, arguments)
+// Kinds of texts and numbers.
+fn of_texts(kind: &str, call: &mut Call) -> bool {
+    tokens::make(kind, call)
+        || conditions::make(kind, call)
+        || samples::make(kind, call)
+        || decimals::make(kind, call)
+        || operands::make(kind, call)
 }
 
-// The result of a kind of packed lists and packed rules.
-fn of_packed(alloc: Global, kind: &str, arguments: &mut Arguments) -> Found {
-    if let Some(found) = lists::result(alloc, kind, arguments) {
-        return Some(found);
-    }
-    if let Some(found) = packed_rules::result(alloc, kind, arguments) {
-        return Some(found);
-    }
-    if let Some(found) = relations::result(alloc, kind, arguments) {
-        return Some(found);
-    }
-    rule_truths::result(alloc, kind, arguments)
+// Kinds of packed lists and packed rules.
+fn of_packed(kind: &str, call: &mut Call) -> bool {
+    lists::make(kind, call)
+        || packed_rules::make(kind, call)
+        || relations::make(kind, call)
+        || rule_truths::make(kind, call)
 }
 
-// The result of a kind of a language's rules.
-fn of_languages(alloc: Global, kind: &str, arguments: &mut Arguments) -> Found {
-    if let Some(found) = categories::result(alloc, kind, arguments) {
-        return Some(found);
-    }
-    if let Some(found) = five_rules::result(alloc, kind, arguments) {
-        return Some(found);
-    }
-    if let Some(found) = integer_categories::result(alloc, kind, arguments) {
-        return Some(found);
-    }
-    rules_bytes::result(alloc, kind, arguments)
+// Kinds of a language's rules.
+fn of_languages(kind: &str, call: &mut Call) -> bool {
+    categories::make(kind, call)
+        || five_rules::make(kind, call)
+        || integer_categories::make(kind, call)
+        || rules_bytes::make(kind, call)
 }
 
-// The result of a kind of ranges and documents.
-fn of_documents(alloc: Global, kind: &str, arguments: &mut Arguments) -> Found {
-    if let Some(found) = range_categories::result(alloc, kind, arguments) {
-        return Some(found);
-    }
-    if let Some(found) = ranges::result(alloc, kind, arguments) {
-        return Some(found);
-    }
-    if let Some(found) = rules_json::result(alloc, kind, arguments) {
-        return Some(found);
-    }
-    locales::result(alloc, kind, arguments)
+// Kinds of ranges and documents.
+fn of_documents(kind: &str, call: &mut Call) -> bool {
+    range_categories::make(kind, call)
+        || ranges::make(kind, call)
+        || rules_json::make(kind, call)
+        || locales::make(kind, call)
 }

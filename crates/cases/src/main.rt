@@ -1,14 +1,16 @@
-//! The program `cases`: compares what the libraries' public calls return with rows of wanted results.
+//! The program `cases`: compares what the libraries' public calls return with rows of wanted
+//! results.
 //!
-//! The rows are read from the files that the arguments name, or from the standard input if there are none.
+//! The rows are read from the files that the arguments name, or from the standard input if there
+//! are none.
 #![tactic(auto)]
 
 mod arguments;
+mod call;
 mod fault;
 mod kinds;
 mod row;
 mod run;
-mod show;
 mod tally;
 
 use run::run;

@@ -3,7 +3,7 @@
 use crate::fault::RowFault;
 
 /// The three parts of a row.
-#[derive(Clone, Copy, Debug)]
+#[derive(Clone, Copy)]
 pub struct Row<'a> {
     /// The kind, the first word.
     pub kind: &'a str,
@@ -14,7 +14,8 @@ pub struct Row<'a> {
 }
 
 impl<'a> Row<'a> {
-    /// Returns the parts of a line: the kind ends at the first blank, and the arguments at the first ` => `.
+    /// Returns the parts of a line: the kind ends at the first blank, and the arguments at the
+    /// first ` => `.
     pub fn read(line: &'a str) -> Result<Row<'a>, RowFault> {
         let Some((call, wanted)) = line.split_once(" => ") else {
             return Err(RowFault::NoArrow);

@@ -1,6 +1,6 @@
 //! The rows of all files.
 
-use crate::arguments::Arguments;
+use crate::call::Call;
 use crate::fault::RowFault;
 use crate::kinds;
 use crate::row::{Row, is_skipped};
@@ -9,8 +9,8 @@ use std::alloc::Global;
 use std::io::Read;
 use std::{env, fs, io};
 
-/// Compares the rows of the files that the arguments name, or of the standard input, and prints the report. Returns whether
-/// all have their wanted result.
+/// Compares the rows of the files that the arguments name, or of the standard input, and prints the
+/// report. Returns whether all have their wanted result.
 pub fn run(rt: &HostRuntime) -> io::Result<bool> {
     let mut tally = Tally::new(rt.alloc());
     let mut paths = env::args(rt)?;
@@ -79,9 +79,11 @@ fn result_of_line<'a>(
     line: &'a str,
 ) -> Result<(Row<'a>, String), RowFault> {
     let row = Row::read(line)?;
-    let mut arguments = Arguments::read(alloc, row.arguments)?;
-    let found = kinds::result(alloc, row.kind, &mut arguments)?;
-    arguments.end()?;
+    let mut call = Call::read(alloc, row.arguments)?;
+    if !kinds::make(row.kind, &mut call) {
+        return Err(RowFault::UnknownKind);
+    }
+    let found = call.end()?;
     tally.count(alloc, row.kind)?;
     Ok((row, found))
 }

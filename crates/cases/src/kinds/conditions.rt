@@ -1,74 +1,76 @@
 //! Conditions: read, printed, and their truth.
 
-use crate::arguments::Arguments;
-use crate::fault::RowFault;
-use crate::show;
+use crate::call::Call;
 use plural_reference::ast::Condition;
 use plural_reference::{ReadError, parse_condition, serialize_condition, test_condition};
-use std::alloc::Global;
 
-/// Returns the result of a kind of this file.
-pub fn result(
-    alloc: Global,
-    kind: &str,
-    arguments: &mut Arguments,
-) -> Option<Result<String, RowFault>> {
-    Some(match kind {
-        "condition" => condition(alloc, arguments),
-        "condition_tree" => condition_tree(alloc, arguments),
-        "equal_conditions" => equal_conditions(alloc, arguments),
-        "truth" => truth(alloc, arguments),
-        _ => return None,
-    })
+/// Makes the call of a kind of this file. Returns whether there is such a kind.
+pub fn make(kind: &str, call: &mut Call) -> bool {
+    match kind {
+        "condition" => condition(call),
+        "condition_tree" => condition_tree(call),
+        "equal_conditions" => equal_conditions(call),
+        "truth" => truth(call),
+        _ => return false,
+    }
+    true
 }
 
-/// Returns `error` and the name of why a text isn't read.
-pub fn read_error(alloc: Global, error: ReadError) -> Result<String, RowFault> {
+/// Prints `error` and the name of why a text isn't read.
+pub fn print_read_error(call: &mut Call, error: ReadError) {
     match error {
-        ReadError::Parse(kind) => show::error(alloc, &kind),
-        ReadError::Memory => Err(RowFault::Memory),
+        ReadError::Parse(kind) => call.print_error(&kind),
+        ReadError::Memory => call.out_of_memory(),
     }
 }
 
-/// Returns a condition as it is printed, between quotes.
-pub fn printed(alloc: Global, condition: &Condition) -> Result<String, RowFault> {
-    let mut text = String::new(alloc);
-    serialize_condition(condition, &mut text)?;
-    show::quoted(alloc, text.as_str())
+/// Prints a condition between quotes.
+pub fn print_condition(call: &mut Call, condition: &Condition) {
+    let mut text = call.empty();
+    if serialize_condition(condition, &mut text).is_err() {
+        call.out_of_memory();
+    }
+    call.print_quoted(text.as_str());
 }
 
 /// Returns the next argument as a condition, which its text has to be.
-pub fn next_condition(alloc: Global, arguments: &mut Arguments) -> Result<Condition, RowFault> {
-    let text = arguments.text(alloc)?;
-    parse_condition(alloc, text.as_bytes()).map_err(|_| RowFault::Not("a condition"))
+pub fn next_condition(call: &mut Call) -> Option<Condition> {
+    let text = call.text();
+    let condition = parse_condition(call.alloc, text.as_bytes()).ok();
+    if condition.is_none() {
+        call.not("a condition");
+    }
+    condition
 }
 
 // The condition of a text, as it is printed.
-fn condition(alloc: Global, arguments: &mut Arguments) -> Result<String, RowFault> {
-    let text = arguments.text(alloc)?;
-    match parse_condition(alloc, text.as_bytes()) {
-        Ok(condition) => printed(alloc, &condition),
-        Err(error) => read_error(alloc, error),
+fn condition(call: &mut Call) {
+    let text = call.text();
+    match parse_condition(call.alloc, text.as_bytes()) {
+        Ok(condition) => print_condition(call, &condition),
+        Err(error) => print_read_error(call, error),
     }
 }
 
 // The tree of a condition.
-fn condition_tree(alloc: Global, arguments: &mut Arguments) -> Result<String, RowFault> {
-    show::name(alloc, &next_condition(alloc, arguments)?)
+fn condition_tree(call: &mut Call) {
+    if let Some(condition) = next_condition(call) {
+        call.print_name(&condition);
+    }
 }
 
 // Whether two conditions are equal.
-fn equal_conditions(alloc: Global, arguments: &mut Arguments) -> Result<String, RowFault> {
-    let first = next_condition(alloc, arguments)?;
-    let second = next_condition(alloc, arguments)?;
-    show::truth(alloc, first == second)
+fn equal_conditions(call: &mut Call) {
+    let first = next_condition(call);
+    let second = next_condition(call);
+    call.print_truth(first == second);
 }
 
 // Whether a condition is true of operands.
-fn truth(alloc: Global, arguments: &mut Arguments) -> Result<String, RowFault> {
-    let condition = next_condition(alloc, arguments)?;
-    let Ok(operands) = arguments.operands(alloc) else {
-        return Err(RowFault::Not("operands"));
-    };
-    show::truth(alloc, test_condition(&condition, &operands))
+fn truth(call: &mut Call) {
+    let condition = next_condition(call);
+    let operands = call.operands();
+    if let Some(condition) = condition {
+        call.print_truth(test_condition(&condition, &operands));
+    }
 }

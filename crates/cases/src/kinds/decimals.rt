@@ -1,243 +1,249 @@
 //! Numbers: read from texts, made of integers, shifted, and their digits.
 
-use crate::arguments::Arguments;
-use crate::fault::RowFault;
-use crate::show;
+use crate::call::Call;
 use fixed_decimal::{CompactDecimal, Decimal, DecimalError, UnsignedDecimal};
-use std::alloc::Global;
+use std::fmt::Write;
 
-/// Returns the result of a kind of this file.
-pub fn result(
-    alloc: Global,
-    kind: &str,
-    arguments: &mut Arguments,
-) -> Option<Result<String, RowFault>> {
-    Some(match kind {
-        "unsigned_decimal" => unsigned_decimal(alloc, arguments),
-        "decimal" => decimal(alloc, arguments),
-        "compact_decimal" => compact_decimal(alloc, arguments),
-        "compact_parts" => compact_parts(alloc, arguments),
-        "exponent" => exponent(alloc, arguments),
-        "unsigned_integer" => unsigned_integer(alloc, arguments),
-        "signed_integer" => signed_integer(alloc, arguments),
-        "shifted_decimal" => shifted_decimal(alloc, arguments),
-        _ => return of_unsigned(alloc, kind, arguments),
-    })
+/// Makes the call of a kind of this file. Returns whether there is such a kind.
+pub fn make(kind: &str, call: &mut Call) -> bool {
+    match kind {
+        "unsigned_decimal" => unsigned_decimal(call),
+        "decimal" => decimal(call),
+        "compact_decimal" => compact_decimal(call),
+        "compact_parts" => compact_parts(call),
+        "exponent" => exponent(call),
+        "unsigned_integer" => unsigned_integer(call),
+        "signed_integer" => signed_integer(call),
+        "shifted_decimal" => shifted_decimal(call),
+        "magnitudes" => magnitudes(call),
+        _ => return makes_unsigned(kind, call),
+    }
+    true
 }
 
-// The result of a kind that is about an unsigned decimal.
-fn of_unsigned(
-    alloc: Global,
-    kind: &str,
-    arguments: &mut Arguments,
-) -> Option<Result<String, RowFault>> {
-    Some(match kind {
-        "shifted_digits" => shifted_digits(alloc, arguments),
-        "magnitudes" => magnitudes(alloc, arguments),
-        "digits_at" => digits_at(alloc, arguments),
-        "has_digit_from" => has_digit_from(alloc, arguments),
-        "number_from" => number_from(alloc, arguments),
-        "places_after" => places_after(alloc, arguments),
-        _ => return None,
-    })
+// Makes the call of a kind that is about an unsigned decimal.
+fn makes_unsigned(kind: &str, call: &mut Call) -> bool {
+    match kind {
+        "shifted_digits" => shifted_digits(call),
+        "digits_at" => digits_at(call),
+        "has_digit_from" => has_digit_from(call),
+        "number_from" => number_from(call),
+        "places_after" => places_after(call),
+        _ => return false,
+    }
+    true
 }
 
 /// Returns the next argument as an unsigned decimal, which its text has to write.
-pub fn next_unsigned(
-    alloc: Global,
-    arguments: &mut Arguments,
-) -> Result<UnsignedDecimal, RowFault> {
-    let text = arguments.text(alloc)?;
-    UnsignedDecimal::from_str(alloc, text.as_str()).map_err(|_| RowFault::Not(
-        "an unsigned decimal",
-    ))
+pub fn next_unsigned(call: &mut Call) -> Option<UnsignedDecimal> {
+    let text = call.text();
+    let number = UnsignedDecimal::from_str(call.alloc, text.as_str()).ok();
+    if number.is_none() {
+        call.not("an unsigned decimal");
+    }
+    number
 }
 
 /// Returns the next argument as a decimal, which its text has to write.
-pub fn next_decimal(alloc: Global, arguments: &mut Arguments) -> Result<Decimal, RowFault> {
-    let text = arguments.text(alloc)?;
-    Decimal::from_str(alloc, text.as_str()).map_err(|_| RowFault::Not("a decimal"))
+pub fn next_decimal(call: &mut Call) -> Option<Decimal> {
+    let text = call.text();
+    let number = Decimal::from_str(call.alloc, text.as_str()).ok();
+    if number.is_none() {
+        call.not("a decimal");
+    }
+    number
 }
 
-// Adds the places of a number and its digits, the highest first: `-2..1 1230`.
-fn push_places(shown: &mut String, number: &UnsignedDecimal) -> Result<(), RowFault> {
+/// Returns the next argument as a compact decimal, which its text has to write.
+pub fn next_compact(call: &mut Call) -> Option<CompactDecimal> {
+    let text = call.text();
+    let number = CompactDecimal::from_str(call.alloc, text.as_str()).ok();
+    if number.is_none() {
+        call.not("a compact decimal");
+    }
+    number
+}
+
+// Prints the places of a number and its digits, the highest first: `-2..1 1230`.
+fn print_places(call: &mut Call, number: &UnsignedDecimal) {
     let (low, high) = number.magnitude_range();
-    write!(shown, "{low}..{high} ")?;
+    let _ = write!(call, "{low}..{high} ");
     for magnitude in (low..=high).rev() {
-        let digit = number.digit_at(magnitude);
-        write!(shown, "{digit}")?;
-    }
-    Ok(())
-}
-
-// Places and digits.
-fn shown_unsigned(
-    alloc: Global,
-    read: Result<UnsignedDecimal, DecimalError>,
-) -> Result<String, RowFault> {
-    match read {
-        Ok(number) => {
-            let mut shown = String::new(alloc);
-            push_places(&mut shown, &number)?;
-            Ok(shown)
-        }
-        Err(error) => show::error(alloc, &error),
+        call.print_value(&number.digit_at(magnitude));
     }
 }
 
-// Adds the sign, the places and the digits: `Negative -3..0 0050`.
-fn push_decimal(shown: &mut String, number: &Decimal) -> Result<(), RowFault> {
+// Prints the places and digits of a number that was made.
+fn print_unsigned(call: &mut Call, made: Result<UnsignedDecimal, DecimalError>) {
+    match made {
+        Ok(number) => print_places(call, &number),
+        Err(error) => call.print_error(&error),
+    }
+}
+
+// Prints the sign, the places and the digits: `Negative -3..0 0050`.
+fn print_number(call: &mut Call, number: &Decimal) {
     let sign = number.sign;
-    write!(shown, "{sign:?} ")?;
-    push_places(shown, &number.absolute)
+    let _ = write!(call, "{sign:?} ");
+    print_places(call, &number.absolute);
 }
 
-// Sign, places and digits.
-fn shown_decimal(alloc: Global, read: Result<Decimal, DecimalError>) -> Result<String, RowFault> {
-    match read {
-        Ok(number) => {
-            let mut shown = String::new(alloc);
-            push_decimal(&mut shown, &number)?;
-            Ok(shown)
-        }
-        Err(error) => show::error(alloc, &error),
+// Prints the sign, the places and the digits of a number that was made.
+fn print_decimal(call: &mut Call, made: Result<Decimal, DecimalError>) {
+    match made {
+        Ok(number) => print_number(call, &number),
+        Err(error) => call.print_error(&error),
     }
 }
 
-// The significand's sign, places and digits, and the exponent.
-fn shown_compact(alloc: Global, number: &CompactDecimal) -> Result<String, RowFault> {
-    let mut shown = String::new(alloc);
-    push_decimal(&mut shown, number.significand())?;
+// Prints the significand's sign, places and digits, and the exponent.
+fn print_compact(call: &mut Call, number: &CompactDecimal) {
+    print_number(call, number.significand());
     let exponent = number.exponent();
-    write!(shown, " c{exponent}")?;
-    Ok(shown)
+    let _ = write!(call, " c{exponent}");
 }
 
 // An unsigned decimal's places and digits.
-fn unsigned_decimal(alloc: Global, arguments: &mut Arguments) -> Result<String, RowFault> {
-    let text = arguments.text(alloc)?;
-    shown_unsigned(alloc, UnsignedDecimal::from_str(alloc, text.as_str()))
+fn unsigned_decimal(call: &mut Call) {
+    let text = call.text();
+    let made = UnsignedDecimal::from_str(call.alloc, text.as_str());
+    print_unsigned(call, made);
 }
 
 // A decimal's sign, places and digits.
-fn decimal(alloc: Global, arguments: &mut Arguments) -> Result<String, RowFault> {
-    let text = arguments.text(alloc)?;
-    shown_decimal(alloc, Decimal::from_str(alloc, text.as_str()))
+fn decimal(call: &mut Call) {
+    let text = call.text();
+    let made = Decimal::from_str(call.alloc, text.as_str());
+    print_decimal(call, made);
 }
 
 // A compact decimal's sign, places, digits and exponent.
-fn compact_decimal(alloc: Global, arguments: &mut Arguments) -> Result<String, RowFault> {
-    let text = arguments.text(alloc)?;
-    match CompactDecimal::from_str(alloc, text.as_str()) {
-        Ok(number) => shown_compact(alloc, &number),
-        Err(error) => show::error(alloc, &error),
+fn compact_decimal(call: &mut Call) {
+    let text = call.text();
+    match CompactDecimal::from_str(call.alloc, text.as_str()) {
+        Ok(number) => print_compact(call, &number),
+        Err(error) => call.print_error(&error),
     }
 }
 
 // The compact decimal of a decimal and an exponent.
-fn compact_parts(alloc: Global, arguments: &mut Arguments) -> Result<String, RowFault> {
-    let significand = next_decimal(alloc, arguments)?;
-    let exponent = arguments.byte()?;
-    shown_compact(alloc, &CompactDecimal::from_parts(significand, exponent))
+fn compact_parts(call: &mut Call) {
+    let significand = next_decimal(call);
+    let exponent = call.byte();
+    if let Some(significand) = significand {
+        print_compact(call, &CompactDecimal::from_parts(significand, exponent));
+    }
 }
 
 // The exponent of a compact decimal.
-fn exponent(alloc: Global, arguments: &mut Arguments) -> Result<String, RowFault> {
-    let text = arguments.text(alloc)?;
-    match CompactDecimal::from_str(alloc, text.as_str()) {
-        Ok(number) => show::displayed(alloc, &number.exponent()),
-        Err(error) => show::error(alloc, &error),
+fn exponent(call: &mut Call) {
+    let text = call.text();
+    match CompactDecimal::from_str(call.alloc, text.as_str()) {
+        Ok(number) => call.print_value(&number.exponent()),
+        Err(error) => call.print_error(&error),
     }
 }
 
 // An integer of 128 bits without a sign.
-fn unsigned_integer(alloc: Global, arguments: &mut Arguments) -> Result<String, RowFault> {
-    let text = arguments.text(alloc)?;
-    let Ok(number) = text.as_str().parse::<u128>() else {
-        return Err(RowFault::Not("an integer"));
-    };
-    shown_unsigned(alloc, UnsignedDecimal::from_u128(alloc, number))
+fn unsigned_integer(call: &mut Call) {
+    let text = call.text();
+    match text.as_str().parse::<u128>() {
+        Ok(number) => {
+            let made = UnsignedDecimal::from_u128(call.alloc, number);
+            print_unsigned(call, made);
+        }
+        Err(_) => call.not("an integer"),
+    }
 }
 
 // An integer of 128 bits with a sign.
-fn signed_integer(alloc: Global, arguments: &mut Arguments) -> Result<String, RowFault> {
-    let text = arguments.text(alloc)?;
-    let Ok(number) = text.as_str().parse::<i128>() else {
-        return Err(RowFault::Not("an integer"));
-    };
-    shown_decimal(alloc, Decimal::from_i128(alloc, number))
+fn signed_integer(call: &mut Call) {
+    let text = call.text();
+    match text.as_str().parse::<i128>() {
+        Ok(number) => {
+            let made = Decimal::from_i128(call.alloc, number);
+            print_decimal(call, made);
+        }
+        Err(_) => call.not("an integer"),
+    }
 }
 
 // What a shift gives, and the decimal after it.
-fn shifted_decimal(alloc: Global, arguments: &mut Arguments) -> Result<String, RowFault> {
-    let mut number = next_decimal(alloc, arguments)?;
-    let outcome = number.multiply_pow10(arguments.magnitude()?);
-    let mut shown = match outcome {
-        Ok(()) => show::word(alloc, "ok")?,
-        Err(error) => show::error(alloc, &error)?,
+fn shifted_decimal(call: &mut Call) {
+    let Some(mut number) = next_decimal(call) else {
+        return;
     };
-    shown.push_str(", ")?;
-    push_decimal(&mut shown, &number)?;
-    Ok(shown)
+    match number.multiply_pow10(call.magnitude()) {
+        Ok(()) => call.print("ok, "),
+        Err(error) => {
+            let _ = write!(call, "error {error:?}, ");
+        }
+    }
+    print_number(call, &number);
 }
 
 // The places of a shifted number, and some of its digits.
-fn shifted_digits(alloc: Global, arguments: &mut Arguments) -> Result<String, RowFault> {
-    let mut number = next_unsigned(alloc, arguments)?;
-    match number.multiply_pow10(arguments.magnitude()?) {
-        Ok(()) => digits_of(alloc, &number, arguments),
-        Err(error) => show::error(alloc, &error),
+fn shifted_digits(call: &mut Call) {
+    let Some(mut number) = next_unsigned(call) else {
+        return;
+    };
+    match number.multiply_pow10(call.magnitude()) {
+        Ok(()) => print_digits(call, &number),
+        Err(error) => call.print_error(&error),
     }
 }
 
 // The places of a number, and some of its digits.
-fn digits_at(alloc: Global, arguments: &mut Arguments) -> Result<String, RowFault> {
-    let number = next_unsigned(alloc, arguments)?;
-    digits_of(alloc, &number, arguments)
+fn digits_at(call: &mut Call) {
+    if let Some(number) = next_unsigned(call) {
+        print_digits(call, &number);
+    }
 }
 
-// The lowest and the highest place, and a digit for each magnitude of a list: `-2..1 1 0`.
-fn digits_of(
-    alloc: Global,
-    number: &UnsignedDecimal,
-    arguments: &mut Arguments,
-) -> Result<String, RowFault> {
+// Prints the lowest and the highest place, and a digit for each magnitude of a list: `-2..1 1 0`.
+fn print_digits(call: &mut Call, number: &UnsignedDecimal) {
     let (low, high) = number.magnitude_range();
-    let mut shown = format!(in alloc; "{low}..{high}")?;
-    for magnitude in &arguments.magnitudes(alloc)? {
-        let digit = number.digit_at(*magnitude);
-        write!(shown, " {digit}")?;
+    let _ = write!(call, "{low}..{high}");
+    for magnitude in &call.magnitudes() {
+        call.separate(" ");
+        call.print_value(&number.digit_at(*magnitude));
     }
-    Ok(shown)
 }
 
 // The lowest and the highest place of a decimal.
-fn magnitudes(alloc: Global, arguments: &mut Arguments) -> Result<String, RowFault> {
-    let (low, high) = next_decimal(alloc, arguments)?.absolute.magnitude_range();
-    Ok(format!(in alloc; "{low}..{high}")?)
+fn magnitudes(call: &mut Call) {
+    if let Some(number) = next_decimal(call) {
+        let (low, high) = number.absolute.magnitude_range();
+        let _ = write!(call, "{low}..{high}");
+    }
 }
 
 // Whether there is a digit other than 0 from a place on.
-fn has_digit_from(alloc: Global, arguments: &mut Arguments) -> Result<String, RowFault> {
-    let number = next_unsigned(alloc, arguments)?;
-    show::truth(alloc, number.has_digit_from(arguments.magnitude()?))
+fn has_digit_from(call: &mut Call) {
+    if let Some(number) = next_unsigned(call) {
+        let magnitude = call.magnitude();
+        call.print_truth(number.has_digit_from(magnitude));
+    }
 }
 
 // The number that a run of digits writes, and how many zeros follow it.
-fn number_from(alloc: Global, arguments: &mut Arguments) -> Result<String, RowFault> {
-    let number = next_unsigned(alloc, arguments)?;
-    let place = arguments.size()?;
-    let count = arguments.size()?;
+fn number_from(call: &mut Call) {
+    let Some(number) = next_unsigned(call) else {
+        return;
+    };
+    let place = call.size();
+    let count = call.size();
     if count > 18 {
-        return Err(RowFault::Not("at most 18"));
+        return call.not("at most 18");
     }
     let (value, zeros) = number.number_from(place, count);
-    Ok(format!(in alloc; "{value} {zeros}")?)
+    let _ = write!(call, "{value} {zeros}");
 }
 
 // How many integer digits and fraction digits there are after an exponent.
-fn places_after(alloc: Global, arguments: &mut Arguments) -> Result<String, RowFault> {
-    let number = next_unsigned(alloc, arguments)?;
-    let (whole, fraction) = number.places_after(arguments.byte()?);
-    Ok(format!(in alloc; "{whole} {fraction}")?)
+fn places_after(call: &mut Call) {
+    if let Some(number) = next_unsigned(call) {
+        let (whole, fraction) = number.places_after(call.byte());
+        let _ = write!(call, "{whole} {fraction}");
+    }
 }

@@ -1,10 +1,9 @@
 //! The categories of integers in a row.
 
-use crate::arguments::Arguments;
-use crate::fault::RowFault;
+use crate::call::Call;
 use icu_plurals::provider::RawPluralCategory;
 use icu_plurals::{PluralCategory, PluralOperands, PluralRules};
-use std::alloc::Global;
+use std::fmt::Write;
 
 // In the order of CLDR.
 const CATEGORIES: [PluralCategory; 6] = [
@@ -16,84 +15,61 @@ const CATEGORIES: [PluralCategory; 6] = [
     PluralCategory::Other,
 ];
 
-/// Returns the result of a kind of this file.
-pub fn result(
-    alloc: Global,
-    kind: &str,
-    arguments: &mut Arguments,
-) -> Option<Result<String, RowFault>> {
-    Some(match kind {
-        "integer_categories" => integer_categories(alloc, arguments),
-        _ => return None,
-    })
+/// Makes the call of a kind of this file. Returns whether there is such a kind.
+pub fn make(kind: &str, call: &mut Call) -> bool {
+    if kind != "integer_categories" {
+        return false;
+    }
+    integer_categories(call);
+    true
 }
 
 // The categories of the integers from one to another: `one 1, 21; few 2~4, 22~24`.
-fn integer_categories(alloc: Global, arguments: &mut Arguments) -> Result<String, RowFault> {
-    let rules = PluralRules::from_data(arguments.rules(alloc)?);
-    let first = arguments.number()?;
-    let last = arguments.number()?;
-    let mut found = Vec::new(alloc);
-    for number in first..=last {
-        found.push(rules.category_for(PluralOperands::from(number)))?;
-    }
-    let mut shown = String::new(alloc);
+fn integer_categories(call: &mut Call) {
+    let rules = PluralRules::from_data(call.rules());
+    let first = call.number();
+    let last = call.number();
     for category in CATEGORIES {
-        push_category(alloc, &mut shown, category, first, found.as_slice())?;
+        print_integers(call, category, &rules, first, last);
     }
-    Ok(shown)
 }
 
-// Adds a category with its integers, if it has some. The categories of all integers come from the first one on.
-fn push_category(
-    alloc: Global,
-    shown: &mut String,
+// Prints a category with its integers, if it has some, neighbours as `2~4`.
+fn print_integers(
+    call: &mut Call,
     category: PluralCategory,
+    rules: &PluralRules<'_>,
     first: u64,
-    found: &[PluralCategory],
-) -> Result<(), RowFault> {
-    let integers = integers_of(alloc, category, first, found)?;
-    if !integers.is_empty() {
-        let name = RawPluralCategory::from(category).as_str();
-        let mark = if shown.is_empty() { "" } else { "; " };
-        let part = format!(in alloc; "{mark}{name} {integers}")?;
-        shown.push_str(part.as_str())?;
-    }
-    Ok(())
-}
-
-// The integers of a category, neighbours as `2~4`.
-fn integers_of(
-    alloc: Global,
-    category: PluralCategory,
-    first: u64,
-    found: &[PluralCategory],
-) -> Result<String, RowFault> {
-    let mut shown = String::new(alloc);
+    last: u64,
+) {
+    let mut name = Some(RawPluralCategory::from(category).as_str());
     let mut start = None;
-    let mut number = first;
-    for other in found {
-        if *other == category {
+    for number in first..=last {
+        if rules.category_for(PluralOperands::from(number)) == category {
             start = start.or(Some(number));
         } else if let Some(begun) = start {
-            push_run(alloc, &mut shown, begun, number.saturating_sub(1))?;
+            print_run(call, name, begun, number.saturating_sub(1));
+            name = None;
             start = None;
         }
-        number = number.saturating_add(1);
     }
     if let Some(begun) = start {
-        push_run(alloc, &mut shown, begun, number.saturating_sub(1))?;
+        print_run(call, name, begun, last);
     }
-    Ok(shown)
 }
 
-// Adds the integers from one to another.
-fn push_run(alloc: Global, shown: &mut String, first: u64, last: u64) -> Result<(), RowFault> {
-    let mark = if shown.is_empty() { "" } else { ", " };
-    let run = if first == last {
-        format!(in alloc; "{mark}{first}")?
-    } else {
-        format!(in alloc; "{mark}{first}~{last}")?
-    };
-    Ok(shown.push_str(run.as_str())?)
+// Prints the integers from one to another, the first ones of a category after its name.
+fn print_run(call: &mut Call, name: Option<&str>, first: u64, last: u64) {
+    match name {
+        Some(name) => {
+            call.separate("; ");
+            call.print(name);
+            call.print(" ");
+        }
+        None => call.print(", "),
+    }
+    call.print_value(&first);
+    if first != last {
+        let _ = write!(call, "~{last}");
+    }
 }

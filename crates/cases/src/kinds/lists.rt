@@ -1,140 +1,134 @@
 //! Packed lists of byte items.
 
-use crate::arguments::{Arguments, bytes_of};
-use crate::fault::RowFault;
-use crate::kinds::runs::{Runs, push_part};
-use crate::show;
+use crate::call::Call;
+use crate::kinds::runs::Runs;
 use packed_list::{PackError, PackedList};
-use serde_json::Value;
-use std::alloc::Global;
+use std::fmt::Write;
 
-/// Returns the result of a kind of this file.
-pub fn result(
-    alloc: Global,
-    kind: &str,
-    arguments: &mut Arguments,
-) -> Option<Result<String, RowFault>> {
-    Some(match kind {
-        "list" => list(alloc, arguments),
-        "list_beginnings" => list_beginnings(alloc, arguments),
-        "list_bytes" => list_bytes(alloc, arguments),
-        "list_size" => list_size(alloc, arguments),
-        "list_of_copies" => list_of_copies(alloc, arguments),
-        _ => return None,
-    })
+/// Makes the call of a kind of this file. Returns whether there is such a kind.
+pub fn make(kind: &str, call: &mut Call) -> bool {
+    match kind {
+        "list" => list(call),
+        "list_beginnings" => list_beginnings(call),
+        "list_bytes" => list_bytes(call),
+        "list_size" => list_size(call),
+        "list_of_copies" => list_of_copies(call),
+        _ => return false,
+    }
+    true
 }
 
 // The items of the list that bytes are.
-fn list(alloc: Global, arguments: &mut Arguments) -> Result<String, RowFault> {
-    let bytes = arguments.bytes(alloc)?;
+fn list(call: &mut Call) {
+    let bytes = call.bytes();
     match PackedList::parse_bytes(&bytes) {
-        Ok(list) if list.as_bytes() != bytes.as_slice() => show::word(alloc, "other bytes"),
-        Ok(list) => items(alloc, &list),
-        Err(error) => show::error(alloc, &error),
+        Ok(list) if list.as_bytes() != bytes.as_slice() => call.print("other bytes"),
+        Ok(list) => print_items(call, &list),
+        Err(error) => call.print_error(&error),
     }
 }
 
-// The start and the bytes of each item, if those by place are those in turn and no item comes after them.
-fn items(alloc: Global, list: &PackedList<'_>) -> Result<String, RowFault> {
-    let mut shown = String::new(alloc);
+// Prints the start and the bytes of each item, if those by place are those in turn and no item
+// comes after them.
+fn print_items(call: &mut Call, list: &PackedList<'_>) {
     let mut in_turn = list.iter();
     let count = list.len();
     for place in 0..count {
         let item = list.get(place);
         if in_turn.next() != item {
-            return show::word(alloc, "other items in turn");
+            return call.print_alone("other items in turn");
         }
-        push_part(
-            &mut shown,
-            started(alloc, list.start(place), item)?.as_str(),
-        )?;
+        print_item(call, list.start(place), item);
     }
     if list.start(count).is_some() || list.get(count).is_some() || in_turn.next().is_some() {
-        return show::word(alloc, "an item after the last one");
+        return call.print_alone("an item after the last one");
     }
     if count == 0 {
-        shown.push_str("no items")?;
+        call.print("no items");
     }
-    Ok(shown)
 }
 
-// An item after its start.
-fn started(alloc: Global, start: Option<usize>, item: Option<&[u8]>) -> Result<String, RowFault> {
-    let (Some(start), Some(item)) = (start, item) else {
-        return show::word(alloc, "no item");
-    };
-    let digits = hex::encode(alloc, item)?;
-    Ok(format!(in alloc; "{start} \"{digits}\"")?)
+// Prints an item after its start.
+fn print_item(call: &mut Call, start: Option<usize>, item: Option<&[u8]>) {
+    call.separate(", ");
+    match (start, item) {
+        (Some(start), Some(item)) => {
+            let _ = write!(call, "{start} \"");
+            call.print_digits(item);
+            call.print("\"");
+        }
+        _ => call.print("no item"),
+    }
 }
 
 // What each beginning of bytes is.
-fn list_beginnings(alloc: Global, arguments: &mut Arguments) -> Result<String, RowFault> {
-    let bytes = arguments.bytes(alloc)?;
+fn list_beginnings(call: &mut Call) {
+    let bytes = call.bytes();
     let bytes = bytes.as_slice();
-    let mut runs = Runs::new(alloc);
+    let mut runs = Runs::new(call);
     for end in 0..=bytes.len() {
-        let result = match PackedList::parse_bytes(&bytes[..end]) {
-            Ok(_) => show::word(alloc, "list"),
-            Err(error) => show::error(alloc, &error),
-        };
-        runs.push(result?)?;
+        match PackedList::parse_bytes(&bytes[..end]) {
+            Ok(_) => call.print("list"),
+            Err(error) => call.print_error(&error),
+        }
+        runs.take(call);
     }
-    runs.shown(alloc)
+    runs.print(call);
 }
 
 // The list of the items that hexadecimal digits write.
-fn packed(alloc: Global, items: &[Value]) -> Result<Result<Vec<u8>, PackError>, RowFault> {
-    let mut owned: Vec<Vec<u8>> = Vec::new(alloc);
-    for item in items {
-        owned.push(bytes_of(alloc, item)?)?;
+fn packed(call: &mut Call) -> Result<Vec<u8>, PackError> {
+    let mut owned: Vec<Vec<u8>> = Vec::new(call.alloc);
+    for item in &call.list() {
+        let bytes = call.bytes_of(item);
+        call.add_item(&mut owned, bytes);
     }
-    let mut lent: Vec<&[u8]> = Vec::new(alloc);
+    let mut lent: Vec<&[u8]> = Vec::new(call.alloc);
     for item in &owned {
-        lent.push(item.as_slice())?;
+        call.add_item(&mut lent, item.as_slice());
     }
-    Ok(PackedList::encode(alloc, lent.as_slice()))
+    PackedList::encode(call.alloc, lent.as_slice())
 }
 
 // The bytes of a list.
-fn list_bytes(alloc: Global, arguments: &mut Arguments) -> Result<String, RowFault> {
-    let items = arguments.list()?;
-    match packed(alloc, items.as_slice())? {
-        Ok(bytes) => show::bytes(alloc, &bytes),
-        Err(error) => show::error(alloc, &error),
+fn list_bytes(call: &mut Call) {
+    match packed(call) {
+        Ok(bytes) => call.print_bytes(&bytes),
+        Err(error) => call.print_error(&error),
     }
 }
 
 // How many bytes a list has, and the first of them.
-fn list_size(alloc: Global, arguments: &mut Arguments) -> Result<String, RowFault> {
-    let shown = arguments.size()?;
-    let items = arguments.list()?;
-    match packed(alloc, items.as_slice())? {
+fn list_size(call: &mut Call) {
+    let shown = call.size();
+    match packed(call) {
         Ok(bytes) => {
             let bytes = bytes.as_slice();
-            let first = bytes.get(..shown).unwrap_or(bytes);
-            let digits = hex::encode(alloc, first)?;
-            Ok(format!(in alloc; "{} bytes: {digits}", bytes.len())?)
+            call.print_size(bytes);
+            call.print(": ");
+            call.print_digits(bytes.get(..shown).unwrap_or(bytes));
         }
-        Err(error) => show::error(alloc, &error),
+        Err(error) => call.print_error(&error),
     }
 }
 
 // How many bytes a list of equal items has, which is read again.
-fn list_of_copies(alloc: Global, arguments: &mut Arguments) -> Result<String, RowFault> {
-    let count = arguments.number()?;
-    let item = arguments.bytes(alloc)?;
-    let mut items: Vec<&[u8]> = Vec::new(alloc);
+fn list_of_copies(call: &mut Call) {
+    let count = call.number();
+    let item = call.bytes();
+    let mut items: Vec<&[u8]> = Vec::new(call.alloc);
     for _ in 0..count {
-        items.push(item.as_slice())?;
+        call.add_item(&mut items, item.as_slice());
     }
-    match PackedList::encode(alloc, items.as_slice()) {
+    match PackedList::encode(call.alloc, items.as_slice()) {
         Ok(bytes) => {
+            call.print_size(&bytes);
             let read = match PackedList::parse_bytes(&bytes) {
                 Ok(list) => list.len(),
                 Err(_) => 0,
             };
-            Ok(format!(in alloc; "{} bytes, {read} items", bytes.len())?)
+            let _ = write!(call, ", {read} items");
         }
-        Err(error) => show::error(alloc, &error),
+        Err(error) => call.print_error(&error),
     }
 }

@@ -1,48 +1,47 @@
 //! What a document has for a locale.
 
-use crate::arguments::Arguments;
-use crate::fault::RowFault;
+use crate::call::Call;
 use crate::kinds::categories::name_of;
-use crate::kinds::five_rules;
-use crate::show;
+use crate::kinds::decimals::next_compact;
+use crate::kinds::five_rules::print_rules;
 use fixed_decimal::CompactDecimal;
 use plural_base::{
-    DataError, JsonProvider, PluralRuleType, PluralRules, PluralRulesOptions, PluralsProvider,
+    DataError, JsonProvider, PluralCategory, PluralRuleType, PluralRules, PluralRulesOptions,
+    PluralsProvider,
 };
-use std::alloc::Global;
 
-/// Returns the result of a kind of this file.
-pub fn result(
-    alloc: Global,
-    kind: &str,
-    arguments: &mut Arguments,
-) -> Option<Result<String, RowFault>> {
-    Some(match kind {
-        "loaded_rules" => loaded_rules(alloc, arguments),
-        "loaded_ranges" => loaded_ranges(alloc, arguments),
-        "category_of_locale" => category_of_locale(alloc, arguments),
-        _ => return None,
-    })
+/// Makes the call of a kind of this file. Returns whether there is such a kind.
+pub fn make(kind: &str, call: &mut Call) -> bool {
+    match kind {
+        "loaded_rules" => loaded_rules(call),
+        "loaded_ranges" => loaded_ranges(call),
+        "category_of_locale" => category_of_locale(call),
+        _ => return false,
+    }
+    true
 }
 
 /// Returns the provider of a document.
-pub fn provider(alloc: Global, arguments: &mut Arguments) -> Result<JsonProvider, RowFault> {
-    let document = arguments.value()?;
-    JsonProvider::from_value(alloc, &document).map_err(|_| RowFault::Not("a document"))
+pub fn next_provider(call: &mut Call) -> Option<JsonProvider> {
+    let document = call.value();
+    let provider = JsonProvider::from_value(call.alloc, &document).ok();
+    if provider.is_none() {
+        call.not("a document");
+    }
+    provider
 }
 
 /// Returns the type of rules that a text names, or none for `null`.
-pub fn rule_type(
-    alloc: Global,
-    arguments: &mut Arguments,
-) -> Result<Option<PluralRuleType>, RowFault> {
-    let Some(name) = arguments.optional_text(alloc)? else {
-        return Ok(None);
-    };
-    match name.as_str() {
-        "cardinal" => Ok(Some(PluralRuleType::Cardinal)),
-        "ordinal" => Ok(Some(PluralRuleType::Ordinal)),
-        _ => Err(RowFault::Not("a type of rules")),
+pub fn next_type(call: &mut Call) -> Option<PluralRuleType> {
+    let name = call.optional_text();
+    match name.as_deref() {
+        Some("cardinal") => Some(PluralRuleType::Cardinal),
+        Some("ordinal") => Some(PluralRuleType::Ordinal),
+        Some(_) => {
+            call.not("a type of rules");
+            None
+        }
+        None => None,
     }
 }
 
@@ -55,56 +54,74 @@ pub fn options_of(rule_type: Option<PluralRuleType>) -> PluralRulesOptions {
 }
 
 // The rules of a locale, as JSON.
-fn loaded_rules(alloc: Global, arguments: &mut Arguments) -> Result<String, RowFault> {
-    let provider = provider(alloc, arguments)?;
-    let locale = arguments.text(alloc)?;
-    let loaded = match rule_type(alloc, arguments)? {
+fn loaded_rules(call: &mut Call) {
+    let Some(provider) = next_provider(call) else {
+        return;
+    };
+    let locale = call.text();
+    let loaded = match next_type(call) {
         Some(PluralRuleType::Ordinal) => provider.load_ordinal(locale.as_str()),
         _ => provider.load_cardinal(locale.as_str()),
     };
     match loaded {
-        Ok(rules) => five_rules::as_json(alloc, &rules),
-        Err(error) => show::error(alloc, &error),
+        Ok(rules) => print_rules(call, &rules),
+        Err(error) => call.print_error(&error),
     }
 }
 
 // The ranges of a locale, as JSON.
-fn loaded_ranges(alloc: Global, arguments: &mut Arguments) -> Result<String, RowFault> {
-    let provider = provider(alloc, arguments)?;
-    let locale = arguments.text(alloc)?;
-    let ranges = match provider.load_ranges(locale.as_str()) {
-        Ok(ranges) => ranges,
-        Err(error) => return show::error(alloc, &error),
+fn loaded_ranges(call: &mut Call) {
+    let Some(provider) = next_provider(call) else {
+        return;
     };
-    match ranges.to_json(alloc) {
-        Ok(value) => Ok(value.to_string(alloc)?),
-        Err(error) => show::error(alloc, &error),
+    let locale = call.text();
+    match provider.load_ranges(locale.as_str()) {
+        Ok(ranges) => match ranges.to_json(call.alloc) {
+            Ok(value) => call.print_json(&value),
+            Err(error) => call.print_error(&error),
+        },
+        Err(error) => call.print_error(&error),
     }
 }
 
-// The category of a compact decimal by the rules of a locale, which are those that the options name.
-fn category_of_locale(alloc: Global, arguments: &mut Arguments) -> Result<String, RowFault> {
-    let provider = provider(alloc, arguments)?;
-    let locale = arguments.text(alloc)?;
-    let rule_type = rule_type(alloc, arguments)?;
-    let text = arguments.text(alloc)?;
-    let Ok(number) = CompactDecimal::from_str(alloc, text.as_str()) else {
-        return Err(RowFault::Not("a compact decimal"));
-    };
-    let options = options_of(rule_type);
-    let by_options = PluralRules::try_new_unstable(&provider, locale.as_str(), options);
-    let by_type = rules_of_type(&provider, locale.as_str(), rule_type);
-    match (by_options, by_type) {
-        (Ok(rules), Ok(same)) => {
-            let category = rules.category_for_compact(&number);
-            if same.category_for_compact(&number) != category {
-                return show::word(alloc, "another category by the options");
-            }
-            show::word(alloc, name_of(category))
-        }
-        (Err(error), Err(_)) => show::error(alloc, &error),
-        _ => show::word(alloc, "other rules by the options"),
+// The category of a compact decimal by the rules of a locale, which are those that the options
+// name.
+fn category_of_locale(call: &mut Call) {
+    let provider = next_provider(call);
+    let locale = call.text();
+    let rule_type = next_type(call);
+    let number = next_compact(call);
+    if let (Some(provider), Some(number)) = (provider, number) {
+        let options = options_of(rule_type);
+        let by_options = PluralRules::try_new_unstable(&provider, locale.as_str(), options);
+        let by_type = rules_of_type(&provider, locale.as_str(), rule_type);
+        print_category(call, &number, by_options, by_type);
     }
+}
+
+// Prints the category of a number, if both rules choose it.
+fn print_category(
+    call: &mut Call,
+    number: &CompactDecimal,
+    by_options: Result<PluralRules<'_>, DataError>,
+    by_type: Result<PluralRules<'_>, DataError>,
+) {
+    let category = category_by(by_options, number);
+    if category_by(by_type, number) != category {
+        return call.print("another category by the options");
+    }
+    match category {
+        Ok(category) => call.print(name_of(category)),
+        Err(error) => call.print_error(&error),
+    }
+}
+
+// The category of a number by rules that were loaded.
+fn category_by(
+    loaded: Result<PluralRules<'_>, DataError>,
+    number: &CompactDecimal,
+) -> Result<PluralCategory, DataError> {
+    Ok(loaded?.category_for_compact(number))
 }
 
 // The rules of a type, cardinal if it is none.

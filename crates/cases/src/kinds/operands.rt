@@ -1,114 +1,101 @@
 //! The operands of numbers.
 
-use crate::arguments::Arguments;
-use crate::fault::RowFault;
-use crate::kinds::decimals::{next_decimal, next_unsigned};
-use crate::show;
+use crate::call::Call;
+use crate::kinds::decimals::{next_compact, next_decimal, next_unsigned};
 use fixed_decimal::CompactDecimal;
 use plural_reference::ast::Operand;
 use plural_reference::{PluralOperands, RawPluralOperands};
-use std::alloc::Global;
+use std::fmt::Write;
 
-/// Returns the result of a kind of this file.
-pub fn result(
-    alloc: Global,
-    kind: &str,
-    arguments: &mut Arguments,
-) -> Option<Result<String, RowFault>> {
-    Some(match kind {
-        "operands" => operands(alloc, arguments),
-        "decimal_operands" => decimal_operands(alloc, arguments),
-        "unsigned_operands" => unsigned_operands(alloc, arguments),
-        "significand_operands" => significand_operands(alloc, arguments),
-        "shifted_operands" => shifted_operands(alloc, arguments),
-        "integer_operands" => integer_operands(alloc, arguments),
-        "text_operands" => text_operands(alloc, arguments),
-        "default_operands" => shown(alloc, &PluralOperands::default()),
-        _ => return of_six(alloc, kind, arguments),
-    })
+/// Makes the call of a kind of this file. Returns whether there is such a kind.
+pub fn make(kind: &str, call: &mut Call) -> bool {
+    match kind {
+        "operands" => operands(call),
+        "decimal_operands" => decimal_operands(call),
+        "unsigned_operands" => unsigned_operands(call),
+        "significand_operands" => significand_operands(call),
+        "shifted_operands" => shifted_operands(call),
+        "integer_operands" => integer_operands(call),
+        "text_operands" => text_operands(call),
+        "default_operands" => print_operands(call, &PluralOperands::default()),
+        _ => return makes_of_six(kind, call),
+    }
+    true
 }
 
-// The result of a kind that is about operands themselves.
-fn of_six(
-    alloc: Global,
-    kind: &str,
-    arguments: &mut Arguments,
-) -> Option<Result<String, RowFault>> {
-    Some(match kind {
-        "raw_operands" => raw_operands(alloc, arguments),
-        "text_is_exactly" => text_is_exactly(alloc, arguments),
-        "compact_is_exactly" => compact_is_exactly(alloc, arguments),
-        "operand_value" => operand_value(alloc, arguments),
-        _ => return None,
-    })
+// Makes the call of a kind that is about operands themselves.
+fn makes_of_six(kind: &str, call: &mut Call) -> bool {
+    match kind {
+        "raw_operands" => raw_operands(call),
+        "text_is_exactly" => text_is_exactly(call),
+        "compact_is_exactly" => compact_is_exactly(call),
+        "operand_value" => operand_value(call),
+        _ => return false,
+    }
+    true
 }
 
-/// Returns operands with their letters.
-pub fn shown(alloc: Global, operands: &PluralOperands) -> Result<String, RowFault> {
-    shown_raw(alloc, RawPluralOperands::from(*operands))
-}
-
-// Raw operands with their letters.
-fn shown_raw(alloc: Global, raw: RawPluralOperands) -> Result<String, RowFault> {
-    let RawPluralOperands { i, v, w, f, t, c } = raw;
-    Ok(format!(in alloc; "i={i} v={v} w={w} f={f} t={t} c={c}")?)
+// Prints operands with their letters.
+fn print_operands(call: &mut Call, operands: &PluralOperands) {
+    let RawPluralOperands { i, v, w, f, t, c } = RawPluralOperands::from(*operands);
+    let _ = write!(call, "i={i} v={v} w={w} f={f} t={t} c={c}");
 }
 
 // The operands of a compact decimal.
-fn operands(alloc: Global, arguments: &mut Arguments) -> Result<String, RowFault> {
-    let text = arguments.text(alloc)?;
-    match CompactDecimal::from_str(alloc, text.as_str()) {
-        Ok(number) => shown(alloc, &PluralOperands::from(&number)),
-        Err(error) => show::error(alloc, &error),
+fn operands(call: &mut Call) {
+    let text = call.text();
+    match CompactDecimal::from_str(call.alloc, text.as_str()) {
+        Ok(number) => print_operands(call, &PluralOperands::from(&number)),
+        Err(error) => call.print_error(&error),
     }
 }
 
 // The operands of a decimal.
-fn decimal_operands(alloc: Global, arguments: &mut Arguments) -> Result<String, RowFault> {
-    let number = next_decimal(alloc, arguments)?;
-    shown(alloc, &PluralOperands::from(&number))
+fn decimal_operands(call: &mut Call) {
+    if let Some(number) = next_decimal(call) {
+        print_operands(call, &PluralOperands::from(&number));
+    }
 }
 
 // The operands of the absolute value of a decimal.
-fn unsigned_operands(alloc: Global, arguments: &mut Arguments) -> Result<String, RowFault> {
-    let number = next_decimal(alloc, arguments)?;
-    shown(alloc, &PluralOperands::from(&number.absolute))
+fn unsigned_operands(call: &mut Call) {
+    if let Some(number) = next_decimal(call) {
+        print_operands(call, &PluralOperands::from(&number.absolute));
+    }
 }
 
 // The operands of the significand and the exponent of a compact decimal.
-fn significand_operands(alloc: Global, arguments: &mut Arguments) -> Result<String, RowFault> {
-    let text = arguments.text(alloc)?;
-    let Ok(number) = CompactDecimal::from_str(alloc, text.as_str()) else {
-        return Err(RowFault::Not("a compact decimal"));
-    };
-    let absolute = &number.significand().absolute;
-    let exponent = number.exponent();
-    shown(
-        alloc,
-        &PluralOperands::from_significand_and_exponent(absolute, exponent),
-    )
+fn significand_operands(call: &mut Call) {
+    if let Some(number) = next_compact(call) {
+        let absolute = &number.significand().absolute;
+        let exponent = number.exponent();
+        let operands = PluralOperands::from_significand_and_exponent(absolute, exponent);
+        print_operands(call, &operands);
+    }
 }
 
 // The operands of an unsigned decimal that was shifted.
-fn shifted_operands(alloc: Global, arguments: &mut Arguments) -> Result<String, RowFault> {
-    let mut number = next_unsigned(alloc, arguments)?;
-    match number.multiply_pow10(arguments.magnitude()?) {
-        Ok(()) => shown(alloc, &PluralOperands::from(&number)),
-        Err(error) => show::error(alloc, &error),
+fn shifted_operands(call: &mut Call) {
+    let Some(mut number) = next_unsigned(call) else {
+        return;
+    };
+    match number.multiply_pow10(call.magnitude()) {
+        Ok(()) => print_operands(call, &PluralOperands::from(&number)),
+        Err(error) => call.print_error(&error),
     }
 }
 
 // The operands of an integer of a type.
-fn integer_operands(alloc: Global, arguments: &mut Arguments) -> Result<String, RowFault> {
-    let name = arguments.text(alloc)?;
-    let number = arguments.text(alloc)?;
+fn integer_operands(call: &mut Call) {
+    let name = call.text();
+    let number = call.text();
     let found = match unsigned_integer(name.as_str(), number.as_str()) {
         Some(operands) => Some(operands),
         None => signed_integer(name.as_str(), number.as_str()),
     };
     match found {
-        Some(operands) => shown(alloc, &operands),
-        None => Err(RowFault::Not("an integer of the type")),
+        Some(operands) => print_operands(call, &operands),
+        None => call.not("an integer of the type"),
     }
 }
 
@@ -139,64 +126,64 @@ fn signed_integer(name: &str, number: &str) -> Option<PluralOperands> {
 }
 
 // The operands that a text writes.
-fn text_operands(alloc: Global, arguments: &mut Arguments) -> Result<String, RowFault> {
-    let text = arguments.text(alloc)?;
+fn text_operands(call: &mut Call) {
+    let text = call.text();
     match text.as_str().parse::<PluralOperands>() {
-        Ok(operands) => shown(alloc, &operands),
-        Err(error) => show::error(alloc, &error),
+        Ok(operands) => print_operands(call, &operands),
+        Err(error) => call.print_error(&error),
     }
 }
 
 // Operands, made of raw ones and turned into raw ones again.
-fn raw_operands(alloc: Global, arguments: &mut Arguments) -> Result<String, RowFault> {
-    let Ok(operands) = arguments.operands(alloc) else {
-        return Err(RowFault::Not("operands"));
-    };
-    let raw = RawPluralOperands::from(operands);
-    shown(alloc, &PluralOperands::from(raw))
+fn raw_operands(call: &mut Call) {
+    let raw = RawPluralOperands::from(call.operands());
+    print_operands(call, &PluralOperands::from(raw));
 }
 
-// Whether a number is exactly 0 or exactly 1.
-fn shown_exactly(alloc: Global, operands: PluralOperands) -> Result<String, RowFault> {
+// Prints whether a number is exactly 0 or exactly 1.
+fn print_exactly(call: &mut Call, operands: PluralOperands) {
     let zero = operands.is_exactly_zero();
     let one = operands.is_exactly_one();
-    Ok(format!(in alloc; "zero={zero} one={one}")?)
+    let _ = write!(call, "zero={zero} one={one}");
 }
 
 // Whether the number that a text of operands writes is exactly 0 or exactly 1.
-fn text_is_exactly(alloc: Global, arguments: &mut Arguments) -> Result<String, RowFault> {
-    let text = arguments.text(alloc)?;
+fn text_is_exactly(call: &mut Call) {
+    let text = call.text();
     match text.as_str().parse::<PluralOperands>() {
-        Ok(operands) => shown_exactly(alloc, operands),
-        Err(error) => show::error(alloc, &error),
+        Ok(operands) => print_exactly(call, operands),
+        Err(error) => call.print_error(&error),
     }
 }
 
 // Whether a compact decimal is exactly 0 or exactly 1.
-fn compact_is_exactly(alloc: Global, arguments: &mut Arguments) -> Result<String, RowFault> {
-    let text = arguments.text(alloc)?;
-    match CompactDecimal::from_str(alloc, text.as_str()) {
-        Ok(number) => shown_exactly(alloc, PluralOperands::from(&number)),
-        Err(error) => show::error(alloc, &error),
+fn compact_is_exactly(call: &mut Call) {
+    let text = call.text();
+    match CompactDecimal::from_str(call.alloc, text.as_str()) {
+        Ok(number) => print_exactly(call, PluralOperands::from(&number)),
+        Err(error) => call.print_error(&error),
     }
 }
 
 // The value of an operand, if it has one.
-fn operand_value(alloc: Global, arguments: &mut Arguments) -> Result<String, RowFault> {
-    let Ok(operands) = arguments.operands(alloc) else {
-        return Err(RowFault::Not("operands"));
-    };
-    let letter = arguments.text(alloc)?;
-    let operand = operand_of(letter.as_str()).ok_or(RowFault::Not("an operand"))?;
+fn operand_value(call: &mut Call) {
+    let operands = call.operands();
+    let operand = next_operand(call);
     match operands.value(operand) {
-        Some(value) => show::displayed(alloc, &value),
-        None => show::word(alloc, "none"),
+        Some(value) => call.print_value(&value),
+        None => call.print("none"),
     }
 }
 
-// The operand of a letter.
-fn operand_of(letter: &str) -> Option<Operand> {
-    Some(match letter {
+/// Returns the operand that an argument names by its letter.
+pub fn next_operand(call: &mut Call) -> Operand {
+    let letter = call.text();
+    operand_of(call, letter.as_str())
+}
+
+/// Returns the operand of a letter.
+pub fn operand_of(call: &mut Call, letter: &str) -> Operand {
+    match letter {
         "n" => Operand::N,
         "i" => Operand::I,
         "v" => Operand::V,
@@ -205,6 +192,9 @@ fn operand_of(letter: &str) -> Option<Operand> {
         "t" => Operand::T,
         "c" => Operand::C,
         "e" => Operand::E,
-        _ => return None,
-    })
+        _ => {
+            call.not("an operand");
+            Operand::N
+        }
+    }
 }

@@ -1,130 +1,142 @@
 //! Rules as packed bytes, their texts and their trees.
 
-use crate::arguments::Arguments;
-use crate::fault::RowFault;
-use crate::kinds::runs::{Runs, push_word};
+use crate::call::Call;
+use crate::kinds::runs::Runs;
 use crate::kinds::trees;
-use crate::show;
 use plural_reference::{PluralOperands, RawPluralOperands, parse_condition};
 use plural_runtime::{Rule, RuleError, test_rule};
-use std::alloc::Global;
 
-/// Returns the result of a kind of this file.
-pub fn result(
-    alloc: Global,
-    kind: &str,
-    arguments: &mut Arguments,
-) -> Option<Result<String, RowFault>> {
-    Some(match kind {
-        "packed_rule" => packed_rule(alloc, arguments),
-        "packed_rule_size" => packed_rule_size(alloc, arguments),
-        "packed_tree" => packed_tree(alloc, arguments),
-        "printed_rule" => printed_rule(alloc, arguments),
-        "repacked_rule" => repacked_rule(alloc, arguments),
-        "rule_beginnings" => rule_beginnings(alloc, arguments),
-        "condition_comes_back" => condition_comes_back(alloc, arguments),
-        _ => return None,
-    })
+/// Makes the call of a kind of this file. Returns whether there is such a kind.
+pub fn make(kind: &str, call: &mut Call) -> bool {
+    match kind {
+        "packed_rule" => packed_rule(call),
+        "packed_rule_size" => packed_rule_size(call),
+        "packed_tree" => packed_tree(call),
+        "printed_rule" => printed_rule(call),
+        "repacked_rule" => repacked_rule(call),
+        "rule_beginnings" => rule_beginnings(call),
+        "condition_comes_back" => condition_comes_back(call),
+        _ => return false,
+    }
+    true
 }
 
-// The bytes of a rule, or why there is none.
-fn bytes_of_rule(
-    alloc: Global,
-    rule: &Result<Rule<'static>, RuleError>,
-) -> Result<String, RowFault> {
+// Prints the bytes of a rule, or why there is none.
+fn print_packed(call: &mut Call, rule: Result<Rule<'static>, RuleError>) {
     match rule {
-        Ok(rule) => show::bytes(alloc, rule.as_bytes()),
-        Err(error) => show::error(alloc, error),
+        Ok(rule) => call.print_bytes(rule.as_bytes()),
+        Err(error) => call.print_error(&error),
     }
 }
 
 // The bytes of a text's rule.
-fn packed_rule(alloc: Global, arguments: &mut Arguments) -> Result<String, RowFault> {
-    let text = arguments.text(alloc)?;
-    bytes_of_rule(alloc, &Rule::from_str(alloc, text.as_str()))
+fn packed_rule(call: &mut Call) {
+    let text = call.text();
+    let rule = Rule::from_str(call.alloc, text.as_str());
+    print_packed(call, rule);
 }
 
 // How many bytes a text's rule has.
-fn packed_rule_size(alloc: Global, arguments: &mut Arguments) -> Result<String, RowFault> {
-    let text = arguments.text(alloc)?;
-    match Rule::from_str(alloc, text.as_str()) {
-        Ok(rule) => Ok(format!(in alloc; "{} bytes", rule.as_bytes().len())?),
-        Err(error) => show::error(alloc, &error),
+fn packed_rule_size(call: &mut Call) {
+    let text = call.text();
+    match Rule::from_str(call.alloc, text.as_str()) {
+        Ok(rule) => call.print_size(rule.as_bytes()),
+        Err(error) => call.print_error(&error),
     }
 }
 
 // The bytes of a tree's rule.
-fn packed_tree(alloc: Global, arguments: &mut Arguments) -> Result<String, RowFault> {
-    let tree = trees::rule(alloc, &arguments.value()?)?;
-    bytes_of_rule(alloc, &Rule::try_from(alloc, &tree))
+fn packed_tree(call: &mut Call) {
+    let value = call.value();
+    let tree = trees::rule_of(call, &value);
+    let rule = Rule::try_from(call.alloc, &tree);
+    print_packed(call, rule);
 }
 
 // The text of the rule that bytes hold.
-fn printed_rule(alloc: Global, arguments: &mut Arguments) -> Result<String, RowFault> {
-    let bytes = arguments.bytes(alloc)?;
+fn printed_rule(call: &mut Call) {
+    let bytes = call.bytes();
     match Rule::parse_bytes(&bytes) {
-        Ok(rule) => show::quoted(alloc, show::displayed(alloc, &rule)?.as_str()),
-        Err(error) => show::error(alloc, &error),
+        Ok(rule) => {
+            let text = call.made(rule.to_string(call.alloc));
+            call.print_quoted(text.as_str());
+        }
+        Err(error) => call.print_error(&error),
     }
 }
 
 // The bytes of the tree of the rule that bytes hold.
-fn repacked_rule(alloc: Global, arguments: &mut Arguments) -> Result<String, RowFault> {
-    let bytes = arguments.bytes(alloc)?;
+fn repacked_rule(call: &mut Call) {
+    let bytes = call.bytes();
     match Rule::parse_bytes(&bytes) {
-        Ok(rule) => repacked(alloc, &rule),
-        Err(error) => show::error(alloc, &error),
+        Ok(rule) => print_repacked(call, &rule),
+        Err(error) => call.print_error(&error),
     }
 }
 
-// The bytes of a rule's tree, if the tree has no samples and all copies are equal.
-fn repacked(alloc: Global, rule: &Rule<'_>) -> Result<String, RowFault> {
-    let tree = rule.to_ast(alloc)?;
-    if tree.samples.is_some() {
-        return show::word(alloc, "samples");
-    }
-    let Ok(again) = Rule::try_from(alloc, &tree) else {
-        return show::word(alloc, "the tree doesn't pack");
+// Prints the bytes of a rule's tree, if the tree has no samples and all copies are equal.
+fn print_repacked(call: &mut Call, rule: &Rule<'_>) {
+    let Ok(tree) = rule.to_ast(call.alloc) else {
+        return call.out_of_memory();
     };
-    if again.try_clone()? != *rule || rule.try_clone()? != *rule || rule.as_borrowed() != *rule {
-        return show::word(alloc, "another clone");
+    if tree.samples.is_some() {
+        return call.print("samples");
     }
-    show::bytes(alloc, again.as_bytes())
+    match Rule::try_from(call.alloc, &tree) {
+        Ok(again) if has_equal_copies(&again, rule) => call.print_bytes(again.as_bytes()),
+        Ok(_) => call.print("another clone"),
+        Err(_) => call.print("the tree doesn't pack"),
+    }
+}
+
+// Whether both rules are equal, to their clones too, and the second one to itself, borrowed.
+fn has_equal_copies(again: &Rule<'_>, rule: &Rule<'_>) -> bool {
+    *again == *rule && has_clone(again) && has_clone(rule) && rule.as_borrowed() == *rule
+}
+
+// Whether the clone of a rule is equal to it.
+fn has_clone(rule: &Rule<'_>) -> bool {
+    match rule.try_clone() {
+        Ok(clone) => clone == *rule,
+        Err(_) => false,
+    }
 }
 
 // What each beginning of bytes is.
-fn rule_beginnings(alloc: Global, arguments: &mut Arguments) -> Result<String, RowFault> {
-    let bytes = arguments.bytes(alloc)?;
+fn rule_beginnings(call: &mut Call) {
+    let bytes = call.bytes();
     let bytes = bytes.as_slice();
-    let mut runs = Runs::new(alloc);
+    let mut runs = Runs::new(call);
     for end in 0..=bytes.len() {
-        let result = match Rule::parse_bytes(&bytes[..end]) {
-            Ok(rule) => truths(alloc, &rule),
-            Err(error) => show::error(alloc, &error),
-        };
-        runs.push(result?)?;
+        match Rule::parse_bytes(&bytes[..end]) {
+            Ok(rule) => print_truths(call, &rule),
+            Err(error) => call.print_error(&error),
+        }
+        runs.take(call);
     }
-    runs.shown(alloc)
+    runs.print(call);
 }
 
-// At which of four numbers a rule is true.
-fn truths(alloc: Global, rule: &Rule<'_>) -> Result<String, RowFault> {
+// Prints at which of four numbers a rule is true.
+fn print_truths(call: &mut Call, rule: &Rule<'_>) {
     let numbers = [
         ("0", PluralOperands::from(0u8)),
         ("1", PluralOperands::from(1u8)),
         ("2", PluralOperands::from(2u8)),
         ("1.5", one_and_a_half()),
     ];
-    let mut shown = String::new(alloc);
+    let mut is_found = false;
+    call.print("true at");
     for (number, operands) in numbers {
         if test_rule(rule, &operands) {
-            push_word(&mut shown, number)?;
+            is_found = true;
+            call.print(" ");
+            call.print(number);
         }
     }
-    if shown.is_empty() {
-        shown.push_str("none")?;
+    if !is_found {
+        call.print(" none");
     }
-    Ok(format!(in alloc; "true at {shown}")?)
 }
 
 // The operands of 1.5.
@@ -140,15 +152,20 @@ fn one_and_a_half() -> PluralOperands {
 }
 
 // Whether the tree of a text's rule has the condition that the text is read as, and a clone of it.
-fn condition_comes_back(alloc: Global, arguments: &mut Arguments) -> Result<String, RowFault> {
-    let text = arguments.text(alloc)?;
-    let Ok(rule) = Rule::from_str(alloc, text.as_str()) else {
-        return show::word(alloc, "no rule");
+fn condition_comes_back(call: &mut Call) {
+    let text = call.text();
+    let Ok(rule) = Rule::from_str(call.alloc, text.as_str()) else {
+        return call.print("no rule");
     };
-    let Ok(condition) = parse_condition(alloc, text.as_bytes()) else {
-        return show::word(alloc, "no condition");
+    let Ok(condition) = parse_condition(call.alloc, text.as_bytes()) else {
+        return call.print("no condition");
     };
-    let found = rule.to_ast(alloc)?.condition;
-    let clone = found.try_clone()?;
-    show::truth(alloc, found == condition && clone == condition)
+    let Ok(tree) = rule.to_ast(call.alloc) else {
+        return call.out_of_memory();
+    };
+    let found = tree.condition;
+    match found.try_clone() {
+        Ok(clone) => call.print_truth(found == condition && clone == condition),
+        Err(_) => call.out_of_memory(),
+    }
 }

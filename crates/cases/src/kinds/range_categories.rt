@@ -1,109 +1,110 @@
 //! The categories of ranges of numbers.
 
-use crate::arguments::Arguments;
-use crate::fault::RowFault;
+use crate::call::Call;
 use crate::kinds::categories::{category, name_of};
-use crate::kinds::locales::{options_of, provider, rule_type};
-use crate::show;
-use fixed_decimal::Decimal;
+use crate::kinds::decimals::next_decimal;
+use crate::kinds::locales::{next_provider, next_type, options_of};
 use plural_base::{
     DataError, JsonProvider, PluralCategory, PluralRuleType, PluralRules, PluralRulesWithRanges,
 };
 use plural_reference::PluralOperands;
-use std::alloc::Global;
 
-/// Returns the result of a kind of this file.
-pub fn result(
-    alloc: Global,
-    kind: &str,
-    arguments: &mut Arguments,
-) -> Option<Result<String, RowFault>> {
-    Some(match kind {
-        "resolved_range" => resolved_range(alloc, arguments),
-        "range_of_rules" => range_of_rules(alloc, arguments),
-        "rules_beside_ranges" => rules_beside_ranges(alloc, arguments),
-        "range_category" => range_category(alloc, arguments),
-        _ => return None,
-    })
-}
-
-// A category or the error.
-fn shown(alloc: Global, found: Result<PluralCategory, DataError>) -> Result<String, RowFault> {
-    match found {
-        Ok(category) => show::word(alloc, name_of(category)),
-        Err(error) => show::error(alloc, &error),
+/// Makes the call of a kind of this file. Returns whether there is such a kind.
+pub fn make(kind: &str, call: &mut Call) -> bool {
+    match kind {
+        "resolved_range" => resolved_range(call),
+        "range_of_rules" => range_of_rules(call),
+        "rules_beside_ranges" => rules_beside_ranges(call),
+        "range_category" => range_category(call),
+        _ => return false,
     }
+    true
 }
 
 // The category of a pair by given rules and the locale's ranges.
-fn resolved_range(alloc: Global, arguments: &mut Arguments) -> Result<String, RowFault> {
-    let provider = provider(alloc, arguments)?;
-    let locale = arguments.text(alloc)?;
-    let rules = PluralRules::from_data(arguments.rules(alloc)?);
-    let start = category(alloc, arguments)?;
-    let end = category(alloc, arguments)?;
+fn resolved_range(call: &mut Call) {
+    let Some(provider) = next_provider(call) else {
+        return;
+    };
+    let locale = call.text();
+    let rules = PluralRules::from_data(call.rules());
+    let start = category(call);
+    let end = category(call);
     let both = PluralRulesWithRanges::try_new_with_rules_unstable(&provider, &locale, &rules);
-    shown(alloc, both.map(|ranges| ranges.resolve_range(start, end)))
+    match both {
+        Ok(ranges) => call.print(name_of(ranges.resolve_range(start, end))),
+        Err(error) => call.print_error(&error),
+    }
 }
 
 // The operands of a decimal.
-fn operands(alloc: Global, arguments: &mut Arguments) -> Result<PluralOperands, RowFault> {
-    let text = arguments.text(alloc)?;
-    match Decimal::from_str(alloc, text.as_str()) {
-        Ok(number) => Ok(PluralOperands::from(&number)),
-        Err(_) => Err(RowFault::Not("a decimal")),
+fn next_operands(call: &mut Call) -> PluralOperands {
+    match next_decimal(call) {
+        Some(number) => PluralOperands::from(&number),
+        None => PluralOperands::default(),
     }
 }
 
 // The category of a range of decimals by given rules and the locale's ranges.
-fn range_of_rules(alloc: Global, arguments: &mut Arguments) -> Result<String, RowFault> {
-    let provider = provider(alloc, arguments)?;
-    let locale = arguments.text(alloc)?;
-    let rules = PluralRules::from_data(arguments.rules(alloc)?);
-    let Ok(start) = operands(alloc, arguments) else {
-        return Err(RowFault::Not("a decimal"));
+fn range_of_rules(call: &mut Call) {
+    let Some(provider) = next_provider(call) else {
+        return;
     };
-    let Ok(end) = operands(alloc, arguments) else {
-        return Err(RowFault::Not("a decimal"));
-    };
+    let locale = call.text();
+    let rules = PluralRules::from_data(call.rules());
+    let start = next_operands(call);
+    let end = next_operands(call);
     let both = PluralRulesWithRanges::try_new_with_rules_unstable(&provider, &locale, rules);
-    shown(
-        alloc,
-        both.map(|ranges| ranges.category_for_range(start, end)),
-    )
+    match both {
+        Ok(ranges) => call.print(name_of(ranges.category_for_range(start, end))),
+        Err(error) => call.print_error(&error),
+    }
 }
 
 // The category of an integer by the rules that stand beside the ranges.
-fn rules_beside_ranges(alloc: Global, arguments: &mut Arguments) -> Result<String, RowFault> {
-    let provider = provider(alloc, arguments)?;
-    let locale = arguments.text(alloc)?;
-    let rules = PluralRules::from_data(arguments.rules(alloc)?);
-    let operands = PluralOperands::from(arguments.number()?);
+fn rules_beside_ranges(call: &mut Call) {
+    let Some(provider) = next_provider(call) else {
+        return;
+    };
+    let locale = call.text();
+    let rules = PluralRules::from_data(call.rules());
+    let operands = PluralOperands::from(call.number());
     let both = PluralRulesWithRanges::try_new_with_rules_unstable(&provider, &locale, &rules);
-    shown(
-        alloc,
-        both.map(|ranges| ranges.rules().category_for(operands)),
-    )
+    match both {
+        Ok(ranges) => call.print(name_of(ranges.rules().category_for(operands))),
+        Err(error) => call.print_error(&error),
+    }
 }
 
-// The category of a range of integers by the locale's own rules, which are those that the options name.
-fn range_category(alloc: Global, arguments: &mut Arguments) -> Result<String, RowFault> {
-    let provider = provider(alloc, arguments)?;
-    let locale = arguments.text(alloc)?;
-    let rule_type = rule_type(alloc, arguments)?;
-    let start = PluralOperands::from(arguments.number()?);
-    let end = PluralOperands::from(arguments.number()?);
+// The category of a range of integers by the locale's own rules, which are those that the options
+// name.
+fn range_category(call: &mut Call) {
+    let Some(provider) = next_provider(call) else {
+        return;
+    };
+    let locale = call.text();
+    let rule_type = next_type(call);
+    let start = PluralOperands::from(call.number());
+    let end = PluralOperands::from(call.number());
     let options = options_of(rule_type);
-    let by_options = PluralRulesWithRanges::try_new_unstable(&provider, &locale, options).map(
-        |rules| rules.category_for_range(start, end),
-    );
-    let by_type = by_type(&provider, &locale, rule_type).map(|rules| rules.category_for_range(
-        start, end,
-    ));
-    if by_options != by_type {
-        return show::word(alloc, "another category by the options");
+    let by_options = PluralRulesWithRanges::try_new_unstable(&provider, &locale, options);
+    let found = category_of_range(by_options, start, end);
+    if category_of_range(by_type(&provider, &locale, rule_type), start, end) != found {
+        return call.print("another category by the options");
     }
-    shown(alloc, by_type)
+    match found {
+        Ok(category) => call.print(name_of(category)),
+        Err(error) => call.print_error(&error),
+    }
+}
+
+// The category of a range by rules and ranges that were loaded.
+fn category_of_range(
+    loaded: Result<PluralRulesWithRanges<PluralRules<'_>>, DataError>,
+    start: PluralOperands,
+    end: PluralOperands,
+) -> Result<PluralCategory, DataError> {
+    Ok(loaded?.category_for_range(start, end))
 }
 
 // The rules of a type, cardinal if it is none, and the ranges of a locale.

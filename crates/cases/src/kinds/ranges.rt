@@ -1,153 +1,151 @@
 //! Ranges of categories, and tables of them.
 
-use crate::arguments::{Arguments, text_of};
-use crate::fault::RowFault;
-use crate::kinds::runs::push_word;
-use crate::show;
+use crate::arguments::items_of;
+use crate::call::Call;
 use plural_base::{PluralCategory, PluralRanges, RawPluralCategory, UnvalidatedPluralRange};
 use serde_json::Value;
-use std::alloc::Global;
+use std::fmt::Write;
 
-/// Returns the result of a kind of this file.
-pub fn result(
-    alloc: Global,
-    kind: &str,
-    arguments: &mut Arguments,
-) -> Option<Result<String, RowFault>> {
-    Some(match kind {
-        "range_key" => range_key(alloc, arguments),
-        "range_of_text" => range_of_text(alloc, arguments),
-        "range_of_byte" => range_of_byte(alloc, arguments),
-        "range_order" => range_order(alloc, arguments),
-        "range_json" => range_json(alloc, arguments),
-        "range_table" => range_table(alloc, arguments),
-        "ranges_json" => ranges_json(alloc, arguments),
-        _ => return None,
-    })
+/// Makes the call of a kind of this file. Returns whether there is such a kind.
+pub fn make(kind: &str, call: &mut Call) -> bool {
+    match kind {
+        "range_key" => range_key(call),
+        "range_of_text" => range_of_text(call),
+        "range_of_byte" => range_of_byte(call),
+        "range_order" => range_order(call),
+        "range_json" => range_json(call),
+        "range_table" => range_table(call),
+        "ranges_json" => ranges_json(call),
+        _ => return false,
+    }
+    true
 }
 
 // The raw category that a value names.
-fn raw_category(alloc: Global, value: &Value) -> Result<RawPluralCategory, RowFault> {
-    let name = text_of(alloc, value)?;
+fn raw_category(call: &mut Call, value: &Value) -> RawPluralCategory {
+    let name = call.text_of(value);
     match PluralCategory::get_for_cldr_string(name.as_str()) {
-        Some(category) => Ok(RawPluralCategory::from(category)),
-        None => Err(RowFault::Not("a category")),
+        Some(category) => RawPluralCategory::from(category),
+        None => {
+            call.not("a category");
+            RawPluralCategory::Other
+        }
     }
 }
 
 // The byte and the text of a range, from which it is read again.
-fn range_key(alloc: Global, arguments: &mut Arguments) -> Result<String, RowFault> {
-    let start = raw_category(alloc, &arguments.value()?)?;
-    let end = raw_category(alloc, &arguments.value()?)?;
+fn range_key(call: &mut Call) {
+    let (start, end) = (call.value(), call.value());
+    let start = raw_category(call, &start);
+    let end = raw_category(call, &end);
     let range = UnvalidatedPluralRange::from_range(start, end);
-    let Ok(written) = range.to_json(alloc) else {
-        return show::word(alloc, "no text");
-    };
-    let Some(text) = written.as_str() else {
-        return show::word(alloc, "no text");
-    };
-    let is_read = UnvalidatedPluralRange::from_text(text) == Some(range);
-    if !is_read || UnvalidatedPluralRange::from_json(&written) != Ok(range) {
-        return show::word(alloc, "another range is read");
+    match range.to_json(call.alloc) {
+        Ok(written) if is_read(range, &written) => {
+            let text = written.as_str().unwrap_or("no text");
+            let _ = write!(call, "{} {text}", range.0);
+        }
+        Ok(_) => call.print("another range is read"),
+        Err(_) => call.print("no text"),
     }
-    Ok(format!(in alloc; "{} {text}", range.0)?)
+}
+
+// Whether a range is read from what was written for it.
+fn is_read(range: UnvalidatedPluralRange, written: &Value) -> bool {
+    let text = written.as_str().unwrap_or("");
+    UnvalidatedPluralRange::from_text(text) == Some(range)
+        && UnvalidatedPluralRange::from_json(written) == Ok(range)
 }
 
 // The byte of the range that a text names.
-fn range_of_text(alloc: Global, arguments: &mut Arguments) -> Result<String, RowFault> {
-    let text = arguments.text(alloc)?;
+fn range_of_text(call: &mut Call) {
+    let text = call.text();
     match UnvalidatedPluralRange::from_text(text.as_str()) {
-        Some(range) => Ok(format!(in alloc; "{}", range.0)?),
-        None => show::word(alloc, "none"),
+        Some(range) => call.print_value(&range.0),
+        None => call.print("none"),
     }
 }
 
 // The text of a byte, as JSON.
-fn range_of_byte(alloc: Global, arguments: &mut Arguments) -> Result<String, RowFault> {
-    match UnvalidatedPluralRange(arguments.byte()?).to_json(alloc) {
-        Ok(value) => Ok(value.to_string(alloc)?),
-        Err(error) => show::error(alloc, &error),
+fn range_of_byte(call: &mut Call) {
+    match UnvalidatedPluralRange(call.byte()).to_json(call.alloc) {
+        Ok(value) => call.print_json(&value),
+        Err(error) => call.print_error(&error),
     }
 }
 
 // How one range stands to another.
-fn range_order(alloc: Global, arguments: &mut Arguments) -> Result<String, RowFault> {
-    let first = UnvalidatedPluralRange(arguments.byte()?);
-    let second = UnvalidatedPluralRange(arguments.byte()?);
-    show::name(alloc, &first.cmp(&second))
+fn range_order(call: &mut Call) {
+    let first = UnvalidatedPluralRange(call.byte());
+    let second = UnvalidatedPluralRange(call.byte());
+    call.print_name(&first.cmp(&second));
 }
 
 // The byte of the range that JSON names.
-fn range_json(alloc: Global, arguments: &mut Arguments) -> Result<String, RowFault> {
-    match UnvalidatedPluralRange::from_json(&arguments.value()?) {
-        Ok(range) => Ok(format!(in alloc; "{}", range.0)?),
-        Err(error) => show::error(alloc, &error),
+fn range_json(call: &mut Call) {
+    match UnvalidatedPluralRange::from_json(&call.value()) {
+        Ok(range) => call.print_value(&range.0),
+        Err(error) => call.print_error(&error),
     }
 }
 
 // What each step finds in a table that was empty, and then the table.
-fn range_table(alloc: Global, arguments: &mut Arguments) -> Result<String, RowFault> {
-    let steps = arguments.list()?;
+fn range_table(call: &mut Call) {
     let mut table = PluralRanges::new();
-    let mut shown = String::new(alloc);
     if table != PluralRanges::default() || !table.is_empty() {
-        return show::word(alloc, "another table at first");
+        return call.print("another table at first");
     }
-    for step in &steps {
-        let found = match taken(alloc, &mut table, step)? {
-            Some(category) => category.as_str(),
-            None => "none",
-        };
-        push_word(&mut shown, found)?;
+    for step in &call.list() {
+        let found = take_step(call, &mut table, step);
+        call.separate(" ");
+        match found {
+            Some(category) => call.print(category.as_str()),
+            None => call.print("none"),
+        }
     }
-    if !shown.is_empty() {
-        shown.push_str(", ")?;
-    }
-    shown.push_str(table_shown(alloc, &table)?.as_str())?;
-    Ok(shown)
+    call.separate(", ");
+    print_table(call, &table);
 }
 
 // Puts a category or looks one up, and returns what was found.
-fn taken(
-    alloc: Global,
-    table: &mut PluralRanges,
-    step: &Value,
-) -> Result<Option<RawPluralCategory>, RowFault> {
-    let Value::Array(words) = step else {
-        return Err(RowFault::Not("a step"));
-    };
-    match words.as_slice() {
-        [start, end] => Ok(table.get(raw_category(alloc, start)?, raw_category(alloc, end)?)),
-        [start, end, category] => {
-            let start = raw_category(alloc, start)?;
-            let end = raw_category(alloc, end)?;
-            Ok(table.insert(start, end, raw_category(alloc, category)?))
+fn take_step(call: &mut Call, table: &mut PluralRanges, step: &Value) -> Option<RawPluralCategory> {
+    match items_of(step) {
+        [start, end] => {
+            let (start, end) = (raw_category(call, start), raw_category(call, end));
+            table.get(start, end)
         }
-        _ => Err(RowFault::Not("a step")),
+        [start, end, category] => {
+            let (start, end) = (raw_category(call, start), raw_category(call, end));
+            table.insert(start, end, raw_category(call, category))
+        }
+        _ => {
+            call.not("a step");
+            None
+        }
     }
 }
 
-// How many pairs a table has, and the table as JSON, from which it is read again.
-fn table_shown(alloc: Global, table: &PluralRanges) -> Result<String, RowFault> {
-    let Ok(value) = table.to_json(alloc) else {
-        return Err(RowFault::Memory);
+// Prints how many pairs a table has, and the table as JSON, from which it is read again.
+fn print_table(call: &mut Call, table: &PluralRanges) {
+    let Ok(value) = table.to_json(call.alloc) else {
+        return call.out_of_memory();
     };
     let copy = *table;
-    if PluralRanges::from_json(&value) != Ok(copy) || copy.is_empty() != (copy.len() == 0) {
-        return show::word(alloc, "another table is read");
+    if PluralRanges::from_json(&value) != Ok(copy)
+        || copy.is_empty() != (copy == PluralRanges::new())
+    {
+        return call.print("another table is read");
     }
-    let json = value.to_string(alloc)?;
-    Ok(format!(in alloc; "{} {json}", table.len())?)
+    let _ = write!(call, "{} ", table.len());
+    call.print_json(&value);
 }
 
 // The table that JSON holds, as JSON again.
-fn ranges_json(alloc: Global, arguments: &mut Arguments) -> Result<String, RowFault> {
-    let table = match PluralRanges::from_json(&arguments.value()?) {
-        Ok(table) => table,
-        Err(error) => return show::error(alloc, &error),
-    };
-    match table.to_json(alloc) {
-        Ok(value) => Ok(value.to_string(alloc)?),
-        Err(error) => show::error(alloc, &error),
+fn ranges_json(call: &mut Call) {
+    match PluralRanges::from_json(&call.value()) {
+        Ok(table) => match table.to_json(call.alloc) {
+            Ok(value) => call.print_json(&value),
+            Err(error) => call.print_error(&error),
+        },
+        Err(error) => call.print_error(&error),
     }
 }

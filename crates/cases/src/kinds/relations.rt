@@ -1,101 +1,104 @@
 //! The relations of packed rules, and the parts that they are made of.
 
-use crate::arguments::Arguments;
-use crate::fault::RowFault;
-use crate::kinds::runs::{push_part, push_word};
+use crate::call::Call;
+use crate::kinds::operands::next_operand;
 use crate::kinds::trees;
-use crate::show;
 use plural_reference::ast;
 use plural_runtime::{AndOrPolarityOperand, Operand, RangeOrValue, Relation, Rule};
-use std::alloc::Global;
+use std::fmt::Write;
 
-/// Returns the result of a kind of this file.
-pub fn result(
-    alloc: Global,
-    kind: &str,
-    arguments: &mut Arguments,
-) -> Option<Result<String, RowFault>> {
-    Some(match kind {
-        "relations" => relations(alloc, arguments),
-        "relation_bytes" => relation_bytes(alloc, arguments),
-        "equal_relations" => equal_relations(alloc, arguments),
-        "first_byte" => first_byte(alloc, arguments),
-        "range_bytes" => range_bytes(alloc, arguments),
-        "range_of_bytes" => range_of_bytes(alloc, arguments),
-        "tree_range" => tree_range(alloc, arguments),
-        "with_modulo" => with_modulo(alloc, arguments),
-        _ => return None,
-    })
+/// Makes the call of a kind of this file. Returns whether there is such a kind.
+pub fn make(kind: &str, call: &mut Call) -> bool {
+    match kind {
+        "relations" => relations(call),
+        "relation_bytes" => relation_bytes(call),
+        "equal_relations" => equal_relations(call),
+        "first_byte" => first_byte(call),
+        "range_bytes" => range_bytes(call),
+        "range_of_bytes" => range_of_bytes(call),
+        "tree_range" => tree_range(call),
+        "with_modulo" => with_modulo(call),
+        _ => return false,
+    }
+    true
 }
 
 // The rule of a text argument.
-fn rule(alloc: Global, arguments: &mut Arguments) -> Result<Rule<'static>, RowFault> {
-    let text = arguments.text(alloc)?;
-    Rule::from_str(alloc, text.as_str()).map_err(|_| RowFault::Not("a rule"))
+fn next_rule(call: &mut Call) -> Option<Rule<'static>> {
+    let text = call.text();
+    let rule = Rule::from_str(call.alloc, text.as_str()).ok();
+    if rule.is_none() {
+        call.not("a rule");
+    }
+    rule
 }
 
 // How many relations a rule has, and the parts of each.
-fn relations(alloc: Global, arguments: &mut Arguments) -> Result<String, RowFault> {
-    let rule = rule(alloc, arguments)?;
+fn relations(call: &mut Call) {
+    let Some(rule) = next_rule(call) else {
+        return;
+    };
+    let count = rule.len();
     let mut in_turn = rule.iter();
-    if in_turn.size_hint() != (rule.len(), Some(rule.len())) {
-        return show::word(alloc, "another count in turn");
+    if in_turn.size_hint() != (count, Some(count)) {
+        return call.print("another count in turn");
     }
-    let mut shown = String::new(alloc);
-    for _ in 0..rule.len() {
+    let _ = write!(call, "{count}:");
+    for place in 0..count {
         if let Some(relation) = in_turn.next() {
-            push_part(&mut shown, parts(alloc, &relation.as_relation())?.as_str())?;
+            call.print(if place == 0 { " " } else { ", " });
+            print_parts(call, &relation.as_relation());
         }
     }
-    if in_turn.next().is_some() || rule.get(rule.len()).is_some() {
-        return show::word(alloc, "a relation after the last one");
+    if in_turn.next().is_some() || rule.get(count).is_some() {
+        call.print_alone("a relation after the last one");
     }
-    Ok(format!(in alloc; "{}: {shown}", rule.len())?)
 }
 
-// The parts of a relation.
-fn parts(alloc: Global, relation: &Relation<'_>) -> Result<String, RowFault> {
+// Prints the parts of a relation.
+fn print_parts(call: &mut Call, relation: &Relation<'_>) {
     let (and_or, polarity) = (relation.and_or(), relation.polarity());
     let (operand, modulo) = (relation.operand(), relation.modulo());
-    let mut shown = format!(in alloc; "{and_or:?} {polarity:?} {operand:?} {modulo}")?;
+    let _ = write!(call, "{and_or:?} {polarity:?} {operand:?} {modulo}");
     for place in 0..relation.len() {
         if let Some(range) = relation.range(place) {
-            push_word(&mut shown, show::name(alloc, &range)?.as_str())?;
+            let _ = write!(call, " {range:?}");
         }
     }
     if relation.range(relation.len()).is_some() {
-        return show::word(alloc, "a range after the last one");
+        call.print(" and a range after the last one");
     }
-    Ok(shown)
 }
 
 // The bytes of one relation.
-fn relation_bytes(alloc: Global, arguments: &mut Arguments) -> Result<String, RowFault> {
-    let rule = rule(alloc, arguments)?;
-    match rule.get(arguments.size()?) {
-        Some(relation) => show::bytes(alloc, relation.as_bytes()),
-        None => show::word(alloc, "none"),
+fn relation_bytes(call: &mut Call) {
+    let Some(rule) = next_rule(call) else {
+        return;
+    };
+    match rule.get(call.size()) {
+        Some(relation) => call.print_bytes(relation.as_bytes()),
+        None => call.print("none"),
     }
 }
 
 // Which relations say what the first one says.
-fn equal_relations(alloc: Global, arguments: &mut Arguments) -> Result<String, RowFault> {
-    let rule = rule(alloc, arguments)?;
+fn equal_relations(call: &mut Call) {
+    let Some(rule) = next_rule(call) else {
+        return;
+    };
     let Some(first) = rule.get(0) else {
-        return show::word(alloc, "none");
+        return call.print("none");
     };
     let first = first.as_relation();
-    let mut shown = String::new(alloc);
     for other in rule.iter() {
-        let same = first == other.as_relation();
-        push_word(&mut shown, show::truth(alloc, same)?.as_str())?;
+        call.separate(" ");
+        call.print_truth(first == other.as_relation());
     }
-    Ok(shown)
 }
 
 // The parts of a relation's first byte, and the byte of these parts.
-fn first_byte(alloc: Global, arguments: &mut Arguments) -> Result<String, RowFault> {
-    match AndOrPolarityOperand::from_unaligned(arguments.byte()?) {
+fn first_byte(call: &mut Call) {
+    match AndOrPolarityOperand::from_unaligned(call.byte()) {
         Some(parts) => {
             let AndOrPolarityOperand {
                 and_or,
@@ -103,52 +106,51 @@ fn first_byte(alloc: Global, arguments: &mut Arguments) -> Result<String, RowFau
                 operand,
             } = parts;
             let again = parts.to_unaligned();
-            Ok(format!(in alloc; "{and_or:?} {polarity:?} {operand:?} {again}")?)
+            let _ = write!(call, "{and_or:?} {polarity:?} {operand:?} {again}");
         }
-        None => show::word(alloc, "none"),
+        None => call.print("none"),
     }
 }
 
-// A range of a list of one value or of two ends, of 32 bits each.
-fn small_range(arguments: &mut Arguments) -> Result<RangeOrValue, RowFault> {
-    let range = trees::range(&arguments.value()?)?;
-    RangeOrValue::try_from(&range).map_err(|_| RowFault::Not("a range of 32 bits"))
-}
-
-// The bytes of a range.
-fn range_bytes(alloc: Global, arguments: &mut Arguments) -> Result<String, RowFault> {
-    let bytes = small_range(arguments)?.to_unaligned();
-    show::bytes(alloc, bytes.as_slice())
+// The bytes of a range of one value or of two ends, of 32 bits each.
+fn range_bytes(call: &mut Call) {
+    let value = call.value();
+    match RangeOrValue::try_from(&trees::range_of(call, &value)) {
+        Ok(range) => call.print_bytes(range.to_unaligned().as_slice()),
+        Err(_) => call.not("a range of 32 bits"),
+    }
 }
 
 // The range of eight bytes.
-fn range_of_bytes(alloc: Global, arguments: &mut Arguments) -> Result<String, RowFault> {
-    let bytes = arguments.bytes(alloc)?;
+fn range_of_bytes(call: &mut Call) {
+    let bytes = call.bytes();
     let [a, b, c, d, e, f, g, h] = bytes.as_slice() else {
-        return Err(RowFault::Not("eight bytes"));
+        return call.not("eight bytes");
     };
-    let range = RangeOrValue::from_unaligned([*a, *b, *c, *d, *e, *f, *g, *h]);
-    show::name(alloc, &range)
+    call.print_name(&RangeOrValue::from_unaligned([*a, *b, *c, *d, *e, *f, *g, *h]));
 }
 
 // The range of a tree's range, if that of the tree is made from it again.
-fn tree_range(alloc: Global, arguments: &mut Arguments) -> Result<String, RowFault> {
-    let item = trees::range(&arguments.value()?)?;
+fn tree_range(call: &mut Call) {
+    let value = call.value();
+    let item = trees::range_of(call, &value);
     match RangeOrValue::try_from(&item) {
-        Ok(range) if ast::RangeListItem::from(range) == item => show::name(alloc, &range),
-        Ok(_) => show::word(alloc, "another range of the tree"),
-        Err(error) => show::error(alloc, &error),
+        Ok(range) if ast::RangeListItem::from(range) == item => call.print_name(&range),
+        Ok(_) => call.print("another range of the tree"),
+        Err(error) => call.print_error(&error),
     }
 }
 
 // An operand with its modulus.
-fn with_modulo(alloc: Global, arguments: &mut Arguments) -> Result<String, RowFault> {
-    let operand = trees::operand(arguments.text(alloc)?.as_str())?;
-    let modulo = u32::try_from(arguments.number()?).map_err(|_| RowFault::Not("a modulus"))?;
-    let expression = Operand::from(operand).with_modulo(modulo);
-    let letter = expression.operand.as_str();
-    match expression.modulus {
-        Some(ast::Value(modulus)) => Ok(format!(in alloc; "{letter} % {modulus}")?),
-        None => show::word(alloc, letter),
+fn with_modulo(call: &mut Call) {
+    let operand = next_operand(call);
+    let modulo = call.number();
+    if modulo > 4294967295 {
+        return call.not("a modulus");
+    }
+    let expression = Operand::from(operand).with_modulo(modulo as u32);
+    call.print(expression.operand.as_str());
+    if let Some(ast::Value(modulus)) = expression.modulus {
+        let _ = write!(call, " % {modulus}");
     }
 }

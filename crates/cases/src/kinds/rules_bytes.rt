@@ -1,50 +1,43 @@
 //! The rules of a language as one block of bytes.
 
-use crate::arguments::Arguments;
-use crate::fault::RowFault;
+use crate::call::Call;
 use crate::kinds::categories::name_of;
-use crate::kinds::five_rules;
+use crate::kinds::five_rules::print_rules;
 use crate::kinds::runs::Runs;
-use crate::show;
 use plural_base::{PluralRules, PluralRulesData};
 use plural_reference::PluralOperands;
 use std::alloc::Global;
 
-/// Returns the result of a kind of this file.
-pub fn result(
-    alloc: Global,
-    kind: &str,
-    arguments: &mut Arguments,
-) -> Option<Result<String, RowFault>> {
-    Some(match kind {
-        "rules_bytes" => rules_bytes(alloc, arguments),
-        "rules_bytes_size" => rules_bytes_size(alloc, arguments),
-        "rules_of_bytes" => rules_of_bytes(alloc, arguments),
-        "category_of_bytes" => category_of_bytes(alloc, arguments),
-        "rules_beginnings" => rules_beginnings(alloc, arguments),
-        _ => return None,
-    })
+/// Makes the call of a kind of this file. Returns whether there is such a kind.
+pub fn make(kind: &str, call: &mut Call) -> bool {
+    match kind {
+        "rules_bytes" => rules_bytes(call),
+        "rules_bytes_size" => rules_bytes_size(call),
+        "rules_of_bytes" => rules_of_bytes(call),
+        "category_of_bytes" => category_of_bytes(call),
+        "rules_beginnings" => rules_beginnings(call),
+        _ => return false,
+    }
+    true
 }
 
 // The bytes of rules, from which the rules are read again.
-fn rules_bytes(alloc: Global, arguments: &mut Arguments) -> Result<String, RowFault> {
-    let rules = arguments.rules(alloc)?;
-    match rules.to_bytes(alloc) {
-        Ok(bytes) if comes_back(alloc, &rules, &bytes) => show::bytes(alloc, &bytes),
-        Ok(_) => show::word(alloc, "other rules are read"),
-        Err(error) => show::error(alloc, &error),
+fn rules_bytes(call: &mut Call) {
+    let rules = call.rules();
+    match rules.to_bytes(call.alloc) {
+        Ok(bytes) if comes_back(call.alloc, &rules, &bytes) => call.print_bytes(&bytes),
+        Ok(_) => call.print("other rules are read"),
+        Err(error) => call.print_error(&error),
     }
 }
 
 // How many bytes rules have, from which they are read again.
-fn rules_bytes_size(alloc: Global, arguments: &mut Arguments) -> Result<String, RowFault> {
-    let rules = arguments.rules(alloc)?;
-    match rules.to_bytes(alloc) {
-        Ok(bytes) if comes_back(alloc, &rules, &bytes) => {
-            Ok(format!(in alloc; "{} bytes", bytes.len())?)
-        }
-        Ok(_) => show::word(alloc, "other rules are read"),
-        Err(error) => show::error(alloc, &error),
+fn rules_bytes_size(call: &mut Call) {
+    let rules = call.rules();
+    match rules.to_bytes(call.alloc) {
+        Ok(bytes) if comes_back(call.alloc, &rules, &bytes) => call.print_size(&bytes),
+        Ok(_) => call.print("other rules are read"),
+        Err(error) => call.print_error(&error),
     }
 }
 
@@ -65,44 +58,42 @@ fn has_bytes(alloc: Global, rules: &PluralRulesData<'_>, bytes: &[u8]) -> bool {
 }
 
 // The rules that bytes hold, as JSON, which have these bytes again.
-fn rules_of_bytes(alloc: Global, arguments: &mut Arguments) -> Result<String, RowFault> {
-    let bytes = arguments.bytes(alloc)?;
+fn rules_of_bytes(call: &mut Call) {
+    let bytes = call.bytes();
     match PluralRulesData::from_bytes(&bytes) {
-        Ok(rules) if has_bytes(alloc, &rules, &bytes) => five_rules::as_json(alloc, &rules),
-        Ok(_) => show::word(alloc, "rules with other bytes"),
-        Err(error) => show::error(alloc, &error),
+        Ok(rules) if has_bytes(call.alloc, &rules, &bytes) => print_rules(call, &rules),
+        Ok(_) => call.print("rules with other bytes"),
+        Err(error) => call.print_error(&error),
     }
 }
 
 // The category of an integer by the rules that bytes hold.
-fn category_of_bytes(alloc: Global, arguments: &mut Arguments) -> Result<String, RowFault> {
-    let bytes = arguments.bytes(alloc)?;
-    let operands = PluralOperands::from(arguments.number()?);
+fn category_of_bytes(call: &mut Call) {
+    let bytes = call.bytes();
+    let operands = PluralOperands::from(call.number());
     match PluralRulesData::from_bytes(&bytes) {
-        Ok(rules) => {
-            let category = PluralRules::from_data(rules).category_for(operands);
-            show::word(alloc, name_of(category))
-        }
-        Err(error) => show::error(alloc, &error),
+        Ok(rules) => call.print(name_of(PluralRules::from_data(rules).category_for(operands))),
+        Err(error) => call.print_error(&error),
     }
 }
 
 // What each beginning of bytes is.
-fn rules_beginnings(alloc: Global, arguments: &mut Arguments) -> Result<String, RowFault> {
-    let bytes = arguments.bytes(alloc)?;
+fn rules_beginnings(call: &mut Call) {
+    let bytes = call.bytes();
     let bytes = bytes.as_slice();
-    let mut runs = Runs::new(alloc);
+    let mut runs = Runs::new(call);
     for end in 0..=bytes.len() {
-        runs.push(beginning(alloc, &bytes[..end])?)?;
+        print_beginning(call, &bytes[..end]);
+        runs.take(call);
     }
-    runs.shown(alloc)
+    runs.print(call);
 }
 
-// What a beginning is: rules that have these bytes again, or a fault.
-fn beginning(alloc: Global, bytes: &[u8]) -> Result<String, RowFault> {
+// Prints what a beginning is: rules that have these bytes again, or a fault.
+fn print_beginning(call: &mut Call, bytes: &[u8]) {
     match PluralRulesData::from_bytes(bytes) {
-        Ok(rules) if has_bytes(alloc, &rules, bytes) => show::word(alloc, "rules"),
-        Ok(_) => show::word(alloc, "rules with other bytes"),
-        Err(error) => show::error(alloc, &error),
+        Ok(rules) if has_bytes(call.alloc, &rules, bytes) => call.print("rules"),
+        Ok(_) => call.print("rules with other bytes"),
+        Err(error) => call.print_error(&error),
     }
 }

@@ -1,138 +1,148 @@
 //! Rules and documents as JSON.
 
-use crate::arguments::Arguments;
-use crate::fault::RowFault;
-use crate::kinds::five_rules;
-use crate::show;
+use crate::call::Call;
+use crate::kinds::five_rules::print_rules;
 use plural_base::{
     JsonError, JsonProvider, PluralRulesData, PluralsProvider, rule_from_json, rule_to_json,
 };
 use plural_runtime::Rule;
 use serde_json::Value;
-use std::alloc::Global;
+use std::fmt::Write;
 
-/// Returns the result of a kind of this file.
-pub fn result(
-    alloc: Global,
-    kind: &str,
-    arguments: &mut Arguments,
-) -> Option<Result<String, RowFault>> {
-    Some(match kind {
-        "rule_json" => rule_json(alloc, arguments),
-        "rules_json" => rules_json(alloc, arguments),
-        "document_json" => document_json(alloc, arguments),
-        "rule_json_text" => rule_json_text(alloc, arguments),
-        "rules_json_text" => rules_json_text(alloc, arguments),
-        "document_json_text" => document_json_text(alloc, arguments),
-        "numbered_locales" => numbered_locales(alloc, arguments),
-        _ => return None,
-    })
+/// Makes the call of a kind of this file. Returns whether there is such a kind.
+pub fn make(kind: &str, call: &mut Call) -> bool {
+    match kind {
+        "rule_json" => rule_json(call),
+        "rules_json" => rules_json(call),
+        "document_json" => document_json(call),
+        "rule_json_text" => rule_json_text(call),
+        "rules_json_text" => rules_json_text(call),
+        "document_json_text" => document_json_text(call),
+        "numbered_locales" => numbered_locales(call),
+        _ => return false,
+    }
+    true
 }
 
 // The rule of a value, as JSON again.
-fn rule_json(alloc: Global, arguments: &mut Arguments) -> Result<String, RowFault> {
-    match rule_from_json(alloc, &arguments.value()?) {
-        Ok(rule) => written(alloc, &rule),
-        Err(error) => show::error(alloc, &error),
+fn rule_json(call: &mut Call) {
+    let value = call.value();
+    match rule_from_json(call.alloc, &value) {
+        Ok(rule) => print_rule(call, &rule),
+        Err(error) => call.print_error(&error),
     }
 }
 
-// A rule as JSON.
-fn written(alloc: Global, rule: &Rule<'_>) -> Result<String, RowFault> {
-    match rule_to_json(alloc, rule) {
-        Ok(value) => Ok(value.to_string(alloc)?),
-        Err(error) => show::error(alloc, &error),
+// Prints a rule as JSON.
+fn print_rule(call: &mut Call, rule: &Rule<'_>) {
+    match rule_to_json(call.alloc, rule) {
+        Ok(value) => call.print_json(&value),
+        Err(error) => call.print_error(&error),
     }
 }
 
 // The five rules of a value, as JSON again.
-fn rules_json(alloc: Global, arguments: &mut Arguments) -> Result<String, RowFault> {
-    match PluralRulesData::from_json(alloc, &arguments.value()?) {
-        Ok(rules) => five_rules::as_json(alloc, &rules),
-        Err(error) => show::error(alloc, &error),
+fn rules_json(call: &mut Call) {
+    let value = call.value();
+    match PluralRulesData::from_json(call.alloc, &value) {
+        Ok(rules) => print_rules(call, &rules),
+        Err(error) => call.print_error(&error),
     }
 }
 
 // Whether a document is taken.
-fn document_json(alloc: Global, arguments: &mut Arguments) -> Result<String, RowFault> {
-    let document = arguments.value()?;
-    taken(alloc, JsonProvider::from_value(alloc, &document).err())
+fn document_json(call: &mut Call) {
+    let document = call.value();
+    let error = JsonProvider::from_value(call.alloc, &document).err();
+    print_taken(call, error);
 }
 
-// `ok`, or the error.
-fn taken(alloc: Global, error: Option<JsonError>) -> Result<String, RowFault> {
+// Prints `ok`, or the error.
+fn print_taken(call: &mut Call, error: Option<JsonError>) {
     match error {
-        None => show::word(alloc, "ok"),
-        Some(error) => show::error(alloc, &error),
+        None => call.print("ok"),
+        Some(error) => call.print_error(&error),
     }
 }
 
-// The value that a text writes.
-fn value_of_text(alloc: Global, arguments: &mut Arguments) -> Result<Value, RowFault> {
-    let text = arguments.text(alloc)?;
-    Value::from_str(alloc, text.as_str()).map_err(|_| RowFault::Not("JSON"))
+/// Returns the value that a text writes.
+pub fn value_of_text(call: &mut Call, text: &str) -> Value {
+    if let Ok(value) = Value::from_str(call.alloc, text) {
+        return value;
+    }
+    call.not("JSON");
+    Value::Null
+}
+
+// The value that a text argument writes.
+fn next_json(call: &mut Call) -> Value {
+    let text = call.text();
+    value_of_text(call, text.as_str())
 }
 
 // Whether a rule is taken.
-fn rule_json_text(alloc: Global, arguments: &mut Arguments) -> Result<String, RowFault> {
-    let value = value_of_text(alloc, arguments)?;
-    taken(alloc, rule_from_json(alloc, &value).err())
+fn rule_json_text(call: &mut Call) {
+    let value = next_json(call);
+    let error = rule_from_json(call.alloc, &value).err();
+    print_taken(call, error);
 }
 
 // Whether five rules are taken.
-fn rules_json_text(alloc: Global, arguments: &mut Arguments) -> Result<String, RowFault> {
-    let value = value_of_text(alloc, arguments)?;
-    taken(alloc, PluralRulesData::from_json(alloc, &value).err())
+fn rules_json_text(call: &mut Call) {
+    let value = next_json(call);
+    let error = PluralRulesData::from_json(call.alloc, &value).err();
+    print_taken(call, error);
 }
 
 // Whether a document is taken.
-fn document_json_text(alloc: Global, arguments: &mut Arguments) -> Result<String, RowFault> {
-    let value = value_of_text(alloc, arguments)?;
-    taken(alloc, JsonProvider::from_value(alloc, &value).err())
+fn document_json_text(call: &mut Call) {
+    let value = next_json(call);
+    let error = JsonProvider::from_value(call.alloc, &value).err();
+    print_taken(call, error);
 }
 
 // How many locales a document has that all have these rules.
-fn numbered_locales(alloc: Global, arguments: &mut Arguments) -> Result<String, RowFault> {
-    let count = arguments.number()?;
-    let rules = arguments.value()?;
-    let Ok(wanted) = PluralRulesData::from_json(alloc, &rules) else {
-        return Err(RowFault::Not("five rules"));
-    };
-    let text = numbered_document(alloc, count, rules.to_string(alloc)?.as_str())?;
-    let value = Value::from_str(alloc, text.as_str()).map_err(|_| RowFault::Not("a document"))?;
-    match JsonProvider::from_value(alloc, &value) {
-        Ok(provider) => locales_with(alloc, &provider, count, &wanted),
-        Err(error) => show::error(alloc, &error),
+fn numbered_locales(call: &mut Call) {
+    let count = call.number();
+    let rules = call.value();
+    let text = numbered_document(call, count, &rules);
+    let document = value_of_text(call, text.as_str());
+    let wanted = PluralRulesData::from_json(call.alloc, &rules);
+    match (JsonProvider::from_value(call.alloc, &document), wanted) {
+        (Ok(provider), Ok(wanted)) => print_locales(call, &provider, count, &wanted),
+        (Err(error), _) => call.print_error(&error),
+        (_, Err(_)) => call.not("five rules"),
     }
 }
 
 // A document with the same rules for the locales l0, l1 and so on.
-fn numbered_document(alloc: Global, count: u64, rules: &str) -> Result<String, RowFault> {
-    let mut text = String::from_str(alloc, "{\"cardinal\":{")?;
+fn numbered_document(call: &mut Call, count: u64, rules: &Value) -> String {
+    let rules = call.made(rules.to_string(call.alloc));
+    call.print("{\"cardinal\":{");
     for place in 0..count {
         let comma = if place == 0 { "" } else { "," };
-        let member = format!(in alloc; "{comma}\"l{place}\":{rules}")?;
-        text.push_str(member.as_str())?;
+        let _ = write!(call, "{comma}\"l{place}\":{rules}");
     }
-    text.push_str("}}")?;
-    Ok(text)
+    call.print("}}");
+    call.take_printed()
 }
 
-// How many of the numbered locales have these rules.
-fn locales_with(
-    alloc: Global,
+// Prints how many of the numbered locales have these rules.
+fn print_locales(
+    call: &mut Call,
     provider: &JsonProvider,
     count: u64,
     wanted: &PluralRulesData<'_>,
-) -> Result<String, RowFault> {
+) {
     let mut found = 0_u64;
     for place in 0..count {
-        let locale = format!(in alloc; "l{place}")?;
+        let _ = write!(call, "l{place}");
+        let locale = call.take_printed();
         if let Ok(rules) = provider.load_cardinal(locale.as_str()) {
             if rules == *wanted {
                 found = found.saturating_add(1);
             }
         }
     }
-    Ok(format!(in alloc; "{found} locales")?)
+    let _ = write!(call, "{found} locales");
 }

@@ -1,7 +1,7 @@
 //! Results of many calls in one text.
 
-use crate::fault::RowFault;
-use std::alloc::Global;
+use crate::call::Call;
+use std::fmt::Write;
 
 /// The results of a call for 0, 1, 2 and so on bytes. Equal neighbours are one run.
 #[derive(Drop)]
@@ -20,68 +20,38 @@ struct Run {
 
 impl Runs {
     /// Returns no results.
-    pub fn new(alloc: Global) -> Runs {
+    pub fn new(call: &Call) -> Runs {
         Runs {
-            runs: Vec::new(alloc),
+            runs: Vec::new(call.alloc),
             count: 0,
         }
     }
 
-    /// Adds the next result.
-    pub fn push(&mut self, text: String) -> Result<(), RowFault> {
+    /// Takes what was printed as the next result.
+    pub fn take(&mut self, call: &mut Call) {
+        let text = call.take_printed();
         let place = self.count;
         self.count = place.saturating_add(1);
         if let Some(run) = self.runs.last_mut() {
             if run.text.as_str() == text.as_str() {
                 run.last = place;
-                return Ok(());
+                return;
             }
         }
-        self.runs.push(Run {
-            first: place,
-            last: place,
-            text,
-        })?;
-        Ok(())
+        let (first, last) = (place, place);
+        call.add_item(&mut self.runs, Run { first, last, text });
     }
 
-    /// Returns the runs, each after its numbers of bytes: `0: rules, 1-3: error List(Header)`.
-    pub fn shown(&self, alloc: Global) -> Result<String, RowFault> {
-        let mut shown = String::new(alloc);
+    /// Prints the runs, each after its numbers of bytes: `0: rules, 1-3: error List(Header)`.
+    pub fn print(&self, call: &mut Call) {
         for run in &self.runs {
-            push_part(&mut shown, run.shown(alloc)?.as_str())?;
-        }
-        Ok(shown)
-    }
-}
-
-impl Run {
-    // The run after its numbers of bytes.
-    fn shown(&self, alloc: Global) -> Result<String, RowFault> {
-        let Run { first, last, text } = self;
-        if first == last {
-            Ok(format!(in alloc; "{first}: {text}")?)
-        } else {
-            Ok(format!(in alloc; "{first}-{last}: {text}")?)
+            call.separate(", ");
+            call.print_value(&run.first);
+            if run.first != run.last {
+                let _ = write!(call, "-{}", run.last);
+            }
+            call.print(": ");
+            call.print(run.text.as_str());
         }
     }
-}
-
-/// Adds a part to a text, after a comma if it isn't the first one.
-pub fn push_part(text: &mut String, part: &str) -> Result<(), RowFault> {
-    push_after(text, ", ", part)
-}
-
-/// Adds a word to a text, after a blank if it isn't the first one.
-pub fn push_word(text: &mut String, word: &str) -> Result<(), RowFault> {
-    push_after(text, " ", word)
-}
-
-// Adds a part to a text, after the mark between parts if it isn't the first one.
-fn push_after(text: &mut String, between: &str, part: &str) -> Result<(), RowFault> {
-    if !text.is_empty() {
-        text.push_str(between)?;
-    }
-    text.push_str(part)?;
-    Ok(())
 }

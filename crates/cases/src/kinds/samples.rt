@@ -1,137 +1,160 @@
 //! Whole rules, and their samples.
 
-use crate::arguments::Arguments;
-use crate::fault::RowFault;
-use crate::kinds::conditions::{next_condition, printed, read_error};
-use crate::show;
-use plural_reference::ast::{Rule, SampleList, Samples};
-use plural_reference::{is_read_whole, parse, parse_without_samples, serialize, serialize_sample_list};
-use std::alloc::Global;
+use crate::call::Call;
+use crate::kinds::conditions::{next_condition, print_condition, print_read_error};
+use plural_reference::ast::{Rule, SampleList};
+use plural_reference::{
+    is_read_whole, parse, parse_without_samples, serialize, serialize_sample_list,
+};
 
-/// Returns the result of a kind of this file.
-pub fn result(
-    alloc: Global,
-    kind: &str,
-    arguments: &mut Arguments,
-) -> Option<Result<String, RowFault>> {
-    Some(match kind {
-        "rule" => rule(alloc, arguments),
-        "rule_read_again" => rule_read_again(alloc, arguments),
-        "rule_without_samples" => rule_without_samples(alloc, arguments),
-        "rule_has_condition" => rule_has_condition(alloc, arguments),
-        "is_read_whole" => whole(alloc, arguments),
-        "samples" => samples(alloc, arguments),
-        "sample_list" => sample_list(alloc, arguments),
-        _ => return None,
-    })
+/// Makes the call of a kind of this file. Returns whether there is such a kind.
+pub fn make(kind: &str, call: &mut Call) -> bool {
+    match kind {
+        "rule" => rule(call),
+        "rule_read_again" => rule_read_again(call),
+        "rule_without_samples" => rule_without_samples(call),
+        "rule_has_condition" => rule_has_condition(call),
+        "is_read_whole" => whole(call),
+        "samples" => samples(call),
+        "sample_list" => sample_list(call),
+        _ => return false,
+    }
+    true
 }
 
 // The text of a rule as it is printed.
-fn printed_rule(alloc: Global, rule: &Rule) -> Result<String, RowFault> {
-    let mut text = String::new(alloc);
-    serialize(rule, &mut text)?;
-    Ok(text)
+fn printed_rule(call: &mut Call, rule: &Rule) -> String {
+    let mut text = call.empty();
+    if serialize(rule, &mut text).is_err() {
+        call.out_of_memory();
+    }
+    text
 }
 
 // The rule of a text, as it is printed.
-fn rule(alloc: Global, arguments: &mut Arguments) -> Result<String, RowFault> {
-    let text = arguments.text(alloc)?;
-    match parse(alloc, text.as_bytes()) {
-        Ok(rule) => show::quoted(alloc, printed_rule(alloc, &rule)?.as_str()),
-        Err(error) => read_error(alloc, error),
+fn rule(call: &mut Call) {
+    let text = call.text();
+    match parse(call.alloc, text.as_bytes()) {
+        Ok(rule) => {
+            let printed = printed_rule(call, &rule);
+            call.print_quoted(printed.as_str());
+        }
+        Err(error) => print_read_error(call, error),
     }
 }
 
+// The rule of a text, which has to be one.
+fn rule_of(call: &mut Call, text: &str) -> Option<Rule> {
+    let rule = parse(call.alloc, text.as_bytes()).ok();
+    if rule.is_none() {
+        call.not("a rule");
+    }
+    rule
+}
+
 // The next argument as a rule, which its text has to be.
-fn next_rule(alloc: Global, arguments: &mut Arguments) -> Result<Rule, RowFault> {
-    let text = arguments.text(alloc)?;
-    parse(alloc, text.as_bytes()).map_err(|_| RowFault::Not("a rule"))
+fn next_rule(call: &mut Call) -> Option<Rule> {
+    let text = call.text();
+    rule_of(call, text.as_str())
 }
 
 // Whether a rule that is printed and read again is the same.
-fn rule_read_again(alloc: Global, arguments: &mut Arguments) -> Result<String, RowFault> {
-    let rule = next_rule(alloc, arguments)?;
-    let text = printed_rule(alloc, &rule)?;
-    match parse(alloc, text.as_bytes()) {
-        Ok(again) => show::truth(alloc, again == rule),
-        Err(error) => read_error(alloc, error),
+fn rule_read_again(call: &mut Call) {
+    let Some(rule) = next_rule(call) else {
+        return;
+    };
+    let text = printed_rule(call, &rule);
+    match parse(call.alloc, text.as_bytes()) {
+        Ok(again) => call.print_truth(again == rule),
+        Err(error) => print_read_error(call, error),
     }
 }
 
 // The condition of a rule's text, as it is printed.
-fn rule_without_samples(alloc: Global, arguments: &mut Arguments) -> Result<String, RowFault> {
-    let text = arguments.text(alloc)?;
-    match parse_without_samples(alloc, text.as_bytes()) {
-        Ok(condition) => printed(alloc, &condition),
-        Err(error) => read_error(alloc, error),
+fn rule_without_samples(call: &mut Call) {
+    let text = call.text();
+    match parse_without_samples(call.alloc, text.as_bytes()) {
+        Ok(condition) => print_condition(call, &condition),
+        Err(error) => print_read_error(call, error),
     }
 }
 
 // Whether a rule has a condition, read with and without its samples.
-fn rule_has_condition(alloc: Global, arguments: &mut Arguments) -> Result<String, RowFault> {
-    let text = arguments.text(alloc)?;
-    let condition = next_condition(alloc, arguments)?;
-    let Ok(rule) = parse(alloc, text.as_bytes()) else {
-        return Err(RowFault::Not("a rule"));
+fn rule_has_condition(call: &mut Call) {
+    let text = call.text();
+    let condition = next_condition(call);
+    let (Some(rule), Some(condition)) = (rule_of(call, text.as_str()), condition) else {
+        return;
     };
-    let Ok(alone) = parse_without_samples(alloc, text.as_bytes()) else {
-        return show::word(alloc, "error");
-    };
-    show::truth(alloc, rule.condition == condition && alone == condition)
+    match parse_without_samples(call.alloc, text.as_bytes()) {
+        Ok(alone) => call.print_truth(rule.condition == condition && alone == condition),
+        Err(_) => call.print("error"),
+    }
 }
 
 // Whether a text is a rule as a whole.
-fn whole(alloc: Global, arguments: &mut Arguments) -> Result<String, RowFault> {
-    let text = arguments.text(alloc)?;
-    show::truth(alloc, is_read_whole(alloc, text.as_bytes())?)
+fn whole(call: &mut Call) {
+    let text = call.text();
+    match is_read_whole(call.alloc, text.as_bytes()) {
+        Ok(is_whole) => call.print_truth(is_whole),
+        Err(_) => call.out_of_memory(),
+    }
 }
 
-// The samples of a rule: after each list's type its ranges, each after a bar, and a star for an ellipsis.
-fn samples(alloc: Global, arguments: &mut Arguments) -> Result<String, RowFault> {
-    let rule = next_rule(alloc, arguments)?;
-    let Some(samples) = &rule.samples else {
-        return show::word(alloc, "none");
+// The samples of a rule: after each list's type its ranges, each after a bar, and a star for an
+// ellipsis.
+fn samples(call: &mut Call) {
+    let Some(rule) = next_rule(call) else {
+        return;
     };
-    shown_samples(alloc, samples)
+    match &rule.samples {
+        Some(samples) => {
+            print_list(call, "integer", &samples.integer);
+            print_list(call, "decimal", &samples.decimal);
+        }
+        None => call.print("none"),
+    }
 }
 
-// Both lists of samples, where they are present.
-fn shown_samples(alloc: Global, samples: &Samples) -> Result<String, RowFault> {
-    let mut shown = String::new(alloc);
-    if let Some(list) = &samples.integer {
-        shown.push_str("integer")?;
-        push_list(&mut shown, list)?;
-    }
-    if let Some(list) = &samples.decimal {
-        shown.push_str("decimal")?;
-        push_list(&mut shown, list)?;
-    }
-    Ok(shown)
-}
-
-// Adds the ranges of a list, each after a bar, and a star for an ellipsis.
-fn push_list(shown: &mut String, list: &SampleList) -> Result<(), RowFault> {
+// Prints the type of a list that is present, its ranges, each after a bar, and a star for an
+// ellipsis.
+fn print_list(call: &mut Call, name: &str, list: &Option<SampleList>) {
+    let Some(list) = list else {
+        return;
+    };
+    call.print(name);
     for range in &list.sample_ranges {
-        shown.push_str("|")?;
-        shown.push_str(range.lower_val.0.as_str())?;
+        call.print("|");
+        call.print(range.lower_val.0.as_str());
         if let Some(upper) = &range.upper_val {
-            shown.push_str("~")?;
-            shown.push_str(upper.0.as_str())?;
+            call.print("~");
+            call.print(upper.0.as_str());
         }
     }
     if list.ellipsis {
-        shown.push_str("*")?;
+        call.print("*");
     }
-    Ok(())
 }
 
 // The list of integers of a rule, as it is printed.
-fn sample_list(alloc: Global, arguments: &mut Arguments) -> Result<String, RowFault> {
-    let rule = next_rule(alloc, arguments)?;
-    let Some(list) = rule.samples.and_then(|samples| samples.integer) else {
-        return show::word(alloc, "none");
+fn sample_list(call: &mut Call) {
+    let Some(rule) = next_rule(call) else {
+        return;
     };
-    let mut text = String::new(alloc);
-    serialize_sample_list(&list, &mut text)?;
-    show::quoted(alloc, text.as_str())
+    match &rule.samples {
+        Some(samples) => print_integers(call, &samples.integer),
+        None => call.print("none"),
+    }
+}
+
+// Prints a list of samples between quotes.
+fn print_integers(call: &mut Call, list: &Option<SampleList>) {
+    let Some(list) = list else {
+        return call.print("none");
+    };
+    let mut text = call.empty();
+    if serialize_sample_list(list, &mut text).is_err() {
+        call.out_of_memory();
+    }
+    call.print_quoted(text.as_str());
 }

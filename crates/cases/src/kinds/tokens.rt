@@ -1,51 +1,44 @@
 //! The tokens of texts.
 
-use crate::arguments::Arguments;
-use crate::fault::RowFault;
-use crate::show;
+use crate::call::Call;
 use plural_reference::ast::{Operand, Operator};
 use plural_reference::{Lexer, Token};
-use std::alloc::Global;
+use std::fmt::Write;
 
-/// Returns the result of a kind of this file.
-pub fn result(
-    alloc: Global,
-    kind: &str,
-    arguments: &mut Arguments,
-) -> Option<Result<String, RowFault>> {
-    Some(match kind {
-        "tokens" => tokens(alloc, arguments),
-        "tokens_of_bytes" => tokens_of_bytes(alloc, arguments),
-        "equal_tokens" => equal_tokens(alloc, arguments),
-        _ => return None,
-    })
+/// Makes the call of a kind of this file. Returns whether there is such a kind.
+pub fn make(kind: &str, call: &mut Call) -> bool {
+    match kind {
+        "tokens" => tokens(call),
+        "tokens_of_bytes" => tokens_of_bytes(call),
+        "equal_tokens" => equal_tokens(call),
+        _ => return false,
+    }
+    true
 }
 
 // The tokens of a text.
-fn tokens(alloc: Global, arguments: &mut Arguments) -> Result<String, RowFault> {
-    let text = arguments.text(alloc)?;
-    shown(alloc, text.as_bytes())
+fn tokens(call: &mut Call) {
+    let text = call.text();
+    print_tokens(call, text.as_bytes());
 }
 
 // The tokens of bytes.
-fn tokens_of_bytes(alloc: Global, arguments: &mut Arguments) -> Result<String, RowFault> {
-    let bytes = arguments.bytes(alloc)?;
-    shown(alloc, bytes.as_slice())
+fn tokens_of_bytes(call: &mut Call) {
+    let bytes = call.bytes();
+    print_tokens(call, bytes.as_slice());
 }
 
-// A letter for each token, or `none`.
-fn shown(alloc: Global, text: &[u8]) -> Result<String, RowFault> {
-    let mut letters = String::new(alloc);
+// Prints a letter for each token, or `none`.
+fn print_tokens(call: &mut Call, text: &[u8]) {
     for token in Lexer::new(text) {
         match token {
-            Token::Number(number) => write!(letters, "<{number}>")?,
-            _ => letters.push_str(letter_of(token))?,
+            Token::Number(number) => {
+                let _ = write!(call, "<{number}>");
+            }
+            _ => call.print(letter_of(token)),
         }
     }
-    if letters.is_empty() {
-        letters.push_str("none")?;
-    }
-    Ok(letters)
+    call.print_none_if_empty();
 }
 
 // The letter of a token that isn't a number.
@@ -87,18 +80,18 @@ fn operand_letter(operand: Operand) -> &'static str {
 }
 
 // How many tokens there are, if all are as the first one.
-fn equal_tokens(alloc: Global, arguments: &mut Arguments) -> Result<String, RowFault> {
-    let text = arguments.text(alloc)?;
+fn equal_tokens(call: &mut Call) {
+    let text = call.text();
     let mut lexer = Lexer::new(text.as_bytes());
     let Some(first) = lexer.next() else {
-        return show::word(alloc, "none");
+        return call.print("none");
     };
     let mut count = 1_u64;
     for token in lexer {
         if token != first {
-            return show::word(alloc, "different");
+            return call.print("different");
         }
         count = count.saturating_add(1);
     }
-    Ok(format!(in alloc; "{count} {first:?}")?)
+    let _ = write!(call, "{count} {first:?}");
 }

@@ -1,120 +1,108 @@
 //! Trees of rules, made from arguments.
 
-use crate::arguments::text_of;
-use crate::fault::RowFault;
+use crate::arguments::items_of;
+use crate::call::Call;
+use crate::kinds::operands::operand_of;
 use plural_reference::ast;
 use serde_json::Value;
-use std::alloc::Global;
 
 /// Returns the tree of a list of and-conditions, each a list of relations.
-pub fn rule(alloc: Global, value: &Value) -> Result<ast::Rule, RowFault> {
-    let mut conditions = Vec::new(alloc);
-    for condition in list(value)? {
-        conditions.push(and_condition(alloc, condition)?)?;
+pub fn rule_of(call: &mut Call, value: &Value) -> ast::Rule {
+    let mut conditions = Vec::new(call.alloc);
+    for condition in list_of(call, value) {
+        let condition = and_condition_of(call, condition);
+        call.add_item(&mut conditions, condition);
     }
-    Ok(ast::Rule {
+    ast::Rule {
         condition: ast::Condition(conditions.into()),
         samples: None,
-    })
+    }
 }
 
 // The values of an array.
-fn list(value: &Value) -> Result<&[Value], RowFault> {
-    match value {
-        Value::Array(values) => Ok(values.as_slice()),
-        _ => Err(RowFault::Not("a list")),
+fn list_of<'a>(call: &mut Call, value: &'a Value) -> &'a [Value] {
+    if !value.is_array() {
+        call.not("a list");
     }
+    items_of(value)
 }
 
 // The and-condition of a list of relations, each alone or with how often it stands there.
-fn and_condition(alloc: Global, value: &Value) -> Result<ast::AndCondition, RowFault> {
-    let mut relations = Vec::new(alloc);
-    for part in list(value)? {
-        let (copied, count) = copies(part)?;
+fn and_condition_of(call: &mut Call, value: &Value) -> ast::AndCondition {
+    let mut relations = Vec::new(call.alloc);
+    for part in list_of(call, value) {
+        let (copied, count) = match list_of(call, part) {
+            [copied, count] => (copied, call.number_of(count)),
+            _ => (part, 1),
+        };
         for _ in 0..count {
-            relations.push(relation(alloc, copied)?)?;
+            let relation = relation_of(call, copied);
+            call.add_item(&mut relations, relation);
         }
     }
-    Ok(ast::AndCondition(relations.into()))
-}
-
-// The relation of a part, and how often it stands there.
-fn copies(part: &Value) -> Result<(&Value, u64), RowFault> {
-    match list(part)? {
-        [copied, count] => Ok((copied, number(count)?)),
-        _ => Ok((part, 1)),
-    }
-}
-
-// A number from 0 to 18446744073709551615.
-fn number(value: &Value) -> Result<u64, RowFault> {
-    value.as_u64().ok_or(RowFault::Not("a number"))
+    ast::AndCondition(relations.into())
 }
 
 // The relation of its operand, its modulus, its operator and its ranges.
-fn relation(alloc: Global, value: &Value) -> Result<ast::Relation, RowFault> {
-    let [operand_name, modulus_value, operator_text, ranges] = list(value)? else {
-        return Err(RowFault::Not("a relation"));
+fn relation_of(call: &mut Call, value: &Value) -> ast::Relation {
+    let (operand, modulus, operator, ranges) = match list_of(call, value) {
+        [operand, modulus, operator, ranges] => (operand, modulus, operator, ranges),
+        _ => {
+            call.not("a relation");
+            (value, value, value, value)
+        }
     };
-    Ok(ast::Relation {
+    ast::Relation {
         expression: ast::Expression {
-            operand: operand(text_of(alloc, operand_name)?.as_str())?,
-            modulus: modulus(modulus_value)?,
+            operand: operand_of(call, operand.as_str().unwrap_or("")),
+            modulus: modulus_of(call, modulus),
         },
-        operator: operator(text_of(alloc, operator_text)?.as_str())?,
-        range_list: range_list(alloc, ranges)?,
-    })
-}
-
-/// Returns the operand with this letter.
-pub fn operand(letter: &str) -> Result<ast::Operand, RowFault> {
-    Ok(match letter {
-        "n" => ast::Operand::N,
-        "i" => ast::Operand::I,
-        "v" => ast::Operand::V,
-        "w" => ast::Operand::W,
-        "f" => ast::Operand::F,
-        "t" => ast::Operand::T,
-        "c" => ast::Operand::C,
-        "e" => ast::Operand::E,
-        _ => return Err(RowFault::Not("an operand")),
-    })
+        operator: operator_of(call, operator.as_str().unwrap_or("")),
+        range_list: range_list_of(call, ranges),
+    }
 }
 
 // A modulus, or none for `null`.
-fn modulus(value: &Value) -> Result<Option<ast::Value>, RowFault> {
+fn modulus_of(call: &mut Call, value: &Value) -> Option<ast::Value> {
     match value {
-        Value::Null => Ok(None),
-        _ => Ok(Some(ast::Value(number(value)?))),
+        Value::Null => None,
+        _ => Some(ast::Value(call.number_of(value))),
     }
 }
 
 // The operator that a text is.
-fn operator(text: &str) -> Result<ast::Operator, RowFault> {
+fn operator_of(call: &mut Call, text: &str) -> ast::Operator {
     match text {
-        "=" => Ok(ast::Operator::Eq),
-        "!=" => Ok(ast::Operator::NotEq),
-        _ => Err(RowFault::Not("an operator")),
+        "=" => ast::Operator::Eq,
+        "!=" => ast::Operator::NotEq,
+        _ => {
+            call.not("an operator");
+            ast::Operator::Eq
+        }
     }
 }
 
 // The list of ranges.
-fn range_list(alloc: Global, value: &Value) -> Result<ast::RangeList, RowFault> {
-    let mut items = Vec::new(alloc);
-    for item in list(value)? {
-        items.push(range(item)?)?;
+fn range_list_of(call: &mut Call, value: &Value) -> ast::RangeList {
+    let mut items = Vec::new(call.alloc);
+    for item in list_of(call, value) {
+        let range = range_of(call, item);
+        call.add_item(&mut items, range);
     }
-    Ok(ast::RangeList(items.into()))
+    ast::RangeList(items.into())
 }
 
 /// Returns the range of a list of one value or of two ends.
-pub fn range(value: &Value) -> Result<ast::RangeListItem, RowFault> {
-    match list(value)? {
-        [single] => Ok(ast::RangeListItem::Value(ast::Value(number(single)?))),
-        [start, end] => Ok(ast::RangeListItem::Range(
-            ast::Value(number(start)?),
-            ast::Value(number(end)?),
-        )),
-        _ => Err(RowFault::Not("a range")),
+pub fn range_of(call: &mut Call, value: &Value) -> ast::RangeListItem {
+    match list_of(call, value) {
+        [single] => ast::RangeListItem::Value(ast::Value(call.number_of(single))),
+        [start, end] => ast::RangeListItem::Range(
+            ast::Value(call.number_of(start)),
+            ast::Value(call.number_of(end)),
+        ),
+        _ => {
+            call.not("a range");
+            ast::RangeListItem::Value(ast::Value(0))
+        }
     }
 }

@@ -9,21 +9,15 @@ mod messages;
 mod packed_texts;
 mod packing;
 
-use crate::arguments::Arguments;
-use crate::fault::RowFault;
-use std::alloc::Global;
+use crate::call::Call;
 
-/// Returns the result of a kind of these crates.
-pub fn result(
-    alloc: Global,
-    kind: &str,
-    arguments: &mut Arguments,
-) -> Option<Result<String, RowFault>> {
-    elements::result(alloc, kind, arguments)
-        .or_else(|| packing::result(alloc, kind, arguments))
-        .or_else(|| packed_texts::result(alloc, kind, arguments))
-        .or_else(|| elements_json::result(alloc, kind, arguments))
-        .or_else(|| messages::result(alloc, kind, arguments))
-        .or_else(|| checker::result(alloc, kind, arguments))
-        .or_else(|| callers::result(alloc, kind, arguments))
+/// Makes the call of a kind of these crates. Returns whether there is such a kind.
+pub fn make(kind: &str, call: &mut Call) -> bool {
+    elements::make(kind, call)
+        || packing::make(kind, call)
+        || packed_texts::make(kind, call)
+        || elements_json::make(kind, call)
+        || messages::make(kind, call)
+        || checker::make(kind, call)
+        || callers::make(kind, call)
 }

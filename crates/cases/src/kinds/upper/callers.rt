@@ -1,123 +1,126 @@
 //! The callers of the crate `uses`.
 
-use crate::arguments::Arguments;
-use crate::fault::RowFault;
-use crate::kinds::upper::element_values::{borrowed_texts, rules, texts};
-use crate::kinds::upper::messages::{number, packed, shown};
-use crate::show;
-use icu_plurals::{CompactDecimal, JsonProvider, PluralRulesWithRanges};
+use crate::call::Call;
+use crate::kinds::decimals::next_compact;
+use crate::kinds::locales::next_provider;
+use crate::kinds::upper::element_values::{Elements, next_rules};
+use crate::kinds::upper::messages::{next_packed, print_message};
+use icu_plurals::{CompactDecimal, PluralRulesWithRanges};
 use plural_message::Message;
-use std::alloc::Global;
 use uses::{CompactUnits, Formatter, RangeLabels, RelativeTime, ShownNumber, Store};
 
-/// Returns the result of a kind of this file.
-pub fn result(
-    alloc: Global,
-    kind: &str,
-    arguments: &mut Arguments,
-) -> Option<Result<String, RowFault>> {
-    Some(match kind {
-        "formatter" => formatter(alloc, arguments),
-        "relative_time" => relative_time(alloc, arguments),
-        "compact_units" => compact_units(alloc, arguments),
-        "store" => store(alloc, arguments),
-        "range_label" => range_label(alloc, arguments),
-        _ => return None,
-    })
+/// Makes the call of a kind of this file. Returns whether there is such a kind.
+pub fn make(kind: &str, call: &mut Call) -> bool {
+    match kind {
+        "formatter" => formatter(call),
+        "relative_time" => relative_time(call),
+        "compact_units" => compact_units(call),
+        "store" => store(call),
+        "range_label" => range_label(call),
+        _ => return false,
+    }
+    true
 }
 
 // The message of a formatter.
-fn formatter(alloc: Global, arguments: &mut Arguments) -> Result<String, RowFault> {
-    let formatter = Formatter {
-        texts: packed(alloc, arguments)?,
-        rules: rules(alloc, arguments)?,
+fn formatter(call: &mut Call) {
+    let Some(texts) = next_packed(call) else {
+        return;
     };
-    let number = arguments.text(alloc)?;
-    shown(alloc, formatter.format(alloc, number.as_str()))
+    let rules = next_rules(call);
+    let formatter = Formatter { texts, rules };
+    let number = call.text();
+    let message = formatter.format(call.alloc, number.as_str());
+    print_message(call, message);
 }
 
 // The text of an amount of time.
-fn relative_time(alloc: Global, arguments: &mut Arguments) -> Result<String, RowFault> {
-    let future = packed(alloc, arguments)?;
-    let past = packed(alloc, arguments)?;
-    let rules = rules(alloc, arguments)?;
-    let amount = arguments.text(alloc)?;
+fn relative_time(call: &mut Call) {
+    let (Some(future), Some(past)) = (next_packed(call), next_packed(call)) else {
+        return;
+    };
+    let rules = next_rules(call);
+    let amount = call.text();
     let time = RelativeTime {
         future: Message::new(future.as_packed()),
         past: Message::new(past.as_packed()),
     };
-    shown(alloc, time.format(alloc, amount.as_str(), &rules))
+    let message = time.format(call.alloc, amount.as_str(), &rules);
+    print_message(call, message);
 }
 
 // The text of a number with its unit.
-fn compact_units(alloc: Global, arguments: &mut Arguments) -> Result<String, RowFault> {
-    let thousand = packed(alloc, arguments)?;
-    let million = packed(alloc, arguments)?;
-    let plain = packed(alloc, arguments)?;
-    let rules = rules(alloc, arguments)?;
-    let number = arguments.text(alloc)?;
+fn compact_units(call: &mut Call) {
+    let (Some(thousand), Some(million)) = (next_packed(call), next_packed(call)) else {
+        return;
+    };
+    let Some(plain) = next_packed(call) else {
+        return;
+    };
+    let rules = next_rules(call);
+    let number = call.text();
     let units = CompactUnits {
         thousand: Message::new(thousand.as_packed()),
         million: Message::new(million.as_packed()),
         plain: Message::new(plain.as_packed()),
     };
-    shown(alloc, units.format(alloc, number.as_str(), &rules))
+    let message = units.format(call.alloc, number.as_str(), &rules);
+    print_message(call, message);
 }
 
 // The text that a store has for a number.
-fn store(alloc: Global, arguments: &mut Arguments) -> Result<String, RowFault> {
-    let one = arguments.bytes(alloc)?;
-    let texts = arguments.bytes(alloc)?;
-    let number = number(alloc, arguments)?;
+fn store(call: &mut Call) {
+    let one = call.bytes();
+    let texts = call.bytes();
+    let Some(number) = next_compact(call) else {
+        return;
+    };
     match Store::from_bytes(one.as_slice(), texts.as_slice()) {
-        Some(store) => show::quoted(alloc, store.get(&number)),
-        None => show::word(alloc, "none"),
+        Some(store) => call.print_quoted(store.get(&number)),
+        None => call.print("none"),
     }
 }
 
 // The label of a range.
-fn range_label(alloc: Global, arguments: &mut Arguments) -> Result<String, RowFault> {
-    let provider = provider(alloc, arguments)?;
-    let locale = arguments.text(alloc)?;
-    let nouns = texts(alloc, arguments)?;
-    let start = arguments.text(alloc)?;
-    let end = arguments.text(alloc)?;
-    let rules = PluralRulesWithRanges::try_new_cardinal_unstable(&provider, locale.as_str());
-    let labels = RangeLabels {
-        rules: rules.map_err(|_| RowFault::Not("a locale"))?,
-        nouns: borrowed_texts(&nouns),
+fn range_label(call: &mut Call) {
+    let Some(provider) = next_provider(call) else {
+        return;
     };
-    label(alloc, &labels, start.as_str(), end.as_str())
+    let locale = call.text();
+    let nouns = Elements::next_texts(call);
+    match PluralRulesWithRanges::try_new_cardinal_unstable(&provider, locale.as_str()) {
+        Ok(rules) => {
+            let nouns = nouns.texts();
+            print_label(call, &RangeLabels { rules, nouns });
+        }
+        Err(_) => call.not("a locale"),
+    }
 }
 
-// The label of a range between two written numbers.
-fn label(
-    alloc: Global,
-    labels: &RangeLabels<'_>,
-    start: &str,
-    end: &str,
-) -> Result<String, RowFault> {
-    let first = read(alloc, start)?;
-    let last = read(alloc, end)?;
+// Prints the label of a range between the next two arguments.
+fn print_label(call: &mut Call, labels: &RangeLabels<'_>) {
+    let start = call.text();
+    let end = call.text();
+    let (Some(first), Some(last)) = (number_of(call, &start), number_of(call, &end)) else {
+        return;
+    };
     let start = ShownNumber {
         number: &first,
-        text: start,
+        text: start.as_str(),
     };
     let end = ShownNumber {
         number: &last,
-        text: end,
+        text: end.as_str(),
     };
-    let label = labels.label(alloc, start, end)?;
-    show::quoted(alloc, label.as_str())
+    let label = call.made(labels.label(call.alloc, start, end));
+    call.print_quoted(label.as_str());
 }
 
-// A written number.
-fn read(alloc: Global, text: &str) -> Result<CompactDecimal, RowFault> {
-    CompactDecimal::from_str(alloc, text).map_err(|_| RowFault::Not("a number"))
-}
-
-// The rules of the locales in a document.
-fn provider(alloc: Global, arguments: &mut Arguments) -> Result<JsonProvider, RowFault> {
-    let document = arguments.value()?;
-    JsonProvider::from_value(alloc, &document).map_err(|_| RowFault::Not("a document"))
+// The number that a text writes.
+fn number_of(call: &mut Call, text: &str) -> Option<CompactDecimal> {
+    let number = CompactDecimal::from_str(call.alloc, text).ok();
+    if number.is_none() {
+        call.not("a number");
+    }
+    number
 }

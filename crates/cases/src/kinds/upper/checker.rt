@@ -1,31 +1,26 @@
 //! Checks of a language's texts against their samples.
 
-use crate::arguments::{Arguments, text_of};
-use crate::fault::RowFault;
-use crate::kinds::upper::element_values::push;
-use crate::show;
+use crate::arguments::has_names;
+use crate::call::Call;
+use crate::kinds::categories::category;
 use icu_plurals::PluralCategory;
 use icu_plurals::provider::rules::reference::ast::{DecimalValue, SampleRange};
 use plural_checker::{
-    CategorySet, Coverage, LanguageTexts, RangeFault, Report, SampleNumbers, check_texts,
+    CategorySet, Coverage, LanguageTexts, RangeFault, SampleNumbers, check_texts,
 };
-use serde_json::{Map, Value};
-use std::alloc::Global;
+use std::fmt::Write;
 
-/// Returns the result of a kind of this file.
-pub fn result(
-    alloc: Global,
-    kind: &str,
-    arguments: &mut Arguments,
-) -> Option<Result<String, RowFault>> {
-    Some(match kind {
-        "sample_numbers" => sample_numbers(alloc, arguments),
-        "sample_count" => sample_count(alloc, arguments),
-        "report" => report(alloc, arguments),
-        "has_rule" => has_rule(alloc, arguments),
-        "coverage" => coverage(alloc, arguments),
-        _ => return None,
-    })
+/// Makes the call of a kind of this file. Returns whether there is such a kind.
+pub fn make(kind: &str, call: &mut Call) -> bool {
+    match kind {
+        "sample_numbers" => sample_numbers(call),
+        "sample_count" => sample_count(call),
+        "report" => report(call),
+        "has_rule" => has_rule(call),
+        "coverage" => coverage(call),
+        _ => return false,
+    }
+    true
 }
 
 // The texts of a language.
@@ -41,21 +36,19 @@ struct SixTexts {
 
 impl SixTexts {
     // Returns the texts in the next argument.
-    fn read(alloc: Global, arguments: &mut Arguments) -> Result<SixTexts, RowFault> {
-        let Value::Object(members) = arguments.value()? else {
-            return Err(RowFault::Not("texts of a language"));
-        };
-        for (name, _) in members.iter() {
-            category_of(name.as_str())?;
+    fn next(call: &mut Call) -> SixTexts {
+        let value = call.value();
+        if !has_names(&value, &["zero", "one", "two", "few", "many", "other"]) {
+            call.not("texts of a language");
         }
-        Ok(SixTexts {
-            zero: text(alloc, &members, "zero")?,
-            one: text(alloc, &members, "one")?,
-            two: text(alloc, &members, "two")?,
-            few: text(alloc, &members, "few")?,
-            many: text(alloc, &members, "many")?,
-            other: text(alloc, &members, "other")?,
-        })
+        SixTexts {
+            zero: call.optional_text_of(value.get("zero")),
+            one: call.optional_text_of(value.get("one")),
+            two: call.optional_text_of(value.get("two")),
+            few: call.optional_text_of(value.get("few")),
+            many: call.optional_text_of(value.get("many")),
+            other: call.optional_text_of(value.get("other")),
+        }
     }
 
     // Returns the same texts, borrowed.
@@ -71,132 +64,104 @@ impl SixTexts {
     }
 }
 
-// The text under a name, if it is present.
-fn text(
-    alloc: Global,
-    members: &Map<String, Value>,
-    name: &str,
-) -> Result<Option<String>, RowFault> {
-    match members.get(name) {
-        Some(text) => Ok(Some(text_of(alloc, text)?)),
-        None => Ok(None),
-    }
-}
-
-// The category with a name.
-fn category_of(name: &str) -> Result<PluralCategory, RowFault> {
-    match name {
-        "zero" => Ok(PluralCategory::Zero),
-        "one" => Ok(PluralCategory::One),
-        "two" => Ok(PluralCategory::Two),
-        "few" => Ok(PluralCategory::Few),
-        "many" => Ok(PluralCategory::Many),
-        "other" => Ok(PluralCategory::Other),
-        _ => Err(RowFault::Not("a category")),
-    }
-}
-
-// The numbers of a sample or a range of samples.
-fn numbers(
-    alloc: Global,
-    arguments: &mut Arguments,
-) -> Result<Result<SampleNumbers, RangeFault>, RowFault> {
-    let lower_val = DecimalValue(arguments.text(alloc)?);
-    let upper_val = arguments
-        .optional_text(alloc)?
-        .map(|text| DecimalValue(text));
-    let range = SampleRange {
+// The sample or the range of samples in the next two arguments.
+fn next_range(call: &mut Call) -> SampleRange {
+    let lower_val = DecimalValue(call.text());
+    let upper_val = match call.optional_text() {
+        Some(text) => Some(DecimalValue(text)),
+        None => None,
+    };
+    SampleRange {
         lower_val,
         upper_val,
-    };
-    Ok(SampleNumbers::of(alloc, &range)?)
+    }
 }
 
-// The printed fault of a range.
-fn range_fault(alloc: Global, fault: RangeFault) -> Result<String, RowFault> {
-    let printed = show::displayed(alloc, &fault)?;
-    let printed = show::quoted(alloc, printed.as_str())?;
-    Ok(format!(in alloc; "error {printed}")?)
+// Prints the fault of a range.
+fn print_range_fault(call: &mut Call, fault: RangeFault) {
+    let text = call.made(fault.to_string(call.alloc));
+    call.print("error ");
+    call.print_quoted(text.as_str());
 }
 
 // The numbers of a sample or a range of samples, with spaces between them.
-fn sample_numbers(alloc: Global, arguments: &mut Arguments) -> Result<String, RowFault> {
-    let numbers = match numbers(alloc, arguments)? {
-        Ok(numbers) => numbers,
-        Err(fault) => return range_fault(alloc, fault),
-    };
-    let mut shown = String::new(alloc);
-    for index in 0..numbers.count() {
-        if index > 0 {
-            shown.push_str(" ")?;
-        }
-        let number = numbers.text(alloc, index)?;
-        shown.push_str(number.0.as_str())?;
+fn sample_numbers(call: &mut Call) {
+    let range = next_range(call);
+    match SampleNumbers::of(call.alloc, &range) {
+        Ok(Ok(numbers)) => print_numbers(call, &numbers),
+        Ok(Err(fault)) => print_range_fault(call, fault),
+        Err(_) => call.out_of_memory(),
     }
-    Ok(shown)
+}
+
+// Prints the numbers of a sample or a range of samples.
+fn print_numbers(call: &mut Call, numbers: &SampleNumbers) {
+    for index in 0..numbers.count() {
+        call.separate(" ");
+        match numbers.text(call.alloc, index) {
+            Ok(number) => call.print(number.0.as_str()),
+            Err(_) => call.out_of_memory(),
+        }
+    }
 }
 
 // How many numbers a sample or a range of samples has.
-fn sample_count(alloc: Global, arguments: &mut Arguments) -> Result<String, RowFault> {
-    match numbers(alloc, arguments)? {
-        Ok(numbers) => show::displayed(alloc, &numbers.count()),
-        Err(fault) => range_fault(alloc, fault),
+fn sample_count(call: &mut Call) {
+    let range = next_range(call);
+    match SampleNumbers::of(call.alloc, &range) {
+        Ok(Ok(numbers)) => call.print_value(&numbers.count()),
+        Ok(Err(fault)) => print_range_fault(call, fault),
+        Err(_) => call.out_of_memory(),
     }
 }
 
-// What is wrong with a language's texts.
-fn report(alloc: Global, arguments: &mut Arguments) -> Result<String, RowFault> {
-    let texts = SixTexts::read(alloc, arguments)?;
-    let report = check_texts(alloc, &texts.borrowed())?;
-    shown(alloc, &report)
-}
-
-// How many numbers there are, and the faults.
-fn shown(alloc: Global, report: &Report) -> Result<String, RowFault> {
-    let mut shown = format!(in alloc; "{} numbers", report.numbers)?;
+// What is wrong with a language's texts: how many numbers there are, and the faults.
+fn report(call: &mut Call) {
+    let texts = SixTexts::next(call);
+    let Ok(report) = check_texts(call.alloc, &texts.borrowed()) else {
+        return call.out_of_memory();
+    };
+    let _ = write!(call, "{} numbers", report.numbers);
     for fault in report.faults.iter() {
-        let printed = show::displayed(alloc, fault)?;
-        shown.push_str(" | ")?;
-        shown.push_str(printed.as_str())?;
+        let _ = write!(call, " | {fault}");
     }
-    Ok(shown)
 }
 
 // Whether a category has a rule.
-fn has_rule(alloc: Global, arguments: &mut Arguments) -> Result<String, RowFault> {
-    let texts = SixTexts::read(alloc, arguments)?;
-    let name = arguments.text(alloc)?;
-    let category = category_of(name.as_str())?;
-    show::truth(alloc, texts.borrowed().has_rule(category))
+fn has_rule(call: &mut Call) {
+    let texts = SixTexts::next(call);
+    let category = category(call);
+    call.print_truth(texts.borrowed().has_rule(category));
 }
 
 // The categories that elements for some categories lack, and those that they have in vain.
-fn coverage(alloc: Global, arguments: &mut Arguments) -> Result<String, RowFault> {
+fn coverage(call: &mut Call) {
     let mut elements = CategorySet::default();
-    for name in &arguments.texts(alloc)? {
-        include(&mut elements, category_of(name.as_str())?)?;
+    for name in &call.texts() {
+        include(call, &mut elements, name.as_str());
     }
-    let coverage = Coverage::of(elements, &arguments.rules(alloc)?);
-    let lacking = names(alloc, coverage.lacking)?;
-    let unused = names(alloc, coverage.unused)?;
-    Ok(format!(in alloc; "lacking {lacking}; unused {unused}")?)
+    let rules = call.rules();
+    let coverage = Coverage::of(elements, &rules);
+    call.print("lacking ");
+    print_names(call, coverage.lacking);
+    call.print("; unused ");
+    print_names(call, coverage.unused);
 }
 
-// Puts a category into a set.
-fn include(set: &mut CategorySet, category: PluralCategory) -> Result<(), RowFault> {
-    match category {
-        PluralCategory::Zero => set.zero = true,
-        PluralCategory::One => set.one = true,
-        PluralCategory::Two => set.two = true,
-        PluralCategory::Few => set.few = true,
-        PluralCategory::Many => set.many = true,
-        PluralCategory::Other => return Err(RowFault::Not("a category of a set")),
+// Puts the category of a name into a set.
+fn include(call: &mut Call, set: &mut CategorySet, name: &str) {
+    match PluralCategory::get_for_cldr_string(name) {
+        Some(PluralCategory::Zero) => set.zero = true,
+        Some(PluralCategory::One) => set.one = true,
+        Some(PluralCategory::Two) => set.two = true,
+        Some(PluralCategory::Few) => set.few = true,
+        Some(PluralCategory::Many) => set.many = true,
+        _ => call.not("a category of a set"),
     }
-    Ok(())
 }
 
-// The names of the categories in a set, or none.
-fn names(alloc: Global, set: CategorySet) -> Result<String, RowFault> {
+// Prints the names of the categories in a set, or none.
+fn print_names(call: &mut Call, set: CategorySet) {
     let members = [
         ("zero", set.zero),
         ("one", set.one),
@@ -204,14 +169,15 @@ fn names(alloc: Global, set: CategorySet) -> Result<String, RowFault> {
         ("few", set.few),
         ("many", set.many),
     ];
-    let mut names = String::new(alloc);
+    let mut mark = "";
     for (name, is_in) in members {
         if is_in {
-            push(&mut names, name)?;
+            call.print(mark);
+            call.print(name);
+            mark = ", ";
         }
     }
-    if names.is_empty() {
-        names.push_str("none")?;
+    if mark.is_empty() {
+        call.print("none");
     }
-    Ok(names)
 }

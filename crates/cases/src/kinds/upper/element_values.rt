@@ -1,165 +1,167 @@
 //! Arguments and results with elements by category.
 
-use crate::arguments::{Arguments, text_of};
-use crate::fault::RowFault;
-use crate::show;
+use crate::arguments::{has_names, items_of};
+use crate::call::Call;
 use icu_plurals::provider::FourBitMetadata;
-use icu_plurals::{PluralElements, PluralOperands, PluralRules};
-use serde_json::{Map, Value};
-use std::alloc::Global;
+use icu_plurals::{PluralElements, PluralRules};
+use serde_json::Value;
+use std::fmt::Write;
 
-const NO_ELEMENTS: RowFault = RowFault::Not("elements");
+// The names of elements.
+const NAMES: [&str; 8] = [
+    "other",
+    "zero",
+    "one",
+    "two",
+    "few",
+    "many",
+    "explicit_zero",
+    "explicit_one",
+];
 
-/// Returns the next argument as texts by category: an object of texts under `other`, `zero`, `one`, `two`, `few`, `many`,
-/// `explicit_zero` and `explicit_one`, of which all but `other` may be absent.
-pub fn texts(alloc: Global, arguments: &mut Arguments) -> Result<PluralElements<String>, RowFault> {
-    texts_of(alloc, &arguments.value()?)
+/// Elements by category: all but that of other may be absent.
+#[derive(Drop)]
+pub struct Elements {
+    other: Element,
+    zero: Option<Element>,
+    one: Option<Element>,
+    two: Option<Element>,
+    few: Option<Element>,
+    many: Option<Element>,
+    explicit_zero: Option<Element>,
+    explicit_one: Option<Element>,
 }
 
-/// Returns the texts by category of a value.
-pub fn texts_of(alloc: Global, value: &Value) -> Result<PluralElements<String>, RowFault> {
-    let members = members_of(value)?;
-    let other = text_of(alloc, members.get("other").ok_or(NO_ELEMENTS)?)?;
-    Ok(
-        PluralElements::new(other)
-            .with_zero_value(text(alloc, members, "zero")?)
-            .with_one_value(text(alloc, members, "one")?)
-            .with_two_value(text(alloc, members, "two")?)
-            .with_few_value(text(alloc, members, "few")?)
-            .with_many_value(text(alloc, members, "many")?)
-            .with_explicit_zero_value(text(alloc, members, "explicit_zero")?)
-            .with_explicit_one_value(text(alloc, members, "explicit_one")?),
-    )
+// A text with metadata.
+#[derive(Drop)]
+struct Element {
+    metadata: FourBitMetadata,
+    text: String,
 }
 
-/// Returns the next argument as values by category: an object as that of [`texts`], of lists of metadata and a text.
-pub fn values(
-    alloc: Global,
-    arguments: &mut Arguments,
-) -> Result<PluralElements<(u8, String)>, RowFault> {
-    let object = arguments.value()?;
-    let members = members_of(&object)?;
-    let other = value(alloc, members.get("other").ok_or(NO_ELEMENTS)?)?;
-    Ok(
-        PluralElements::new(other)
-            .with_zero_value(optional(alloc, members, "zero")?)
-            .with_one_value(optional(alloc, members, "one")?)
-            .with_two_value(optional(alloc, members, "two")?)
-            .with_few_value(optional(alloc, members, "few")?)
-            .with_many_value(optional(alloc, members, "many")?)
-            .with_explicit_zero_value(optional(alloc, members, "explicit_zero")?)
-            .with_explicit_one_value(optional(alloc, members, "explicit_one")?),
-    )
-}
+impl Elements {
+    /// Returns the elements in the next argument, an object of texts.
+    pub fn next_texts(call: &mut Call) -> Elements {
+        let value = call.value();
+        Elements::of(call, &value, false)
+    }
 
-// The members of an object of elements. One with another name is a fault.
-fn members_of(value: &Value) -> Result<&Map<String, Value>, RowFault> {
-    let Value::Object(members) = value else {
-        return Err(NO_ELEMENTS);
-    };
-    for (name, _) in members.iter() {
-        if !is_element_name(name.as_str()) {
-            return Err(NO_ELEMENTS);
+    /// Returns the elements in the next argument, an object of lists of metadata and a text.
+    pub fn next_values(call: &mut Call) -> Elements {
+        let value = call.value();
+        Elements::of(call, &value, true)
+    }
+
+    /// Returns the elements of an object of texts, or of lists of metadata and a text.
+    pub fn of(call: &mut Call, value: &Value, has_metadata: bool) -> Elements {
+        if !has_names(value, &NAMES) || value.get("other").is_none() {
+            call.not("elements");
+        }
+        Elements {
+            other: Element::of(call, value.get("other").unwrap_or(value), has_metadata),
+            zero: Element::under(call, value, "zero", has_metadata),
+            one: Element::under(call, value, "one", has_metadata),
+            two: Element::under(call, value, "two", has_metadata),
+            few: Element::under(call, value, "few", has_metadata),
+            many: Element::under(call, value, "many", has_metadata),
+            explicit_zero: Element::under(call, value, "explicit_zero", has_metadata),
+            explicit_one: Element::under(call, value, "explicit_one", has_metadata),
         }
     }
-    Ok(members)
-}
 
-// Whether an element may have this name.
-fn is_element_name(name: &str) -> bool {
-    matches!(
-        name,
-        "other" | "zero" | "one" | "two" | "few" | "many" | "explicit_zero" | "explicit_one"
-    )
-}
+    /// Returns the texts.
+    pub fn texts(&self) -> PluralElements<&str> {
+        PluralElements::new(self.other.text.as_str())
+            .with_zero_value(text_of(&self.zero))
+            .with_one_value(text_of(&self.one))
+            .with_two_value(text_of(&self.two))
+            .with_few_value(text_of(&self.few))
+            .with_many_value(text_of(&self.many))
+            .with_explicit_zero_value(text_of(&self.explicit_zero))
+            .with_explicit_one_value(text_of(&self.explicit_one))
+    }
 
-// The text under a name, if it is present.
-fn text(
-    alloc: Global,
-    members: &Map<String, Value>,
-    name: &str,
-) -> Result<Option<String>, RowFault> {
-    match members.get(name) {
-        Some(text) => Ok(Some(text_of(alloc, text)?)),
-        None => Ok(None),
+    /// Returns the texts with their metadata.
+    pub fn values(&self) -> PluralElements<(FourBitMetadata, &str)> {
+        PluralElements::new((self.other.metadata, self.other.text.as_str()))
+            .with_zero_value(value_of(&self.zero))
+            .with_one_value(value_of(&self.one))
+            .with_two_value(value_of(&self.two))
+            .with_few_value(value_of(&self.few))
+            .with_many_value(value_of(&self.many))
+            .with_explicit_zero_value(value_of(&self.explicit_zero))
+            .with_explicit_one_value(value_of(&self.explicit_one))
     }
 }
 
-// The metadata and the text under a name, if they are present.
-fn optional(
-    alloc: Global,
-    members: &Map<String, Value>,
-    name: &str,
-) -> Result<Option<(u8, String)>, RowFault> {
-    match members.get(name) {
-        Some(found) => Ok(Some(value(alloc, found)?)),
-        None => Ok(None),
+impl Element {
+    // Returns the element under a name, if it is present.
+    fn under(call: &mut Call, value: &Value, name: &str, has_metadata: bool) -> Option<Element> {
+        match value.get(name) {
+            Some(value) => Some(Element::of(call, value, has_metadata)),
+            None => None,
+        }
+    }
+
+    // Returns the element of a text, or of a list of metadata and a text.
+    fn of(call: &mut Call, value: &Value, has_metadata: bool) -> Element {
+        let mut metadata = FourBitMetadata::zero();
+        let mut text = value;
+        if has_metadata {
+            match items_of(value) {
+                [number, part] => {
+                    metadata = metadata_of(call, number);
+                    text = part;
+                }
+                _ => call.not("elements"),
+            }
+        }
+        let text = call.text_of(text);
+        Element { metadata, text }
     }
 }
 
-// The metadata and the text of a list.
-fn value(alloc: Global, list: &Value) -> Result<(u8, String), RowFault> {
-    let Value::Array(parts) = list else {
-        return Err(NO_ELEMENTS);
-    };
-    let [Value::Number(metadata), text] = parts.as_slice() else {
-        return Err(NO_ELEMENTS);
-    };
-    match metadata.as_u64() {
-        Some(metadata) if metadata < 16 => Ok((metadata as u8, text_of(alloc, text)?)),
-        _ => Err(NO_ELEMENTS),
+// The metadata of a number.
+fn metadata_of(call: &mut Call, value: &Value) -> FourBitMetadata {
+    let number = call.number_of(value).min(16);
+    if let Some(metadata) = FourBitMetadata::try_from_byte(number as u8) {
+        return metadata;
+    }
+    call.not("elements");
+    FourBitMetadata::zero()
+}
+
+// The text of an element that is present.
+fn text_of(element: &Option<Element>) -> Option<&str> {
+    match element {
+        Some(element) => Some(element.text.as_str()),
+        None => None,
     }
 }
 
-/// Returns the same texts, borrowed.
-pub fn borrowed_texts(texts: &PluralElements<String>) -> PluralElements<&str> {
-    texts.as_ref().map(|text| text.as_str())
-}
-
-/// Returns the same values, borrowed.
-pub fn borrowed_values(
-    values: &PluralElements<(u8, String)>,
-) -> PluralElements<(FourBitMetadata, &str)> {
-    values.as_ref().map(|value| {
-        let metadata = FourBitMetadata::try_from_byte(value.0);
-        (
-            metadata.unwrap_or(FourBitMetadata::zero()),
-            value.1.as_str(),
-        )
-    })
+// The metadata and the text of an element that is present.
+fn value_of(element: &Option<Element>) -> Option<(FourBitMetadata, &str)> {
+    match element {
+        Some(element) => Some((element.metadata, element.text.as_str())),
+        None => None,
+    }
 }
 
 /// Returns the next argument as the rules of a language.
-pub fn rules(alloc: Global, arguments: &mut Arguments) -> Result<PluralRules<'static>, RowFault> {
-    Ok(PluralRules::from_data(arguments.rules(alloc)?))
+pub fn next_rules(call: &mut Call) -> PluralRules<'static> {
+    PluralRules::from_data(call.rules())
 }
 
-/// Returns the operands of a written number.
-pub fn operands(number: &str) -> Result<PluralOperands, RowFault> {
-    number
-        .parse::<PluralOperands>()
-        .map_err(|_| RowFault::Not("a number"))
+/// Prints the metadata and the text of a value.
+pub fn print_element(call: &mut Call, value: (FourBitMetadata, &str)) {
+    let _ = write!(call, "{} ", value.0.get());
+    call.print_quoted(value.1);
 }
 
-/// Adds the metadata and the text of a value, after a comma if there is something before it.
-pub fn push_value(
-    alloc: Global,
-    shown: &mut String,
-    value: (FourBitMetadata, &str),
-) -> Result<(), RowFault> {
-    push(shown, show_value(alloc, value)?.as_str())
-}
-
-/// Returns the metadata and the text of a value.
-pub fn show_value(alloc: Global, value: (FourBitMetadata, &str)) -> Result<String, RowFault> {
-    let text = show::quoted(alloc, value.1)?;
-    Ok(format!(in alloc; "{} {text}", value.0.get())?)
-}
-
-/// Adds a text, after a comma if there is something before it.
-pub fn push(shown: &mut String, text: &str) -> Result<(), RowFault> {
-    if !shown.is_empty() {
-        shown.push_str(", ")?;
+/// Prints the metadata and the text of a value that may be absent.
+pub fn print_optional(call: &mut Call, value: Option<(FourBitMetadata, &str)>) {
+    match value {
+        Some(value) => print_element(call, value),
+        None => call.print("none"),
     }
-    Ok(shown.push_str(text)?)
 }

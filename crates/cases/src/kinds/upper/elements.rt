@@ -1,150 +1,116 @@
 //! Elements by category in packed bytes.
 
-use crate::arguments::Arguments;
-use crate::fault::RowFault;
-use crate::kinds::upper::element_values::{operands, push, push_value, rules, show_value};
-use crate::show;
+use crate::call::Call;
+use crate::kinds::rule_truths::operands_of;
+use crate::kinds::upper::element_values::{next_rules, print_element, print_optional};
 use icu_plurals::PluralElements;
 use icu_plurals::provider::{FourBitMetadata, PluralElementsPackedULE};
-use std::alloc::Global;
+use std::fmt::Write;
 
-/// Returns the result of a kind of this file.
-pub fn result(
-    alloc: Global,
-    kind: &str,
-    arguments: &mut Arguments,
-) -> Option<Result<String, RowFault>> {
-    Some(match kind {
-        "metadata" => metadata(alloc, arguments),
-        "element_for" => element_for(alloc, arguments),
-        "elements" => elements(alloc, arguments),
-        "default_element" => default_element(alloc, arguments),
-        "only_element" => only_element(alloc, arguments),
-        "are_equal_elements" => are_equal_elements(alloc, arguments),
-        _ => return None,
-    })
+/// Makes the call of a kind of this file. Returns whether there is such a kind.
+pub fn make(kind: &str, call: &mut Call) -> bool {
+    match kind {
+        "metadata" => metadata(call),
+        "element_for" => element_for(call),
+        "elements" => elements(call),
+        "default_element" => default_element(call),
+        "only_element" => only_element(call),
+        "are_equal_elements" => are_equal_elements(call),
+        _ => return false,
+    }
+    true
 }
 
 // The metadata of a number, and whether it is zero.
-fn metadata(alloc: Global, arguments: &mut Arguments) -> Result<String, RowFault> {
-    let number = arguments.number()?;
-    if number > 255 {
-        return Err(RowFault::Not("a byte"));
+fn metadata(call: &mut Call) {
+    match FourBitMetadata::try_from_byte(call.byte()) {
+        Some(metadata) => {
+            call.print_value(&metadata.get());
+            if metadata == FourBitMetadata::zero() {
+                call.print(", zero");
+            }
+        }
+        None => call.print("none"),
     }
-    let Some(metadata) = FourBitMetadata::try_from_byte(number as u8) else {
-        return show::word(alloc, "none");
-    };
-    let zero = if metadata == FourBitMetadata::zero() {
-        ", zero"
-    } else {
-        ""
-    };
-    Ok(format!(in alloc; "{}{zero}", metadata.get())?)
 }
 
 // The value of each number.
-fn element_for(alloc: Global, arguments: &mut Arguments) -> Result<String, RowFault> {
-    let bytes = arguments.bytes(alloc)?;
-    let rules = rules(alloc, arguments)?;
-    let numbers = arguments.texts(alloc)?;
-    let elements = match PluralElementsPackedULE::parse_bytes(bytes.as_slice()) {
-        Ok(elements) => elements,
-        Err(fault) => return show::error(alloc, &fault),
-    };
-    let mut shown = String::new(alloc);
-    for number in &numbers {
-        let Ok(operands) = operands(number.as_str()) else {
-            return Err(RowFault::Not("operands"));
-        };
-        let value = elements.get(operands, &rules);
-        push_value(alloc, &mut shown, value)?;
+fn element_for(call: &mut Call) {
+    let bytes = call.bytes();
+    let rules = next_rules(call);
+    let numbers = call.texts();
+    match PluralElementsPackedULE::parse_bytes(bytes.as_slice()) {
+        Ok(elements) => {
+            for number in &numbers {
+                let operands = operands_of(call, number.as_str());
+                call.separate(", ");
+                print_element(call, elements.get(operands, &rules));
+            }
+        }
+        Err(fault) => call.print_error(&fault),
     }
-    Ok(shown)
 }
 
 // All values of the elements in bytes, which have to be the bytes of these elements.
-fn elements(alloc: Global, arguments: &mut Arguments) -> Result<String, RowFault> {
-    let bytes = arguments.bytes(alloc)?;
+fn elements(call: &mut Call) {
+    let bytes = call.bytes();
     match PluralElementsPackedULE::parse_bytes(bytes.as_slice()) {
-        Ok(elements) if elements.as_bytes() == bytes.as_slice() => all(alloc, &elements.decode()),
-        Ok(_) => show::word(alloc, "other bytes"),
-        Err(fault) => show::error(alloc, &fault),
+        Ok(elements) if elements.as_bytes() == bytes.as_slice() => {
+            print_all(call, &elements.decode());
+        }
+        Ok(_) => call.print("other bytes"),
+        Err(fault) => call.print_error(&fault),
     }
 }
 
-// The value of each category, and those of exactly 0 and 1.
-fn all(
-    alloc: Global,
-    elements: &PluralElements<(FourBitMetadata, &str)>,
-) -> Result<String, RowFault> {
-    let categories = [
-        ("other", elements.other()),
-        ("zero", elements.zero()),
-        ("one", elements.one()),
-        ("two", elements.two()),
-        ("few", elements.few()),
-        ("many", elements.many()),
+// Prints the value of each category, and those of exactly 0 and 1.
+fn print_all(call: &mut Call, elements: &PluralElements<(FourBitMetadata, &str)>) {
+    let values = [
+        ("other", Some(*elements.other())),
+        ("zero", Some(*elements.zero())),
+        ("one", Some(*elements.one())),
+        ("two", Some(*elements.two())),
+        ("few", Some(*elements.few())),
+        ("many", Some(*elements.many())),
+        ("explicit_zero", elements.explicit_zero().copied()),
+        ("explicit_one", elements.explicit_one().copied()),
     ];
-    let mut shown = String::new(alloc);
-    for (name, value) in categories {
-        push_named(alloc, &mut shown, name, Some(*value))?;
-    }
-    let explicit_zero = elements.explicit_zero().copied();
-    push_named(alloc, &mut shown, "explicit_zero", explicit_zero)?;
-    let explicit_one = elements.explicit_one().copied();
-    push_named(alloc, &mut shown, "explicit_one", explicit_one)?;
-    Ok(shown)
-}
-
-// Adds a name and a value.
-fn push_named(
-    alloc: Global,
-    shown: &mut String,
-    name: &str,
-    value: Option<(FourBitMetadata, &str)>,
-) -> Result<(), RowFault> {
-    let value = show_optional(alloc, value)?;
-    push(shown, format!(in alloc; "{name} {value}")?.as_str())
-}
-
-// A value that may be absent.
-fn show_optional(
-    alloc: Global,
-    value: Option<(FourBitMetadata, &str)>,
-) -> Result<String, RowFault> {
-    match value {
-        Some(value) => show_value(alloc, value),
-        None => show::word(alloc, "none"),
+    for (name, value) in values {
+        call.separate(", ");
+        call.print(name);
+        call.print(" ");
+        print_optional(call, value);
     }
 }
 
 // The value of other.
-fn default_element(alloc: Global, arguments: &mut Arguments) -> Result<String, RowFault> {
-    let bytes = arguments.bytes(alloc)?;
+fn default_element(call: &mut Call) {
+    let bytes = call.bytes();
     match PluralElementsPackedULE::parse_bytes(bytes.as_slice()) {
-        Ok(elements) => show_value(alloc, elements.get_default()),
-        Err(fault) => show::error(alloc, &fault),
+        Ok(elements) => print_element(call, elements.get_default()),
+        Err(fault) => call.print_error(&fault),
     }
 }
 
 // The value of other, if there is no other value.
-fn only_element(alloc: Global, arguments: &mut Arguments) -> Result<String, RowFault> {
-    let bytes = arguments.bytes(alloc)?;
+fn only_element(call: &mut Call) {
+    let bytes = call.bytes();
     match PluralElementsPackedULE::parse_bytes(bytes.as_slice()) {
-        Ok(elements) => show_optional(alloc, elements.decode().try_into_other()),
-        Err(fault) => show::error(alloc, &fault),
+        Ok(elements) => print_optional(call, elements.decode().try_into_other()),
+        Err(fault) => call.print_error(&fault),
     }
 }
 
 // Whether two elements are equal.
-fn are_equal_elements(alloc: Global, arguments: &mut Arguments) -> Result<String, RowFault> {
-    let bytes = arguments.bytes(alloc)?;
-    let others = arguments.bytes(alloc)?;
-    let (Ok(elements), Ok(other)) = (
-        PluralElementsPackedULE::parse_bytes(bytes.as_slice()),
+fn are_equal_elements(call: &mut Call) {
+    let bytes = call.bytes();
+    let others = call.bytes();
+    let elements = PluralElementsPackedULE::parse_bytes(bytes.as_slice());
+    match (
+        elements,
         PluralElementsPackedULE::parse_bytes(others.as_slice()),
-    ) else {
-        return Err(RowFault::Not("packed elements"));
-    };
-    show::truth(alloc, elements == other)
+    ) {
+        (Ok(elements), Ok(other)) => call.print_truth(elements == other),
+        _ => call.not("packed elements"),
+    }
 }

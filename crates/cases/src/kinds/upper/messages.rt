@@ -1,68 +1,61 @@
 //! Messages with a number in them.
 
-use crate::arguments::Arguments;
-use crate::fault::RowFault;
-use crate::kinds::upper::element_values::{borrowed_texts, rules, texts};
-use crate::show;
-use icu_plurals::CompactDecimal;
+use crate::call::Call;
+use crate::kinds::decimals::next_compact;
+use crate::kinds::upper::element_values::{Elements, next_rules};
 use icu_plurals::provider::PluralElementsPackedCow;
 use plural_message::{Message, MessageError};
-use std::alloc::Global;
 
-/// Returns the result of a kind of this file.
-pub fn result(
-    alloc: Global,
-    kind: &str,
-    arguments: &mut Arguments,
-) -> Option<Result<String, RowFault>> {
-    Some(match kind {
-        "message" => message(alloc, arguments),
-        "message_with" => message_with(alloc, arguments),
-        _ => return None,
-    })
+/// Makes the call of a kind of this file. Returns whether there is such a kind.
+pub fn make(kind: &str, call: &mut Call) -> bool {
+    match kind {
+        "message" => message(call),
+        "message_with" => message_with(call),
+        _ => return false,
+    }
+    true
 }
 
 /// Returns the next argument as packed texts.
-pub fn packed(
-    alloc: Global,
-    arguments: &mut Arguments,
-) -> Result<PluralElementsPackedCow<'static>, RowFault> {
-    let texts = texts(alloc, arguments)?;
-    PluralElementsPackedCow::from_elements(alloc, &borrowed_texts(&texts)).map_err(
-        |_| RowFault::Not("texts that are packed"),
-    )
+pub fn next_packed(call: &mut Call) -> Option<PluralElementsPackedCow<'static>> {
+    let elements = Elements::next_texts(call);
+    let packed = PluralElementsPackedCow::from_elements(call.alloc, &elements.texts()).ok();
+    if packed.is_none() {
+        call.not("texts that are packed");
+    }
+    packed
 }
 
-/// Returns the next argument as a number.
-pub fn number(alloc: Global, arguments: &mut Arguments) -> Result<CompactDecimal, RowFault> {
-    let text = arguments.text(alloc)?;
-    CompactDecimal::from_str(alloc, text.as_str()).map_err(|_| RowFault::Not("a number"))
-}
-
-/// Returns a message between quotes, or why there is none.
-pub fn shown(alloc: Global, message: Result<String, MessageError>) -> Result<String, RowFault> {
+/// Prints a message between quotes, or why there is none.
+pub fn print_message(call: &mut Call, message: Result<String, MessageError>) {
     match message {
-        Ok(text) => show::quoted(alloc, text.as_str()),
-        Err(fault) => show::error(alloc, &fault),
+        Ok(text) => call.print_quoted(text.as_str()),
+        Err(fault) => call.print_error(&fault),
     }
 }
 
 // The message of a number.
-fn message(alloc: Global, arguments: &mut Arguments) -> Result<String, RowFault> {
-    let packed = packed(alloc, arguments)?;
-    let rules = rules(alloc, arguments)?;
-    let number = arguments.text(alloc)?;
+fn message(call: &mut Call) {
+    let Some(packed) = next_packed(call) else {
+        return;
+    };
+    let rules = next_rules(call);
+    let number = call.text();
     let message = Message::new(packed.as_packed());
-    shown(alloc, message.format(alloc, number.as_str(), &rules))
+    let filled = message.format(call.alloc, number.as_str(), &rules);
+    print_message(call, filled);
 }
 
 // The message of a number that was read before, with a text that shows it.
-fn message_with(alloc: Global, arguments: &mut Arguments) -> Result<String, RowFault> {
-    let packed = packed(alloc, arguments)?;
-    let rules = rules(alloc, arguments)?;
-    let number = number(alloc, arguments)?;
-    let text = arguments.text(alloc)?;
-    let message = Message::new(packed.as_packed());
-    let filled = message.format_number(alloc, &number, text.as_str(), &rules)?;
-    show::quoted(alloc, filled.as_str())
+fn message_with(call: &mut Call) {
+    let packed = next_packed(call);
+    let rules = next_rules(call);
+    let number = next_compact(call);
+    let text = call.text();
+    if let (Some(packed), Some(number)) = (packed, number) {
+        let message = Message::new(packed.as_packed());
+        let filled = message.format_number(call.alloc, &number, text.as_str(), &rules);
+        let filled = call.made(filled);
+        call.print_quoted(filled.as_str());
+    }
 }

@@ -1,29 +1,23 @@
 //! Packed elements that own or borrow their bytes.
 
-use crate::arguments::{Arguments, bytes_of};
-use crate::fault::RowFault;
-use crate::kinds::upper::element_values::{borrowed_texts, operands, push, rules, texts, texts_of};
-use crate::show;
-use icu_plurals::PluralElements;
+use crate::call::Call;
+use crate::kinds::rule_truths::operands_of;
+use crate::kinds::upper::element_values::{Elements, next_rules};
 use icu_plurals::provider::PluralElementsPackedCow;
 use serde_json::Value;
-use std::alloc::Global;
 
-/// Returns the result of a kind of this file.
-pub fn result(
-    alloc: Global,
-    kind: &str,
-    arguments: &mut Arguments,
-) -> Option<Result<String, RowFault>> {
-    Some(match kind {
-        "packed_texts" => packed_texts(alloc, arguments),
-        "packed_texts_size" => packed_texts_size(alloc, arguments),
-        "lent_elements" => lent_elements(alloc, arguments),
-        "text_for" => text_for(alloc, arguments),
-        "cloned_elements" => cloned_elements(alloc, arguments),
-        "are_equal_packed" => are_equal_packed(alloc, arguments),
-        _ => return None,
-    })
+/// Makes the call of a kind of this file. Returns whether there is such a kind.
+pub fn make(kind: &str, call: &mut Call) -> bool {
+    match kind {
+        "packed_texts" => packed_texts(call),
+        "packed_texts_size" => packed_texts_size(call),
+        "lent_elements" => lent_elements(call),
+        "text_for" => text_for(call),
+        "cloned_elements" => cloned_elements(call),
+        "are_equal_packed" => are_equal_packed(call),
+        _ => return false,
+    }
+    true
 }
 
 /// What packed elements are made from.
@@ -32,90 +26,96 @@ pub enum Source {
     /// Bytes.
     Bytes(Vec<u8>),
     /// Texts by category.
-    Texts(PluralElements<String>),
+    Texts(Elements),
 }
 
 impl Source {
     /// Returns the source in the next argument: an object of texts, or bytes.
-    pub fn read(alloc: Global, arguments: &mut Arguments) -> Result<Source, RowFault> {
-        let value = arguments.value()?;
+    pub fn next(call: &mut Call) -> Source {
+        let value = call.value();
         match &value {
-            Value::Object(_) => Ok(Source::Texts(texts_of(alloc, &value)?)),
-            _ => Ok(Source::Bytes(bytes_of(alloc, &value)?)),
+            Value::Object(_) => Source::Texts(Elements::of(call, &value, false)),
+            _ => Source::Bytes(call.bytes_of(&value)),
         }
     }
 
     /// Returns the packed elements: of texts they are owned, of bytes they are borrowed.
-    pub fn packed(&self, alloc: Global) -> Result<PluralElementsPackedCow<'_>, RowFault> {
-        match self {
-            Source::Bytes(bytes) => PluralElementsPackedCow::from_bytes(bytes.as_slice()).map_err(
-                |_| RowFault::Not("packed elements"),
-            ),
-            Source::Texts(texts) => {
-                PluralElementsPackedCow::from_elements(alloc, &borrowed_texts(texts)).map_err(
-                    |_| RowFault::Not("texts that are packed"),
-                )
+    pub fn packed(&self, call: &mut Call) -> Option<PluralElementsPackedCow<'_>> {
+        let packed = match self {
+            Source::Bytes(bytes) => PluralElementsPackedCow::from_bytes(bytes.as_slice()).ok(),
+            Source::Texts(elements) => {
+                PluralElementsPackedCow::from_elements(call.alloc, &elements.texts()).ok()
             }
+        };
+        if packed.is_none() {
+            call.not("packed elements");
         }
+        packed
     }
 }
 
 // The bytes that texts are packed as.
-fn packed_texts(alloc: Global, arguments: &mut Arguments) -> Result<String, RowFault> {
-    let texts = texts(alloc, arguments)?;
-    match PluralElementsPackedCow::from_elements(alloc, &borrowed_texts(&texts)) {
-        Ok(packed) => show::bytes(alloc, packed.as_packed().as_bytes()),
-        Err(fault) => show::error(alloc, &fault),
+fn packed_texts(call: &mut Call) {
+    let elements = Elements::next_texts(call);
+    match PluralElementsPackedCow::from_elements(call.alloc, &elements.texts()) {
+        Ok(packed) => call.print_bytes(packed.as_packed().as_bytes()),
+        Err(fault) => call.print_error(&fault),
     }
 }
 
 // How many bytes texts are packed as.
-fn packed_texts_size(alloc: Global, arguments: &mut Arguments) -> Result<String, RowFault> {
-    let texts = texts(alloc, arguments)?;
-    match PluralElementsPackedCow::from_elements(alloc, &borrowed_texts(&texts)) {
-        Ok(packed) => show::displayed(alloc, &packed.as_packed().as_bytes().len()),
-        Err(fault) => show::error(alloc, &fault),
+fn packed_texts_size(call: &mut Call) {
+    let elements = Elements::next_texts(call);
+    match PluralElementsPackedCow::from_elements(call.alloc, &elements.texts()) {
+        Ok(packed) => call.print_value(&packed.as_packed().as_bytes().len()),
+        Err(fault) => call.print_error(&fault),
     }
 }
 
 // The bytes of borrowed elements.
-fn lent_elements(alloc: Global, arguments: &mut Arguments) -> Result<String, RowFault> {
-    let bytes = arguments.bytes(alloc)?;
+fn lent_elements(call: &mut Call) {
+    let bytes = call.bytes();
     match PluralElementsPackedCow::from_bytes(bytes.as_slice()) {
-        Ok(packed) => show::bytes(alloc, packed.as_packed().as_bytes()),
-        Err(fault) => show::error(alloc, &fault),
+        Ok(packed) => call.print_bytes(packed.as_packed().as_bytes()),
+        Err(fault) => call.print_error(&fault),
     }
 }
 
 // The text of each number.
-fn text_for(alloc: Global, arguments: &mut Arguments) -> Result<String, RowFault> {
-    let source = Source::read(alloc, arguments)?;
-    let rules = rules(alloc, arguments)?;
-    let numbers = arguments.texts(alloc)?;
-    let packed = source.packed(alloc)?;
-    let mut shown = String::new(alloc);
+fn text_for(call: &mut Call) {
+    let source = Source::next(call);
+    let rules = next_rules(call);
+    let numbers = call.texts();
+    let Some(packed) = source.packed(call) else {
+        return;
+    };
     for number in &numbers {
-        let Ok(operands) = operands(number.as_str()) else {
-            return Err(RowFault::Not("operands"));
-        };
-        let text = packed.get(operands, &rules);
-        push(&mut shown, show::quoted(alloc, text)?.as_str())?;
+        let operands = operands_of(call, number.as_str());
+        call.separate(", ");
+        call.print_quoted(packed.get(operands, &rules));
     }
-    Ok(shown)
 }
 
 // Whether a clone equals its source and has the same bytes.
-fn cloned_elements(alloc: Global, arguments: &mut Arguments) -> Result<String, RowFault> {
-    let source = Source::read(alloc, arguments)?;
-    let packed = source.packed(alloc)?;
-    let clone = packed.try_clone()?;
-    let is_same = clone.as_packed().as_bytes() == packed.as_packed().as_bytes();
-    show::truth(alloc, is_same && clone == packed)
+fn cloned_elements(call: &mut Call) {
+    let source = Source::next(call);
+    let Some(packed) = source.packed(call) else {
+        return;
+    };
+    match packed.try_clone() {
+        Ok(clone) => {
+            let is_same = clone.as_packed().as_bytes() == packed.as_packed().as_bytes();
+            call.print_truth(is_same && clone == packed);
+        }
+        Err(_) => call.out_of_memory(),
+    }
 }
 
 // Whether two packed elements are equal.
-fn are_equal_packed(alloc: Global, arguments: &mut Arguments) -> Result<String, RowFault> {
-    let source = Source::read(alloc, arguments)?;
-    let other = Source::read(alloc, arguments)?;
-    show::truth(alloc, source.packed(alloc)? == other.packed(alloc)?)
+fn are_equal_packed(call: &mut Call) {
+    let source = Source::next(call);
+    let other = Source::next(call);
+    let first = source.packed(call);
+    let second = other.packed(call);
+    call.print_truth(first == second);
 }

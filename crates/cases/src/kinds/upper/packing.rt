@@ -1,119 +1,119 @@
 //! Elements by category, chosen from and packed.
 
-use crate::arguments::Arguments;
-use crate::fault::RowFault;
-use crate::kinds::upper::element_values::{
-    borrowed_texts, borrowed_values, operands, push, push_value, rules, texts, values,
-};
-use crate::show;
-use icu_plurals::provider::PluralElementsPackedULE;
-use std::alloc::Global;
+use crate::call::Call;
+use crate::kinds::rule_truths::operands_of;
+use crate::kinds::upper::element_values::{Elements, next_rules, print_element};
+use icu_plurals::provider::{FourBitMetadata, PluralElementsPackedULE};
+use icu_plurals::{ElementsPackError, PluralElements, PluralRules};
 
-/// Returns the result of a kind of this file.
-pub fn result(
-    alloc: Global,
-    kind: &str,
-    arguments: &mut Arguments,
-) -> Option<Result<String, RowFault>> {
-    Some(match kind {
-        "packed_elements" => packed_elements(alloc, arguments),
-        "packed_elements_size" => packed_elements_size(alloc, arguments),
-        "packed_elements_for" => packed_elements_for(alloc, arguments),
-        "repacked_elements" => repacked_elements(alloc, arguments),
-        "chosen_text" => chosen_text(alloc, arguments),
-        "only_text" => only_text(alloc, arguments),
-        "are_equal_texts" => are_equal_texts(alloc, arguments),
-        _ => return None,
-    })
+/// Makes the call of a kind of this file. Returns whether there is such a kind.
+pub fn make(kind: &str, call: &mut Call) -> bool {
+    match kind {
+        "packed_elements" => packed_elements(call),
+        "packed_elements_size" => packed_elements_size(call),
+        "packed_elements_for" => packed_elements_for(call),
+        "repacked_elements" => repacked_elements(call),
+        "chosen_text" => chosen_text(call),
+        "only_text" => only_text(call),
+        "are_equal_texts" => are_equal_texts(call),
+        _ => return false,
+    }
+    true
 }
 
-// The bytes that elements are packed as.
-fn packed_elements(alloc: Global, arguments: &mut Arguments) -> Result<String, RowFault> {
-    let values = values(alloc, arguments)?;
-    match PluralElementsPackedULE::encode(alloc, &borrowed_values(&values)) {
-        Ok(bytes) => show::bytes(alloc, bytes.as_slice()),
-        Err(fault) => show::error(alloc, &fault),
+// Prints the bytes that elements were packed as, or why they weren't.
+fn print_packed(call: &mut Call, packed: Result<Vec<u8>, ElementsPackError>) {
+    match packed {
+        Ok(bytes) => call.print_bytes(bytes.as_slice()),
+        Err(fault) => call.print_error(&fault),
     }
 }
 
+// The bytes that elements are packed as.
+fn packed_elements(call: &mut Call) {
+    let elements = Elements::next_values(call);
+    let packed = PluralElementsPackedULE::encode(call.alloc, &elements.values());
+    print_packed(call, packed);
+}
+
 // How many bytes elements are packed as.
-fn packed_elements_size(alloc: Global, arguments: &mut Arguments) -> Result<String, RowFault> {
-    let values = values(alloc, arguments)?;
-    match PluralElementsPackedULE::encode(alloc, &borrowed_values(&values)) {
-        Ok(bytes) => show::displayed(alloc, &bytes.len()),
-        Err(fault) => show::error(alloc, &fault),
+fn packed_elements_size(call: &mut Call) {
+    let elements = Elements::next_values(call);
+    match PluralElementsPackedULE::encode(call.alloc, &elements.values()) {
+        Ok(bytes) => call.print_value(&bytes.len()),
+        Err(fault) => call.print_error(&fault),
     }
 }
 
 // The value of each number after packing, which has to be the same as before.
-fn packed_elements_for(alloc: Global, arguments: &mut Arguments) -> Result<String, RowFault> {
-    let values = values(alloc, arguments)?;
-    let rules = rules(alloc, arguments)?;
-    let numbers = arguments.texts(alloc)?;
-    let elements = borrowed_values(&values);
-    let bytes = match PluralElementsPackedULE::encode(alloc, &elements) {
-        Ok(bytes) => bytes,
-        Err(fault) => return show::error(alloc, &fault),
-    };
-    let Ok(packed) = PluralElementsPackedULE::parse_bytes(bytes.as_slice()) else {
-        return show::word(alloc, "refused");
-    };
-    let mut shown = String::new(alloc);
-    for number in &numbers {
-        let Ok(operands) = operands(number.as_str()) else {
-            return Err(RowFault::Not("operands"));
-        };
-        let value = packed.get(operands, &rules);
-        push_value(alloc, &mut shown, value)?;
-        if value != *elements.get(operands, &rules) {
-            push(&mut shown, "another before packing")?;
+fn packed_elements_for(call: &mut Call) {
+    let owned = Elements::next_values(call);
+    let elements = owned.values();
+    let rules = next_rules(call);
+    match PluralElementsPackedULE::encode(call.alloc, &elements) {
+        Ok(bytes) => match PluralElementsPackedULE::parse_bytes(bytes.as_slice()) {
+            Ok(packed) => print_both(call, packed, &elements, &rules),
+            Err(_) => call.print("refused"),
+        },
+        Err(fault) => call.print_error(&fault),
+    }
+}
+
+// Prints the value of each number of the next argument in packed elements, and whether it is
+// another than before.
+fn print_both(
+    call: &mut Call,
+    packed: PluralElementsPackedULE<'_>,
+    elements: &PluralElements<(FourBitMetadata, &str)>,
+    rules: &PluralRules<'_>,
+) {
+    for number in &call.texts() {
+        let operands = operands_of(call, number.as_str());
+        let value = packed.get(operands, rules);
+        call.separate(", ");
+        print_element(call, value);
+        if value != *elements.get(operands, rules) {
+            call.print(", another before packing");
         }
     }
-    Ok(shown)
 }
 
 // The bytes that decoded elements are packed as.
-fn repacked_elements(alloc: Global, arguments: &mut Arguments) -> Result<String, RowFault> {
-    let bytes = arguments.bytes(alloc)?;
-    let elements = match PluralElementsPackedULE::parse_bytes(bytes.as_slice()) {
-        Ok(elements) => elements.decode(),
-        Err(fault) => return show::error(alloc, &fault),
-    };
-    match PluralElementsPackedULE::encode(alloc, &elements) {
-        Ok(bytes) => show::bytes(alloc, bytes.as_slice()),
-        Err(fault) => show::error(alloc, &fault),
+fn repacked_elements(call: &mut Call) {
+    let bytes = call.bytes();
+    match PluralElementsPackedULE::parse_bytes(bytes.as_slice()) {
+        Ok(elements) => {
+            let packed = PluralElementsPackedULE::encode(call.alloc, &elements.decode());
+            print_packed(call, packed);
+        }
+        Err(fault) => call.print_error(&fault),
     }
 }
 
 // The text of each number.
-fn chosen_text(alloc: Global, arguments: &mut Arguments) -> Result<String, RowFault> {
-    let texts = texts(alloc, arguments)?;
-    let rules = rules(alloc, arguments)?;
-    let numbers = arguments.texts(alloc)?;
-    let elements = borrowed_texts(&texts);
-    let mut shown = String::new(alloc);
-    for number in &numbers {
-        let Ok(operands) = operands(number.as_str()) else {
-            return Err(RowFault::Not("operands"));
-        };
-        let text = *elements.get(operands, &rules);
-        push(&mut shown, show::quoted(alloc, text)?.as_str())?;
+fn chosen_text(call: &mut Call) {
+    let owned = Elements::next_texts(call);
+    let elements = owned.texts();
+    let rules = next_rules(call);
+    for number in &call.texts() {
+        let operands = operands_of(call, number.as_str());
+        call.separate(", ");
+        call.print_quoted(*elements.get(operands, &rules));
     }
-    Ok(shown)
 }
 
 // The text of other, if there is no other text.
-fn only_text(alloc: Global, arguments: &mut Arguments) -> Result<String, RowFault> {
-    let texts = texts(alloc, arguments)?;
-    match borrowed_texts(&texts).try_into_other() {
-        Some(text) => show::quoted(alloc, text),
-        None => show::word(alloc, "none"),
+fn only_text(call: &mut Call) {
+    let elements = Elements::next_texts(call);
+    match elements.texts().try_into_other() {
+        Some(text) => call.print_quoted(text),
+        None => call.print("none"),
     }
 }
 
 // Whether two elements are equal.
-fn are_equal_texts(alloc: Global, arguments: &mut Arguments) -> Result<String, RowFault> {
-    let elements = texts(alloc, arguments)?;
-    let others = texts(alloc, arguments)?;
-    show::truth(alloc, elements == others)
+fn are_equal_texts(call: &mut Call) {
+    let elements = Elements::next_texts(call);
+    let others = Elements::next_texts(call);
+    call.print_truth(elements.texts() == others.texts());
 }
