@@ -22,10 +22,9 @@
  *
  * Memory and ownership
  *     All bytes are the caller's, before and after a call. Nothing is kept between calls: no call has to be undone, and
- *     there is no state that calls share. A call that allocates frees all of it before it returns; it uses malloc,
- *     realloc and free of the process, which have to be of one allocator, and malloc and realloc have to align a block to
- *     each power of two up to 16 that divides its size. plurals_check_rules and plurals_category_of_integer allocate
- *     nothing.
+ *     there is no state that calls share. A call that allocates, as its declaration tells, frees all of it before it
+ *     returns; it uses malloc, realloc and free of the process, which have to be of one allocator, and malloc and realloc
+ *     have to align a block to each power of two up to 16 that divides its size.
  *
  * What the caller has to see to
  *     A pointer and the length after it are one slice: that many bytes can be read there, and in out written. A text needs
@@ -151,13 +150,27 @@ int64_t plurals_rules_from_texts(const char *zero, size_t zero_len, const char *
                                  uint8_t *out, size_t out_len);
 
 /* Returns 0 if the bytes are a block of rules, else their fault, which is from PLURALS_RULES_LIST_HEADER to
- * PLURALS_RULES_RULE_OPERAND. The block without bytes is that of no rules, under which every number is other. Takes no
- * memory. */
+ * PLURALS_RULES_RULE_OPERAND. The block without bytes is that of no rules, under which every number is other. Allocates
+ * nothing. */
 int32_t plurals_check_rules(const uint8_t *rules, size_t rules_len);
 
 /* Returns the category of an integer, PLURALS_ZERO to PLURALS_OTHER, or the fault of the rules. number is unsigned, so C
  * makes a huge number of a negative int: plurals_category_of_signed_integer takes those. Allocates nothing. */
 int32_t plurals_category_of_integer(const uint8_t *rules, size_t rules_len, uint64_t number);
+
+/* Returns the category of an integer, which is that of its absolute value, or the fault of the rules. Allocates nothing. */
+int32_t plurals_category_of_signed_integer(const uint8_t *rules, size_t rules_len, int64_t number);
+
+/* Returns the category of six operands (docs/NUMBERS.md), or the fault of the rules: for callers that format numbers
+ * themselves and know the digits that are shown. i is the integer part, v and w how many fraction digits are shown, with
+ * the zeros at the end and without, f and t these digits as a number, c the compact exponent. Any six are allowed, also
+ * those of no number. Allocates nothing. */
+int32_t plurals_category_of_operands(const uint8_t *rules, size_t rules_len, uint64_t i, size_t v, size_t w, uint64_t f,
+                                     uint64_t t, size_t c);
+
+/* Returns which categories a number may have, one bit each, or the fault of the rules: those that have a rule, and other.
+ * The bit of a category is 1 << its number, so 1 << PLURALS_ONE | 1 << PLURALS_OTHER in English. Allocates nothing. */
+int32_t plurals_categories(const uint8_t *rules, size_t rules_len);
 
 /* Returns the category of a number as it is written: 1 and 1.0 are two numbers. It may have a sign, zeros at both ends and
  * a compact exponent, as 1.2c6 (docs/NUMBERS.md). Of a long number a part decides; plurals_is_exact tells whether all of
@@ -187,9 +200,6 @@ int64_t plurals_message(const uint8_t *rules, size_t rules_len, const uint8_t *e
 
 /* Returns the version of the library, as "0.1.0". The text is the library's, and ends with a byte 0. */
 const char *plurals_version(void);
-
-/* Returns the category of an integer, which is that of its absolute value, or the fault of the rules. */
-int32_t plurals_category_of_signed_integer(const uint8_t *rules, size_t rules_len, int64_t number);
 
 /* Returns the name of a category, as "one", or null if the number is that of none. The text is the library's, and ends
  * with a byte 0. */

@@ -220,6 +220,18 @@ static int64_t category_of_integer(const struct slice *s, uint8_t *out, size_t r
     (void)out, (void)room;
     return plurals_category_of_integer(BLOCK(0), number);
 }
+static int64_t category_of_signed_integer(const struct slice *s, uint8_t *out, size_t room) {
+    (void)out, (void)room;
+    return plurals_category_of_signed_integer(BLOCK(0), (int64_t)number);
+}
+static int64_t category_of_operands(const struct slice *s, uint8_t *out, size_t room) {
+    (void)out, (void)room;
+    return plurals_category_of_operands(BLOCK(0), number, type, number % 7, number >> 8, number >> 16, number % 11);
+}
+static int64_t categories(const struct slice *s, uint8_t *out, size_t room) {
+    (void)out, (void)room;
+    return plurals_categories(BLOCK(0));
+}
 static int64_t category(const struct slice *s, uint8_t *out, size_t room) {
     (void)out, (void)room;
     return plurals_category(BLOCK(0), TEXT(1));
@@ -257,6 +269,9 @@ static const struct export {
      {RULE, RULE, RULE, RULE, RULE}},
     {"plurals_check_rules", check_rules, 0, OF_RULES, 1, {RULES}},
     {"plurals_category_of_integer", category_of_integer, PLURALS_OTHER, OF_RULES, 1, {RULES}},
+    {"plurals_category_of_signed_integer", category_of_signed_integer, PLURALS_OTHER, OF_RULES, 1, {RULES}},
+    {"plurals_category_of_operands", category_of_operands, PLURALS_OTHER, OF_RULES, 1, {RULES}},
+    {"plurals_categories", categories, 63, OF_RULES, 1, {RULES}},
     {"plurals_category", category, PLURALS_OTHER, OF_MEMORY | OF_UTF8 | OF_RULES | OF_NUMBER, 2, {RULES, NUMBER}},
     {"plurals_is_exact", is_exact, 1, OF_MEMORY | OF_UTF8 | OF_RULES | OF_NUMBER, 2, {RULES, NUMBER}},
     {"plurals_elements_from_json", elements_from_json, -1, OF_MEMORY | OF_UTF8 | OF_PACKED_ELEMENTS | OF_JSON, 1, {ELEMENTS_JSON}},

@@ -4,5 +4,7 @@ pub mod GivenBytes
 pub mod GivenTexts
 pub mod GivenDocuments
 pub mod NumberAnswers
+pub mod OperandAnswers
+pub mod RulesCategories
 -- not definitions of the subject
 pub mod Inner

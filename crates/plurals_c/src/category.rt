@@ -79,7 +79,7 @@ fn is_exact_for(alloc: Global, rules: &[u8], number: &[u8]) -> Result<bool, Faul
 }
 
 // The number of a category.
-fn category_number(category: PluralCategory) -> i32
+pub(crate) fn category_number(category: PluralCategory) -> i32
     ensures { result ≡ category_number category }
 {
     match category {

@@ -2,12 +2,15 @@
 #![tactic(auto)]
 
 mod buffer;
+mod categories;
 mod category;
 mod document;
 mod elements;
 mod fault;
 mod given;
 mod message;
+mod operands;
 mod rules;
+mod signed;
 #[cfg(test)]
 mod tests;
