@@ -111,7 +111,7 @@ enum plurals_fault {
     PLURALS_RULES_RULE_OPERAND = -39,         /* a relation's operand is above 7 */
     PLURALS_RULES_LIMIT = -40,                /* the rules are too long for one block */
 
-    /* of a block of elements; the last two of JSON as elements */
+    /* of a block of elements; the last two of elements that are packed */
     PLURALS_ELEMENTS_EMPTY = -50,           /* it has no byte */
     PLURALS_ELEMENTS_SHORT = -51,           /* the default's text, or its length, is cut off */
     PLURALS_ELEMENTS_PADDING = -52,         /* one of the bits 4 to 6 of the first byte is set */
@@ -131,7 +131,7 @@ enum plurals_fault {
     PLURALS_DOCUMENT_SHAPE = -72,       /* a value is of another kind than its place asks for */
     PLURALS_DOCUMENT_RANGE_KEY = -73,   /* a key names no range */
     PLURALS_DOCUMENT_RANGE_VALUE = -74, /* a range's value names no category */
-    PLURALS_LOCALE = -75                /* the locale isn't present among the rules of this type */
+    PLURALS_LOCALE = -75                /* the locale isn't present among the rules of this type, or the ranges */
 };
 
 /* Writes the block of the rules that a document has for a locale (docs/JSON.md; tools/cldr-document makes a document of
@@ -182,9 +182,24 @@ int32_t plurals_category(const uint8_t *rules, size_t rules_len, const char *num
  * the exponent has moved it. Allocates for the number. */
 int32_t plurals_is_exact(const uint8_t *rules, size_t rules_len, const char *number, size_t number_len);
 
+/* Writes the categories of ranges of numbers, as 1 to 3, that a document has for a locale (docs/RANGES.md): 36 bytes, of
+ * which table[6 * start + end] is the category of a range with the categories start and end, each a number from PLURALS_ZERO
+ * to PLURALS_OTHER. Faults, in the order in which they are looked for: the locale's text isn't UTF-8; the text isn't JSON;
+ * it isn't a document, in any of its locales; PLURALS_LOCALE. Allocates in proportion to the document. */
+int64_t plurals_ranges_from_document(const char *json, size_t json_len, const char *locale, size_t locale_len,
+                                     uint8_t *out, size_t out_len);
+
 /* Writes the block of the elements of a JSON text (docs/JSON.md), as {"other":[0,"{} items"],"one":[0,"{} item"]}. Faults,
  * in the order in which they are looked for: the text isn't JSON; it means no elements; they can't be packed. Allocates. */
 int64_t plurals_elements_from_json(const char *json, size_t json_len, uint8_t *out, size_t out_len);
+
+/* Writes the block of the elements of these eight texts; explicit_zero and explicit_one are those of exactly 0 and exactly
+ * 1. But for other a text of length 0 isn't an element. Faults, in the order in which they are looked for: a text isn't
+ * UTF-8; PLURALS_ELEMENTS_DEFAULT_LIMIT; PLURALS_ELEMENTS_START_LIMIT. Allocates. */
+int64_t plurals_elements_from_texts(const char *other, size_t other_len, const char *zero, size_t zero_len, const char *one,
+                                    size_t one_len, const char *two, size_t two_len, const char *few, size_t few_len,
+                                    const char *many, size_t many_len, const char *explicit_zero, size_t explicit_zero_len,
+                                    const char *explicit_one, size_t explicit_one_len, uint8_t *out, size_t out_len);
 
 /* Writes the text of the element that the number takes: the explicit one of exactly 0 or exactly 1 if it is present, else
  * that of the number's category, else that of other. Allocates for the number. */

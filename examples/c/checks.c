@@ -47,6 +47,21 @@ static void operands(void) {
     CHECK(plurals_category_of_signed_integer(rules, (size_t)length, -11) == PLURALS_ONE);
 }
 
+static void ranges_and_texts(void) {
+    const char *json = "{\"ranges\":{\"a\":{\"ranges\":{\"one--two\":\"many\"}}}}";
+    uint8_t table[36], elements[64];
+    CHECK(plurals_ranges_from_document(json, strlen(json), "a", 1, NULL, 0) == 36);
+    CHECK(plurals_ranges_from_document(json, strlen(json), "b", 1, NULL, 0) == PLURALS_LOCALE);
+    CHECK(plurals_ranges_from_document(json, strlen(json), "a", 1, table, sizeof table) == 36);
+    for (int start = 0; start < 6; start++) {
+        for (int end = 0; end < 6; end++) CHECK(table[6 * start + end] == (start == PLURALS_ONE && end == PLURALS_TWO ? PLURALS_MANY : end));
+    }
+    int64_t length = plurals_elements_from_texts("{} items", 8, NULL, 0, "{} item", 7, NULL, 0, NULL, 0, NULL, 0, NULL, 0, NULL, 0,
+                                                 elements, sizeof elements);
+    CHECK(length == 20 && !memcmp(elements, "\x80\x08{} items\x01\0\x10{} item", 20));
+    CHECK(plurals_elements_from_texts(NULL, 0, NULL, 0, NULL, 0, NULL, 0, NULL, 0, NULL, 0, NULL, 0, NULL, 0, elements, 64) == 1);
+}
+
 static void names_and_texts(void) {
     const char *names[] = {"zero", "one", "two", "few", "many", "other"};
     for (int32_t category = -2; category < 8; category++) {
@@ -61,7 +76,7 @@ static void names_and_texts(void) {
         }
         CHECK(fault < 0 || !text);
     }
-    CHECK(plurals_fault_text(PLURALS_MEMORY) && !strcmp(plurals_fault_text(PLURALS_LOCALE), "the document has no rules of the type for the locale"));
+    CHECK(plurals_fault_text(PLURALS_MEMORY) && !strcmp(plurals_fault_text(PLURALS_LOCALE), "the document has no rules of the type, or no ranges, for the locale"));
     CHECK(!plurals_fault_text(INT64_MIN) && !plurals_fault_text(PLURALS_MEMORY + (INT64_C(1) << 32)));
     CHECK(!strcmp(plurals_version(), PLURALS_VERSION));
 }
@@ -69,6 +84,7 @@ static void names_and_texts(void) {
 int main(void) {
     null_with_length_0();
     operands();
+    ranges_and_texts();
     names_and_texts();
     printf("%d failed\n", failed);
     return failed != 0;

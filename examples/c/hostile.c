@@ -17,7 +17,7 @@
 #include <sys/mman.h>
 #include <unistd.h>
 
-enum { MOST_SLICES = 5, MOST_BYTES = 1024, MOST_POOL = 32, RANDOM_BYTES = 64 };
+enum { MOST_SLICES = 8, MOST_BYTES = 1024, MOST_POOL = 32, RANDOM_BYTES = 64 };
 
 /* ---- random numbers: splitmix64 */
 
@@ -212,6 +212,9 @@ static int64_t rules_from_document(const struct slice *s, uint8_t *out, size_t r
 static int64_t rules_from_texts(const struct slice *s, uint8_t *out, size_t room) {
     return plurals_rules_from_texts(TEXT(0), TEXT(1), TEXT(2), TEXT(3), TEXT(4), out, room);
 }
+static int64_t ranges_from_document(const struct slice *s, uint8_t *out, size_t room) {
+    return plurals_ranges_from_document(TEXT(0), TEXT(1), out, room);
+}
 static int64_t check_rules(const struct slice *s, uint8_t *out, size_t room) {
     (void)out, (void)room;
     return plurals_check_rules(BLOCK(0));
@@ -243,6 +246,9 @@ static int64_t is_exact(const struct slice *s, uint8_t *out, size_t room) {
 static int64_t elements_from_json(const struct slice *s, uint8_t *out, size_t room) {
     return plurals_elements_from_json(TEXT(0), out, room);
 }
+static int64_t elements_from_texts(const struct slice *s, uint8_t *out, size_t room) {
+    return plurals_elements_from_texts(TEXT(0), TEXT(1), TEXT(2), TEXT(3), TEXT(4), TEXT(5), TEXT(6), TEXT(7), out, room);
+}
 static int64_t element(const struct slice *s, uint8_t *out, size_t room) {
     return plurals_element(BLOCK(0), BLOCK(1), TEXT(2), (char *)out, room);
 }
@@ -267,6 +273,8 @@ static const struct export {
      OF_MEMORY | OF_UTF8 | OF_TYPE | OF_TEXT | OF_PACKED_RULES | OF_JSON | OF_DOCUMENT, 2, {DOCUMENT, LOCALE}},
     {"plurals_rules_from_texts", rules_from_texts, -1, OF_MEMORY | OF_UTF8 | OF_TEXT | OF_PACKED_RULES, 5,
      {RULE, RULE, RULE, RULE, RULE}},
+    {"plurals_ranges_from_document", ranges_from_document, -1, OF_MEMORY | OF_UTF8 | OF_TEXT | OF_JSON | OF_DOCUMENT, 2,
+     {DOCUMENT, LOCALE}},
     {"plurals_check_rules", check_rules, 0, OF_RULES, 1, {RULES}},
     {"plurals_category_of_integer", category_of_integer, PLURALS_OTHER, OF_RULES, 1, {RULES}},
     {"plurals_category_of_signed_integer", category_of_signed_integer, PLURALS_OTHER, OF_RULES, 1, {RULES}},
@@ -275,6 +283,8 @@ static const struct export {
     {"plurals_category", category, PLURALS_OTHER, OF_MEMORY | OF_UTF8 | OF_RULES | OF_NUMBER, 2, {RULES, NUMBER}},
     {"plurals_is_exact", is_exact, 1, OF_MEMORY | OF_UTF8 | OF_RULES | OF_NUMBER, 2, {RULES, NUMBER}},
     {"plurals_elements_from_json", elements_from_json, -1, OF_MEMORY | OF_UTF8 | OF_PACKED_ELEMENTS | OF_JSON, 1, {ELEMENTS_JSON}},
+    {"plurals_elements_from_texts", elements_from_texts, -1, OF_MEMORY | OF_UTF8 | OF_PACKED_ELEMENTS, 8,
+     {LOCALE, NUMBER, RULE, LOCALE, NUMBER, LOCALE, RULE, LOCALE}},
     {"plurals_element", element, -1, OF_MEMORY | OF_UTF8 | OF_RULES | OF_ELEMENTS | OF_NUMBER, 3, {RULES, ELEMENTS, NUMBER}},
     {"plurals_message", message, -1, OF_MEMORY | OF_UTF8 | OF_RULES | OF_ELEMENTS | OF_NUMBER, 3, {RULES, ELEMENTS, NUMBER}},
 };

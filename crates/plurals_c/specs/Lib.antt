@@ -3,6 +3,8 @@ pub mod Results
 pub mod GivenBytes
 pub mod GivenTexts
 pub mod GivenDocuments
+pub mod GivenRanges
+pub mod GivenElements
 pub mod NumberAnswers
 pub mod OperandAnswers
 pub mod RulesCategories

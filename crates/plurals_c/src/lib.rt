@@ -5,11 +5,13 @@ mod buffer;
 mod categories;
 mod category;
 mod document;
+mod element_texts;
 mod elements;
 mod fault;
 mod given;
 mod message;
 mod operands;
+mod ranges;
 mod rules;
 mod signed;
 #[cfg(test)]
