@@ -1,13 +1,17 @@
-/* Gives each export bytes that mean little: random ones, good ones with mistakes, and texts at a limit. Arguments: how many calls,
- * and a seed.
+/* Gives each export input whose answer is known: rows that are written by hand, each fault of each export among them, and random
+ * ones, which are good, good with mistakes, or mean little. Arguments: how many calls, and a seed.
+ *
+ * The answer is known by a second way, the model of model.c: a call has to return what the model returns, and to write its bytes.
  *
  * Each slice lies between two pages that can't be touched, at one end of its own, so a read or a write outside of it is seen,
  * also where the library isn't compiled for the address sanitizer. malloc, realloc and free are wrapped at the link: some calls
- * are refused memory, and a block that a call keeps is seen.
+ * are refused memory, a block that a call keeps is seen, and so is memory that is taken where the header says that none is.
  *
- * Each call has to return a value in its range or a fault that it declares, PLURALS_MEMORY exactly if memory was refused; has to
- * leave its input as it was, and of out all but the result; and has to return the same when it is asked again. */
+ * A call has to return PLURALS_MEMORY exactly if memory was refused; has to leave its input as it was, and of out all but the
+ * result; has to take no memory before a fault of a block, a number, the type or UTF-8; and has to return the same when it is asked
+ * again. */
 #define _DEFAULT_SOURCE
+#include "model.h"
 #include <inttypes.h>
 #include <plurals.h>
 #include <stdbool.h>
@@ -17,7 +21,7 @@
 #include <sys/mman.h>
 #include <unistd.h>
 
-enum { MOST_SLICES = 8, MOST_BYTES = 1024, MOST_POOL = 32, RANDOM_BYTES = 64 };
+enum { MOST_SLICES = 5, MOST_BYTES = 1024, MOST_POOL = 64, RANDOM_BYTES = 64 };
 
 /* ---- random numbers: splitmix64 */
 
@@ -94,19 +98,22 @@ static void add(enum kind kind, const void *bytes, size_t length) {
 
 static void add_text(enum kind kind, const char *text) { add(kind, text, strlen(text)); }
 
+static struct slice slice_of(const char *text) { return (struct slice){(const uint8_t *)text, strlen(text)}; }
+
 static void add_rules(const char *zero, const char *one, const char *two, const char *few, const char *many) {
-    uint8_t block[MOST_BYTES];
-    int64_t length = plurals_rules_from_texts(zero, strlen(zero), one, strlen(one), two, strlen(two), few, strlen(few), many,
-                                              strlen(many), block, sizeof block);
+    static uint8_t block[MODEL_BYTES];
+    const char *texts[] = {zero, one, two, few, many};
+    struct slice slices[5];
+    for (int k = 0; k < 5; k++) slices[k] = slice_of(texts[k]);
+    int64_t length = model_rules_from_texts(slices, block);
     if (length < 0) abort();
     add(RULES, block, (size_t)length);
-    const char *texts[] = {zero, one, two, few, many};
     for (int k = 0; k < 5; k++) add_text(RULE, texts[k]);
 }
 
 static void add_elements(const char *json) {
-    uint8_t block[MOST_BYTES];
-    int64_t length = plurals_elements_from_json(json, strlen(json), block, sizeof block);
+    static uint8_t block[MODEL_BYTES];
+    int64_t length = model_elements_from_json(slice_of(json), block);
     if (length < 0) abort();
     add(ELEMENTS, block, (size_t)length);
     add_text(ELEMENTS_JSON, json);
@@ -118,16 +125,21 @@ static void fill_pools(void) {
     add_rules("", "v = 0 and i % 10 = 1 and i % 100 != 11", "", "v = 0 and i % 10 = 2..4 and i % 100 != 12..14",
               "v = 0 and i % 10 = 0 or v = 0 and i % 10 = 5..9 or v = 0 and i % 100 = 11..14 @integer 0, 5~19, 100, …");
     add_rules("n = 0", "n = 1", "n = 2", "n % 100 = 3..10", "n % 100 = 11..99 @integer 11~26 @decimal 11.0, 1.1c2");
+    add_rules("w = 0", "t % 10 = 1", "f = 20", "e = 6 or v != 1, 3..4", " ");
+    add_rules("i % 3 = 2", "", "i % 3906250000 = 1", "n % 1000000 = 7", "n != 0..9");
     add_elements("{\"other\":[0,\"{} items\"],\"one\":[0,\"{} item\"]}");
     add_elements("{\"other\":[15,\"\"]}");
     add_elements("{\"zero\":[1,\"none\"],\"one\":[0,\"{}\"],\"two\":[2,\"{} {}\"],\"few\":[3,\"{\"],\"many\":[4,\"{{}}\"],"
                  "\"explicit_zero\":[5,\"\"],\"explicit_one\":[6,\"\\u00e9\"],\"other\":[0,\"}{\"]}");
     add(ELEMENTS, "\x80\0\0\0", 4);
+    add(ELEMENTS, "\x80\1a\2\0\2\0\x10" "b\x10" "c", 10);
     add_text(RULE, "i = 1 or");
     add_text(ELEMENTS_JSON, "{\"other\":[0.5,\"x\"]}");
     add_text(ELEMENTS_JSON, "{\"other\":[16,\"x\"]}");
+    add_text(ELEMENTS_JSON, "{\"one\":null,\"other\":[0,\"\\ud83d\\ude00\"],\"many\":[0,\"\\ud83d\\ude00\"],\"x\":[[[-1e2]]]}");
     const char *numbers[] = {"0", "1", "1.0", "-1", "+01.50", ".5", "22", "1c6", "1.2c255", "1c256", "0.000000000000000000001",
-                             "100000000000000000000000000021", "999999999999999999"};
+                             "100000000000000000000000000021", "999999999999999999", "1000000000000000001", "0000000000000000001",
+                             "2000000000000000000", "0c17", "0c18", "1.0000000000000000000"};
     for (size_t k = 0; k < sizeof numbers / sizeof *numbers; k++) add_text(NUMBER, numbers[k]);
     add_text(DOCUMENT, "{}");
     add_text(DOCUMENT, "{\"cardinal\":{\"en\":{\"one\":\"i = 1 and v = 0\"},\"ru\":{\"few\":\"i % 10 = 2..4\"}}}");
@@ -163,12 +175,130 @@ static void spoil(enum kind kind, struct text *text) {
     }
 }
 
+static void append(struct text *text, const char *piece) {
+    size_t length = strlen(piece);
+    if (text->length + length > MOST_BYTES) return;
+    memcpy(text->bytes + text->length, piece, length);
+    text->length += length;
+}
+
+static const char *one_of(const char *const *pieces, size_t count) { return pieces[below(count)]; }
+#define ONE_OF(...) one_of((const char *const[]){__VA_ARGS__}, sizeof((const char *const[]){__VA_ARGS__}) / sizeof(const char *))
+
+static const char *any_value(void) {
+    return ONE_OF("0", "1", "2", "3", "4", "5", "10", "11", "14", "18", "99", "100", "1000000", "4294967295");
+}
+
+/* A condition, and samples or none. */
+static void good_rule(struct text *text) {
+    do {
+        append(text, ONE_OF("n", "i", "v", "w", "f", "t", "c", "e", "n", "i"));
+        if (below(3) == 0) append(text, "%"), append(text, ONE_OF("0", "2", "3", "7", "10", "60", "100", "1000", "1000000", "3906250000"));
+        append(text, ONE_OF(" = ", " != ", "="));
+        do {
+            append(text, any_value());
+            if (below(3) == 0) append(text, ".."), append(text, any_value());
+        } while (below(3) == 0 && (append(text, ","), true));
+    } while (below(2) && (append(text, ONE_OF(" and ", " or ")), true));
+    if (below(4) == 0) append(text, ONE_OF(" @integer 1, 2~4, …", " @decimal 0.0~1.5", " @integer 1c6 @decimal .", " @integer …"));
+}
+
+/* A number, often with as many places as one more or less would make inexact. */
+static void good_number(struct text *text) {
+    const char *digits = ONE_OF("0", "01", "0123456789", "0123456789");
+    size_t sides[2] = {below(4) ? below(4) : 16 + below(5), below(2) ? 0 : below(4) ? below(4) : 16 + below(5)};
+    append(text, ONE_OF("", "", "-", "+"));
+    for (int side = 0; side < 2; side++) {
+        if (side == 1 && sides[1] == 0 && text->length > 1) break;
+        if (side == 1) append(text, "."), sides[1]++;
+        for (size_t k = 0; k < sides[side]; k++) append(text, (char[]){digits[below(strlen(digits))], 0});
+    }
+    if (below(3) == 0) append(text, ONE_OF("c0", "c1", "c2", "c3", "c6", "c17", "c18", "c255"));
+}
+
+/* The five rules of a locale, as JSON. */
+static void good_five(struct text *text) {
+    append(text, "{\"other\":\"\"");
+    while (below(3)) {
+        append(text, ",\""), append(text, ONE_OF("zero", "one", "two", "few", "many", "other", "one"));
+        append(text, "\":");
+        if (below(8)) append(text, "\""), good_rule(text), append(text, "\"");
+        else append(text, ONE_OF("null", "5", "\"\"", "\"i 1\"", "1.0", "[]"));
+    }
+    append(text, "}");
+}
+
+static void good_ranges(struct text *text) {
+    append(text, "{\"ranges\":{");
+    for (bool is_first = true; below(2); is_first = false) {
+        append(text, is_first ? "\"" : ",\""), append(text, ONE_OF("one", "two", "other", "many"));
+        append(text, "--"), append(text, ONE_OF("zero", "few", "other", "mony")), append(text, "\":");
+        append(text, ONE_OF("\"one\"", "\"other\"", "\"few\"", "\"fw\"", "5"));
+    }
+    append(text, "}}");
+}
+
+static void good_document(struct text *text) {
+    append(text, "{");
+    for (bool is_first = true; below(3); is_first = false) {
+        bool are_ranges = below(4) == 0;
+        append(text, is_first ? "" : ","), append(text, are_ranges ? "\"ranges\"" : ONE_OF("\"cardinal\"", "\"ordinal\""));
+        append(text, ":{\""), append(text, ONE_OF("en", "ru", "", "z")), append(text, "\":");
+        if (are_ranges) good_ranges(text);
+        else good_five(text);
+        if (below(2)) append(text, ",\"ru\":"), good_five(text);
+        append(text, "}");
+    }
+    append(text, "}");
+}
+
+static void good_elements(struct text *text) {
+    append(text, "{\"other\":[0,\"{} x\"]");
+    while (below(3)) {
+        append(text, ",\""), append(text, ONE_OF("zero", "one", "two", "few", "many", "explicit_zero", "explicit_one", "other"));
+        append(text, "\":"), append(text, ONE_OF("[0,\"{} x\"]", "[1,\"{} x\"]", "[15,\"{}{}\"]", "[0,\"\"]", "null", "[ 3 , \"a{}b{\" ]"));
+    }
+    append(text, "}");
+}
+
+/* Makes the input good, if there is a way for its kind. */
+static void make_good(enum kind kind, struct text *text) {
+    static uint8_t block[MODEL_BYTES];
+    text->length = 0;
+    if (kind == RULE && below(3)) good_rule(text);
+    if (kind == NUMBER) good_number(text);
+    if (kind == DOCUMENT) good_document(text);
+    if (kind == ELEMENTS_JSON) good_elements(text);
+    if (kind == LOCALE) append(text, ONE_OF("en", "ru", "z", ""));
+    if (kind == RULES) {
+        static struct text rules[5];
+        struct slice slices[5];
+        for (int k = 0; k < 5; k++) {
+            make_good(RULE, &rules[k]);
+            slices[k] = (struct slice){rules[k].bytes, rules[k].length};
+        }
+        int64_t length = model_rules_from_texts(slices, block);
+        if (length < 0 || length > MOST_BYTES) return;
+        memcpy(text->bytes, block, (size_t)length), text->length = (size_t)length;
+    }
+    if (kind == ELEMENTS) {
+        static struct text json;
+        json.length = 0;
+        good_elements(&json);
+        int64_t length = model_elements_from_json((struct slice){json.bytes, json.length}, block);
+        if (length < 0 || length > MOST_BYTES) return;
+        memcpy(text->bytes, block, (size_t)length), text->length = (size_t)length;
+    }
+}
+
 static void make_text(enum kind kind, struct text *text) {
-    if (below(5) == 0) {
+    size_t way = below(10);
+    if (way == 0) {
         random_text(kind, text);
         return;
     }
-    *text = pools[kind].texts[below(pools[kind].count)];
+    if (way < 5) *text = pools[kind].texts[below(pools[kind].count)];
+    else make_good(kind, text);
     for (size_t chance = 2; below(chance) == 0; chance++) spoil(kind, text);
 }
 
@@ -179,7 +309,7 @@ static size_t room_size;
 
 static void make_rooms(void) {
     size_t page = (size_t)sysconf(_SC_PAGESIZE);
-    room_size = (MOST_BYTES + page - 1) / page * page;
+    room_size = (MODEL_BYTES + page - 1) / page * page;
     for (size_t k = 0; k < MOST_SLICES + 1; k++) {
         uint8_t *start = mmap(NULL, room_size + 2 * page, PROT_NONE, MAP_PRIVATE | MAP_ANONYMOUS, -1, 0);
         if (start == MAP_FAILED || mprotect(start + page, room_size, PROT_READ | PROT_WRITE)) abort();
@@ -192,11 +322,6 @@ static void make_rooms(void) {
 static uint8_t *place(size_t room, size_t length) { return below(2) ? rooms[room] : rooms[room] + room_size - length; }
 
 /* ---- the exports */
-
-struct slice {
-    const uint8_t *at;
-    size_t length;
-};
 
 /* What a call gets beside its slices. */
 static uint64_t number;
@@ -212,9 +337,6 @@ static int64_t rules_from_document(const struct slice *s, uint8_t *out, size_t r
 static int64_t rules_from_texts(const struct slice *s, uint8_t *out, size_t room) {
     return plurals_rules_from_texts(TEXT(0), TEXT(1), TEXT(2), TEXT(3), TEXT(4), out, room);
 }
-static int64_t ranges_from_document(const struct slice *s, uint8_t *out, size_t room) {
-    return plurals_ranges_from_document(TEXT(0), TEXT(1), out, room);
-}
 static int64_t check_rules(const struct slice *s, uint8_t *out, size_t room) {
     (void)out, (void)room;
     return plurals_check_rules(BLOCK(0));
@@ -222,18 +344,6 @@ static int64_t check_rules(const struct slice *s, uint8_t *out, size_t room) {
 static int64_t category_of_integer(const struct slice *s, uint8_t *out, size_t room) {
     (void)out, (void)room;
     return plurals_category_of_integer(BLOCK(0), number);
-}
-static int64_t category_of_signed_integer(const struct slice *s, uint8_t *out, size_t room) {
-    (void)out, (void)room;
-    return plurals_category_of_signed_integer(BLOCK(0), (int64_t)number);
-}
-static int64_t category_of_operands(const struct slice *s, uint8_t *out, size_t room) {
-    (void)out, (void)room;
-    return plurals_category_of_operands(BLOCK(0), number, type, number % 7, number >> 8, number >> 16, number % 11);
-}
-static int64_t categories(const struct slice *s, uint8_t *out, size_t room) {
-    (void)out, (void)room;
-    return plurals_categories(BLOCK(0));
 }
 static int64_t category(const struct slice *s, uint8_t *out, size_t room) {
     (void)out, (void)room;
@@ -246,15 +356,24 @@ static int64_t is_exact(const struct slice *s, uint8_t *out, size_t room) {
 static int64_t elements_from_json(const struct slice *s, uint8_t *out, size_t room) {
     return plurals_elements_from_json(TEXT(0), out, room);
 }
-static int64_t elements_from_texts(const struct slice *s, uint8_t *out, size_t room) {
-    return plurals_elements_from_texts(TEXT(0), TEXT(1), TEXT(2), TEXT(3), TEXT(4), TEXT(5), TEXT(6), TEXT(7), out, room);
-}
 static int64_t element(const struct slice *s, uint8_t *out, size_t room) {
     return plurals_element(BLOCK(0), BLOCK(1), TEXT(2), (char *)out, room);
 }
 static int64_t message(const struct slice *s, uint8_t *out, size_t room) {
     return plurals_message(BLOCK(0), BLOCK(1), TEXT(2), (char *)out, room);
 }
+
+/* The same by the model. */
+
+static int64_t model_of_document(const struct slice *s, uint8_t *out) { return model_rules_from_document(s[0], s[1], type, out); }
+static int64_t model_of_texts(const struct slice *s, uint8_t *out) { return model_rules_from_texts(s, out); }
+static int64_t model_of_check(const struct slice *s, uint8_t *out) { return (void)out, model_check_rules(s[0]); }
+static int64_t model_of_integer(const struct slice *s, uint8_t *out) { return (void)out, model_category_of_integer(s[0], number); }
+static int64_t model_of_category(const struct slice *s, uint8_t *out) { return (void)out, model_category(s[0], s[1]); }
+static int64_t model_of_exactness(const struct slice *s, uint8_t *out) { return (void)out, model_is_exact(s[0], s[1]); }
+static int64_t model_of_json(const struct slice *s, uint8_t *out) { return model_elements_from_json(s[0], out); }
+static int64_t model_of_element(const struct slice *s, uint8_t *out) { return model_element(s[0], s[1], s[2], out); }
+static int64_t model_of_message(const struct slice *s, uint8_t *out) { return model_message(s[0], s[1], s[2], out); }
 
 /* Groups of faults, as bits. */
 enum { OF_MEMORY = 1, OF_UTF8 = 2, OF_TYPE = 4, OF_NUMBER = 8, OF_TEXT = 16, OF_RULES = 32, OF_PACKED_RULES = 64, OF_ELEMENTS = 128,
@@ -263,42 +382,38 @@ enum { OF_MEMORY = 1, OF_UTF8 = 2, OF_TYPE = 4, OF_NUMBER = 8, OF_TEXT = 16, OF_
 static const struct export {
     const char *name;
     int64_t (*ask)(const struct slice *, uint8_t *, size_t);
+    int64_t (*model)(const struct slice *, uint8_t *);
     /* The greatest result, or -1 for a length, whose bytes are written. */
     int64_t greatest;
     int faults;
     int slices;
     enum kind kinds[MOST_SLICES];
 } exports[] = {
-    {"plurals_rules_from_document", rules_from_document, -1,
+    {"plurals_rules_from_document", rules_from_document, model_of_document, -1,
      OF_MEMORY | OF_UTF8 | OF_TYPE | OF_TEXT | OF_PACKED_RULES | OF_JSON | OF_DOCUMENT, 2, {DOCUMENT, LOCALE}},
-    {"plurals_rules_from_texts", rules_from_texts, -1, OF_MEMORY | OF_UTF8 | OF_TEXT | OF_PACKED_RULES, 5,
+    {"plurals_rules_from_texts", rules_from_texts, model_of_texts, -1, OF_MEMORY | OF_UTF8 | OF_TEXT | OF_PACKED_RULES, 5,
      {RULE, RULE, RULE, RULE, RULE}},
-    {"plurals_ranges_from_document", ranges_from_document, -1, OF_MEMORY | OF_UTF8 | OF_TEXT | OF_JSON | OF_DOCUMENT, 2,
-     {DOCUMENT, LOCALE}},
-    {"plurals_check_rules", check_rules, 0, OF_RULES, 1, {RULES}},
-    {"plurals_category_of_integer", category_of_integer, PLURALS_OTHER, OF_RULES, 1, {RULES}},
-    {"plurals_category_of_signed_integer", category_of_signed_integer, PLURALS_OTHER, OF_RULES, 1, {RULES}},
-    {"plurals_category_of_operands", category_of_operands, PLURALS_OTHER, OF_RULES, 1, {RULES}},
-    {"plurals_categories", categories, 63, OF_RULES, 1, {RULES}},
-    {"plurals_category", category, PLURALS_OTHER, OF_MEMORY | OF_UTF8 | OF_RULES | OF_NUMBER, 2, {RULES, NUMBER}},
-    {"plurals_is_exact", is_exact, 1, OF_MEMORY | OF_UTF8 | OF_RULES | OF_NUMBER, 2, {RULES, NUMBER}},
-    {"plurals_elements_from_json", elements_from_json, -1, OF_MEMORY | OF_UTF8 | OF_PACKED_ELEMENTS | OF_JSON, 1, {ELEMENTS_JSON}},
-    {"plurals_elements_from_texts", elements_from_texts, -1, OF_MEMORY | OF_UTF8 | OF_PACKED_ELEMENTS, 8,
-     {LOCALE, NUMBER, RULE, LOCALE, NUMBER, LOCALE, RULE, LOCALE}},
-    {"plurals_element", element, -1, OF_MEMORY | OF_UTF8 | OF_RULES | OF_ELEMENTS | OF_NUMBER, 3, {RULES, ELEMENTS, NUMBER}},
-    {"plurals_message", message, -1, OF_MEMORY | OF_UTF8 | OF_RULES | OF_ELEMENTS | OF_NUMBER, 3, {RULES, ELEMENTS, NUMBER}},
+    {"plurals_check_rules", check_rules, model_of_check, 0, OF_RULES, 1, {RULES}},
+    {"plurals_category_of_integer", category_of_integer, model_of_integer, PLURALS_OTHER, OF_RULES, 1, {RULES}},
+    {"plurals_category", category, model_of_category, PLURALS_OTHER, OF_MEMORY | OF_UTF8 | OF_RULES | OF_NUMBER, 2, {RULES, NUMBER}},
+    {"plurals_is_exact", is_exact, model_of_exactness, 1, OF_MEMORY | OF_UTF8 | OF_RULES | OF_NUMBER, 2, {RULES, NUMBER}},
+    {"plurals_elements_from_json", elements_from_json, model_of_json, -1, OF_MEMORY | OF_PACKED_ELEMENTS | OF_JSON, 1, {ELEMENTS_JSON}},
+    {"plurals_element", element, model_of_element, -1, OF_MEMORY | OF_UTF8 | OF_RULES | OF_ELEMENTS | OF_NUMBER, 3, {RULES, ELEMENTS, NUMBER}},
+    {"plurals_message", message, model_of_message, -1, OF_MEMORY | OF_UTF8 | OF_RULES | OF_ELEMENTS | OF_NUMBER, 3, {RULES, ELEMENTS, NUMBER}},
 };
 enum { EXPORTS = sizeof exports / sizeof *exports };
 
 /* ---- the faults */
 
-#define FAULT(name, group) {#name, name, group, 0}
+#define FAULT(name, group) {#name, name, group, 0, {0}}
 
 static struct fault {
     const char *name;
     int number;
     int group;
     uint64_t count;
+    /* How often a row by hand has it, for each export. */
+    uint64_t by_hand[EXPORTS];
 } faults[] = {
     FAULT(PLURALS_MEMORY, OF_MEMORY),
     FAULT(PLURALS_UTF8, OF_UTF8),
@@ -354,16 +469,20 @@ static struct fault *fault_of(int64_t result) {
 /* ---- a case: one export, its slices, and the calls with them */
 
 static const struct export *export;
-static struct text inputs[MOST_SLICES];
+static uint8_t inputs[MOST_SLICES][MODEL_BYTES];
 static struct slice slices[MOST_SLICES];
 static uint64_t calls, results;
 
+/* What the model returns and writes. */
+static int64_t wanted;
+static uint8_t wanted_bytes[MODEL_BYTES];
+
 /* Says what is wrong, with which input, and ends. */
 static void wrong(const char *what, int64_t result) {
-    printf("%s returned %" PRId64 ": %s\n", export->name, result, what);
+    printf("%s returned %" PRId64 ", the model %" PRId64 ": %s\n", export->name, result, wanted, what);
     for (int k = 0; k < export->slices; k++) {
-        printf("slice %d:", k);
-        for (size_t at = 0; at < inputs[k].length; at++) printf(" %02x", inputs[k].bytes[at]);
+        printf("slice %d, %zu bytes:", k, slices[k].length);
+        for (size_t at = 0; at < slices[k].length && at < MOST_BYTES; at++) printf(" %02x", inputs[k][at]);
         printf("\n");
     }
     printf("number %" PRIu64 ", type %d, refused allocation %" PRId64 "\n", number, type, refused);
@@ -381,7 +500,7 @@ static bool is_all(const uint8_t *bytes, size_t count, uint8_t byte) {
 }
 
 /* Asks once, with so much room for the result and the given allocation refused, and checks what is returned and written. */
-static int64_t ask(size_t room, int64_t refuse, uint8_t *result_bytes) {
+static void ask(size_t room, int64_t refuse) {
     uint8_t *out = place(MOST_SLICES, room), before = (uint8_t)next();
     memset(out, before, room);
     asked = 0, live = 0, refused = refuse;
@@ -390,129 +509,377 @@ static int64_t ask(size_t room, int64_t refuse, uint8_t *result_bytes) {
     bool is_refused = refuse != 0 && asked >= refuse;
     expect(live == 0, "it keeps memory, or frees what isn't its own", result);
     expect(asked == 0 || (export->faults & OF_MEMORY), "it takes memory", result);
-    expect((result == PLURALS_MEMORY) == is_refused, "out of memory, or not", result);
+    expect(result == (is_refused ? PLURALS_MEMORY : wanted), "the model returns something else", result);
     size_t written = 0;
     if (result < 0) {
         struct fault *fault = fault_of(result);
         expect(fault && (export->faults & fault->group), "it is no fault of this call", result);
+        bool is_before_memory = fault->group & (OF_UTF8 | OF_TYPE | OF_NUMBER | OF_RULES | OF_ELEMENTS);
+        expect(!is_before_memory || asked == 0, "it takes memory before this fault", result);
         fault->count++;
     } else {
         results++;
         if (export->greatest < 0) written = (uint64_t)result <= room ? (size_t)result : 0;
         else expect(result <= export->greatest, "it is out of range", result);
     }
+    expect(memcmp(out, wanted_bytes, written) == 0, "the model writes something else", result);
     expect(is_all(out + written, room - written, before), "it writes what is no result", result);
     for (int k = 0; k < export->slices; k++)
-        expect(memcmp(slices[k].at, inputs[k].bytes, inputs[k].length) == 0, "it writes to its input", result);
-    if (result_bytes) memcpy(result_bytes, out, written);
-    return result;
+        expect(memcmp(slices[k].at, inputs[k], slices[k].length) == 0, "it writes to its input", result);
 }
 
-/* Asks for the bytes of a result: with room for them alone, and with one byte too few. */
-static void ask_for_bytes(int64_t length) {
-    uint8_t bytes[MOST_BYTES], again[MOST_BYTES];
-    expect(length <= MOST_BYTES, "it is longer than it can be", length);
-    expect(ask((size_t)length, 0, bytes) == length, "another result, with room for it", length);
-    expect(ask(MOST_BYTES, 0, again) == length && memcmp(bytes, again, (size_t)length) == 0, "other bytes, with more room", length);
-    if (length > 0) expect(ask((size_t)length - 1, 0, NULL) == length, "another result, with one byte too few", length);
-    if (export->ask == rules_from_document || export->ask == rules_from_texts)
-        expect(plurals_check_rules(bytes, (size_t)length) == 0, "it isn't a block of rules", length);
-    if (export->ask == elements_from_json) {
-        const char *any = "";
-        int64_t text = plurals_element((const uint8_t *)any, 0, bytes, (size_t)length, "0", 1, (char *)again, sizeof again);
-        expect(text >= 0, "it isn't a block of elements", length);
-    }
+static void set_slice(int k, struct slice bytes) {
+    if (bytes.length > MODEL_BYTES) abort();
+    if (bytes.length) memmove(inputs[k], bytes.at, bytes.length);
+    uint8_t *at = place((size_t)k, bytes.length);
+    memcpy(at, inputs[k], bytes.length);
+    slices[k] = (struct slice){at, bytes.length};
 }
 
-/* Below 10^18 an integer and its text have one category, which is exact. */
-static void compare_with_text(int64_t result) {
-    char text[32];
-    size_t length = (size_t)snprintf(text, sizeof text, "%" PRIu64, number);
-    const struct slice *rules = &slices[0];
-    if (result < 0 || length > 18) return;
-    expect(plurals_category(rules->at, rules->length, text, length) == result, "another category than its text", result);
-    expect(plurals_is_exact(rules->at, rules->length, text, length) == 1, "not exact", result);
-    calls += 2;
+/* Asks for the bytes of a result: with room for them alone, with more, and with one byte too few. */
+static void ask_for_bytes(size_t length) {
+    ask(length, 0);
+    if (length < MODEL_BYTES - RANDOM_BYTES) ask(length + 1 + below(RANDOM_BYTES), 0);
+    if (length > 0) ask(length - 1, 0);
+}
+
+/* Asks for the answer to the slices, in all ways. */
+static void run_slices(void) {
+    wanted = export->model(slices, wanted_bytes);
+    ask(below(RANDOM_BYTES + 1), 0);
+    int64_t taken = asked;
+    ask(below(2) ? 0 : below(RANDOM_BYTES + 1), 0);
+    expect(asked == taken, "it takes another number of blocks, when asked again", wanted);
+    if (taken > 0) ask(RANDOM_BYTES, 1 + (int64_t)below((size_t)taken));
+    if (export->greatest < 0 && wanted >= 0) ask_for_bytes((size_t)wanted);
 }
 
 static void run_case(void) {
+    static struct text text;
     export = &exports[below(EXPORTS)];
     for (int k = 0; k < export->slices; k++) {
-        make_text(export->kinds[k], &inputs[k]);
-        uint8_t *at = place((size_t)k, inputs[k].length);
-        memcpy(at, inputs[k].bytes, inputs[k].length);
-        slices[k] = (struct slice){at, inputs[k].length};
+        make_text(export->kinds[k], &text);
+        set_slice(k, (struct slice){text.bytes, text.length});
     }
-    number = next() >> below(64);
-    type = below(4) ? (uint8_t)below(2) : (uint8_t)next();
-    int64_t result = ask(below(RANDOM_BYTES + 1), 0, NULL);
-    int64_t taken = asked;
-    expect(ask(below(RANDOM_BYTES + 1), 0, NULL) == result, "another result, when asked again", result);
-    if (taken > 0) ask(RANDOM_BYTES, 1 + (int64_t)below((size_t)taken), NULL);
-    if (export->greatest < 0 && result >= 0) ask_for_bytes(result);
-    if (export->ask == category_of_integer) compare_with_text(result);
+    number = below(2) ? below(200) : next() >> below(64);
+    type = below(8) ? (uint8_t)below(2) : (uint8_t)next();
+    run_slices();
+}
+
+/* ---- rows by hand */
+
+static const struct export *export_of(const char *name) {
+    for (size_t k = 0; k < EXPORTS; k++)
+        if (!strcmp(exports[k].name, name)) return &exports[k];
+    abort();
+}
+
+/* Asks with the slices; the model has to know the row too. */
+static void run_by_hand(int64_t result, struct slice bytes) {
+    run_slices();
+    expect(wanted == result, "the row says something else than the model", result);
+    expect(result < 0 || export->greatest >= 0 || memcmp(wanted_bytes, bytes.at, bytes.length) == 0, "the row has other bytes", result);
+    if (result < 0) fault_of(result)->by_hand[export - exports]++;
+}
+
+#define BYTES(text) {(const uint8_t *)text, sizeof(text) - 1}
+static const struct slice NO_BYTES = {(const uint8_t *)"", 0};
+
+/* A good one of each kind. */
+static const struct slice good[KINDS] = {
+    [RULES] = BYTES("\1\0\1\2\0\15\0\xc1\0\0\0\0\1\0\0\0\1\0\0\0\xc2\0\0\0\0\0\0\0\0\0\0\0\0"),
+    [ELEMENTS] = BYTES("\x80\10{} items\1\0\x10{} item"),
+    [NUMBER] = BYTES("1"),
+    [RULE] = BYTES("i = 1 and v = 0"),
+    [DOCUMENT] = BYTES("{\"cardinal\":{\"en\":{\"one\":\"i = 1 and v = 0\"}},\"ordinal\":{\"en\":{}}}"),
+    [ELEMENTS_JSON] = BYTES("{\"other\":[0,\"{} items\"],\"one\":[0,\"{} item\"]}"),
+    [LOCALE] = BYTES("en"),
+};
+
+/* Inputs with their fault. */
+static const struct bad {
+    enum kind kind;
+    struct slice bytes;
+    int fault;
+} bad[] = {
+    {RULES, BYTES("\1"), -30}, {RULES, BYTES("\2\0\1"), -30}, {RULES, BYTES("\0\0"), -31}, {RULES, BYTES("\2\0\1\0"), -32},
+    {RULES, BYTES("\3\0\2\0\1\0\1\2\3"), -32}, {RULES, BYTES("\1\0"), -33}, {RULES, BYTES("\1\0\5"), -34}, {RULES, BYTES("\2\0\1\0\1\1"), -34},
+    {RULES, BYTES("\2\0\1\0\2\1"), -34}, {RULES, BYTES("\1\0\0\1"), -35}, {RULES, BYTES("\1\0\4\0\0"), -36}, {RULES, BYTES("\1\0\0\2\0\1\0"), -37},
+    {RULES, BYTES("\1\0\0\1\0"), -38}, {RULES, BYTES("\1\0\0\1\0\xc0\0\0\0\0\0"), -38}, {RULES, BYTES("\1\0\0\1\0\xc8\0\0\0\0"), -39},
+    {RULES, BYTES("\1\0\0\1\0\xff\0\0\0\0"), -39}, {RULES, BYTES("\1\0\5\1"), -34}, {RULES, BYTES("\2\0\2\0\0\1\5"), -35},
+    {ELEMENTS, BYTES(""), -50}, {ELEMENTS, BYTES("\x80"), -51}, {ELEMENTS, BYTES("\x80\1"), -51}, {ELEMENTS, BYTES("\x10"), -52},
+    {ELEMENTS, BYTES("\x40"), -52}, {ELEMENTS, BYTES("\0\xff"), -53}, {ELEMENTS, BYTES("\x80\1\xc3"), -53}, {ELEMENTS, BYTES("\x80\0\1"), -54},
+    {ELEMENTS, BYTES("\x80\0\0\0"  "\0"), -55}, {ELEMENTS, BYTES("\x80\0\2\0\1\0"), -56}, {ELEMENTS, BYTES("\x80\0\1\0"), -57},
+    {ELEMENTS, BYTES("\x80\0\1\0\x70"), -58}, {ELEMENTS, BYTES("\x80\0\1\0\x10\xff"), -59}, {ELEMENTS, BYTES("\x80\0\2\0\2\0\x10\xff"), -59},
+    {NUMBER, BYTES(""), -10}, {NUMBER, BYTES("x"), -10}, {NUMBER, BYTES("5."), -10}, {NUMBER, BYTES("."), -10}, {NUMBER, BYTES("+"), -10},
+    {NUMBER, BYTES("1e6"), -10}, {NUMBER, BYTES("1c"), -10}, {NUMBER, BYTES("1c0256"), -10}, {NUMBER, BYTES("1\0"), -10},
+    {NUMBER, BYTES("1c256"), -11}, {NUMBER, BYTES("1c999"), -11}, {NUMBER, BYTES("\xff"), -2}, {NUMBER, BYTES("1\xed\xa0\x80"), -2},
+    {RULE, BYTES("i = 1 or"), -20}, {RULE, BYTES("i = 1 or @integer 1"), -20}, {RULE, BYTES("i = 1 and"), -21}, {RULE, BYTES("i 1"), -22},
+    {RULE, BYTES("i % 010 = 1"), -22}, {RULE, BYTES("= 1"), -23}, {RULE, BYTES("i = 1 and or"), -23}, {RULE, BYTES("\ti = 1"), -23},
+    {RULE, BYTES("i = "), -24}, {RULE, BYTES("i = 4294967296"), -24}, {RULE, BYTES("i % = 1"), -24}, {RULE, BYTES("@integer 1,"), -24},
+    {RULE, BYTES("i = 1 @foo"), -25}, {RULE, BYTES("@"), -25}, {RULE, BYTES("\xc0\xaf"), -2},
+    {DOCUMENT, BYTES(""), -70}, {DOCUMENT, BYTES("{"), -70}, {DOCUMENT, BYTES("{} {}"), -70}, {DOCUMENT, BYTES("\"\xff\""), -70},
+    {DOCUMENT, BYTES("{\"x\":01}"), -70}, {DOCUMENT, BYTES("[\"\\ud800\"]"), -70}, {DOCUMENT, BYTES("{\"x\":1.0}"), -71},
+    {DOCUMENT, BYTES("{\"x\":[18446744073709551616],\"cardinal\":5}"), -71}, {DOCUMENT, BYTES("5"), -72}, {DOCUMENT, BYTES("{\"ordinal\":5}"), -72},
+    {DOCUMENT, BYTES("{\"cardinal\":{\"a\":null}}"), -72}, {DOCUMENT, BYTES("{\"cardinal\":{\"a\":{\"one\":5}}}"), -72},
+    {DOCUMENT, BYTES("{\"ranges\":{\"a\":{}}}"), -72}, {DOCUMENT, BYTES("{\"cardinal\":{\"b\":5,\"a\":{\"one\":\"i 1\"}}}"), -22},
+    {DOCUMENT, BYTES("{\"cardinal\":{\"en\":{\"many\":\"i = 1 or\"}}}"), -20}, {DOCUMENT, BYTES("{\"cardinal\":{\"z\":{\"zero\":\"i = 1 and\"}}}"), -21},
+    {DOCUMENT, BYTES("{\"ordinal\":{\"en\":{\"one\":\"x\"}}}"), -23}, {DOCUMENT, BYTES("{\"ordinal\":{\"en\":{\"few\":\"i = 1,\",\"many\":\"x\"}}}"), -24},
+    {DOCUMENT, BYTES("{\"ranges\":5,\"ordinal\":{\"a\":{\"one\":\"i = 1 @foo\"}}}"), -25},
+    {DOCUMENT, BYTES("{\"ranges\":{\"a\":{\"ranges\":{\"one\":5}}}}"), -73},
+    {DOCUMENT, BYTES("{\"ranges\":{\"a\":{\"ranges\":{\"one--two\":\"some\",\"two\":\"few\"}}}}"), -74},
+    {DOCUMENT, BYTES("{}"), -75}, {DOCUMENT, BYTES("{\"cardinal\":null}"), -75}, {DOCUMENT, BYTES("{\"ranges\":{\"en\":{\"ranges\":{}}}}"), -75},
+    {LOCALE, BYTES("\xff"), -2}, {LOCALE, BYTES("e"), -75}, {LOCALE, BYTES("EN"), -75}, {LOCALE, BYTES(""), -75},
+    {ELEMENTS_JSON, BYTES(""), -70}, {ELEMENTS_JSON, BYTES("{\"other\":[0,\"x\"],}"), -70}, {ELEMENTS_JSON, BYTES("{\"other\":[0.5,\"x\"]}"), -71},
+    {ELEMENTS_JSON, BYTES("[]"), -72}, {ELEMENTS_JSON, BYTES("{\"one\":[0,\"x\"]}"), -72}, {ELEMENTS_JSON, BYTES("{\"other\":[16,\"x\"]}"), -72},
+    {ELEMENTS_JSON, BYTES("{\"other\":[0,\"x\",0]}"), -72}, {ELEMENTS_JSON, BYTES("{\"other\":[0,\"x\"],\"few\":[-1,\"x\"]}"), -72},
+};
+enum { BAD = sizeof bad / sizeof *bad };
+
+static void set_good(void) {
+    number = 1, type = 0;
+    for (int k = 0; k < export->slices; k++) set_slice(k, good[export->kinds[k]]);
+}
+
+/* Each bad input of each export, alone, and before a second one that comes after it. */
+static void try_faults(void) {
+    for (export = exports; export < exports + EXPORTS; export++)
+        for (int k = 0; k < export->slices; k++)
+            for (int b = 0; b < BAD; b++) {
+                if (bad[b].kind != export->kinds[k]) continue;
+                set_good();
+                set_slice(k, bad[b].bytes);
+                run_by_hand(bad[b].fault, NO_BYTES);
+                for (int other = 0; other < BAD; other++) {
+                    if (k + 1 == export->slices || bad[other].kind != export->kinds[k + 1]) continue;
+                    set_slice(k + 1, bad[other].bytes);
+                    bool is_second = bad[other].fault == PLURALS_UTF8 && bad[b].fault != PLURALS_UTF8 && export->kinds[k] >= RULE;
+                    run_by_hand(is_second ? bad[other].fault : bad[b].fault, NO_BYTES);
+                }
+            }
+    export = export_of("plurals_rules_from_document");
+    set_good();
+    for (int other = 2; other < 256; other++) {
+        type = (uint8_t)other;
+        run_by_hand(PLURALS_TYPE, NO_BYTES);
+    }
+    set_slice(0, slice_of("{")), set_slice(1, slice_of("\xff"));
+    run_by_hand(PLURALS_TYPE, NO_BYTES);
+}
+
+/* A rule for one; a number, as its front, a digit that comes so often, and its end; its category; and whether that is exact. */
+static const struct {
+    const char *rule, *front;
+    char digit;
+    int times;
+    const char *end;
+    int category, is_exact;
+} numbers[] = {
+    {"i = 1 and v = 0", "1", '0', 0, "", 1, 1},      {"i = 1 and v = 0", "1.0", '0', 0, "", 5, 1},
+    {"i = 1 and v = 0", "-1", '0', 0, "", 1, 1},     {"i = 1 and v = 0", "1c6", '0', 0, "", 5, 1},
+    {"i = 1 and v = 0", "+01", '0', 0, "", 1, 1},    {"n = 1", "1.00", '0', 0, "", 1, 1},
+    {"n != 1", "1.5", '0', 0, "", 1, 1},             {"n = 1", "1.5", '0', 0, "", 5, 1},
+    {"v = 3 and w = 2", "-0.050", '0', 0, "", 1, 1}, {"f = 50 and t = 5 and i = 0", "-0.050", '0', 0, "", 1, 1},
+    {"e = 6 and f = 20 and v = 2 and w = 1", "1.00000020c6", '0', 0, "", 1, 1},
+    {"i % 10 = 1 and i % 100 != 11", "1", '0', 28, "21", 1, 1},
+    {"i % 10 = 1 and i % 100 != 11", "1", '0', 28, "11", 5, 1},
+    {"i % 3 = 2", "2000000000000000000", '0', 0, "", 5, 0},
+    {"i % 3906250000 = 1", "1000000000000000001", '0', 0, "", 1, 1},
+    {"i % 4294967295 = 1", "1000000000000000001", '0', 0, "", 5, 0},
+    {"i % 0 = 1", "1000000000000000001", '0', 0, "", 5, 1},
+    {"i = 1 and v = 0", "", '0', 17, "1", 1, 1},     {"i = 1 and v = 0", "", '0', 18, "1", 5, 0},
+    {"n = 0", "0c17", '0', 0, "", 1, 1},             {"n = 0", "0c18", '0', 0, "", 5, 0},
+    {"n = 1", "1.", '0', 17, "1", 5, 1},             {"n = 1", "1.", '0', 18, "1", 1, 0},
+    {"n % 1000000 = 7", "1", '0', 32765, "7", 1, 1}, {"n % 1000000 = 7", "1", '0', 32765, "7.000000000000000000", 1, 1},
+    {"n % 1000000 = 7", "1", '0', 32765, "7.0000000000000000000", 1, 0},
+    {"i = 0", "", '0', 32767, "", 5, 0},             {"i % 10 = 0", "", '9', 32767, "c255", 1, 1},
+    {"v = 18", "0.", '9', 32767, "", 1, 0},          {"v = 18", "0.", '9', 32768, "", -11, -11},
+    {"i = 0", "", '1', 32768, "", -11, -11},         {"i = 0", "", '1', 32768, "x", -10, -10},
+    {"f % 3 = 0", "999999999999999999.999999999999999999", '0', 0, "", 1, 1},
+    {"i = 0 @integer 5", "", '0', 0, ".5", 1, 1},
+};
+
+static void try_numbers(void) {
+    static uint8_t block[MODEL_BYTES], text[MODEL_BYTES];
+    for (size_t k = 0; k < sizeof numbers / sizeof *numbers; k++) {
+        struct slice texts[5] = {NO_BYTES, slice_of(numbers[k].rule), NO_BYTES, NO_BYTES, NO_BYTES};
+        struct slice rules = {block, (size_t)model_rules_from_texts(texts, block)};
+        size_t front = strlen(numbers[k].front), end = strlen(numbers[k].end), times = (size_t)numbers[k].times;
+        memcpy(text, numbers[k].front, front), memset(text + front, numbers[k].digit, times);
+        memcpy(text + front + times, numbers[k].end, end);
+        export = export_of("plurals_category");
+        set_slice(0, rules), set_slice(1, (struct slice){text, front + times + end});
+        run_by_hand(numbers[k].category, NO_BYTES);
+        export = export_of("plurals_is_exact");
+        run_by_hand(numbers[k].is_exact, NO_BYTES);
+    }
+}
+
+/* Each category has its number, of integers and of texts. */
+static void try_categories(void) {
+    static uint8_t block[MODEL_BYTES];
+    struct slice texts[5] = {slice_of("n = 0"), slice_of("n = 1"), slice_of("n = 2"), slice_of("n = 3"), slice_of("n = 4")};
+    struct slice rules = {block, (size_t)model_rules_from_texts(texts, block)};
+    for (number = 0; number < 7; number++) {
+        char text[32];
+        snprintf(text, sizeof text, "%" PRIu64, number);
+        set_slice(0, rules), set_slice(1, slice_of(text));
+        export = export_of("plurals_category_of_integer");
+        run_by_hand(number < 5 ? (int64_t)number : 5, NO_BYTES);
+        export = export_of("plurals_category");
+        run_by_hand(number < 5 ? (int64_t)number : 5, NO_BYTES);
+    }
+    export = export_of("plurals_category_of_integer");
+    number = UINT64_MAX;
+    run_by_hand(5, NO_BYTES);
+    texts[0] = slice_of("i % 10 = 5"), set_slice(0, (struct slice){block, (size_t)model_rules_from_texts(texts, block)});
+    run_by_hand(0, NO_BYTES);
+    set_slice(0, NO_BYTES);
+    run_by_hand(5, NO_BYTES);
+    export = export_of("plurals_check_rules");
+    run_by_hand(0, NO_BYTES);
+    set_slice(0, good[RULES]);
+    run_by_hand(0, NO_BYTES);
+}
+
+/* Results in bytes: an export, its slices, and what it writes. */
+static const struct {
+    const char *name;
+    struct slice slices[MOST_SLICES], bytes;
+} written[] = {
+    {"plurals_rules_from_texts", {BYTES(""), BYTES("i = 1 and v = 0"), BYTES(""), BYTES(""), BYTES("")},
+     BYTES("\1\0\1\2\0\15\0\xc1\0\0\0\0\1\0\0\0\1\0\0\0\xc2\0\0\0\0\0\0\0\0\0\0\0\0")},
+    {"plurals_rules_from_texts", {BYTES(""), BYTES("n = 1"), BYTES(""), BYTES("n = 2"), BYTES("")},
+     BYTES("\2\0\20\0\1\1\0\xc0\0\0\0\0\1\0\0\0\1\0\0\0\3\1\0\xc0\0\0\0\0\2\0\0\0\2\0\0\0")},
+    {"plurals_rules_from_texts", {BYTES(""), BYTES(""), BYTES(""), BYTES(""), BYTES("")}, BYTES("")},
+    {"plurals_rules_from_texts", {BYTES(""), BYTES(""), BYTES(""), BYTES(""), BYTES(" ")}, BYTES("\1\0\4")},
+    {"plurals_rules_from_document", {BYTES("{\"cardinal\":{\"b\":{\"many\":\"\"},\"a\":{\"other\":5,\"one\":\"n != 1..3 or e % 10 = 0\"}}}"), BYTES("a")},
+     BYTES("\1\0\1\2\0\15\0\x80\0\0\0\0\1\0\0\0\3\0\0\0\x47\12\0\0\0\0\0\0\0\0\0\0\0")},
+    {"plurals_rules_from_document", {BYTES("{\"cardinal\":{\"\":{\"many\":\"\"}}}"), BYTES("")}, BYTES("\1\0\4")},
+    {"plurals_elements_from_json", {BYTES("{\"one\":[0,\"item\"],\"other\":[0,\"items\"]}")}, BYTES("\x80\5items\1\0\x10item")},
+    {"plurals_elements_from_json", {BYTES("{\"other\":[0,\"a\"],\"one\":[0,\"a\"],\"explicit_one\":[0,\"a\"]}")}, BYTES("\x80\1a\1\0\x60" "a")},
+    {"plurals_elements_from_json", {BYTES("{\"other\":[15,\"\\u00e9\"],\"x\":[]}")}, BYTES("\17\xc3\xa9")},
+    {"plurals_element", {BYTES(""), BYTES("\x80\1x\2\0\2\0\x50" "0\x60" "1"), BYTES("0")}, BYTES("0")},
+    {"plurals_element", {BYTES(""), BYTES("\x80\1x\2\0\2\0\x50" "0\x60" "1"), BYTES("-1")}, BYTES("1")},
+    {"plurals_element", {BYTES(""), BYTES("\x80\1x\2\0\2\0\x50" "0\x60" "1"), BYTES("0.0")}, BYTES("x")},
+    {"plurals_element", {BYTES(""), BYTES("\x80\1x\2\0\2\0\x50" "0\x60" "1"), BYTES("1c0")}, BYTES("1")},
+    {"plurals_element", {BYTES("\1\0\1"), BYTES("\x80\1a\2\0\2\0\x10" "b\x10" "c"), BYTES("7")}, BYTES("b")},
+    {"plurals_message", {BYTES(""), BYTES("\0{} of {}"), BYTES("2")}, BYTES("2 of 2")},
+    {"plurals_message", {BYTES(""), BYTES("\0{}{}"), BYTES("1c6")}, BYTES("1c61c6")},
+    {"plurals_message", {BYTES(""), BYTES("\0{}"), BYTES("+01.50")}, BYTES("+01.50")},
+    {"plurals_message", {BYTES(""), BYTES("\0{{}}"), BYTES("1")}, BYTES("{1}")},
+    {"plurals_message", {BYTES(""), BYTES("\0}{ {"), BYTES("1")}, BYTES("}{ {")},
+    {"plurals_message", {BYTES(""), BYTES("\0"), BYTES("1")}, BYTES("")},
+    {"plurals_message", {BYTES("\1\0\1\2\0\15\0\xc1\0\0\0\0\1\0\0\0\1\0\0\0\xc2\0\0\0\0\0\0\0\0\0\0\0\0"),
+                         BYTES("\x80\10{} items\1\0\x10{} item"), BYTES("-1")}, BYTES("-1 item")},
+};
+
+static void try_written(void) {
+    for (size_t row = 0; row < sizeof written / sizeof *written; row++) {
+        export = export_of(written[row].name), type = 0;
+        for (int k = 0; k < export->slices; k++) set_slice(k, written[row].slices[k]);
+        run_by_hand((int64_t)written[row].bytes.length, written[row].bytes);
+    }
 }
 
 /* ---- limits: texts that are too long by one, and those that are just short enough */
 
-enum { LONG = 70000 };
-static char long_text[LONG], other_text[LONG], json[2 * LONG];
-static uint8_t long_out[2 * LONG];
+static char long_text[MODEL_BYTES];
 
-/* Writes a relation with that many values, and an end. */
-static void long_rule(char *text, int values, const char *end) {
-    size_t at = (size_t)sprintf(text, "n = 1");
-    for (int k = 1; k < values; k++) at += (size_t)sprintf(text + at, ",1");
-    strcpy(text + at, end);
+static struct slice repeated(const char *front, const char *piece, int times, const char *end) {
+    size_t at = (size_t)sprintf(long_text, "%s", front);
+    for (int k = 0; k < times; k++) at += (size_t)sprintf(long_text + at, "%s", piece);
+    sprintf(long_text + at, "%s", end);
+    return slice_of(long_text);
 }
 
-static void long_elements(int other_length, int one_length) {
-    memset(long_text, 'x', LONG), memset(other_text, 'y', LONG);
-    sprintf(json, "{\"two\":[0,\"z\"],\"one\":[0,\"%.*s\"],\"other\":[0,\"%.*s\"]}", one_length, long_text, other_length, other_text);
+/* The model knows the result, which by hand is a fault, or that there is none. */
+static void run_limit(int fault) {
+    run_slices();
+    expect(fault ? wanted == fault : wanted >= 0, "the row says something else than the model", fault);
+    if (fault) fault_of(fault)->by_hand[export - exports]++;
 }
 
-static void expect_limit(const char *of, int64_t result, int64_t wanted) {
-    calls++;
-    if (wanted < 0 ? result != wanted : result < 0) {
-        printf("%s: %" PRId64 " in the place of %" PRId64 "\n", of, result, wanted);
-        exit(1);
-    }
-    if (wanted < 0) fault_of(wanted)->count++;
-    else results++;
+static void try_rule(int values, const char *end, const char *two, int fault) {
+    export = export_of("plurals_rules_from_texts");
+    for (int k = 0; k < 5; k++) set_slice(k, NO_BYTES);
+    set_slice(1, repeated("n = 1", ",1", values - 1, end)), set_slice(2, slice_of(two));
+    run_limit(fault);
+    export = export_of("plurals_rules_from_document");
+    size_t at = strlen(two);
+    char after[256];
+    snprintf(after, sizeof after, "%s\"%s%s%s}}}", end, at ? ",\"two\":\"" : "", two, at ? "\"" : "");
+    set_slice(0, repeated("{\"cardinal\":{\"en\":{\"one\":\"n = 1", ",1", values - 1, after)), set_slice(1, slice_of("en"));
+    type = 0;
+    run_limit(fault);
 }
 
-static int64_t read_two(const char *one, const char *two) {
-    return plurals_rules_from_texts("", 0, one, strlen(one), two, strlen(two), "", 0, "", 0, long_out, sizeof long_out);
+static void try_element(int other, int one, int fault) {
+    char front[400], filler[400];
+    memset(filler, 'y', sizeof filler);
+    snprintf(front, sizeof front, "{\"two\":[0,\"z\"],\"other\":[0,\"%.*s\"],\"one\":[0,\"", other, filler);
+    export = export_of("plurals_elements_from_json");
+    set_slice(0, repeated(front, "x", one, "\"]}"));
+    run_limit(fault);
 }
 
-static int64_t read_elements(void) { return plurals_elements_from_json(json, strlen(json), long_out, sizeof long_out); }
+/* JSON that is nested so deep, with an empty list inside or without. */
+static void try_depth(int depth, int fault) {
+    export = export_of("plurals_elements_from_json");
+    size_t at = repeated("{\"other\":[0,\"x\"],\"x\":", "[", depth - 1, "").length;
+    memset(long_text + at, ']', (size_t)depth - 1);
+    strcpy(long_text + at + depth - 1, "}");
+    set_slice(0, slice_of(long_text));
+    run_limit(fault);
+    export = export_of("plurals_rules_from_document");
+    set_slice(1, slice_of("en")), type = 1;
+    run_limit(fault ? fault : PLURALS_LOCALE);
+}
 
 static void try_limits(void) {
-    long_rule(long_text, 8191, " and n = 1");
-    expect_limit("a relation's start", read_two(long_text, ""), 0);
-    long_rule(long_text, 8192, " and n = 1");
-    expect_limit("a relation's start", read_two(long_text, ""), PLURALS_TEXT_START_LIMIT);
-    long_rule(long_text, 8190, "");
-    expect_limit("a rule's start", read_two(long_text, "n = 2"), 0);
-    long_rule(long_text, 8191, "");
-    expect_limit("a rule's start", read_two(long_text, "n = 2"), PLURALS_RULES_LIMIT);
-    long_elements(255, 65534);
-    expect_limit("an element's start", read_elements(), 0);
-    long_elements(255, 65535);
-    expect_limit("an element's start", read_elements(), PLURALS_ELEMENTS_START_LIMIT);
-    long_elements(256, 1);
-    expect_limit("the default", read_elements(), PLURALS_ELEMENTS_DEFAULT_LIMIT);
+    try_rule(8191, " and n = 1", "", 0);
+    try_rule(8192, " and n = 1", "", PLURALS_TEXT_START_LIMIT);
+    try_rule(8190, "", "n = 2", 0);
+    try_rule(8191, "", "n = 2", PLURALS_RULES_LIMIT);
+    try_element(255, 65534, 0);
+    try_element(255, 65535, PLURALS_ELEMENTS_START_LIMIT);
+    try_element(256, 1, PLURALS_ELEMENTS_DEFAULT_LIMIT);
+    try_depth(127, 0);
+    try_depth(128, PLURALS_JSON);
+    export = export_of("plurals_message");
+    set_slice(0, NO_BYTES), set_slice(1, repeated("", "{}", 3000, "")), set_slice(2, slice_of("-12345678901234567890.5c255"));
+    memmove(long_text + 1, long_text, 6000), long_text[0] = 0;
+    set_slice(1, (struct slice){(const uint8_t *)long_text, 6001});
+    run_limit(0);
+}
+
+/* Each fault of each export has a row, but -26, which no text has, and memory, which is refused to all. */
+static void expect_each_fault(void) {
+    for (size_t e = 0; e < EXPORTS; e++)
+        for (size_t k = 0; k < FAULTS; k++) {
+            bool is_reachable = (exports[e].faults & faults[k].group) && faults[k].number != PLURALS_TEXT_VALUE_TOO_LARGE
+                && faults[k].number != PLURALS_MEMORY;
+            if (is_reachable == (faults[k].by_hand[e] > 0)) continue;
+            printf("%s: %s has %s\n", exports[e].name, faults[k].name, is_reachable ? "no row" : "a row");
+            exit(1);
+        }
 }
 
 int main(int count, char **words) {
-    uint64_t wanted = count > 1 ? strtoull(words[1], NULL, 10) : 1000000;
+    uint64_t most = count > 1 ? strtoull(words[1], NULL, 10) : 1000000;
     state = count > 2 ? strtoull(words[2], NULL, 10) : 1;
     setvbuf(stdout, NULL, _IOLBF, 0);
     printf("seed %" PRIu64 "\n", state);
     fill_pools();
     make_rooms();
+    try_faults();
+    try_categories();
+    try_numbers();
+    try_written();
     try_limits();
-    while (calls < wanted) run_case();
+    expect_each_fault();
+    printf("%10" PRIu64 " calls by hand\n", calls);
+    while (calls < most) run_case();
     printf("%10" PRIu64 " results\n", results);
     for (size_t k = 0; k < FAULTS; k++) printf("%10" PRIu64 " %s\n", faults[k].count, faults[k].name);
     printf("%" PRIu64 " calls, none wrong\n", calls);

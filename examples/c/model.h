@@ -1,0 +1,28 @@
+/* What each export returns and writes: a model of the library, written from the pages of docs/ and from plurals.h alone. It is slow,
+ * takes no memory but its own tables, and has nothing in common with the library. hostile.c compares the two. */
+#ifndef MODEL_H
+#define MODEL_H
+
+#include <stddef.h>
+#include <stdint.h>
+
+struct slice {
+    const uint8_t *at;
+    size_t length;
+};
+
+/* The most bytes that a text, a block or a result may have here. */
+enum { MODEL_BYTES = 600000 };
+
+/* Each writes its result to out, which has MODEL_BYTES, and returns what the export does. */
+int64_t model_rules_from_document(struct slice json, struct slice locale, uint8_t rule_type, uint8_t *out);
+int64_t model_rules_from_texts(const struct slice texts[5], uint8_t *out);
+int64_t model_elements_from_json(struct slice json, uint8_t *out);
+int64_t model_element(struct slice rules, struct slice elements, struct slice number, uint8_t *out);
+int64_t model_message(struct slice rules, struct slice elements, struct slice number, uint8_t *out);
+int64_t model_check_rules(struct slice rules);
+int64_t model_category_of_integer(struct slice rules, uint64_t number);
+int64_t model_category(struct slice rules, struct slice number);
+int64_t model_is_exact(struct slice rules, struct slice number);
+
+#endif

@@ -1,0 +1,122 @@
+/* Bugs between hostile.c and the library, one of which the variable PLANTED chooses: run-hostile --planted runs each, and hostile has
+ * to find it. Each export is wrapped at the link. */
+#include <plurals.h>
+#include <stdbool.h>
+#include <stdlib.h>
+#include <string.h>
+
+static int planted(void) {
+    const char *word = getenv("PLANTED");
+    return word ? atoi(word) : 0;
+}
+
+int64_t __real_plurals_rules_from_document(const char *, size_t, const char *, size_t, uint8_t, uint8_t *, size_t);
+int64_t __real_plurals_rules_from_texts(const char *, size_t, const char *, size_t, const char *, size_t, const char *, size_t, const char *,
+                                        size_t, uint8_t *, size_t);
+int32_t __real_plurals_check_rules(const uint8_t *, size_t);
+int32_t __real_plurals_category_of_integer(const uint8_t *, size_t, uint64_t);
+int32_t __real_plurals_category(const uint8_t *, size_t, const char *, size_t);
+int32_t __real_plurals_is_exact(const uint8_t *, size_t, const char *, size_t);
+int64_t __real_plurals_elements_from_json(const char *, size_t, uint8_t *, size_t);
+int64_t __real_plurals_element(const uint8_t *, size_t, const uint8_t *, size_t, const char *, size_t, char *, size_t);
+int64_t __real_plurals_message(const uint8_t *, size_t, const uint8_t *, size_t, const char *, size_t, char *, size_t);
+
+/* How many digits a number has before its point. */
+static size_t integers(const char *number, size_t length) {
+    size_t start = length && (number[0] == '-' || number[0] == '+'), at = start;
+    while (at < length && number[at] >= '0' && number[at] <= '9') at++;
+    return at - start;
+}
+
+int64_t __wrap_plurals_rules_from_document(const char *json, size_t json_len, const char *locale, size_t locale_len, uint8_t rule_type,
+                                           uint8_t *out, size_t out_len) {
+    int bug = planted();
+    if (bug == 1 && rule_type == 1) rule_type = 0; /* ordinal rules are the cardinal ones */
+    int64_t result = __real_plurals_rules_from_document(json, json_len, locale, locale_len, rule_type, out, out_len);
+    if (bug == 2 && result == PLURALS_LOCALE) return 0; /* a locale that isn't present has no rules */
+    if (bug == 3 && result == PLURALS_DOCUMENT_RANGE_VALUE) return PLURALS_DOCUMENT_RANGE_KEY; /* two faults have one number */
+    return result;
+}
+
+int64_t __wrap_plurals_rules_from_texts(const char *zero, size_t zero_len, const char *one, size_t one_len, const char *two, size_t two_len,
+                                        const char *few, size_t few_len, const char *many, size_t many_len, uint8_t *out, size_t out_len) {
+    int bug = planted();
+    bool is_turned = bug == 4; /* two and few are exchanged */
+    int64_t result =
+        is_turned ? __real_plurals_rules_from_texts(zero, zero_len, one, one_len, few, few_len, two, two_len, many, many_len, out, out_len)
+                  : __real_plurals_rules_from_texts(zero, zero_len, one, one_len, two, two_len, few, few_len, many, many_len, out, out_len);
+    if (bug == 5 && (result == PLURALS_TEXT_EXPECTED_RELATION || result == PLURALS_TEXT_EXPECTED_AND_CONDITION))
+        return PLURALS_TEXT_EXPECTED_RELATION + PLURALS_TEXT_EXPECTED_AND_CONDITION - (int32_t)result; /* two faults are exchanged */
+    return result;
+}
+
+int32_t __wrap_plurals_check_rules(const uint8_t *rules, size_t rules_len) {
+    int bug = planted();
+    if (bug == 6) { /* it takes memory */
+        void *volatile block = malloc(1);
+        free(block);
+    }
+    int32_t result = __real_plurals_check_rules(rules, rules_len);
+    if (bug == 7 && result <= PLURALS_RULES_RULE_LIST_HEADER) return result - 1; /* the faults of a rule begin one too low */
+    return result;
+}
+
+int32_t __wrap_plurals_category_of_integer(const uint8_t *rules, size_t rules_len, uint64_t number) {
+    int bug = planted();
+    if (bug == 8) number &= UINT32_MAX; /* the integer is cut */
+    int32_t result = __real_plurals_category_of_integer(rules, rules_len, number);
+    if (bug == 9 && (result == PLURALS_FEW || result == PLURALS_MANY)) return PLURALS_FEW + PLURALS_MANY - result; /* a table is turned */
+    return result;
+}
+
+int32_t __wrap_plurals_category(const uint8_t *rules, size_t rules_len, const char *number, size_t number_len) {
+    int bug = planted();
+    const char *mark = number_len ? memchr(number, 'c', number_len) : NULL;
+    int32_t result = __real_plurals_category(rules, rules_len, number, number_len);
+    if (bug == 10 && result >= 0 && mark && mark != number)
+        return __real_plurals_category(rules, rules_len, number, (size_t)(mark - number)); /* the point isn't moved */
+    if (bug == 11 && result >= 0 && integers(number, number_len) == number_len && number_len > 18)
+        return __real_plurals_category(rules, rules_len, number + number_len - 18, 18); /* a long number isn't marked */
+    if (bug == 12 && result == PLURALS_NUMBER_LIMIT) return PLURALS_NUMBER_SYNTAX; /* a limit is told as a fault of form */
+    return result;
+}
+
+int32_t __wrap_plurals_is_exact(const uint8_t *rules, size_t rules_len, const char *number, size_t number_len) {
+    int bug = planted();
+    int32_t result = __real_plurals_is_exact(rules, rules_len, number, number_len);
+    if (bug == 13 && result == 0) return __real_plurals_is_exact(rules, 0, number, number_len); /* moduli don't count */
+    if (bug == 14 && result == 0 && number[0] == '0') /* a leading zero doesn't count */
+        return number_len > 1 ? __real_plurals_is_exact(rules, rules_len, number + 1, number_len - 1) == 1 : 0;
+    if (bug == 15 && result == 0 && number_len > 2 && number[1] == '.') return number_len == 21; /* 19 places of a fraction are exact */
+    return result;
+}
+
+int64_t __wrap_plurals_elements_from_json(const char *json, size_t json_len, uint8_t *out, size_t out_len) {
+    int bug = planted();
+    int64_t result = __real_plurals_elements_from_json(json, json_len, out, out_len);
+    if (bug == 16 && result > 0 && (size_t)result <= out_len) out[0] &= 0xf0; /* the default has no metadata */
+    if (bug == 17 && result < 0 && out_len > 0) out[0] = 0; /* a byte is written at a fault */
+    return result;
+}
+
+int64_t __wrap_plurals_element(const uint8_t *rules, size_t rules_len, const uint8_t *elements, size_t elements_len, const char *number,
+                               size_t number_len, char *out, size_t out_len) {
+    int bug = planted();
+    if (bug == 18 && number_len == 3 && memcmp(number + 1, ".0", 2) == 0) number_len = 1; /* 0.0 is exactly 0 */
+    int64_t result = __real_plurals_element(rules, rules_len, elements, elements_len, number, number_len, out, out_len);
+    if (bug == 19 && result > (int64_t)out_len) return (int64_t)out_len; /* the length that fits is told */
+    return result;
+}
+
+int64_t __wrap_plurals_message(const uint8_t *rules, size_t rules_len, const uint8_t *elements, size_t elements_len, const char *number,
+                               size_t number_len, char *out, size_t out_len) {
+    int bug = planted();
+    if (bug == 20 && __real_plurals_check_rules(rules, rules_len) == 0) { /* the number is looked at before the elements */
+        int32_t fault = __real_plurals_category(rules, rules_len, number, number_len);
+        if (fault < PLURALS_MEMORY) return fault;
+    }
+    if (bug == 21 && number_len > 1 && number[0] == '-') number++, number_len--; /* the sign isn't shown */
+    int64_t result = __real_plurals_message(rules, rules_len, elements, elements_len, number, number_len, out, out_len);
+    if (bug == 22 && result == PLURALS_ELEMENTS_EMPTY) return PLURALS_ELEMENTS_SHORT; /* a fault has the number of the next one */
+    return result;
+}
