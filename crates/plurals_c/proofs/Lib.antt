@@ -3,3 +3,4 @@ pub mod Numbers
 pub mod Texts
 pub mod Documents
 pub mod RangeTables
+pub mod ElementTexts
