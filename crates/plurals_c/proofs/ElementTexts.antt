@@ -51,30 +51,37 @@ category_value o z other text is given =
     ∙ (ap (λ (t : List ℕ). unless_equal is_same_value (plain_text t) (option_map plain_value z)) is
     ∙ ap (λ (v : Option PackedValue). unless_equal is_same_value (plain_text other) v) (given_value z text given))
 
--- the elements of texts that were read are packed as what the texts mean
+-- the elements that are made of texts
+abbrev pub kept_texts : Bor (List ℕ) → Option (Bor (List ℕ)) → Option (Bor (List ℕ)) → Option (Bor (List ℕ)) → Option (Bor (List ℕ))
+    → Option (Bor (List ℕ)) → Option (Bor (List ℕ)) → Option (Bor (List ℕ)) → Elements (Bor (List ℕ))
+kept_texts o zero one two few many explicit_zero explicit_one = record {
+  other = o;
+  zero = unless_equal same_text o zero;
+  one = unless_equal same_text o one;
+  two = unless_equal same_text o two;
+  few = unless_equal same_text o few;
+  many = unless_equal same_text o many;
+  explicit_zero = explicit_zero;
+  explicit_one = explicit_one;
+}
+
+-- they are packed as what the texts mean
 pub packed_texts : (o : Bor (List ℕ)) (zero one two few many explicit_zero explicit_one : Option (Bor (List ℕ)))
     (texts : Elements (Bor (List ℕ))) (bytes : Eight)
-    → texts ≡ record {
-      other = o;
-      zero = unless_equal same_text o zero;
-      one = unless_equal same_text o one;
-      two = unless_equal same_text o two;
-      few = unless_equal same_text o few;
-      many = unless_equal same_text o many;
-      explicit_zero = explicit_zero;
-      explicit_one = explicit_one;
-    }
+    → texts ≡ kept_texts o zero one two few many explicit_zero explicit_one
     → o.now ≡ bytes.other → option_copied zero ≡ text_given bytes.zero → option_copied one ≡ text_given bytes.one
     → option_copied two ≡ text_given bytes.two → option_copied few ≡ text_given bytes.few
     → option_copied many ≡ text_given bytes.many → option_copied explicit_zero ≡ text_given bytes.explicit_zero
     → option_copied explicit_one ≡ text_given bytes.explicit_one
     → packed_of (each_by plain_value texts) ≡ packed_of (values_given bytes)
 packed_texts o zero one two few many explicit_zero explicit_one texts bytes are other z o1 t f m ez eo =
-    rw are (packed_alike _ (values_given bytes) (ap plain_text other)
+    ap (λ (made : Elements (Bor (List ℕ))). packed_of (each_by plain_value made)) are
+    ∙ packed_alike (each_by plain_value (kept_texts o zero one two few many explicit_zero explicit_one)) (values_given bytes)
+    (ap plain_text other)
     (category_value o zero bytes.other bytes.zero other z)
     (category_value o one bytes.other bytes.one other o1)
     (category_value o two bytes.other bytes.two other t)
     (category_value o few bytes.other bytes.few other f)
     (category_value o many bytes.other bytes.many other m)
     (given_value explicit_zero bytes.explicit_zero ez)
-    (given_value explicit_one bytes.explicit_one eo))
+    (given_value explicit_one bytes.explicit_one eo)
