@@ -94,6 +94,7 @@ enum plurals_fault {
     /* of a number's text */
     PLURALS_NUMBER_SYNTAX = -10, /* it isn't a number */
     PLURALS_NUMBER_LIMIT = -11,  /* more than 32767 digits on a side of the point, or an exponent above 255 */
+    PLURALS_OUTSIDE_BOUND = -12, /* a number outside the exactness bound of the rules: of plurals_sure_category alone */
 
     /* of a rule's text, given on its own or in a document */
     PLURALS_TEXT_EXPECTED_AND_CONDITION = -20, /* it, or its condition, ends after "or" */
@@ -156,6 +157,10 @@ int64_t plurals_rules_from_texts(const char *zero, size_t zero_len, const char *
                                  size_t two_len, const char *few, size_t few_len, const char *many, size_t many_len,
                                  uint8_t *out, size_t out_len);
 
+/* Returns 1 if a text is a rule from its first byte to its last, 0 if not, or PLURALS_MEMORY. A text that people wrote is asked
+ * here: of "n = 1 x" the calls above read "n = 1" and leave the rest, of "i = 1\tand v = 0" they read "i = 1". Allocates. */
+int32_t plurals_is_read_whole(const char *text, size_t text_len);
+
 /* Returns 0 if the bytes are a block of rules, else their fault, which is from PLURALS_RULES_LIST_HEADER to
  * PLURALS_RULES_RULE_OPERAND. The block without bytes is that of no rules, under which every number is other. Allocates
  * nothing. */
@@ -181,12 +186,16 @@ int32_t plurals_categories(const uint8_t *rules, size_t rules_len);
 
 /* Returns the category of a number as it is written: 1 and 1.0 are two numbers. It may have a sign, zeros at both ends and
  * a compact exponent, as 1.2c6 (docs/NUMBERS.md). Of a long number a part decides; plurals_is_exact tells whether all of
- * it would give the same category. Allocates for the number. */
+ * it would give the same category. Allocates for a number of more than 16 bytes. */
 int32_t plurals_category(const uint8_t *rules, size_t rules_len, const char *number, size_t number_len);
+
+/* Returns the category of a number as plurals_category does, but none that may be another one for all its digits: the faults
+ * are those of the rules, those of the number, PLURALS_OUTSIDE_BOUND. Allocates for a number of more than 16 bytes. */
+int32_t plurals_sure_category(const uint8_t *rules, size_t rules_len, const char *number, size_t number_len);
 
 /* Returns 1 if the category of the number is that of all its digits, however many it has, 0 if it may be another one
  * (docs/EXACTNESS.md), or a fault. It is 1 for each number that has at most 18 digits on either side of the point, once
- * the exponent has moved it. Allocates for the number. */
+ * the exponent has moved it. Allocates for a number of more than 16 bytes. */
 int32_t plurals_is_exact(const uint8_t *rules, size_t rules_len, const char *number, size_t number_len);
 
 /* Writes the categories of ranges of numbers, as 1 to 3, that a document has for a locale (docs/RANGES.md): 36 bytes, of
@@ -209,7 +218,7 @@ int64_t plurals_elements_from_texts(const char *other, size_t other_len, const c
                                     const char *explicit_one, size_t explicit_one_len, uint8_t *out, size_t out_len);
 
 /* Writes the text of the element that the number takes: the explicit one of exactly 0 or exactly 1 if it is present, else
- * that of the number's category, else that of other. Allocates for the number. */
+ * that of the number's category, else that of other. Allocates for a number of more than 16 bytes. */
 int64_t plurals_element(const uint8_t *rules, size_t rules_len, const uint8_t *elements, size_t elements_len,
                         const char *number, size_t number_len, char *out, size_t out_len);
 

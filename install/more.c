@@ -23,6 +23,7 @@ const char *plurals_fault_text(int64_t fault) {
 
     case PLURALS_NUMBER_SYNTAX: return "the text isn't a number";
     case PLURALS_NUMBER_LIMIT: return "the number is over a limit";
+    case PLURALS_OUTSIDE_BOUND: return "the number is outside the exactness bound of the rules";
 
     case PLURALS_TEXT_EXPECTED_AND_CONDITION: return "the rule's text ends after \"or\"";
     case PLURALS_TEXT_EXPECTED_RELATION: return "the rule's text ends after \"and\"";

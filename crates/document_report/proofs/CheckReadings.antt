@@ -1,7 +1,7 @@
 -- The answer after the input was read, or could not be read.
 use Rattle.std.proofs.Common.{◌≡◌, ◌≤◌, ℕ, List, length, Bool, true, false, cond, Option, Some, None, Result, Ok, Err, refl, sym, subst, ap}
 use Rattle.std.specs.Prelude.{is_some}
-use Rattle.std.specs.Io.KnownBytes.{IsAtEnd, Keeps}
+use Rattle.std.specs.Io.KnownBytes.{Keeps}
 use Rattle.serde_json.specs.Data.{Data, Members, no_members, member}
 use Rattle.serde_json.specs.Find.{as_null, as_object, get}
 use Rattle.serde_json.specs.Written.{has_float}
@@ -20,11 +20,11 @@ use Rattle.document_report.specs.declared.place.Place.TheVariants as place
 use Rattle.document_report.specs.declared.report.Verdict.{Verdict}
 use Rattle.document_report.specs.declared.run.Answer.{Answer as CodeAnswer}
 use Rattle.document_report.proofs.CheckFaults.{mapped}
-use Rattle.plural_documents.specs.Inputs.{GivesInput, IsInput, IsRead, IsReadAfter, input_origin, most_bytes}
+use Rattle.plural_documents.specs.Inputs.{GivesInput, IsInput, IsRead, IsReadAfter, IsReadToEnd, input_origin, most_bytes}
 use Rattle.plural_documents.specs.JsonTexts.{json_of}
 use Rattle.plural_documents.specs.declared.InputError.{InputError}
 use Rattle.plural_documents.specs.declared.InputError.TheVariants as cause
-use Rattle.plural_documents.proofs.InputLemmas.{beyond, some_input, within}
+use Rattle.plural_documents.proofs.InputLemmas.{all_is_some, beyond, some_input, within}
 
 -- ---- The bytes of a document aren't too long
 
@@ -154,9 +154,9 @@ no_input left e r is h = rw is (of_input left e h)
 -- what was read at an error of the input was read at its fault
 read_at : (old new : Option (List ℕ)) (e : InputError)
     → IsReadAfter (input_origin e) old new → IsReadAfter (check_origin (input_fault e)) old new
-read_at old new cause.Read h = tt
+read_at old new cause.Read h = h
 read_at old new cause.TooLong h = h
-read_at old new cause.Memory h = tt
+read_at old new cause.Memory h = h
 
 -- `?` passes on such a fault
 pub read_on : {B : Type 0} (old new : Option (List ℕ)) (e : InputError) (r : Result B CheckError)
@@ -172,17 +172,18 @@ of_all whole bytes short same r h =
     (without_reading (AnswersDocument (value_of whole)) r all)
 
 -- if no answer says that the input is too long, it was read to its end
-pub to_the_end : (IsAnswer : Result Answer CheckError → Type 0) (old new : Option (List ℕ)) → (IsAnswer (Err TooLong) → ⊥) → IsAtEnd new
+pub to_the_end : (IsAnswer : Result Answer CheckError → Type 0) (old new : Option (List ℕ)) → (IsAnswer (Err TooLong) → ⊥)
+    → IsReadToEnd old new
     → (r : Result CodeAnswer CheckError) → Gives answer_view IsAnswer r → IsRead check_origin old new r
 to_the_end IsAnswer old new none end (Ok answer) h = end
 to_the_end IsAnswer old new none end (Err Usage) h = end
-to_the_end IsAnswer old new none end (Err Read) h = tt
+to_the_end IsAnswer old new none end (Err Read) h = absurd h
 to_the_end IsAnswer old new none end (Err TooLong) h = absurd (none h)
 to_the_end IsAnswer old new none end (Err Json) h = end
 to_the_end IsAnswer old new none end (Err Float) h = end
 to_the_end IsAnswer old new none end (Err (NoObject at)) h = end
 to_the_end IsAnswer old new none end (Err Write) h = end
-to_the_end IsAnswer old new none end (Err Memory) h = tt
+to_the_end IsAnswer old new none end (Err Memory) h = all_is_some old new end
 
 -- ---- Nothing is written after a fault
 

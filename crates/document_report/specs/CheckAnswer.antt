@@ -6,6 +6,7 @@ use Rattle.serde_json.specs.Data.{Data}
 use Rattle.document_report.specs.CheckedDocument.{value_in}
 use Rattle.document_report.specs.DocumentReport.{IsReportOf}
 use Rattle.document_report.specs.ReportText.{report_text}
+use Rattle.plural_documents.specs.Outputs.{IsPartWritten}
 use Rattle.plural_documents.specs.Inputs.{Origin, from_reader, from_length, from_writer, from_memory, from_answer}
 use Rattle.document_report.specs.declared.error.CheckError.{CheckError}
 use Rattle.document_report.specs.declared.error.CheckError.TheVariants.{Usage, Read, TooLong, Write, Memory}
@@ -51,14 +52,14 @@ check_origin Memory = from_memory
 check_origin fault = from_answer
 
 -- The result, and what the writer took: the answer's text and nothing else, or a fault and nothing at all. Out of memory, a
--- failed read and a failed write come from outside; only after a failed write may something have been written.
+-- failed read and a failed write come from outside; a failed write took a beginning of the text, and nothing else.
 abbrev pub IsAnswered : (Result Answer CheckError → Type 0) → Option (List ℕ) → Option (List ℕ) → Result Verdict CheckError
     → Type 0
 IsAnswered IsAnswer old new (Ok verdict) =
     (answer : Answer) × IsAnswer (Ok answer) × (verdict ≡ answer.verdict) × Appends old new answer.text
 IsAnswered IsAnswer old new (Err Memory) = Keeps old new
 IsAnswered IsAnswer old new (Err Read) = Keeps old new
-IsAnswered IsAnswer old new (Err Write) = (answer : Answer) × IsAnswer (Ok answer)
+IsAnswered IsAnswer old new (Err Write) = (answer : Answer) × IsAnswer (Ok answer) × IsPartWritten old new answer.text
 IsAnswered IsAnswer old new (Err fault) = IsAnswer (Err fault) × Keeps old new
 
 -- the exit status of the program

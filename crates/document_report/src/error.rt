@@ -31,7 +31,7 @@ pub enum CheckError {
     /// There is no object at this place, where one is expected; it is the first such place.
     #[error("{0}: no object")]
     NoObject(Place),
-    /// The writer failed; how much was written isn't known.
+    /// The writer failed; it took a beginning of the report.
     #[error("cannot write output")]
     Write,
     /// Memory ran out. Nothing was written.

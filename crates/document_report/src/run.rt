@@ -1,6 +1,6 @@
 //! Reads an input and writes the answer to it.
 
-ghost use Rattle.std.specs.Prelude.{◌≡◌, Err, IfOk, List, ℕ, IsFalse, IsTrue};
+ghost use Rattle.std.specs.Prelude.{◌≡◌, ◌≢◌, Err, IfErr, IfOk, List, ℕ, IsFalse, IsTrue};
 ghost use Rattle.document_report.specs.CheckAnswer.{AnswersDocument, AnswersInput, IsAnswered, IsAnswerTo, check_origin};
 ghost use Rattle.document_report.specs.CheckedDocument.{value_in, value_of};
 ghost use Rattle.document_report.specs.Inner.CheckCalls.{Gives, GivesAfterReading};
@@ -12,7 +12,7 @@ ghost use Rattle.serde_json.specs.View.{view};
 use crate::document::value_of;
 use crate::error::CheckError;
 use crate::report::{Verdict, report_of};
-use plural_documents::read_input;
+use plural_documents::{read_input, write_output};
 use serde_json::Value;
 use std::alloc::{AllocError, Global};
 use std::io::{Read, Write};
@@ -37,7 +37,7 @@ pub(crate) struct Answer {
 /// [`CheckError::Json`] if the input is no JSON text, [`CheckError::Float`] if it has a float, and
 /// [`CheckError::NoObject`] if the document, one of its parts or the value of a locale is no
 /// object; [`CheckError::Write`] if the writer failed; [`CheckError::Memory`] if memory ran out.
-/// After an error other than a failed write, nothing was written.
+/// After an error nothing was written, except by a failed write, which took a beginning of the report.
 pub fn run<R: Read, W: Write>(
     alloc: Global,
     has_words: bool,
@@ -49,12 +49,13 @@ pub fn run<R: Read, W: Write>(
         × IsAnswered (AnswersInput has_words input) (W.contents writer.old) (W.contents writer.new) result }
     ensures reads { IsFalse has_words → IsRead check_origin (R.remaining reader.old) (R.remaining reader.new) result }
     ensures reads_nothing { IsTrue has_words → (reader.new ≡ reader.old) × (result ≡ Err Usage) }
+    ensures writes_nothing { IfErr result (λ e. e ≢ CheckError.Write → writer.new ≡ writer.old) }
 {
     if has_words {
         return Err(CheckError::Usage);
     }
     let answer = answer_to_reader(alloc, reader)?;
-    match writer.write_all(answer.text.as_str().as_bytes()) {
+    match write_output(writer, answer.text.as_str().as_bytes()) {
         Ok(()) => Ok(answer.verdict),
         Err(_) => Err(CheckError::Write),
     }

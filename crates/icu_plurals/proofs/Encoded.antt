@@ -1,5 +1,5 @@
 -- The bytes that are written encode the packed elements.
-use Rattle.std.proofs.Common.{◌≡◌, ◌↔◌, ℕ, ◌<◌, ◌≤◌, List, [], ◌∷◌, length, Bool, true, false, cond, Option, Some, None}
+use Rattle.std.proofs.Common.{◌≡◌, ◌≢◌, ◌↔◌, ℕ, ◌<◌, ◌≤◌, List, [], ◌∷◌, length, Bool, true, false, cond, Option, Some, None}
 use Rattle.std.proofs.Common.{refl, sym, ap, subst, ◌∙◌, arith, append-nil}
 use Rattle.std.specs.Prelude.{IsTrue, map, nat_lt, unwrap_or}
 use Rattle.std.specs.List.{AllByRecursion}
@@ -126,6 +126,25 @@ start_refused e default lent other same =
 fault_free : (default : PackedValue) (items : Option (List PackedItem)) → CanPackItems default items → fault_beside default items ≡ None
 fault_free default None can = refl
 fault_free default (Some items) can = rw (le-ltb 255 (length default.text) can.length, can.list.starts) refl
+
+-- if neither test is true, there is none
+no_third_fault : (long high : Bool) → cond long (Some DefaultLimit) (cond high (Some StartLimit) None) ≢ Some DefaultLimit
+    → cond long (Some DefaultLimit) (cond high (Some StartLimit) None) ≢ Some StartLimit
+    → cond long (Some DefaultLimit) (cond high (Some StartLimit) None) ≡ None
+no_third_fault true high default start = absurd (default refl)
+no_third_fault false true default start = absurd (start refl)
+no_third_fault false false default start = refl
+
+one_of_two : (default : PackedValue) (items : Option (List PackedItem)) → fault_beside default items ≢ Some DefaultLimit
+    → fault_beside default items ≢ Some StartLimit → fault_beside default items ≡ None
+one_of_two default None long high = refl
+one_of_two default (Some items) long high =
+    no_third_fault (nat_lt 255 (length default.text)) (has_high_start (map item_bytes items)) long high
+
+-- elements with neither fault have none
+pub no_other_fault : (e : Elements PackedValue) → pack_fault (packed_of e) ≢ Some DefaultLimit
+    → pack_fault (packed_of e) ≢ Some StartLimit → pack_fault (packed_of e) ≡ None
+no_other_fault e long high = one_of_two e.other (none_if_empty (packed_items e)) long high
 
 -- elements that have bytes have no fault
 pub no_fault : (e : Elements PackedValue) (bytes : List ℕ) → ElementsBytes (packed_of e) bytes → pack_fault (packed_of e) ≡ None

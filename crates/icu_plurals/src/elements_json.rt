@@ -1,6 +1,6 @@
 //! Packed elements as JSON.
 
-ghost use Rattle.std.specs.Prelude.{◌≡◌, ◌≢◌, ◌↔◌, Err, IfErr, IfOk, IsFalse, IsTrue, None, OnOk, codes, option_map};
+ghost use Rattle.std.specs.Prelude.{◌≡◌, ◌≢◌, ◌↔◌, Err, Ok, IfErr, IfOk, IsFalse, IsTrue, None, OnOk, codes, option_map};
 ghost use Rattle.std.specs.Option.{option_and_then};
 ghost use Rattle.plural_base.specs.Json.{Answers};
 ghost use Rattle.serde_json.specs.Find.{as_str};
@@ -9,7 +9,7 @@ ghost use Rattle.serde_json.specs.Written.{has_float};
 ghost use Rattle.icu_plurals.specs.Elements.{each_by};
 ghost use Rattle.icu_plurals.specs.ElementsJson.{elements_in_json, elements_json, metadata_in, optional_in, packed_of_json, packs, value_in, value_json, with_value};
 ghost use Rattle.icu_plurals.specs.Inner.ElementsViews.{lent_value, metadata_number};
-ghost use Rattle.icu_plurals.specs.PackedElements.{elements_of};
+ghost use Rattle.icu_plurals.specs.PackedElements.{PackedElements, elements_of};
 
 use crate::cow::PluralElementsPackedCow;
 use crate::elements::PluralElements;
@@ -47,6 +47,9 @@ impl PluralElementsPackedCow<'static> {
         ensures float { (result ≡ Err JsonError.Float) ↔ IsTrue (has_float (view value.now)) }
         ensures shape { (result ≡ Err JsonError.Shape) ↔ (IsFalse (has_float (view value.now)) × (elements_in_json (view value.now) ≡ None)) }
         ensures memory { result ≢ Err (JsonError.Pack ElementsPackError.Memory) }
+        // Out of memory isn't told in place of a fault.
+        ensures packable { (result ≡ Err JsonError.Memory)
+            → (packed : PackedElements) × (packed_of_json (view value.now) ≡ Ok packed) }
     {
         if holds_float(value) {
             return Err(JsonError::Float);
@@ -97,6 +100,8 @@ fn packed(
     ensures float { result ≢ Err JsonError.Float }
     ensures shape { result ≢ Err JsonError.Shape }
     ensures memory { result ≢ Err (JsonError.Pack ElementsPackError.Memory) }
+    ensures packable { (result ≡ Err JsonError.Memory)
+        → (packed : PackedElements) × (packs (each_by lent_value elements.now) ≡ Ok packed) }
 {
     read_again();
     match PluralElementsPackedULE::encode(alloc, elements) {

@@ -45,6 +45,10 @@ pub record ListBytes (items : List (List ℕ)) (bytes : List ℕ) : Type 0 where
   pub can_pack : CanPack items
   pub spelled : bytes ≡ list_bytes items
 
+-- what was there, and perhaps more behind it
+abbrev pub StaysInFront : List ℕ → List ℕ → Type 0
+StaysInFront old new = (more : List ℕ) × (new ≡ old ++ more)
+
 -- ---- What is wrong with bytes that aren't a list, in the order in which it is looked for.
 
 -- the number in the two bytes at a place, low byte first

@@ -1,6 +1,8 @@
 //! What a packed list is made from: items that know their length in bytes and write themselves.
 
 ghost use Rattle.std.specs.Prelude.{◌≡◌, ◌+◌, ◌++◌, ◌^◌, ◌<◌, MatchOption, OnOk, [], ◌∷◌, length};
+ghost use Rattle.std.specs.Result.{OnErr};
+ghost use Rattle.packed_list.specs.ListBytes.{StaysInFront};
 
 use std::alloc::AllocError;
 
@@ -16,9 +18,10 @@ pub trait ByteItem: Copy {
         ensures count { result ≡ length (item_bytes self.now) }
         ensures room { result < 2 ^ 63 + 65536 };
 
-    /// Appends its bytes.
+    /// Appends its bytes. If memory runs out, what stood there stays, and some of them may follow.
     fn write_to(&self, bytes: &mut Vec<u8>) -> Result<(), AllocError>
-        ensures { OnOk result (bytes.new.items ≡ bytes.old.items ++ item_bytes self.now) };
+        ensures written { OnOk result (bytes.new.items ≡ bytes.old.items ++ item_bytes self.now) }
+        ensures kept { OnErr result (StaysInFront bytes.old.items bytes.new.items) };
 }
 
 /// Items that are taken from the front, one after another. A copy gives the same items again, since

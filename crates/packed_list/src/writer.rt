@@ -2,8 +2,9 @@
 
 ghost use Rattle.std.specs.Prelude.{◌≡◌, ◌≢◌, ◌⊎◌, ◌↔◌, ◌+◌, ◌*◌, ◌++◌, ◌^◌, ◌<◌, ◌≤◌, Err, IfOk, IfSome, IfNone, IsTrue, IsFalse, OnOk, flat_map, length, nat_lt};
 ghost use Rattle.std.specs.List.{concat, list_any};
+ghost use Rattle.std.specs.Result.{OnErr};
 ghost use Rattle.std.specs.Vec.{vec_capacity, vec_len};
-ghost use Rattle.packed_list.specs.ListBytes.{CanPack, ListBytes, has_high_start, list_bytes, starts_from, two_bytes};
+ghost use Rattle.packed_list.specs.ListBytes.{CanPack, ListBytes, StaysInFront, has_high_start, list_bytes, starts_from, two_bytes};
 
 use crate::error::PackError;
 use crate::items_to_pack::{ByteItem, ByteItems};
@@ -69,9 +70,11 @@ impl<I: ByteItems> ListWriter<I> {
         2 * self.count + self.total
     }
 
-    /// Appends the list to the bytes.
+    /// Appends the list to the bytes. If memory runs out, what stood there stays, and some bytes may
+    /// follow.
     pub fn write_to(&self, bytes: &mut Vec<u8>) -> Result<(), AllocError>
-        ensures { OnOk result (bytes.new.items ≡ bytes.old.items ++ list_bytes self.now) }
+        ensures written { OnOk result (bytes.new.items ≡ bytes.old.items ++ list_bytes self.now) }
+        ensures kept { OnErr result (StaysInFront bytes.old.items bytes.new.items) }
     {
         let mut others = self.items;
         let Some(first) = others.next_item() else {
@@ -168,7 +171,8 @@ fn push_starts<I: ByteItems>(bytes: &mut Vec<u8>, place: usize, items: I)
 
 // Writes the items without gaps.
 fn push_items<I: ByteItems>(bytes: &mut Vec<u8>, items: I) -> Result<(), AllocError>
-    ensures { OnOk result (bytes.new.items ≡ bytes.old.items ++ concat (I.items items)) }
+    ensures written { OnOk result (bytes.new.items ≡ bytes.old.items ++ concat (I.items items)) }
+    ensures kept { OnErr result (StaysInFront bytes.old.items bytes.new.items) }
 {
     let mut left = items;
     while let Some(item) = left.next_item() {

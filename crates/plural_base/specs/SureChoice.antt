@@ -2,7 +2,7 @@
 --     IsSureCategory texts number category      by any conditions that the texts are read as, of the number itself, whatever its length
 --     IsSure texts number      each text gives its rule, and the number's text a number within their exactness bound
 --     HasSureFault texts number error      the first reason why there is no sure category
-use Rattle.std.specs.Prelude.{◌≡◌, ◌≤◌, ℕ, List, Option}
+use Rattle.std.specs.Prelude.{◌≡◌, ◌≤◌, ◌<◌, ℕ, List, Option, length}
 use Rattle.fixed_decimal.specs.declared.error.DecimalError.{DecimalError}
 use Rattle.fixed_decimal.specs.declared.error.DecimalError.TheVariants as number_fault
 use Rattle.fixed_decimal.specs.Places.{IsWithinLimit}
@@ -46,11 +46,11 @@ IsSure texts number =
 abbrev pub AreTaken : Five (Option (List ℕ)) → Type 0
 AreTaken texts = (rules : FiveRules) × AreRulesOf texts rules
 
--- why the text gives no number
+-- why the text gives no number: a text of at most 16 bytes allocates nothing
 abbrev pub IsNumberFault : List ℕ → DecimalError → Type 0
 IsNumberFault text number_fault.Syntax = (x : CompactNumber) → ¬ (WritesCompact text x)
 IsNumberFault text number_fault.Limit = (x : CompactNumber) × WritesCompact text x × IsCompactOverLimit x
-IsNumberFault text number_fault.Memory = Unit {0}
+IsNumberFault text number_fault.Memory = 16 < length text
 
 -- The first text that gives no rule; else the number's; else that the number is outside the bound.
 abbrev pub HasSureFault : Five (Option (List ℕ)) → List ℕ → SureCategoryError → Type 0

@@ -52,7 +52,7 @@ impl Error for SureCategoryError {}
 /// [`PluralRulesData::from_texts`] does; `Number` tells why the number's text is refused, as
 /// [`CompactDecimal::from_str`] does; `OutsideBound` that the number isn't within the exactness
 /// bound of the rules ([`PluralRules::is_exact_for`]). It allocates for each rule, and for a number
-/// of many digits; if memory runs out, `Rules` or `Number` says so.
+/// of more than 16 bytes; if memory runs out, `Rules` or `Number` says so.
 pub fn sure_category(
     alloc: Global,
     zero: Option<&str>,

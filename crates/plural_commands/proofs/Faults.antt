@@ -25,6 +25,18 @@ mapped P Q f Memory h = tt
 pub handed_on : {X : Type 0} (r : Result X RunError) (e : RunError) (p : (f : RunError) × (r ≡ Err f) × (f ≡ e)) → r ≡ Err e
 handed_on r e p = p.1 ∙ ap Err p.2
 
+-- so an error of the result is the error of the call
+pub same_fault : {X Y : Type 0} (r : Result X RunError) (e f : RunError) → r ≡ Err e → r ≡ Err f → ◌≡◌ {A = Result Y RunError} (Err e) (Err f)
+same_fault {X} {Y} r e f is h = let same : e ≡ f = cc in ap Err same
+
+-- an error is the same in another result
+pub same_error : {X Y : Type 0} {e f : RunError} → ◌≡◌ {A = Result X RunError} (Err e) (Err f) → ◌≡◌ {A = Result Y RunError} (Err e) (Err f)
+same_error {X} {Y} {e} {f} h = let same : e ≡ f = cc in ap Err same
+
+-- a value is no error
+pub no_error : {X : Type 0} {x : X} {e : RunError} → ◌≡◌ {A = Result X RunError} (Ok x) (Err e) → ⊥
+no_error h = cc
+
 -- ---- Two relations
 
 -- a fault of the first is a fault of both

@@ -1,7 +1,7 @@
 -- The answer after the input was read, or could not be read.
 use Rattle.std.proofs.Common.{◌≡◌, ◌≤◌, ℕ, List, length, Option, Some, None, Result, Ok, Err, refl, sym, subst}
 use Rattle.std.specs.Prelude.{⊤}
-use Rattle.std.specs.Io.KnownBytes.{IsAtEnd, Keeps}
+use Rattle.std.specs.Io.KnownBytes.{Keeps}
 use Rattle.plural_commands.specs.Answer.{IsAnswered, IsNotRead, run_origin}
 use Rattle.plural_commands.specs.Inner.CallAnswers.{GivesAfterReading, GivesFault, GivesText, Text}
 use Rattle.plural_commands.specs.Inner.InputFaults.{input_fault}
@@ -10,10 +10,10 @@ use Rattle.plural_commands.specs.Steps.{After}
 use Rattle.plural_commands.specs.declared.error.RunError.{RunError}
 use Rattle.plural_commands.specs.declared.error.RunError.TheVariants.{Usage, Condition, Number, Read, TooLong}
 use Rattle.plural_commands.specs.declared.error.RunError.TheVariants.{Json, Document, Locale, Write, Memory}
-use Rattle.plural_documents.specs.Inputs.{GivesInput, IsInput, IsRead, IsReadAfter, input_origin, most_bytes}
+use Rattle.plural_documents.specs.Inputs.{GivesInput, IsInput, IsRead, IsReadAfter, IsReadToEnd, input_origin, most_bytes}
 use Rattle.plural_documents.specs.declared.InputError.{InputError}
 use Rattle.plural_documents.specs.declared.InputError.TheVariants as cause
-use Rattle.plural_documents.proofs.InputLemmas.{beyond, some_input, within}
+use Rattle.plural_documents.proofs.InputLemmas.{all_is_some, beyond, none_read, some_input, within}
 
 -- ---- The answer of a call that may read
 
@@ -71,9 +71,9 @@ no_input Next left e r is h = rw is (of_input Next left e h)
 -- what was read at an error of the input was read at its fault
 read_at : (old new : Option (List ℕ)) (e : InputError)
     → IsReadAfter (input_origin e) old new → IsReadAfter (run_origin (input_fault e)) old new
-read_at old new cause.Read h = tt
+read_at old new cause.Read h = h
 read_at old new cause.TooLong h = h
-read_at old new cause.Memory h = tt
+read_at old new cause.Memory h = h
 
 -- `?` passes on such a fault
 pub read_on : {B : Type 0} (old new : Option (List ℕ)) (e : InputError) (r : Result B RunError)
@@ -92,35 +92,36 @@ of_all Next whole bytes short same r h =
     (without_reading (After Next (document_of whole)) r all)
 
 -- if no answer says that the input is too long, it was read to its end
-pub to_the_end : (IsAnswer : Result (List ℕ) RunError → Type 0) (old new : Option (List ℕ)) → (IsAnswer (Err TooLong) → ⊥) → IsAtEnd new
+pub to_the_end : (IsAnswer : Result (List ℕ) RunError → Type 0) (old new : Option (List ℕ)) → (IsAnswer (Err TooLong) → ⊥)
+    → IsReadToEnd old new
     → (r : Result Text RunError) → GivesText IsAnswer r → IsRead run_origin old new r
 to_the_end IsAnswer old new none end (Ok text) h = end
 to_the_end IsAnswer old new none end (Err Usage) h = end
 to_the_end IsAnswer old new none end (Err (Condition k)) h = end
 to_the_end IsAnswer old new none end (Err (Number k)) h = end
-to_the_end IsAnswer old new none end (Err Read) h = tt
+to_the_end IsAnswer old new none end (Err Read) h = absurd h
 to_the_end IsAnswer old new none end (Err TooLong) h = absurd (none h)
 to_the_end IsAnswer old new none end (Err Json) h = end
 to_the_end IsAnswer old new none end (Err (Document k)) h = end
 to_the_end IsAnswer old new none end (Err Locale) h = end
 to_the_end IsAnswer old new none end (Err Write) h = end
-to_the_end IsAnswer old new none end (Err Memory) h = tt
+to_the_end IsAnswer old new none end (Err Memory) h = all_is_some old new end
 
 -- ---- Nothing is read
 
--- if the words have no fault, the only error is out of memory, after which anything may have been read
-pub faultless : (A : Type 0) (IsFault : RunError → Type 0) (old new : Option (List ℕ)) → ((fault : RunError) → ¬ (IsFault fault))
-    → (e : RunError) → GivesFault IsFault e → IsRead {A = A} run_origin old new (Err e)
-faultless A IsFault old new none Usage h = absurd (none _ h)
-faultless A IsFault old new none (Condition k) h = absurd (none _ h)
-faultless A IsFault old new none (Number k) h = absurd (none _ h)
-faultless A IsFault old new none Read h = tt
-faultless A IsFault old new none TooLong h = absurd (none _ h)
-faultless A IsFault old new none Json h = absurd (none _ h)
-faultless A IsFault old new none (Document k) h = absurd (none _ h)
-faultless A IsFault old new none Locale h = absurd (none _ h)
-faultless A IsFault old new none Write h = absurd h
-faultless A IsFault old new none Memory h = tt
+-- if the words have no fault, the only error is out of memory
+pub faultless : (A : Type 0) (IsFault : RunError → Type 0) (left : Option (List ℕ)) → ((fault : RunError) → ¬ (IsFault fault))
+    → (e : RunError) → GivesFault IsFault e → IsRead {A = A} run_origin left left (Err e)
+faultless A IsFault left none Usage h = absurd (none _ h)
+faultless A IsFault left none (Condition k) h = absurd (none _ h)
+faultless A IsFault left none (Number k) h = absurd (none _ h)
+faultless A IsFault left none Read h = absurd h
+faultless A IsFault left none TooLong h = absurd (none _ h)
+faultless A IsFault left none Json h = absurd (none _ h)
+faultless A IsFault left none (Document k) h = absurd (none _ h)
+faultless A IsFault left none Locale h = absurd (none _ h)
+faultless A IsFault left none Write h = absurd h
+faultless A IsFault left none Memory h = none_read left
 
 -- a fault of words is no read error
 pub not_blamed : (A : Type 0) (IsFault : RunError → Type 0) (e : RunError) → GivesFault IsFault e → IsNotRead {A = A} (Err e)

@@ -10,6 +10,7 @@ use Rattle.plural_commands.specs.Lines.{AreRuleLines, IsCategoryLine, IsElementL
 use Rattle.plural_commands.specs.Queries.{Asks, Lookup, number_category, range_category, printed_rules, number_element, number_message}
 use Rattle.plural_commands.specs.Queries.{Query, of_document, truth}
 use Rattle.plural_commands.specs.Steps.{After, Then}
+use Rattle.plural_documents.specs.Outputs.{IsPartWritten}
 use Rattle.plural_documents.specs.Inputs.{Origin, from_reader, from_length, from_writer, from_memory, from_answer}
 use Rattle.plural_commands.specs.declared.error.RunError.{RunError}
 use Rattle.plural_commands.specs.declared.error.RunError.TheVariants.{Usage, Read, TooLong, Write, Memory}
@@ -54,12 +55,12 @@ run_origin Memory = from_memory
 run_origin fault = from_answer
 
 -- The result, and what the writer took: the answer's text and nothing else, or the answer's fault and nothing at all. Out of
--- memory, a failed read and a failed write come from outside; only after a failed write may something have been written.
+-- memory, a failed read and a failed write come from outside; a failed write took a beginning of the text, and nothing else.
 abbrev pub IsAnswered : (Result (List ℕ) RunError → Type 0) → Option (List ℕ) → Option (List ℕ) → Result ⊤ RunError → Type 0
 IsAnswered IsAnswer old new (Ok _) = (text : List ℕ) × IsAnswer (Ok text) × Appends old new text
 IsAnswered IsAnswer old new (Err Memory) = Keeps old new
 IsAnswered IsAnswer old new (Err Read) = Keeps old new
-IsAnswered IsAnswer old new (Err Write) = (text : List ℕ) × IsAnswer (Ok text)
+IsAnswered IsAnswer old new (Err Write) = (text : List ℕ) × IsAnswer (Ok text) × IsPartWritten old new text
 IsAnswered IsAnswer old new (Err fault) = IsAnswer (Err fault) × Keeps old new
 
 -- no read error is returned

@@ -2,7 +2,8 @@
 --     Query, Lookup      a query, and a query of a document
 --     Asks words asked      the words ask for this query, or have this as their first fault
 --     NeedsInput words      the words have no fault, and ask for a query of a document
-use Rattle.std.specs.Prelude.{◌≡◌, ℕ, List, Option, Some, None, Result, Ok, Err, ⊤}
+--     MayRunOut words      out of memory may be told of the words
+use Rattle.std.specs.Prelude.{◌≡◌, ℕ, ◌<◌, ◌⊎◌, List, length, Option, Some, None, Result, Ok, Err, ⊤}
 use Rattle.icu_plurals.specs.declared.PluralRuleType.{PluralRuleType}
 use Rattle.icu_plurals.specs.declared.provider.rules.reference.ast.Condition.{Condition as Tree}
 use Rattle.icu_plurals.specs.Written.{CompactNumber}
@@ -59,3 +60,24 @@ AsksDocument (Some command) = ⊤
 -- the answer depends on the input, not on the words alone
 abbrev pub NeedsInput : List (List ℕ) → Type 0
 NeedsInput words = AsksDocument (command_of words) × HasNoFault (Asks words)
+
+-- ---- Memory
+
+-- A number takes memory if it has no fault and its word has more than 16 bytes.
+abbrev pub TakesMemory : List ℕ → Type 0
+TakesMemory word = HasNoFault (ReadsNumberWord word) × (16 < length word)
+
+-- Memory may run out while the words of a command are read: a condition takes some, and so does a long number.
+abbrev pub ReadingTakesMemory : Option Command → Type 0
+ReadingTakesMemory None = ⊥
+ReadingTakesMemory (Some (test condition integer)) = ⊤
+ReadingTakesMemory (Some (category locale type number)) = TakesMemory number
+ReadingTakesMemory (Some (range locale type start end)) =
+    TakesMemory start ⊎ (HasNoFault (ReadsNumberWord start) × TakesMemory end)
+ReadingTakesMemory (Some (print locale type)) = ⊥
+ReadingTakesMemory (Some (select locale type number)) = TakesMemory number
+ReadingTakesMemory (Some (message locale type number)) = TakesMemory number
+
+-- Memory may run out while the words are read, or after, if they have no fault and need the input.
+abbrev pub MayRunOut : List (List ℕ) → Type 0
+MayRunOut words = ReadingTakesMemory (command_of words) ⊎ NeedsInput words

@@ -39,7 +39,7 @@ pub enum RunError {
     /// The document lacks the rules of the type for the locale, or the ranges that the command needs.
     #[error("locale not found")]
     Locale,
-    /// The writer failed; part of the answer may have been written.
+    /// The writer failed; it took a beginning of the answer.
     #[error("cannot write output")]
     Write,
     /// Out of memory. Nothing was written.

@@ -1,6 +1,8 @@
 //! The word NUMBER of a command.
 
+ghost use Rattle.std.specs.Prelude.{◌≡◌, Err};
 ghost use Rattle.plural_commands.specs.Inner.CallAnswers.{GivesNumber};
+ghost use Rattle.plural_commands.specs.Queries.{TakesMemory};
 
 use crate::error::RunError;
 use icu_plurals::{CompactDecimal, DecimalError};
@@ -8,7 +10,8 @@ use std::alloc::Global;
 
 // The number that a word writes.
 pub(crate) fn number(alloc: Global, word: &str) -> Result<CompactDecimal, RunError>
-    ensures { GivesNumber word.now result }
+    ensures number { GivesNumber word.now result }
+    ensures memory { (result ≡ Err RunError.Memory) → TakesMemory word.now }
 {
     match CompactDecimal::from_str(alloc, word) {
         Ok(number) => Ok(number),

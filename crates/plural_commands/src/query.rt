@@ -1,9 +1,10 @@
 //! The query that the words of a command line ask for.
 
-ghost use Rattle.std.specs.Prelude.{map, Some};
+ghost use Rattle.std.specs.Prelude.{◌≡◌, ◌↔◌, Err, None, Some, map};
 ghost use Rattle.plural_commands.specs.Commands.{command_of};
 ghost use Rattle.plural_commands.specs.Inner.CallAnswers.{GivesQuery};
 ghost use Rattle.plural_commands.specs.Inner.PrivateViews.{command_view};
+ghost use Rattle.plural_commands.specs.Queries.{ReadingTakesMemory};
 
 use crate::command::{Command, command_of};
 use crate::condition::condition;
@@ -40,7 +41,9 @@ pub(crate) enum Lookup<'a> {
 
 // Returns the query of the words.
 pub(crate) fn query_of<'a>(alloc: Global, words: &[&'a str]) -> Result<Query<'a>, RunError>
-    ensures { GivesQuery (command_of (map (λ w. w.now) words.now)) result }
+    ensures query { GivesQuery (command_of (map (λ w. w.now) words.now)) result }
+    ensures usage { (result ≡ Err RunError.Usage) ↔ (command_of (map (λ w. w.now) words.now) ≡ None) }
+    ensures memory { (result ≡ Err RunError.Memory) → ReadingTakesMemory (command_of (map (λ w. w.now) words.now)) }
 {
     match command_of(words) {
         Some(command) => read_words(alloc, command),
@@ -50,7 +53,8 @@ pub(crate) fn query_of<'a>(alloc: Global, words: &[&'a str]) -> Result<Query<'a>
 
 // Returns the query of a command. Its condition and its numbers are read in the order of its words.
 fn read_words<'a>(alloc: Global, command: Command<'a>) -> Result<Query<'a>, RunError>
-    ensures { GivesQuery (Some (command_view command.entry)) result }
+    ensures query { GivesQuery (Some (command_view command.entry)) result }
+    ensures memory { (result ≡ Err RunError.Memory) → ReadingTakesMemory (Some (command_view command.entry)) }
 {
     match command {
         Command::Test(word, integer_word) => {

@@ -1,17 +1,18 @@
 //! Runs the words of a command line.
 
-ghost use Rattle.std.specs.Prelude.{◌≡◌, List, ℕ, map};
+ghost use Rattle.std.specs.Prelude.{◌≡◌, ◌≢◌, ◌↔◌, Err, IfErr, List, None, ℕ, map};
 ghost use Rattle.plural_commands.specs.Answer.{AnswersQuery, AnswersWords, IsAnswered, IsNotRead, run_origin};
+ghost use Rattle.plural_commands.specs.Commands.{command_of};
 ghost use Rattle.plural_commands.specs.Inner.CallAnswers.{GivesAfterReading, IsOfDocument};
 ghost use Rattle.plural_commands.specs.Inner.PrivateViews.{lookup_view, query_view};
-ghost use Rattle.plural_commands.specs.Queries.{NeedsInput, of_document};
+ghost use Rattle.plural_commands.specs.Queries.{MayRunOut, NeedsInput, of_document};
 ghost use Rattle.plural_documents.specs.Inputs.{IsInput, IsRead};
 
 use crate::answer::text_in;
 use crate::error::RunError;
 use crate::query::{Lookup, Query, query_of};
 use crate::test_command::truth_line;
-use plural_documents::read_input;
+use plural_documents::{read_input, write_output};
 use std::alloc::Global;
 use std::borrow::CowStr;
 use std::io::{Read, Write};
@@ -37,8 +38,12 @@ use std::io::{Read, Write};
 /// failed, [`RunError::TooLong`] above 4194304 bytes, [`RunError::Json`] if it is no JSON text,
 /// [`RunError::Document`] if it is no document, or lacks the elements that are needed, and
 /// [`RunError::Locale`] if the locale lacks the rules of the type, or the ranges that are needed;
-/// [`RunError::Write`] if the writer failed; [`RunError::Memory`] if memory ran out. After an error
-/// nothing was written, except by a failed write.
+/// [`RunError::Write`] if the writer failed. After an error nothing was written, except by a failed
+/// write, which took a beginning of the answer.
+///
+/// [`RunError::Memory`] if memory ran out: while a condition or a number of more than 16 bytes is
+/// read, or after the words, if they have no fault. So it doesn't come in place of [`RunError::Usage`],
+/// nor of the fault of a number, unless a long START comes before.
 pub fn run<R: Read, W: Write>(
     alloc: Global,
     words: &[&str],
@@ -50,10 +55,13 @@ pub fn run<R: Read, W: Write>(
         × IsAnswered (AnswersWords (map (λ w. w.now) words.now) input) (W.contents writer.old) (W.contents writer.new) result }
     ensures reads { NeedsInput (map (λ w. w.now) words.now) → IsRead run_origin (R.remaining reader.old) (R.remaining reader.new) result }
     ensures reads_nothing { ¬ (NeedsInput (map (λ w. w.now) words.now)) → (reader.new ≡ reader.old) × IsNotRead result }
+    ensures writes_nothing { IfErr result (λ e. e ≢ RunError.Write → writer.new ≡ writer.old) }
+    ensures usage { (result ≡ Err RunError.Usage) ↔ (command_of (map (λ w. w.now) words.now) ≡ None) }
+    ensures memory { (result ≡ Err RunError.Memory) → MayRunOut (map (λ w. w.now) words.now) }
 {
     let query = query_of(alloc, words)?;
     let text = answer(alloc, &query, reader)?;
-    match writer.write_all(text.as_str().as_bytes()) {
+    match write_output(writer, text.as_str().as_bytes()) {
         Ok(()) => Ok(()),
         Err(_) => Err(RunError::Write),
     }
@@ -69,6 +77,8 @@ fn answer<R: Read>(
         × GivesAfterReading (AnswersQuery (query_view query.now) input) result }
     ensures reads { IsOfDocument (query_view query.now) → IsRead run_origin (R.remaining reader.old) (R.remaining reader.new) result }
     ensures reads_nothing { ¬ (IsOfDocument (query_view query.now)) → (reader.new ≡ reader.old) × IsNotRead result }
+    ensures not_usage { result ≢ Err RunError.Usage }
+    ensures memory { (result ≡ Err RunError.Memory) → IsOfDocument (query_view query.now) }
 {
     match query {
         Query::Test(condition, integer) => Ok(CowStr::Borrowed(truth_line(condition, *integer))),

@@ -6,7 +6,8 @@ use Rattle.std.specs.Prelude.{IfOk}
 use Rattle.std.proofs.lemmas.List.{append-nil, length-append}
 use Rattle.std.specs.Io.KnownBytes.{Consumes, IsAtEnd}
 use Rattle.std.specs.declared.alloc.Global.{Global}
-use Rattle.plural_documents.specs.Inputs.{GivesInput, IsInput, most_bytes, within_limit}
+use Rattle.std.proofs.KnownBytes.{Consumes-nil}
+use Rattle.plural_documents.specs.Inputs.{GivesInput, IsInput, IsRead, IsReadToEnd, IsReadUpTo, input_origin, most_bytes, within_limit}
 use Rattle.plural_documents.specs.declared.input.InputError.{InputError}
 use Rattle.plural_documents.specs.declared.input.InputError.TheVariants.{Read, TooLong, Memory}
 
@@ -66,3 +67,31 @@ input_given old new (Err Read) read end limit long = tt
 input_given old new (Err TooLong) read end limit long =
     let begun = long refl in longer old new begun.0 most_bytes begun.1 (long_by_one most_bytes (length begun.0) begun.2)
 input_given old new (Err Memory) read end limit long = tt
+
+-- at the fault, at most one byte past the limit was read
+pub input_read : (old new : Option (List ℕ)) (r : Result (Vec ℕ Global) InputError)
+    → IfOk r (λ bytes. Consumes old new bytes.items) → IfOk r (λ _. IsAtEnd new) → IfOk r (λ bytes. length bytes.items ≤ most_bytes)
+    → IsReadUpTo old new → (r ≡ Err TooLong → (bytes : List ℕ) × Consumes old new bytes × (length bytes ≡ most_bytes + 1))
+    → IsRead input_origin old new r
+input_read old new (Ok bytes) read end limit some long = (bytes.items, read, end, limit)
+input_read old new (Err Read) read end limit some long = some
+input_read old new (Err TooLong) read end limit some long = long refl
+input_read old new (Err Memory) read end limit some long = some
+
+-- ---- How much is read
+
+-- no byte is at most as many as the limit has
+no_byte : (most : ℕ) → length {A = ℕ} [] ≤ most + 1
+no_byte most = omega arith
+
+-- a reader that is left alone gives no byte
+pub none_read : (left : Option (List ℕ)) → IsReadUpTo left left
+none_read left = ([], Consumes-nil left, no_byte most_bytes)
+
+-- as many as the limit has are no more than one more
+one_more : (n most : ℕ) → n ≤ most → n ≤ most + 1
+one_more n most h = omega arith
+
+-- an input that was read to its end is at most as long as the limit
+pub all_is_some : (old new : Option (List ℕ)) → IsReadToEnd old new → IsReadUpTo old new
+all_is_some old new read = (read.0, read.1, one_more (length read.0) most_bytes read.3)

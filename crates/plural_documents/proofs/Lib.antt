@@ -1,2 +1,3 @@
 pub mod InputLemmas
 pub mod JsonTextLemmas
+pub mod OutputLemmas

@@ -46,16 +46,24 @@ input_origin Memory = from_memory
 
 -- ---- What is read
 
--- after a fault of this origin: all of the input; if it is too long, one byte more than the limit. If the reader failed or memory
--- ran out, it may be anything.
+-- all that remained in the reader, within the limit
+abbrev pub IsReadToEnd : Option (List ℕ) → Option (List ℕ) → Type 0
+IsReadToEnd old new = (bytes : List ℕ) × Consumes old new bytes × IsAtEnd new × (length bytes ≤ most_bytes)
+
+-- some bytes, at most one more than the limit; the rest is left
+abbrev pub IsReadUpTo : Option (List ℕ) → Option (List ℕ) → Type 0
+IsReadUpTo old new = (bytes : List ℕ) × Consumes old new bytes × (length bytes ≤ most_bytes + 1)
+
+-- after a fault of this origin: all of the input; if it is too long, one byte more than the limit; if the reader failed or memory
+-- ran out, some of these
 abbrev pub IsReadAfter : Origin → Option (List ℕ) → Option (List ℕ) → Type 0
-IsReadAfter from_reader old new = ⊤
-IsReadAfter from_memory old new = ⊤
+IsReadAfter from_reader old new = IsReadUpTo old new
+IsReadAfter from_memory old new = IsReadUpTo old new
 IsReadAfter from_length old new = (bytes : List ℕ) × Consumes old new bytes × (length bytes ≡ most_bytes + 1)
-IsReadAfter from_writer old new = IsAtEnd new
-IsReadAfter from_answer old new = IsAtEnd new
+IsReadAfter from_writer old new = IsReadToEnd old new
+IsReadAfter from_answer old new = IsReadToEnd old new
 
 -- the same after a result; with a value, all of the input was read
 abbrev pub IsRead : {A E : Type 0} → (E → Origin) → Option (List ℕ) → Option (List ℕ) → Result A E → Type 0
-IsRead origin old new (Ok x) = IsAtEnd new
+IsRead origin old new (Ok x) = IsReadToEnd old new
 IsRead origin old new (Err fault) = IsReadAfter (origin fault) old new

@@ -2,7 +2,7 @@
 
 ghost use Rattle.std.specs.Prelude.{◌≡◌, ◌+◌, ◌≤◌, List, ℕ, length, Err, IfOk};
 ghost use Rattle.std.specs.Io.KnownBytes.{Consumes, IsAtEnd};
-ghost use Rattle.plural_documents.specs.Inputs.{IsRead, GivesInput, input_origin};
+ghost use Rattle.plural_documents.specs.Inputs.{IsRead, IsReadUpTo, GivesInput, input_origin};
 
 use std::alloc::Global;
 use std::io::{ErrorKind, Read};
@@ -38,6 +38,7 @@ fn read_bytes<R: Read>(alloc: Global, reader: &mut R) -> Result<Vec<u8>, InputEr
     ensures bytes { IfOk result (λ bytes. Consumes (R.remaining reader.old) (R.remaining reader.new) bytes.items) }
     ensures end { IfOk result (λ _. IsAtEnd (R.remaining reader.new)) }
     ensures limit { IfOk result (λ bytes. length bytes.items ≤ MOST_BYTES) }
+    ensures up_to { IsReadUpTo (R.remaining reader.old) (R.remaining reader.new) }
     ensures too_long { result ≡ Err InputError.TooLong
         → (bytes : List ℕ) × Consumes (R.remaining reader.old) (R.remaining reader.new) bytes × (length bytes ≡ MOST_BYTES + 1) }
 {

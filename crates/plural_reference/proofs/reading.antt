@@ -7,5 +7,6 @@ pub mod RuleReadings
 pub mod RuleTexts
 pub mod Answered
 pub mod ParserSteps
+pub mod WholeRules
 pub mod WorkedConditions
 pub mod WorkedRuleTexts

@@ -17,8 +17,8 @@ use Rattle.plural_reference.specs.declared.error.ParseError.TheVariants.{Expecte
 use Rattle.plural_reference.specs.declared.token.Token.{Token}
 use Rattle.plural_reference.specs.declared.token.Token.TheVariants.{Operand, Number, Zero, Dot, Comma, At, Decimal, Integer}
 use Rattle.plural_reference.specs.declared.token.Token.TheVariants.{Ellipsis, Tilde, E}
-use Rattle.plural_reference.specs.Lexer.{first, last}
-use Rattle.plural_reference.specs.Parser.{Separated, ReadsUpTo, Faulty, token_value, value_fault}
+use Rattle.plural_reference.specs.Lexer.{AreTokensOf, first, last}
+use Rattle.plural_reference.specs.Parser.{IsCondition, Separated, ReadsUpTo, Faulty, token_value, value_fault}
 
 -- ---- kinds of token
 
@@ -250,3 +250,14 @@ ReadsCondition tokens condition = (rule : Rule) × ReadsRule tokens rule × (rul
 -- the condition has the fault, or it is read and the samples have the fault
 abbrev pub FaultyRule : List Token → ParseError → Type 0
 FaultyRule tokens kind = Faulty tokens kind ⊎ ((c : Condition) × (rest : List Token) × ReadsUpTo tokens c rest × FaultyInSamples rest kind)
+
+-- a condition or none, samples or none after it, and no other token
+abbrev pub IsRule : List Token → Type 0
+IsRule tokens =
+    (condition : List Token) × (samples : List Token) × (tokens ≡ condition ++ samples)
+    × ((condition ≡ []) ⊎ ((c : Condition) × IsCondition condition c))
+    × ((sections : List Section) × AreSections samples sections)
+
+-- the text is a rule: its tokens are
+abbrev pub TextIsRule : List ℕ → Type 0
+TextIsRule text = (tokens : List Token) × AreTokensOf text tokens × IsRule tokens

@@ -18,7 +18,7 @@ mod token;
 pub use error::{LexerError, ParseError, ReadError};
 pub use lexer::Lexer;
 pub use operands::{KEPT_LIMIT, KEPT_PLACES, OperandsError, PluralOperands};
-pub use parser::{parse, parse_condition, parse_without_samples};
+pub use parser::{is_read_whole, parse, parse_condition, parse_without_samples};
 pub use raw_operands::RawPluralOperands;
 pub use resolver::test_condition;
 pub use sequence::Sequence;

@@ -2,6 +2,7 @@
 
 mod samples;
 mod sink;
+mod whole;
 
 ghost use Rattle.std.specs.Prelude.{◌≡◌, ◌≢◌, ◌∷◌, [], Some, None, Ok, Err, length, ◌≤◌, IfOk, MatchBool, MatchOption, MatchResult};
 ghost use Rattle.plural_reference.specs.declared.token.Token.TheVariants as token;
@@ -25,6 +26,7 @@ use crate::token::Token;
 use std::alloc::{AllocError, Global};
 use std::marker::Model;
 use std::mem;
+pub use whole::is_read_whole;
 
 /// Reads the condition of a rule (UTS 35 Part 3, Plural Rules Syntax) from the longest beginning of
 /// the text that is one; what follows it is ignored, samples too. A text that is empty or begins

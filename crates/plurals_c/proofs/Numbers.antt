@@ -1,5 +1,6 @@
 -- A number, and what is read before it.
-use Rattle.std.proofs.Common.{◌≡◌, ◌↔◌, List, ℕ, Result, Ok, Err, refl}
+use Rattle.std.proofs.Common.{◌≡◌, ◌≢◌, ◌≤◌, ◌↔◌, List, length, ℕ, Result, Ok, Err, refl}
+use Rattle.std.proofs.Math.Nat.{lt_of_not-le}
 use Rattle.icu_plurals.specs.declared.DecimalError.{DecimalError}
 use Rattle.icu_plurals.specs.declared.DecimalError.TheVariants as decimal
 use Rattle.icu_plurals.specs.FiveRules.{FiveRules}
@@ -16,13 +17,15 @@ pub number_refused : (text : List ℕ) (e : DecimalError) (r : Result CompactNum
     → ◌≡◌ {A = Result CompactNumber DecimalError} (Err e) (Err decimal.Syntax) ↔ ((x : CompactNumber) → ¬ (WritesCompact text x))
     → ◌≡◌ {A = Result CompactNumber DecimalError} (Err e) (Err decimal.Limit)
     ↔ ((x : CompactNumber) × WritesCompact text x × IsCompactOverLimit x)
+    → (length text ≤ 16 → ◌≢◌ {A = Result CompactNumber DecimalError} (Err e) (Err decimal.Memory))
     → WritesNumber text r
-number_refused text decimal.Syntax r is syntax limit = rw is (syntax.0 refl)
-number_refused text decimal.Limit r is syntax limit = rw is (limit.0 refl)
-number_refused text decimal.Memory r is syntax limit =
+number_refused text decimal.Syntax r is syntax limit short = rw is (syntax.0 refl)
+number_refused text decimal.Limit r is syntax limit short = rw is (limit.0 refl)
+number_refused text decimal.Memory r is syntax limit short =
     rw is (
       λ none. (let same : ◌≡◌ {A = Result CompactNumber DecimalError} (Err decimal.Memory) (Err decimal.Syntax) = syntax.1 none in absurd cc),
       λ over. (let same : ◌≡◌ {A = Result CompactNumber DecimalError} (Err decimal.Memory) (Err decimal.Limit) = limit.1 over in absurd cc),
+      lt_of_not-le (λ few. short few refl),
     )
 
 -- ---- After the rules

@@ -18,7 +18,7 @@ use Rattle.icu_plurals.specs.declared.provider.rules.runtime.ast.RuleBytesError.
 use Rattle.icu_plurals.specs.declared.provider.rules.runtime.ast.RuleError.{RuleError}
 use Rattle.icu_plurals.specs.declared.provider.rules.runtime.ast.RuleError.TheVariants as rule
 use Rattle.plurals_c.specs.declared.fault.Fault.{Fault}
-use Rattle.plurals_c.specs.declared.fault.Fault.TheVariants.{Memory, Utf8, RuleType, Number, Text, Rules, RulesLimit, Elements, Json}
+use Rattle.plurals_c.specs.declared.fault.Fault.TheVariants.{Memory, Utf8, RuleType, Number, OutsideBound, Text, Rules, RulesLimit, Elements, Json}
 use Rattle.plurals_c.specs.declared.fault.Fault.TheVariants.{Document, Locale}
 
 -- the negative of a number that isn't 0
@@ -104,6 +104,7 @@ fault_number Memory = memory_number
 fault_number Utf8 = minus 2
 fault_number RuleType = minus 3
 fault_number (Number fault) = decimal_number fault
+fault_number OutsideBound = minus 12
 fault_number (Text fault) = rule_number fault
 fault_number (Rules fault) = block_number fault
 fault_number RulesLimit = minus 40

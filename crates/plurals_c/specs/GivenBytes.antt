@@ -4,7 +4,7 @@
 --     ReadsText bytes answer      the text
 --     ReadsNumber bytes answer      the number that a text writes within the limits
 --         (docs/NUMBERS.md)
-use Rattle.std.specs.Prelude.{◌≡◌, ℕ, ◌≤◌, List, Result, Ok, Err}
+use Rattle.std.specs.Prelude.{◌≡◌, ℕ, ◌≤◌, ◌<◌, List, length, Result, Ok, Err}
 use Rattle.std.specs.Str.{IsUtf8}
 use Rattle.icu_plurals.specs.declared.DecimalError.TheVariants as decimal
 use Rattle.icu_plurals.specs.declared.RulesBytesError.{RulesBytesError}
@@ -43,9 +43,9 @@ abbrev pub WritesOverLimit : List ℕ → Type 0
 WritesOverLimit text = (x : CompactNumber) × WritesCompact text x × IsCompactOverLimit x
 
 -- why a text gives no number: it is out of form, or what it writes is over a limit; or neither, and
--- memory ran out
+-- memory ran out for a text of more than 16 bytes
 abbrev pub IsNumberFault : List ℕ → Fault → Type 0
-IsNumberFault text Memory = ¬ (WritesNone text) × ¬ (WritesOverLimit text)
+IsNumberFault text Memory = ¬ (WritesNone text) × ¬ (WritesOverLimit text) × (16 < length text)
 IsNumberFault text (Number decimal.Syntax) = WritesNone text
 IsNumberFault text (Number decimal.Limit) = WritesOverLimit text
 IsNumberFault text fault = ⊥

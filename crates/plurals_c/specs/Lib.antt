@@ -8,5 +8,6 @@ pub mod GivenElements
 pub mod NumberAnswers
 pub mod OperandAnswers
 pub mod RulesCategories
+pub mod WholeTexts
 -- not definitions of the subject
 pub mod Inner

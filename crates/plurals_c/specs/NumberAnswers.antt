@@ -2,6 +2,7 @@
 -- order: those of the rules, of the elements, of the number.
 --     IsCategoryOfInteger rules n answer      the category of an integer
 --     IsCategoryOf rules number answer      the category of the number that a text writes
+--     IsSureCategoryOf rules number answer      this category within the exactness bound
 --     IsExactnessOf rules number answer      whether this category is exact
 --     IsElementOf rules elements number answer      the text of the element that the number chooses
 --     IsMessageFor rules elements number answer      this text with the number's in the place of
@@ -21,7 +22,7 @@ use Rattle.plural_message.specs.Messages.{IsMessageWith}
 use Rattle.plurals_c.specs.GivenBytes.{ReadsElements, ReadsNumber, ReadsRules}
 use Rattle.plurals_c.specs.Results.{Then}
 use Rattle.plurals_c.specs.declared.fault.Fault.{Fault}
-use Rattle.plurals_c.specs.declared.fault.Fault.TheVariants.{Memory}
+use Rattle.plurals_c.specs.declared.fault.Fault.TheVariants.{Memory, OutsideBound}
 
 -- ---- Numbers that are returned
 
@@ -59,6 +60,16 @@ HasCategory rules x (Err fault) = ⊥
 
 abbrev pub IsCategoryOf : List ℕ → List ℕ → Result PluralCategory Fault → Type 0
 IsCategoryOf rules number = Then (ReadsRules rules) (λ five. Then (ReadsNumber number) (HasCategory five))
+
+-- the category of the number itself, within the exactness bound of the rules; else that it is outside
+abbrev pub HasSureCategory : FiveRules → CompactNumber → Result PluralCategory Fault → Type 0
+HasSureCategory rules x (Ok category) =
+    IsWithinBound x.significand.absolute x.exponent (moduli_of rules)
+    × IsExactChoice rules x.significand.absolute x.exponent category
+HasSureCategory rules x (Err fault) = (fault ≡ OutsideBound) × ¬ (IsWithinBound x.significand.absolute x.exponent (moduli_of rules))
+
+abbrev pub IsSureCategoryOf : List ℕ → List ℕ → Result PluralCategory Fault → Type 0
+IsSureCategoryOf rules number = Then (ReadsRules rules) (λ five. Then (ReadsNumber number) (HasSureCategory five))
 
 -- whether the number is within the exactness bound of the rules
 abbrev pub HasExactness : FiveRules → CompactNumber → Result Bool Fault → Type 0

@@ -27,7 +27,8 @@ pub extern "C" fn plurals_category_of_integer(rules: &[u8], number: u64) -> i32
 /// by its number as [`plurals_category_of_integer`] returns it. It is chosen by what is kept of the
 /// number; where [`plurals_is_exact`] returns 1 it is that of the number itself.
 ///
-/// A fault is negative: one of the rules, else one of the number. It allocates for the number.
+/// A fault is negative: one of the rules, else one of the number. It allocates for a number of more
+/// than 16 bytes.
 #[unsafe(no_mangle)]
 pub extern "C" fn plurals_category(alloc: Global, rules: &[u8], number: &[u8]) -> i32
     ensures { Answered (IsCategoryOf rules.now number.now) category_number result }
@@ -41,7 +42,8 @@ pub extern "C" fn plurals_category(alloc: Global, rules: &[u8], number: &[u8]) -
 /// Returns 1 if the category is guaranteed for the whole number, as it is within the exactness
 /// bound of the rules, else 0.
 ///
-/// A fault is negative: one of the rules, else one of the number. It allocates for the number.
+/// A fault is negative: one of the rules, else one of the number. It allocates for a number of more
+/// than 16 bytes.
 #[unsafe(no_mangle)]
 pub extern "C" fn plurals_is_exact(alloc: Global, rules: &[u8], number: &[u8]) -> i32
     ensures { Answered (IsExactnessOf rules.now number.now) truth_number result }

@@ -37,7 +37,7 @@ pub extern "C" fn plurals_elements_from_json(alloc: Global, json: &[u8], out: &m
 /// decimal, with a compact exponent or not.
 ///
 /// A fault is negative, and then nothing is written: one of the rules, else of the elements, else
-/// of the number. It allocates for the number.
+/// of the number. It allocates for a number of more than 16 bytes.
 #[unsafe(no_mangle)]
 pub extern "C" fn plurals_element(
     alloc: Global,

@@ -23,6 +23,8 @@ pub(crate) enum Fault {
     RuleType,
     // A text isn't a number, or over a limit.
     Number(DecimalError),
+    // A number is outside the exactness bound.
+    OutsideBound,
     // A text gives no rule.
     Text(RuleError),
     // Bytes aren't a block of rules.
@@ -49,6 +51,7 @@ impl Fault {
             Fault::Utf8 => -2,
             Fault::RuleType => -3,
             Fault::Number(fault) => decimal_number(fault),
+            Fault::OutsideBound => -12,
             Fault::Text(fault) => rule_number(fault),
             Fault::Rules(fault) => block_number(fault),
             Fault::RulesLimit => -40,

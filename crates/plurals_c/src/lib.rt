@@ -14,5 +14,7 @@ mod operands;
 mod ranges;
 mod rules;
 mod signed;
+mod sure;
+mod whole;
 #[cfg(test)]
 mod tests;

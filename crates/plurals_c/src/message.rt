@@ -16,7 +16,7 @@ use std::alloc::Global;
 /// nothing is written. The number is a text that writes a decimal, with a compact exponent or not.
 ///
 /// A fault is negative, and then nothing is written: one of the rules, else of the elements, else
-/// of the number. It allocates for the number and for the message.
+/// of the number. It allocates for a number of more than 16 bytes, and for the message.
 #[unsafe(no_mangle)]
 pub extern "C" fn plurals_message(
     alloc: Global,

@@ -10,8 +10,10 @@ use crate::category::{plurals_category, plurals_category_of_integer, plurals_is_
 use crate::elements::{plurals_element, plurals_elements_from_json};
 use crate::message::plurals_message;
 use crate::rules::{plurals_check_rules, plurals_rules_from_document, plurals_rules_from_texts};
+use crate::sure::plurals_sure_category;
 use crate::tests::assertion::holds;
 use crate::tests::inputs::{DOCUMENT, ITEMS, one_text, written_as};
+use crate::whole::plurals_is_read_whole;
 
 #[test]
 fn rules_of_a_text_choose_categories(rt: HostRuntime) {
@@ -25,6 +27,8 @@ fn rules_of_a_text_choose_categories(rt: HostRuntime) {
     let rules = &block[..length];
     holds!(rt; plurals_check_rules(rules) == 0);
     holds!(rt; plurals_category_of_integer(rules, 1) == 1);
+    // 1 above 2^32, so its low half is 1.
+    holds!(rt; plurals_category_of_integer(rules, 4_294_967_297) == 5);
     holds!(rt; plurals_category_of_integer(rules, 18_446_744_073_709_551_615) == 5);
     let rows: [(&[u8], i32); 5] = [(b"1", 1), (b"1.0", 5), (b"-1", 1), (b"1c6", 5), (b"2", 5)];
     for (number, category) in rows {
@@ -33,6 +37,11 @@ fn rules_of_a_text_choose_categories(rt: HostRuntime) {
     }
     let long = b"0.0000000000000000001";
     holds!(rt; plurals_is_exact(rt.alloc(), rules, long) == 0);
+    holds!(rt; plurals_sure_category(rt.alloc(), rules, b"1") == 1);
+    holds!(rt; plurals_sure_category(rt.alloc(), rules, b"1.0") == 5);
+    holds!(rt; plurals_sure_category(rt.alloc(), rules, long) == -12);
+    holds!(rt; plurals_sure_category(rt.alloc(), rules, b"one") == -10);
+    holds!(rt; plurals_sure_category(rt.alloc(), &[1], b"one") == -30);
 }
 
 #[test]
@@ -169,4 +178,21 @@ fn growth_may_be_refused(rt: HostRuntime) {
         }
     }
     holds!(rt; refused <= 1);
+}
+
+#[test]
+fn a_text_is_a_rule_as_a_whole_or_not(rt: HostRuntime) {
+    let rows: [(&[u8], i32); 8] = [
+        (b"", 1),
+        (b"i = 1 and v = 0 @integer 1", 1),
+        (b"@integer 0~15 ", 1),
+        (b"n = 1 x", 0),
+        (b"i = 1\tand v = 0", 0),
+        (b"n = 1 @integer 1 @", 0),
+        (b"n = 1 and", 0),
+        (b"\xff", 0),
+    ];
+    for (text, whole) in rows {
+        holds!(rt; plurals_is_read_whole(rt.alloc(), text) == whole, at text);
+    }
 }

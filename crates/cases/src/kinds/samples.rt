@@ -5,7 +5,7 @@ use crate::fault::RowFault;
 use crate::kinds::conditions::{next_condition, printed, read_error};
 use crate::show;
 use plural_reference::ast::{Rule, SampleList, Samples};
-use plural_reference::{parse, parse_without_samples, serialize, serialize_sample_list};
+use plural_reference::{is_read_whole, parse, parse_without_samples, serialize, serialize_sample_list};
 use std::alloc::Global;
 
 /// Returns the result of a kind of this file.
@@ -19,6 +19,7 @@ pub fn result(
         "rule_read_again" => rule_read_again(alloc, arguments),
         "rule_without_samples" => rule_without_samples(alloc, arguments),
         "rule_has_condition" => rule_has_condition(alloc, arguments),
+        "is_read_whole" => whole(alloc, arguments),
         "samples" => samples(alloc, arguments),
         "sample_list" => sample_list(alloc, arguments),
         _ => return None,
@@ -77,6 +78,12 @@ fn rule_has_condition(alloc: Global, arguments: &mut Arguments) -> Result<String
         return show::word(alloc, "error");
     };
     show::truth(alloc, rule.condition == condition && alone == condition)
+}
+
+// Whether a text is a rule as a whole.
+fn whole(alloc: Global, arguments: &mut Arguments) -> Result<String, RowFault> {
+    let text = arguments.text(alloc)?;
+    show::truth(alloc, is_read_whole(alloc, text.as_bytes())?)
 }
 
 // The samples of a rule: after each list's type its ranges, each after a bar, and a star for an ellipsis.

@@ -1,6 +1,7 @@
 -- Of the reasons why there is no sure category a text has at most one.
 use Rattle.std.proofs.Common.{◌≡◌, inl, inr, ℕ, List, Option, Some, None, Result, Ok, Err, refl, sym, ap, ◌∙◌, subst, arith}
-use Rattle.std.specs.Prelude.{◌⊎◌, ◌↔◌, ◌≤◌, IsSome}
+use Rattle.std.specs.Prelude.{◌⊎◌, ◌↔◌, ◌≤◌, ◌<◌, ◌≢◌, IsSome, length}
+use Rattle.std.proofs.Math.Nat.{lt_of_not-le}
 use Rattle.fixed_decimal.specs.Places.{IsOverLimit, IsWithinLimit, Places}
 use Rattle.fixed_decimal.specs.Written.{CompactNumber, IsCompactOverLimit, OneCompact, WritesCompact}
 use Rattle.fixed_decimal.specs.declared.error.DecimalError.{DecimalError}
@@ -155,10 +156,11 @@ pub refused_number : {A : Type 0} (text : List ℕ) (error : DecimalError)
     → (◌≡◌ {A = Result A DecimalError} (Err error) (Err number_fault.Syntax)) ↔ ((x : CompactNumber) → ¬ (WritesCompact text x))
     → (◌≡◌ {A = Result A DecimalError} (Err error) (Err number_fault.Limit))
     ↔ ((x : CompactNumber) × WritesCompact text x × IsCompactOverLimit x)
+    → (length text ≤ 16 → ◌≢◌ {A = Result A DecimalError} (Err error) (Err number_fault.Memory))
     → IsNumberFault text error
-refused_number text number_fault.Syntax syntax limit = syntax.0 refl
-refused_number text number_fault.Limit syntax limit = limit.0 refl
-refused_number text number_fault.Memory syntax limit = tt
+refused_number text number_fault.Syntax syntax limit short = syntax.0 refl
+refused_number text number_fault.Limit syntax limit short = limit.0 refl
+refused_number text number_fault.Memory syntax limit short = lt_of_not-le (λ few. short few refl)
 
 -- a text has one fault, but for memory
 one_number_fault : (text : List ℕ) (found fault : DecimalError) → IsNumberFault text found → IsNumberFault text fault

@@ -46,7 +46,7 @@ impl PluralRulesData<'static> {
     /// object; else the refusal of the first of the five, in this order, that is refused:
     /// [`JsonError::Shape`] if it is neither null nor a text, [`JsonError::Rule`] with its category
     /// if the text gives no rule. It allocates for each rule; out of memory is
-    /// [`JsonError::Memory`].
+    /// [`JsonError::Memory`], never where none of the five is a text.
     pub fn from_json(alloc: Global, value: &Value) -> Result<PluralRulesData<'static>, JsonError>
         ensures answers { Answers rules_of result (rules_of_json (view value.now)) }
         // The rules come from the texts under the five keys.
@@ -55,6 +55,8 @@ impl PluralRulesData<'static> {
         ensures float { (result ≡ Err JsonError.Float) ↔ IsTrue (has_float (view value.now)) }
         ensures shape { IsFalse (has_float (view value.now)) → as_object (view value.now) ≡ None → result ≡ Err JsonError.Shape }
         ensures memory { (category : Option Category) → result ≢ Err (JsonError.Rule category RuleError.Memory) }
+        // Only texts are allocated for.
+        ensures no_text { texts_in (view value.now) ≡ five None None None None None → result ≢ Err JsonError.Memory }
     {
         if holds_float(value) {
             return Err(JsonError::Float);
@@ -103,6 +105,7 @@ fn read_rules(alloc: Global, value: &Value) -> Result<PluralRulesData<'static>, 
     ensures float { result ≢ Err JsonError.Float }
     ensures shape { as_object (view value.now) ≡ None → result ≡ Err JsonError.Shape }
     ensures memory { (category : Option Category) → result ≢ Err (JsonError.Rule category RuleError.Memory) }
+    ensures no_text { texts_in (view value.now) ≡ five None None None None None → result ≢ Err JsonError.Memory }
 {
     if !value.is_object() {
         return Err(JsonError::Shape);
@@ -126,6 +129,7 @@ fn read_member(
     ensures read { IfOk result (λ rule. IsRuleOf (text_under category (view value.now)) rule) }
     ensures float { result ≢ Err JsonError.Float }
     ensures memory { (c : Option Category) → result ≢ Err (JsonError.Rule c RuleError.Memory) }
+    ensures no_text { text_under category (view value.now) ≡ None → result ≢ Err JsonError.Memory }
 {
     read_optional(
         alloc,
@@ -144,6 +148,7 @@ fn read_optional(
     ensures read { IfOk result (λ rule. IsRuleOf (option_and_then as_str (option_map (λ v. view v.now) value.entry)) rule) }
     ensures float { result ≢ Err JsonError.Float }
     ensures memory { (c : Option Category) → result ≢ Err (JsonError.Rule c RuleError.Memory) }
+    ensures no_text { option_and_then as_str (option_map (λ v. view v.now) value.entry) ≡ None → result ≢ Err JsonError.Memory }
 {
     let Some(value) = value else {
         return Ok(None);

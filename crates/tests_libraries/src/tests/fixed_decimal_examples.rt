@@ -46,15 +46,6 @@ fn a_shift_reaches_the_last_place(rt: HostRuntime) -> Result<(), Fail> {
 }
 
 #[test]
-fn outside_the_places_each_digit_is_zero(rt: HostRuntime) -> Result<(), Fail> {
-    let number = UnsignedDecimal::from_str(rt.alloc(), "98.76")?;
-    for magnitude in [i16::MIN, -32767, -4, -3, 2, 3, 32766, i16::MAX] {
-        holds!(rt; number.digit_at(magnitude) == 0, at magnitude);
-    }
-    Ok(())
-}
-
-#[test]
 fn an_exponent_moves_places_to_the_left_of_the_point(rt: HostRuntime) -> Result<(), Fail> {
     let rows = [
         ("12.340", 0, (2, 3)),

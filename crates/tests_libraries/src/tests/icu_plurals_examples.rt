@@ -66,37 +66,6 @@ fn an_explicit_value_is_kept(rt: HostRuntime) {
 }
 
 #[test]
-fn chooses_an_item_or_the_default(rt: HostRuntime) -> Result<(), Fail> {
-    let rules = one_rule(rt.alloc())?;
-    let numbers = [PluralOperands::from(1u8), PluralOperands::from(2u8)];
-    let bytes: &[u8] = b"\x80\x03abc\x01\0\x10defg";
-    let wanted = [(0, "defg"), (0, "abc")];
-    let elements = PluralElementsPackedULE::parse_bytes(bytes)?;
-    holds!(rt; elements.as_bytes() == bytes);
-    let found = numbers.map(|number| {
-        let (metadata, text) = elements.get(number, &rules);
-        (metadata.get(), text)
-    });
-    holds!(rt; found == wanted);
-    Ok(())
-}
-
-// A value's metadata as a number, and its text.
-fn shown<'a>(value: &(FourBitMetadata, &'a str)) -> (u8, &'a str) {
-    (value.0.get(), value.1)
-}
-
-#[test]
-fn decodes_every_key(rt: HostRuntime) -> Result<(), Fail> {
-    let bytes =
-        b"\x82\x01o\x07\0\x02\0\x04\0\x06\0\x08\0\x0a\0\x0c\0\x03z\x14a\x25b\x36c\x47d\x58e\x69f";
-    let elements = PluralElementsPackedULE::parse_bytes(bytes)?.decode();
-    holds!(rt; shown(elements.other()) == (2, "o"));
-    holds!(rt; shown(elements.zero()) == (3, "z"));
-    Ok(())
-}
-
-#[test]
 fn the_default_stands_alone(rt: HostRuntime) -> Result<(), Fail> {
     let alone = PluralElementsPackedULE::parse_bytes(b"\x07abc")?;
     let (metadata, text) = alone.get_default();

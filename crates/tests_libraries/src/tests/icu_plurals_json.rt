@@ -1,8 +1,8 @@
-//! Packed elements from JSON values and back: growth that is refused, and an example of the pages.
+//! Packed elements from JSON values and back: growth that is refused.
 
 use crate::tests::assertion::holds;
 use icu_plurals::JsonError;
-use icu_plurals::provider::{PluralElementsPackedCow, PluralElementsPackedULE};
+use icu_plurals::provider::PluralElementsPackedCow;
 use serde_json::Value;
 use std::test::Fail;
 
@@ -13,25 +13,6 @@ const EIGHT_TEXT: &str =
 // Their bytes.
 const EIGHT: &[u8] =
     b"\x82\x01o\x07\0\x02\0\x04\0\x06\0\x08\0\x0a\0\x0c\0\x03z\x14a\x25b\x36c\x47d\x58e\x6ff";
-
-#[test]
-fn elements_are_read_and_written(rt: HostRuntime) -> Result<(), Fail> {
-    // The text, the bytes, and the text that is written.
-    let rows: [(&str, &[u8], &str); 1] = [(
-        "{\"other\":[0,\"abc\"]}",
-        b"\0abc",
-        "{\"other\":[0,\"abc\"]}",
-    )];
-    for (text, bytes, wanted) in rows {
-        let value = Value::from_str(rt.alloc(), text)?;
-        let elements = PluralElementsPackedCow::from_json(rt.alloc(), &value)?;
-        holds!(rt; elements.as_packed().as_bytes() == bytes, text);
-        holds!(rt; elements.as_packed() == PluralElementsPackedULE::parse_bytes(bytes)?);
-        let written = elements.to_json(rt.alloc())?.to_string(rt.alloc())?;
-        holds!(rt; written.as_str() == wanted);
-    }
-    Ok(())
-}
 
 // If a growth is refused, reading returns out of memory; called again with memory, it succeeds.
 #[test]

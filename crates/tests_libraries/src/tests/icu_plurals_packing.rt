@@ -47,11 +47,6 @@ fn rules(alloc: Global) -> Result<PluralRules<'static>, Fail> {
     Ok(PluralRules::from_data(rules))
 }
 
-// The operands of 1 and 2.
-fn numbers() -> [PluralOperands; 2] {
-    [PluralOperands::from(1u8), PluralOperands::from(2u8)]
-}
-
 // Elements with all eight values, each with metadata of its own.
 fn eight() -> PluralElements<(FourBitMetadata, &'static str)> {
     PluralElements::new(value((2, "o")))
@@ -62,29 +57,6 @@ fn eight() -> PluralElements<(FourBitMetadata, &'static str)> {
         .with_many_value(Some(value((7, "d"))))
         .with_explicit_zero_value(Some(value((8, "e"))))
         .with_explicit_one_value(Some(value((9, "f"))))
-}
-
-#[test]
-fn packs_every_key_in_order(rt: HostRuntime) -> Result<(), Fail> {
-    let bytes = PluralElementsPackedULE::encode(rt.alloc(), &eight())?;
-    holds!(rt; bytes.as_slice() == EIGHT, at bytes);
-    Ok(())
-}
-
-#[test]
-fn packed_elements_answer_as_before(rt: HostRuntime) -> Result<(), Fail> {
-    let rules = rules(rt.alloc())?;
-    let elements = items();
-    let bytes = PluralElementsPackedULE::encode(rt.alloc(), &elements)?;
-    let packed = PluralElementsPackedULE::parse_bytes(&bytes)?;
-    for number in numbers() {
-        let (metadata, text) = packed.get(number, &rules);
-        let (wanted, wanted_text) = *elements.get(number, &rules);
-        holds!(rt; metadata == wanted);
-        holds!(rt; text == wanted_text);
-        holds!(rt; text == "items");
-    }
-    Ok(())
 }
 
 #[test]
@@ -113,14 +85,6 @@ fn welsh() -> PluralElements<&'static str> {
         .with_many_value(Some("{} chi, {} chath"))
         .with_explicit_zero_value(Some("dim cŵn, dim cathod"))
         .with_explicit_one_value(Some("un ci, un gath"))
-}
-
-#[test]
-fn written_elements_are_read_again(rt: HostRuntime) -> Result<(), Fail> {
-    let packed = PluralElementsPackedCow::from_elements(rt.alloc(), &welsh())?;
-    let value = packed.to_json(rt.alloc())?;
-    holds!(rt; PluralElementsPackedCow::from_json(rt.alloc(), &value)? == packed);
-    Ok(())
 }
 
 #[test]

@@ -25,16 +25,6 @@ fn gives_the_items_and_their_starts(rt: HostRuntime) {
     holds!(rt; items.next() == None);
 }
 
-#[test]
-fn the_last_items_of_a_beginning_are_empty(rt: HostRuntime) {
-    let list = PackedList::parse_bytes(&THREE_ITEMS[..8]).expect(&rt, "a list");
-    let expected: [&[u8]; 3] = [b"ab", b"", b""];
-    holds!(rt; list.len() == 3);
-    for (place, item) in expected.iter().enumerate() {
-        holds!(rt; list.get(place) == Some(*item), at place);
-    }
-}
-
 // Whether packing gives the three items, or `None` if memory ran out.
 fn packs_three(alloc: Global) -> Option<bool> {
     match PackedList::encode(alloc, &[b"ab", b"", b"cd"]) {

@@ -77,15 +77,6 @@ fn errors_print_the_place_and_the_fault(rt: HostRuntime) -> Result<(), Fail> {
 }
 
 #[test]
-fn errors_print_the_category_and_the_fault(rt: HostRuntime) -> Result<(), Fail> {
-    let category = PluralCategory::Two;
-    let error = RuleError::Parse(ParseError::ExpectedOperator);
-    let printed = format!(in rt.alloc(); "{}", RulesTextError { category, error })?;
-    holds!(rt; printed.as_str() == "rule two: expected operator");
-    Ok(())
-}
-
-#[test]
 fn a_locale_that_is_absent_is_named_so(rt: HostRuntime) -> Result<(), Fail> {
     let printed = format!(in rt.alloc(); "{}", DataError::NotFound)?;
     holds!(rt; printed.as_str() == "locale not found");

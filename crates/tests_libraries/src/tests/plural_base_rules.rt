@@ -1,4 +1,4 @@
-//! Examples of the pages of `plural_base`: categories, rules, their JSON and their bytes.
+//! Examples of the pages of `plural_base`: categories, rules and their JSON.
 
 use crate::tests::assertion::holds;
 use fixed_decimal::Decimal;
@@ -10,15 +10,6 @@ use std::alloc::Global;
 use std::test::Fail;
 
 const ONE: PluralCategory = PluralCategory::One;
-
-const OTHER: PluralCategory = PluralCategory::Other;
-
-// One by the rule `n = 1`, few by the rule `n = 2`.
-const ONE_AND_FEW: &[u8] =
-    b"\x02\0\x10\0\x01\x01\0\xc0\0\0\0\0\x01\0\0\0\x01\0\0\0\x03\x01\0\xc0\0\0\0\0\x02\0\0\0\x02\0\0\0";
-
-const DOCUMENT: &str =
-    "{\"cardinal\":{\"a\":{\"one\":\"i = 1\"}},\"ordinal\":{\"a\":{\"two\":\"n % 10 = 2 and n % 100 != 12\"}}}";
 
 #[test]
 fn all_gives_six_categories_by_their_names(rt: HostRuntime) {
@@ -107,17 +98,6 @@ fn a_decimal_has_its_category_and_its_exactness(rt: HostRuntime) -> Result<(), F
 }
 
 #[test]
-fn integers_of_64_bits_are_whole(rt: HostRuntime) -> Result<(), Fail> {
-    let rules = rules_of(rt.alloc(), "i % 3 = 2")?;
-    let operands = PluralOperands::from(2_000_000_000_000_000_000u64);
-    holds!(rt; rules.category_for(operands) == ONE);
-    let number = Decimal::from_str(rt.alloc(), "2000000000000000000")?;
-    holds!(rt; rules.category_for_decimal(&number) == OTHER);
-    holds!(rt; !rules.is_exact_for_decimal(&number));
-    Ok(())
-}
-
-#[test]
 fn rules_of_four_forms_choose_as_languages_do(rt: HostRuntime) -> Result<(), Fail> {
     let one = Some("n % 10 = 1 and n % 100 != 11");
     let two = Some("n % 10 = 2 and n % 100 != 12");
@@ -149,67 +129,5 @@ fn a_rule_is_its_printed_text(rt: HostRuntime) -> Result<(), Fail> {
     let written = rule_to_json(rt.alloc(), &rule)?.to_string(rt.alloc())?;
     holds!(rt; written.as_str() == "\"i % 10 = 1 or n = 2..4\"");
     holds!(rt; rule == Rule::from_str(rt.alloc(), "i % 10 = 1 or n = 2..4")?);
-    Ok(())
-}
-
-// The rules of the texts of one and few.
-fn read_rules(
-    alloc: Global,
-    one: Option<&str>,
-    few: Option<&str>,
-) -> Result<PluralRulesData<'static>, RulesTextError> {
-    PluralRulesData::from_texts(alloc, None, one, None, few, None)
-}
-
-#[test]
-fn packs_each_rule_after_its_key(rt: HostRuntime) -> Result<(), Fail> {
-    let rules = read_rules(rt.alloc(), Some("n = 1"), Some("n = 2"))?;
-    let bytes = rules.to_bytes(rt.alloc())?;
-    holds!(rt; bytes.as_slice() == ONE_AND_FEW);
-    let stored = PluralRulesData::from_bytes(&bytes)?;
-    holds!(rt; stored == rules);
-    Ok(())
-}
-
-#[test]
-fn rules_that_are_read_choose_as_before(rt: HostRuntime) -> Result<(), Fail> {
-    let rules = PluralRules::from_data(PluralRulesData::from_bytes(ONE_AND_FEW)?);
-    let rows = [
-        (0u8, PluralCategory::Other),
-        (1, PluralCategory::One),
-        (2, PluralCategory::Few),
-        (3, PluralCategory::Other),
-    ];
-    for (number, category) in rows {
-        holds!(rt; rules.category_for(PluralOperands::from(number)) == category, at number);
-    }
-    Ok(())
-}
-
-// The provider of a text of JSON.
-fn provider(alloc: Global, text: &str) -> Result<JsonProvider, Fail> {
-    let value = Value::from_str(alloc, text)?;
-    Ok(JsonProvider::from_value(alloc, &value)?)
-}
-
-#[test]
-fn options_say_which_rules_are_loaded(rt: HostRuntime) -> Result<(), Fail> {
-    let provider = provider(rt.alloc(), DOCUMENT)?;
-    let two = PluralOperands::from(2u64);
-    let rows = [
-        (PluralRulesOptions::default(), PluralCategory::Other),
-        (
-            PluralRulesOptions::from(PluralRuleType::Cardinal),
-            PluralCategory::Other,
-        ),
-        (
-            PluralRulesOptions::from(PluralRuleType::Ordinal),
-            PluralCategory::Two,
-        ),
-    ];
-    for (options, category) in rows {
-        let rules = PluralRules::try_new_unstable(&provider, "a", options)?;
-        holds!(rt; rules.category_for(two) == category);
-    }
     Ok(())
 }

@@ -1,7 +1,6 @@
-//! Messages: growth that is refused, and the examples of the pages.
+//! Messages: growth that is refused.
 
 use crate::tests::assertion::holds;
-use fixed_decimal::DecimalError;
 use icu_plurals::provider::{PluralElementsPackedULE, PluralRulesData};
 use icu_plurals::{PluralRules, RulesTextError};
 use plural_message::{Message, MessageError};
@@ -18,42 +17,6 @@ const NONE_AT_ZERO: &[u8] = b"\x80\x08{} items\x01\0\x50none";
 fn rules(alloc: Global, one: &str) -> Result<PluralRules<'static>, RulesTextError> {
     let rules = PluralRulesData::from_texts(alloc, None, Some(one), None, None, None)?;
     Ok(PluralRules::from_data(rules))
-}
-
-#[test]
-fn the_number_chooses_the_text_that_it_stands_in(rt: HostRuntime) -> Result<(), Fail> {
-    let rules = rules(rt.alloc(), "i = 1 and v = 0")?;
-    let rows = [
-        (ITEMS, "1", "1 item"),
-        (ITEMS, "1.0", "1.0 items"),
-        (ITEMS, "1c6", "1c6 items"),
-        (ITEMS, "-1", "-1 item"),
-        (NONE_AT_ZERO, "0", "none"),
-        (NONE_AT_ZERO, "0.0", "0.0 items"),
-    ];
-    for (elements, number, text) in rows {
-        let message = Message::new(PluralElementsPackedULE::parse_bytes(elements)?);
-        let filled = message.format(rt.alloc(), number, &rules)?;
-        holds!(rt; filled.as_str() == text, number);
-    }
-    Ok(())
-}
-
-#[test]
-fn what_is_no_number_has_no_message(rt: HostRuntime) -> Result<(), Fail> {
-    let rules = rules(rt.alloc(), "i = 1 and v = 0")?;
-    let message = Message::new(PluralElementsPackedULE::parse_bytes(ITEMS)?);
-    let rows = [
-        ("x", DecimalError::Syntax),
-        ("", DecimalError::Syntax),
-        ("1c0256", DecimalError::Syntax),
-        ("1c256", DecimalError::Limit),
-    ];
-    for (number, fault) in rows {
-        let answer = message.format(rt.alloc(), number, &rules);
-        holds!(rt; answer.err() == Some(MessageError::Number(fault)), number);
-    }
-    Ok(())
 }
 
 // At most one growth is refused: out of memory is returned at most once, and the call made again succeeds.

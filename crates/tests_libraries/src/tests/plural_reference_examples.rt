@@ -1,17 +1,11 @@
 //! The examples of the pages of `plural_reference`.
 
 use crate::tests::assertion::holds;
-use fixed_decimal::CompactDecimal;
 use plural_reference::ast::{Operand, RangeListItem, Value};
 use plural_reference::{
     Lexer, OperandsError, PluralOperands, RawPluralOperands, Token, parse_condition, test_condition,
 };
 use std::test::Fail;
-
-// The operands i, v, w, f, t and c.
-fn six(i: u64, v: usize, w: usize, f: u64, t: u64, c: usize) -> PluralOperands {
-    PluralOperands::from(RawPluralOperands { i, v, w, f, t, c })
-}
 
 #[test]
 fn reads_long_lists_of_values(rt: HostRuntime) -> Result<(), Fail> {
@@ -64,22 +58,6 @@ fn knows_no_whole_number_at_a_fraction(rt: HostRuntime) -> Result<(), Fail> {
             c: 0,
         });
         holds!(rt; !test_condition(&condition, &half), text);
-    }
-    Ok(())
-}
-
-#[test]
-fn a_compact_decimal_moves_its_point(rt: HostRuntime) -> Result<(), Fail> {
-    let rows = [
-        ("1.00000020c6", six(1_000_000, 2, 1, 20, 2, 6)),
-        ("1c0", six(1, 0, 0, 0, 0, 0)),
-    ];
-    for (text, want) in rows {
-        let number = CompactDecimal::from_str(rt.alloc(), text)?;
-        holds!(rt; PluralOperands::from(&number) == want, text);
-        let absolute = &number.significand().absolute;
-        let exponent = number.exponent();
-        holds!(rt; PluralOperands::from_significand_and_exponent(absolute, exponent) == want, text);
     }
     Ok(())
 }

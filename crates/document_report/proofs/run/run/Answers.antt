@@ -43,5 +43,5 @@ returns-clause-answers g c =
     let answer = answer_view c.in_ok-answer.answer in (
       a.0,
       a.1,
-      (answer, without_words c.args.has_words a.0 (Ok answer) c.if-has_words.false a.2),
+      (answer, without_words c.args.has_words a.0 (Ok answer) c.if-has_words.false a.2, search rules),
     )

@@ -20,7 +20,7 @@ returns-in-Err-clause-given c =
 pub returns-in-Err-from_str-clause-refused : goal.returns-in-Err-from_str-clause-refused
 returns-in-Err-from_str-clause-refused c = (
   (rules_of c.in-Ok.data, c.in-Ok.ensures.ok),
-  refused_number c.args.number.now c.in-Err-from_str.error c.in-Err-from_str.ensures.syntax c.in-Err-from_str.ensures.limit,
+  refused_number c.args.number.now c.in-Err-from_str.error c.in-Err-from_str.ensures.syntax c.in-Err-from_str.ensures.limit c.in-Err-from_str.ensures.inline,
 )
 
 pub returns-in-Err-from_str-clause-told : goal.returns-in-Err-from_str-clause-told
@@ -29,7 +29,7 @@ returns-in-Err-from_str-clause-told c =
     one_sure_fault c.texts_give_one_answer.ensures c.texts_write_one_number.ensures.compact
     (texts_of c.args.zero c.args.one c.args.two c.args.few c.args.many) c.args.number.now (Number c.in-Err-from_str.error) error (
       (rules_of c.in-Ok.data, c.in-Ok.ensures.ok),
-      refused_number c.args.number.now c.in-Err-from_str.error c.in-Err-from_str.ensures.syntax c.in-Err-from_str.ensures.limit,
+      refused_number c.args.number.now c.in-Err-from_str.error c.in-Err-from_str.ensures.syntax c.in-Err-from_str.ensures.limit c.in-Err-from_str.ensures.inline,
     )
     has other
 
@@ -39,7 +39,7 @@ returns-in-Err-from_str-clause-given c =
     sure_leaves_memory c.texts_give_one_answer.ensures c.texts_write_one_number.ensures.compact
     (texts_of c.args.zero c.args.one c.args.two c.args.few c.args.many) c.args.number.now (Number c.in-Err-from_str.error) sure (
       (rules_of c.in-Ok.data, c.in-Ok.ensures.ok),
-      refused_number c.args.number.now c.in-Err-from_str.error c.in-Err-from_str.ensures.syntax c.in-Err-from_str.ensures.limit,
+      refused_number c.args.number.now c.in-Err-from_str.error c.in-Err-from_str.ensures.syntax c.in-Err-from_str.ensures.limit c.in-Err-from_str.ensures.inline,
     )
 
 pub returns-in-Some-clause-exact : goal.returns-in-Some-clause-exact

@@ -1,8 +1,10 @@
 use Rattle.std.proofs.Common.{Ok, sym, subst, ap}
 use Rattle.plural_commands.specs.Answer.{AnswersQuery}
 use Rattle.plural_commands.specs.Inner.CallAnswers.{GivesAfterReading, IsOfDocument}
-use Rattle.plural_commands.specs.Inner.PrivateViews.{query_view}
+use Rattle.plural_commands.specs.Inner.PrivateViews.{lookup_view, query_view}
+use Rattle.plural_commands.specs.Queries.{of_document}
 use Rattle.plural_commands.specs.declared.query.Query.{Query as CodeQuery}
+use Rattle.plural_commands.proofs.Lengths.{answer_not_usage}
 use Rattle.plural_documents.proofs.InputLemmas.{some_input}
 use Rattle.plural_commands.proofs.run.answer.Goals as goal
 
@@ -28,3 +30,11 @@ returns-in-Document-clause-answers g c =
 pub returns-in-Document-clause-reads_nothing : goal.returns-in-Document-clause-reads_nothing
 returns-in-Document-clause-reads_nothing g c = λ settled.
     absurd (settled (subst (λ (q : CodeQuery). IsOfDocument (query_view q)) (sym c.in-Document.is) tt))
+
+pub returns-in-Document-clause-not_usage : goal.returns-in-Document-clause-not_usage
+returns-in-Document-clause-not_usage g c = λ h.
+    let a = c.looked_up.ensures.answers in
+    answer_not_usage (of_document (lookup_view c.in-Document.lookup)) a.0 c.looked_up.result a.2 h
+
+pub returns-in-Document-clause-memory : goal.returns-in-Document-clause-memory
+returns-in-Document-clause-memory g c = λ h. rw c.in-Document.is tt

@@ -11,12 +11,14 @@ use std::test::Fail;
 const MOST: usize = 4_194_304;
 
 // A reader of a text and then a number of spaces, which ends or fails after them; its first calls are interrupted.
+// It records how often it failed.
 #[derive(Drop)]
 pub(crate) struct Input<'a> {
     text: &'a [u8],
     spaces: usize,
     fails: bool,
     interrupts: usize,
+    failures: usize,
 }
 
 impl<'a> Read for Input<'a> {
@@ -29,6 +31,7 @@ impl<'a> Read for Input<'a> {
             return self.text.read(buf);
         }
         if self.spaces == 0 && self.fails {
+            self.failures = self.failures.saturating_add(1);
             return Err(io::Error::from(io::ErrorKind::BrokenPipe));
         }
         let count = buf.len().min(self.spaces);
@@ -46,6 +49,7 @@ impl<'a> Input<'a> {
             spaces: 0,
             fails: text.is_none(),
             interrupts: 0,
+            failures: 0,
         }
     }
 
@@ -61,6 +65,7 @@ fn document_up_to(length: usize, fails: bool) -> Input<'static> {
         spaces: length.saturating_sub(DOCUMENT.len()),
         fails,
         interrupts: 0,
+        failures: 0,
     }
 }
 
@@ -99,12 +104,14 @@ fn a_failing_reader_is_a_fault(rt: HostRuntime) {
     for length in [0, 5000, MOST - 1, MOST] {
         let mut reader = document_up_to(length, true);
         holds!(rt; gives(rt.alloc(), &words, &mut reader, cannot) == Some(true), at length);
+        holds!(rt; reader.failures == 1, at length);
     }
     let mut reader = Input {
         text: b"{",
         spaces: 0,
         fails: true,
         interrupts: 0,
+        failures: 0,
     };
     holds!(rt; gives(rt.alloc(), &words, &mut reader, cannot) == Some(true));
 }

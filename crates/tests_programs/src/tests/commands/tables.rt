@@ -9,10 +9,19 @@ use std::io;
 use std::io::{Read, Write};
 use std::process::Abort;
 
-// A writer that accepts these bytes and no others, without memory.
+// A writer that accepts these bytes and no others, without memory, and records whether it was flushed.
 #[derive(Drop)]
 struct Awaits<'t> {
     left: &'t [u8],
+    flushed: bool,
+}
+
+// A writer of these bytes, not flushed.
+fn awaiting<'t>(text: &'t str) -> Awaits<'t> {
+    Awaits {
+        left: text.as_bytes(),
+        flushed: false,
+    }
 }
 
 impl<'t> Write for Awaits<'t> {
@@ -27,37 +36,35 @@ impl<'t> Write for Awaits<'t> {
     }
 
     fn flush(&mut self) -> io::Result<()> {
+        self.flushed = true;
         Ok(())
     }
 }
 
-// Returns whether the writer still expects the fault's status and text, and nothing else.
+// Returns whether the writer wasn't flushed and still expects the fault's status and text, and nothing else.
 fn awaits_fault<'t>(mut writer: Awaits<'t>, fault: &RunError) -> bool {
-    write!(writer, "{}: {fault}\n", fault.status()).is_ok() && writer.left.is_empty()
+    write!(writer, "{}: {fault}\n", fault.status()).is_ok()
+        && writer.left.is_empty()
+        && !writer.flushed
 }
 
 // Returns whether the line has the fault's status and text.
 pub(crate) fn is_told(fault: &RunError, line: &str) -> bool {
-    let writer = Awaits {
-        left: line.as_bytes(),
-    };
-    awaits_fault(writer, fault)
+    awaits_fault(awaiting(line), fault)
 }
 
 // Returns whether this is the answer to the words: what is printed, or the status and the text of a fault. `None` if memory
-// ran out and nothing was written.
+// ran out and nothing was written. The writer isn't flushed.
 pub(crate) fn gives<R: Read>(
     alloc: Global,
     words: &[&str],
     reader: &mut R,
     answer: &str,
 ) -> Option<bool> {
-    let mut writer = Awaits {
-        left: answer.as_bytes(),
-    };
+    let mut writer = awaiting(answer);
     match run(alloc, words, reader, &mut writer) {
-        Ok(()) => Some(writer.left.is_empty()),
-        Err(RunError::Memory) if writer.left.len() == answer.len() => None,
+        Ok(()) => Some(writer.left.is_empty() && !writer.flushed),
+        Err(RunError::Memory) if writer.left.len() == answer.len() && !writer.flushed => None,
         Err(fault) => Some(awaits_fault(writer, &fault)),
     }
 }

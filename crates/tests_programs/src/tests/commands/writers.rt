@@ -8,19 +8,32 @@ use std::alloc::Global;
 use std::io;
 use std::io::Write;
 
-// A writer that takes one byte per call, `left` times. Then it refuses each call, or takes no byte. It can't be flushed.
+// A writer that takes one byte per call, `left` times. Then it refuses each call, or takes no byte. Its first calls are
+// interrupted. It records the calls after one that took nothing, and the flushes.
 #[derive(Drop)]
 struct Taking {
     left: usize,
     refuses: bool,
+    interrupts: usize,
+    failed: bool,
+    further: usize,
+    flushed: bool,
 }
 
 impl Write for Taking {
     fn write(&mut self, buf: &[u8]) -> io::Result<usize> {
+        if self.failed {
+            self.further = self.further.saturating_add(1);
+        }
+        if self.interrupts > 0 {
+            self.interrupts -= 1;
+            return Err(io::Error::from(io::ErrorKind::Interrupted));
+        }
         if self.left > 0 {
             self.left -= 1;
             return Ok(buf.len().min(1));
         }
+        self.failed = true;
         if self.refuses {
             return Err(io::Error::from(io::ErrorKind::BrokenPipe));
         }
@@ -28,14 +41,40 @@ impl Write for Taking {
     }
 
     fn flush(&mut self) -> io::Result<()> {
-        Err(io::Error::from(io::ErrorKind::BrokenPipe))
+        self.flushed = true;
+        Ok(())
     }
 }
 
-// What the words give over the document if the writer takes this many bytes.
-fn after(alloc: Global, words: &[&str], left: usize, refuses: bool) -> Result<(), RunError> {
+impl Taking {
+    // Returns a writer that takes this many bytes, and then refuses or takes none.
+    fn some(left: usize, refuses: bool) -> Taking {
+        Taking {
+            left,
+            refuses,
+            interrupts: 2,
+            failed: false,
+            further: 0,
+            flushed: false,
+        }
+    }
+
+    // Whether it was left alone after a call that took nothing, and wasn't flushed.
+    fn is_left_alone(&self) -> bool {
+        self.further == 0 && !self.flushed
+    }
+}
+
+// Returns whether the words over the document are answered as a writer that takes this many bytes lets them.
+fn stops_after(alloc: Global, words: &[&str], left: usize, refuses: bool, succeeds: bool) -> bool {
     let mut input = DOCUMENT;
-    run(alloc, words, &mut input, &mut Taking { left, refuses })
+    let mut writer = Taking::some(left, refuses);
+    let answer = run(alloc, words, &mut input, &mut writer);
+    let is_told = match &answer {
+        Ok(()) => succeeds,
+        Err(fault) => !succeeds && matches!(fault, RunError::Write),
+    };
+    is_told && writer.left == 0 && writer.is_left_alone()
 }
 
 #[test]
@@ -50,11 +89,25 @@ fn a_refused_write_is_a_fault_and_nothing_is_flushed(rt: HostRuntime) {
     ];
     for (words, length) in rows {
         for count in 0..length {
-            let refused = after(rt.alloc(), words, count, true);
-            holds!(rt; matches!(&refused, Err(RunError::Write)), at count);
+            holds!(rt; stops_after(rt.alloc(), words, count, true, false), at count);
         }
-        let full = after(rt.alloc(), words, 0, false);
-        holds!(rt; matches!(&full, Err(RunError::Write)));
-        holds!(rt; after(rt.alloc(), words, length, true).is_ok());
+        holds!(rt; stops_after(rt.alloc(), words, 0, false, false));
+        holds!(rt; stops_after(rt.alloc(), words, length, true, true));
+    }
+}
+
+#[test]
+fn a_fault_touches_no_writer(rt: HostRuntime) {
+    let rows: [&[&str]; 4] = [
+        &["test", "i = 1", "x"],
+        &["category", "a", "cardinal", "x"],
+        &["category", "z", "cardinal", "1"],
+        &["print"],
+    ];
+    for words in rows {
+        let mut input = DOCUMENT;
+        let mut writer = Taking::some(0, true);
+        holds!(rt; run(rt.alloc(), words, &mut input, &mut writer).is_err(), at words.len());
+        holds!(rt; writer.interrupts == 2 && !writer.failed && !writer.flushed, at words.len());
     }
 }

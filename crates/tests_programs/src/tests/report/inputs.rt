@@ -15,12 +15,14 @@ const DOCUMENT: &[u8] =
 const REPORT: &str = "locales: 1, rules: 2, numbers: 17, faults: 0\n";
 
 // A reader of a text and then this many spaces, which ends or fails after them; its first calls are interrupted.
+// It records how often it failed.
 #[derive(Drop)]
 pub(crate) struct Input<'a> {
     text: &'a [u8],
     spaces: usize,
     fails: bool,
     interrupts: usize,
+    failures: usize,
 }
 
 impl<'a> Read for Input<'a> {
@@ -33,6 +35,7 @@ impl<'a> Read for Input<'a> {
             return self.text.read(buf);
         }
         if self.spaces == 0 && self.fails {
+            self.failures = self.failures.saturating_add(1);
             return Err(io::Error::from(io::ErrorKind::BrokenPipe));
         }
         let count = buf.len().min(self.spaces);
@@ -50,6 +53,7 @@ impl<'a> Input<'a> {
             spaces: 0,
             fails: text.is_none(),
             interrupts: 0,
+            failures: 0,
         }
     }
 
@@ -65,6 +69,7 @@ fn document_up_to(length: usize, fails: bool) -> Input<'static> {
         spaces: length.saturating_sub(DOCUMENT.len()),
         fails,
         interrupts: 0,
+        failures: 0,
     }
 }
 
@@ -96,5 +101,6 @@ fn a_failing_reader_is_a_fault(rt: HostRuntime) {
     for length in [0, 5000, MOST] {
         let mut reader = document_up_to(length, true);
         holds!(rt; gives(rt.alloc(), false, &mut reader, "1: cannot read input\n") == Some(true), at length);
+        holds!(rt; reader.failures == 1, at length);
     }
 }
