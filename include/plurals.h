@@ -22,10 +22,9 @@
  *
  * Memory and ownership
  *     All bytes are the caller's, before and after a call. Nothing is kept between calls: no call has to be undone, and
- *     there is no state that calls share. A call that allocates frees all of it before it returns; it uses malloc,
- *     realloc and free of the process, which have to be of one allocator, and malloc and realloc have to align a block to
- *     each power of two up to 16 that divides its size. plurals_check_rules and plurals_category_of_integer allocate
- *     nothing.
+ *     there is no state that calls share. A call that allocates, as its declaration tells, frees all of it before it
+ *     returns; it uses malloc, realloc and free of the process, which have to be of one allocator, and malloc and realloc
+ *     have to align a block to each power of two up to 16 that divides its size.
  *
  * What the caller has to see to
  *     A pointer and the length after it are one slice: that many bytes can be read there, and in out written. A text needs
@@ -38,8 +37,9 @@
  *     they are none.
  *
  * Stack
- *     plurals_rules_from_document and plurals_elements_from_json take at most 131072 bytes of stack, which JSON that is nested
- *     127 deep needs, about 1 KB a level; deeper JSON is refused by PLURALS_JSON. All other calls take at most 4096 bytes of stack.
+ *     The calls that read JSON, which are plurals_rules_from_document, plurals_ranges_from_document and
+ *     plurals_elements_from_json, take at most 131072 bytes of stack, which JSON that is nested 127 deep needs, about 1 KB a
+ *     level; deeper JSON is refused by PLURALS_JSON. All other calls take at most 4096 bytes of stack.
  *     examples/c/run-stack runs each call with so much; no proof bounds it. It counts what malloc of glibc takes; it doesn't count
  *     what the loader takes where it binds a call at its first use.
  *
@@ -119,7 +119,7 @@ enum plurals_fault {
     PLURALS_RULES_RULE_OPERAND = -39,         /* a relation's operand is above 7 */
     PLURALS_RULES_LIMIT = -40,                /* the rules are too long for one block */
 
-    /* of a block of elements; the last two of JSON as elements */
+    /* of a block of elements; the last two of elements that are packed */
     PLURALS_ELEMENTS_EMPTY = -50,           /* it has no byte */
     PLURALS_ELEMENTS_SHORT = -51,           /* the default's text, or its length, is cut off */
     PLURALS_ELEMENTS_PADDING = -52,         /* one of the bits 4 to 6 of the first byte is set */
@@ -139,7 +139,7 @@ enum plurals_fault {
     PLURALS_DOCUMENT_SHAPE = -72,       /* a value is of another kind than its place asks for */
     PLURALS_DOCUMENT_RANGE_KEY = -73,   /* a key names no range */
     PLURALS_DOCUMENT_RANGE_VALUE = -74, /* a range's value names no category */
-    PLURALS_LOCALE = -75                /* the locale isn't present among the rules of this type */
+    PLURALS_LOCALE = -75                /* the locale isn't present among the rules of this type, or the ranges */
 };
 
 /* Writes the block of the rules that a document has for a locale (docs/JSON.md; tools/cldr-document makes a document of
@@ -162,13 +162,27 @@ int64_t plurals_rules_from_texts(const char *zero, size_t zero_len, const char *
 int32_t plurals_is_read_whole(const char *text, size_t text_len);
 
 /* Returns 0 if the bytes are a block of rules, else their fault, which is from PLURALS_RULES_LIST_HEADER to
- * PLURALS_RULES_RULE_OPERAND. The block without bytes is that of no rules, under which every number is other. Takes no
- * memory. */
+ * PLURALS_RULES_RULE_OPERAND. The block without bytes is that of no rules, under which every number is other. Allocates
+ * nothing. */
 int32_t plurals_check_rules(const uint8_t *rules, size_t rules_len);
 
 /* Returns the category of an integer, PLURALS_ZERO to PLURALS_OTHER, or the fault of the rules. number is unsigned, so C
  * makes a huge number of a negative int: plurals_category_of_signed_integer takes those. Allocates nothing. */
 int32_t plurals_category_of_integer(const uint8_t *rules, size_t rules_len, uint64_t number);
+
+/* Returns the category of an integer, which is that of its absolute value, or the fault of the rules. Allocates nothing. */
+int32_t plurals_category_of_signed_integer(const uint8_t *rules, size_t rules_len, int64_t number);
+
+/* Returns the category of six operands (docs/NUMBERS.md), or the fault of the rules: for callers that format numbers
+ * themselves and know the digits that are shown. i is the integer part, v and w how many fraction digits are shown, with
+ * the zeros at the end and without, f and t these digits as a number, c the compact exponent. Any six are allowed, also
+ * those of no number. Allocates nothing. */
+int32_t plurals_category_of_operands(const uint8_t *rules, size_t rules_len, uint64_t i, size_t v, size_t w, uint64_t f,
+                                     uint64_t t, size_t c);
+
+/* Returns which categories a number may have, one bit each, or the fault of the rules: those that have a rule, and other.
+ * The bit of a category is 1 << its number, so 1 << PLURALS_ONE | 1 << PLURALS_OTHER in English. Allocates nothing. */
+int32_t plurals_categories(const uint8_t *rules, size_t rules_len);
 
 /* Returns the category of a number as it is written: 1 and 1.0 are two numbers. It may have a sign, zeros at both ends and
  * a compact exponent, as 1.2c6 (docs/NUMBERS.md). Of a long number a part decides; plurals_is_exact tells whether all of
@@ -184,9 +198,24 @@ int32_t plurals_sure_category(const uint8_t *rules, size_t rules_len, const char
  * the exponent has moved it. Allocates for a number of more than 16 bytes. */
 int32_t plurals_is_exact(const uint8_t *rules, size_t rules_len, const char *number, size_t number_len);
 
+/* Writes the categories of ranges of numbers, as 1 to 3, that a document has for a locale (docs/RANGES.md): 36 bytes, of
+ * which table[6 * start + end] is the category of a range with the categories start and end, each a number from PLURALS_ZERO
+ * to PLURALS_OTHER. Faults, in the order in which they are looked for: the locale's text isn't UTF-8; the text isn't JSON;
+ * it isn't a document, in any of its locales; PLURALS_LOCALE. Allocates in proportion to the document. */
+int64_t plurals_ranges_from_document(const char *json, size_t json_len, const char *locale, size_t locale_len,
+                                     uint8_t *out, size_t out_len);
+
 /* Writes the block of the elements of a JSON text (docs/JSON.md), as {"other":[0,"{} items"],"one":[0,"{} item"]}. Faults,
  * in the order in which they are looked for: the text isn't JSON; it means no elements; they can't be packed. Allocates. */
 int64_t plurals_elements_from_json(const char *json, size_t json_len, uint8_t *out, size_t out_len);
+
+/* Writes the block of the elements of these eight texts; explicit_zero and explicit_one are those of exactly 0 and exactly
+ * 1. But for other a text of length 0 isn't an element. Faults, in the order in which they are looked for: a text isn't
+ * UTF-8; PLURALS_ELEMENTS_DEFAULT_LIMIT; PLURALS_ELEMENTS_START_LIMIT. Allocates. */
+int64_t plurals_elements_from_texts(const char *other, size_t other_len, const char *zero, size_t zero_len, const char *one,
+                                    size_t one_len, const char *two, size_t two_len, const char *few, size_t few_len,
+                                    const char *many, size_t many_len, const char *explicit_zero, size_t explicit_zero_len,
+                                    const char *explicit_one, size_t explicit_one_len, uint8_t *out, size_t out_len);
 
 /* Writes the text of the element that the number takes: the explicit one of exactly 0 or exactly 1 if it is present, else
  * that of the number's category, else that of other. Allocates for a number of more than 16 bytes. */
@@ -202,9 +231,6 @@ int64_t plurals_message(const uint8_t *rules, size_t rules_len, const uint8_t *e
 
 /* Returns the version of the library, as "0.1.0". The text is the library's, and ends with a byte 0. */
 const char *plurals_version(void);
-
-/* Returns the category of an integer, which is that of its absolute value, or the fault of the rules. */
-int32_t plurals_category_of_signed_integer(const uint8_t *rules, size_t rules_len, int64_t number);
 
 /* Returns the name of a category, as "one", or null if the number is that of none. The text is the library's, and ends
  * with a byte 0. */

@@ -107,6 +107,15 @@ private:
     std::size_t size_ = 0;
 };
 
+/* The operands of a number (UTS 35 Part 3, Plural Operand Meanings): the integer part, how many fraction digits are shown with the zeros
+ * at the end and without, these digits as a number, the compact exponent. */
+struct Operands {
+    std::uint64_t i = 0;
+    std::size_t v = 0, w = 0;
+    std::uint64_t f = 0, t = 0;
+    std::size_t c = 0;
+};
+
 /* The texts of a language's rules, as CLDR has them, with samples or without. A category with an empty text has no rule. */
 struct Texts {
     std::string_view zero{}, one{}, two{}, few{}, many{};
@@ -150,6 +159,16 @@ public:
         return static_cast<Category>(found);
     }
 
+    /* Returns the category of the operands, which may be those of no number. */
+    Category category(const Operands &of) const noexcept {
+        return static_cast<Category>(plurals_category_of_operands(block_.data(), block_.size(), of.i, of.v, of.w, of.f, of.t, of.c));
+    }
+
+    /* Returns whether a number may have the category: it has a rule, or is other. */
+    bool has(Category category) const noexcept {
+        return plurals_categories(block_.data(), block_.size()) >> static_cast<std::int32_t>(category) & 1;
+    }
+
     /* Returns whether the category of the number is that of all its digits, however many it has. */
     Result<bool> is_exact(std::string_view number) const noexcept {
         std::int32_t found = plurals_is_exact(block_.data(), block_.size(), number.data(), number.size());
@@ -169,15 +188,50 @@ private:
     Bytes block_;
 };
 
+/* The categories of ranges of numbers, as 1 to 3. */
+class Ranges {
+public:
+    /* The ranges that a JSON document has for a locale, which is compared byte by byte. */
+    static Result<Ranges> from_document(std::string_view json, std::string_view locale) noexcept {
+        Ranges found;
+        std::int64_t length =
+            plurals_ranges_from_document(json.data(), json.size(), locale.data(), locale.size(), found.table_, sizeof found.table_);
+        if (length < 0) return Fault(length);
+        return found;
+    }
+
+    /* Returns the category of a range, by those of its start and its end. */
+    Category category(Category start, Category end) const noexcept {
+        return static_cast<Category>(table_[6 * static_cast<std::size_t>(start) + static_cast<std::size_t>(end)]);
+    }
+
+private:
+    Ranges() noexcept = default;
+    std::uint8_t table_[36] = {};
+};
+
+/* The texts of a message by category, and those of exactly 0 and exactly 1. But for other an empty one isn't there. */
+struct MessageTexts {
+    std::string_view other{}, zero{}, one{}, two{}, few{}, many{}, explicit_zero{}, explicit_one{};
+};
+
 /* The texts of a message by category. */
 class Elements {
 public:
+    static Result<Elements> from_texts(const MessageTexts &texts) noexcept {
+        return of(Bytes::written([&](std::uint8_t *out, std::size_t room) {
+            return plurals_elements_from_texts(texts.other.data(), texts.other.size(), texts.zero.data(), texts.zero.size(),
+                                               texts.one.data(), texts.one.size(), texts.two.data(), texts.two.size(),
+                                               texts.few.data(), texts.few.size(), texts.many.data(), texts.many.size(),
+                                               texts.explicit_zero.data(), texts.explicit_zero.size(), texts.explicit_one.data(),
+                                               texts.explicit_one.size(), out, room);
+        }));
+    }
+
     /* The elements of a JSON text, as {"other":[0,"{} items"],"one":[0,"{} item"]}. */
     static Result<Elements> from_json(std::string_view json) noexcept {
-        auto block = Bytes::written(
-            [&](std::uint8_t *out, std::size_t room) { return plurals_elements_from_json(json.data(), json.size(), out, room); });
-        if (!block) return block.fault();
-        return Elements(*std::move(block));
+        return of(Bytes::written(
+            [&](std::uint8_t *out, std::size_t room) { return plurals_elements_from_json(json.data(), json.size(), out, room); }));
     }
 
     /* Returns the text that the number takes. */
@@ -195,6 +249,10 @@ public:
 
 private:
     explicit Elements(Bytes block) noexcept : block_(std::move(block)) {}
+    static Result<Elements> of(Result<Bytes> block) noexcept {
+        if (!block) return block.fault();
+        return Elements(*std::move(block));
+    }
     template <class Call>
     Result<Bytes> asked(Call call, const Rules &rules, std::string_view number) const noexcept {
         return Bytes::written([&](std::uint8_t *out, std::size_t room) {

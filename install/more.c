@@ -3,12 +3,6 @@
 
 const char *plurals_version(void) { return PLURALS_VERSION; }
 
-int32_t plurals_category_of_signed_integer(const uint8_t *rules, size_t rules_len, int64_t number) {
-    /* The absolute value of the least integer is above the largest one, so it is taken of the unsigned number. */
-    uint64_t absolute = number < 0 ? 0 - (uint64_t)number : (uint64_t)number;
-    return plurals_category_of_integer(rules, rules_len, absolute);
-}
-
 const char *plurals_category_name(int32_t category) {
     switch (category) {
     case PLURALS_ZERO: return "zero";
@@ -70,7 +64,7 @@ const char *plurals_fault_text(int64_t fault) {
     case PLURALS_DOCUMENT_SHAPE: return "the JSON has a value of another kind than its place asks for";
     case PLURALS_DOCUMENT_RANGE_KEY: return "the document has a key that names no range";
     case PLURALS_DOCUMENT_RANGE_VALUE: return "the document has a range whose value names no category";
-    case PLURALS_LOCALE: return "the document has no rules of the type for the locale";
+    case PLURALS_LOCALE: return "the document has no rules of the type, or no ranges, for the locale";
     default: return NULL;
     }
 }

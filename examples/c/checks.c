@@ -1,4 +1,4 @@
-/* Checks what the installed library adds to the proved exports: null with length 0, signed integers, names and texts. */
+/* Checks what the installed library adds to the proved exports, null with length 0, names and texts, and that numbers arrive. */
 #include <plurals.h>
 #include <stdio.h>
 #include <string.h>
@@ -17,6 +17,9 @@ static void null_with_length_0(void) {
     CHECK(plurals_rules_from_document(json, strlen(json), NULL, 0, PLURALS_CARDINAL, NULL, 0) > 0);
     CHECK(plurals_check_rules(NULL, 0) == 0);
     CHECK(plurals_category_of_integer(NULL, 0, 1) == PLURALS_OTHER);
+    CHECK(plurals_category_of_signed_integer(NULL, 0, -1) == PLURALS_OTHER);
+    CHECK(plurals_category_of_operands(NULL, 0, 1, 0, 0, 0, 0, 0) == PLURALS_OTHER);
+    CHECK(plurals_categories(NULL, 0) == 1 << PLURALS_OTHER);
     CHECK(plurals_category(NULL, 0, "1", 1) == PLURALS_OTHER);
     CHECK(plurals_category(rules, (size_t)length, NULL, 0) == PLURALS_NUMBER_SYNTAX);
     CHECK(plurals_is_exact(NULL, 0, "1", 1) == 1);
@@ -25,13 +28,38 @@ static void null_with_length_0(void) {
     CHECK(plurals_element(NULL, 0, elements, (size_t)elements_len, "1", 1, NULL, 0) == 8);
     CHECK(plurals_message(NULL, 0, elements, (size_t)elements_len, "12", 2, NULL, 0) == 8);
     CHECK(plurals_message(NULL, 0, NULL, 0, "1", 1, NULL, 0) == PLURALS_ELEMENTS_EMPTY);
-    /* The absolute value of the least integer ends in 8. */
-    CHECK(plurals_category_of_signed_integer(rules, (size_t)length, INT64_MIN) == PLURALS_ONE);
-    CHECK(plurals_category_of_signed_integer(rules, (size_t)length, -18) == PLURALS_ONE);
-    CHECK(plurals_category_of_signed_integer(rules, (size_t)length, 18) == PLURALS_ONE);
-    CHECK(plurals_category_of_signed_integer(rules, (size_t)length, INT64_MAX) == PLURALS_OTHER);
-    CHECK(plurals_category_of_signed_integer(NULL, 0, 18) == PLURALS_OTHER);
-    CHECK(plurals_category_of_signed_integer((const uint8_t *)"x", 1, 18) == plurals_check_rules((const uint8_t *)"x", 1));
+}
+
+/* Eight parameters, of which the compiler passes some in memory. */
+static void operands(void) {
+    const char *one = "i % 10 = 1", *two = "v = 2", *few = "w = 3", *many = "f = 4 or t = 5 or c = 6";
+    uint8_t rules[256];
+    int64_t length = plurals_rules_from_texts(NULL, 0, one, strlen(one), two, strlen(two), few, strlen(few), many, strlen(many), rules,
+                                              sizeof rules);
+    CHECK(plurals_category_of_operands(rules, (size_t)length, UINT64_MAX - 4, 0, 0, 0, 0, 0) == PLURALS_ONE);
+    CHECK(plurals_category_of_operands(rules, (size_t)length, 0, 2, 0, 0, 0, 0) == PLURALS_TWO);
+    CHECK(plurals_category_of_operands(rules, (size_t)length, 0, 0, 3, 0, 0, 0) == PLURALS_FEW);
+    CHECK(plurals_category_of_operands(rules, (size_t)length, 0, 0, 0, 4, 0, 0) == PLURALS_MANY);
+    CHECK(plurals_category_of_operands(rules, (size_t)length, 0, 0, 0, 0, 5, 0) == PLURALS_MANY);
+    CHECK(plurals_category_of_operands(rules, (size_t)length, 0, 0, 0, 0, 0, 6) == PLURALS_MANY);
+    CHECK(plurals_category_of_operands(rules, (size_t)length, 0, 0, 0, 0, 0, 0) == PLURALS_OTHER);
+    CHECK(plurals_categories(rules, (size_t)length) == 0x3e);
+    CHECK(plurals_category_of_signed_integer(rules, (size_t)length, -11) == PLURALS_ONE);
+}
+
+static void ranges_and_texts(void) {
+    const char *json = "{\"ranges\":{\"a\":{\"ranges\":{\"one--two\":\"many\"}}}}";
+    uint8_t table[36], elements[64];
+    CHECK(plurals_ranges_from_document(json, strlen(json), "a", 1, NULL, 0) == 36);
+    CHECK(plurals_ranges_from_document(json, strlen(json), "b", 1, NULL, 0) == PLURALS_LOCALE);
+    CHECK(plurals_ranges_from_document(json, strlen(json), "a", 1, table, sizeof table) == 36);
+    for (int start = 0; start < 6; start++) {
+        for (int end = 0; end < 6; end++) CHECK(table[6 * start + end] == (start == PLURALS_ONE && end == PLURALS_TWO ? PLURALS_MANY : end));
+    }
+    int64_t length = plurals_elements_from_texts("{} items", 8, NULL, 0, "{} item", 7, NULL, 0, NULL, 0, NULL, 0, NULL, 0, NULL, 0,
+                                                 elements, sizeof elements);
+    CHECK(length == 20 && !memcmp(elements, "\x80\x08{} items\x01\0\x10{} item", 20));
+    CHECK(plurals_elements_from_texts(NULL, 0, NULL, 0, NULL, 0, NULL, 0, NULL, 0, NULL, 0, NULL, 0, NULL, 0, elements, 64) == 1);
 }
 
 static void names_and_texts(void) {
@@ -48,13 +76,15 @@ static void names_and_texts(void) {
         }
         CHECK(fault < 0 || !text);
     }
-    CHECK(plurals_fault_text(PLURALS_MEMORY) && !strcmp(plurals_fault_text(PLURALS_LOCALE), "the document has no rules of the type for the locale"));
+    CHECK(plurals_fault_text(PLURALS_MEMORY) && !strcmp(plurals_fault_text(PLURALS_LOCALE), "the document has no rules of the type, or no ranges, for the locale"));
     CHECK(!plurals_fault_text(INT64_MIN) && !plurals_fault_text(PLURALS_MEMORY + (INT64_C(1) << 32)));
     CHECK(!strcmp(plurals_version(), PLURALS_VERSION));
 }
 
 int main(void) {
     null_with_length_0();
+    operands();
+    ranges_and_texts();
     names_and_texts();
     printf("%d failed\n", failed);
     return failed != 0;

@@ -21,7 +21,7 @@
 #include <sys/mman.h>
 #include <unistd.h>
 
-enum { MOST_SLICES = 5, MOST_BYTES = 1024, MOST_POOL = 64, RANDOM_BYTES = 64 };
+enum { MOST_SLICES = 8, MOST_BYTES = 1024, MOST_POOL = 64, RANDOM_BYTES = 64 };
 
 /* ---- random numbers: splitmix64 */
 
@@ -72,7 +72,7 @@ struct text {
     size_t length;
 };
 
-enum kind { RULES, ELEMENTS, NUMBER, RULE, DOCUMENT, ELEMENTS_JSON, LOCALE, KINDS };
+enum kind { RULES, ELEMENTS, NUMBER, RULE, DOCUMENT, ELEMENTS_JSON, LOCALE, TEXT_OF_ELEMENT, KINDS };
 
 /* Of each kind the good ones, which mistakes are made in. */
 static struct pool {
@@ -87,6 +87,7 @@ static const char *const alphabets[KINDS] = {
     [DOCUMENT] = "{}[]:,\"0123456789cardinlots ",
     [ELEMENTS_JSON] = "{}[]:,\"0123456789other one ",
     [LOCALE] = "aenrupl-",
+    [TEXT_OF_ELEMENT] = "{} item\xc3\xa9",
 };
 
 static void add(enum kind kind, const void *bytes, size_t length) {
@@ -149,6 +150,8 @@ static void fill_pools(void) {
     add_text(DOCUMENT, "{\"ranges\":{\"en\":{\"ranges\":{\"other--one\":\"fewer\"}}}}");
     add_text(LOCALE, "en");
     add_text(LOCALE, "ru");
+    add_text(TEXT_OF_ELEMENT, "{} items");
+    add_text(TEXT_OF_ELEMENT, "");
 }
 
 static void random_text(enum kind kind, struct text *text) {
@@ -270,6 +273,7 @@ static void make_good(enum kind kind, struct text *text) {
     if (kind == DOCUMENT) good_document(text);
     if (kind == ELEMENTS_JSON) good_elements(text);
     if (kind == LOCALE) append(text, ONE_OF("en", "ru", "z", ""));
+    if (kind == TEXT_OF_ELEMENT) append(text, ONE_OF("{} items", "{} item", "", "{}{}", "\xc3\xa9"));
     if (kind == RULES) {
         static struct text rules[5];
         struct slice slices[5];
@@ -324,7 +328,7 @@ static uint8_t *place(size_t room, size_t length) { return below(2) ? rooms[room
 /* ---- the exports */
 
 /* What a call gets beside its slices. */
-static uint64_t number;
+static uint64_t number, operands[6];
 static uint8_t type;
 
 /* A slice as a call's two arguments. */
@@ -344,6 +348,24 @@ static int64_t check_rules(const struct slice *s, uint8_t *out, size_t room) {
 static int64_t category_of_integer(const struct slice *s, uint8_t *out, size_t room) {
     (void)out, (void)room;
     return plurals_category_of_integer(BLOCK(0), number);
+}
+static int64_t category_of_signed_integer(const struct slice *s, uint8_t *out, size_t room) {
+    (void)out, (void)room;
+    return plurals_category_of_signed_integer(BLOCK(0), (int64_t)number);
+}
+static int64_t category_of_operands(const struct slice *s, uint8_t *out, size_t room) {
+    (void)out, (void)room;
+    return plurals_category_of_operands(BLOCK(0), operands[0], operands[1], operands[2], operands[3], operands[4], operands[5]);
+}
+static int64_t categories(const struct slice *s, uint8_t *out, size_t room) {
+    (void)out, (void)room;
+    return plurals_categories(BLOCK(0));
+}
+static int64_t ranges_from_document(const struct slice *s, uint8_t *out, size_t room) {
+    return plurals_ranges_from_document(TEXT(0), TEXT(1), out, room);
+}
+static int64_t elements_from_texts(const struct slice *s, uint8_t *out, size_t room) {
+    return plurals_elements_from_texts(TEXT(0), TEXT(1), TEXT(2), TEXT(3), TEXT(4), TEXT(5), TEXT(6), TEXT(7), out, room);
 }
 static int64_t category(const struct slice *s, uint8_t *out, size_t room) {
     (void)out, (void)room;
@@ -369,6 +391,13 @@ static int64_t model_of_document(const struct slice *s, uint8_t *out) { return m
 static int64_t model_of_texts(const struct slice *s, uint8_t *out) { return model_rules_from_texts(s, out); }
 static int64_t model_of_check(const struct slice *s, uint8_t *out) { return (void)out, model_check_rules(s[0]); }
 static int64_t model_of_integer(const struct slice *s, uint8_t *out) { return (void)out, model_category_of_integer(s[0], number); }
+static int64_t model_of_signed_integer(const struct slice *s, uint8_t *out) {
+    return (void)out, model_category_of_integer(s[0], number >> 63 ? 0 - number : number);
+}
+static int64_t model_of_operands(const struct slice *s, uint8_t *out) { return (void)out, model_category_of_operands(s[0], operands); }
+static int64_t model_of_categories(const struct slice *s, uint8_t *out) { return (void)out, model_categories(s[0]); }
+static int64_t model_of_ranges(const struct slice *s, uint8_t *out) { return model_ranges_from_document(s[0], s[1], out); }
+static int64_t model_of_element_texts(const struct slice *s, uint8_t *out) { return model_elements_from_texts(s, out); }
 static int64_t model_of_category(const struct slice *s, uint8_t *out) { return (void)out, model_category(s[0], s[1]); }
 static int64_t model_of_exactness(const struct slice *s, uint8_t *out) { return (void)out, model_is_exact(s[0], s[1]); }
 static int64_t model_of_json(const struct slice *s, uint8_t *out) { return model_elements_from_json(s[0], out); }
@@ -395,6 +424,14 @@ static const struct export {
      {RULE, RULE, RULE, RULE, RULE}},
     {"plurals_check_rules", check_rules, model_of_check, 0, OF_RULES, 1, {RULES}},
     {"plurals_category_of_integer", category_of_integer, model_of_integer, PLURALS_OTHER, OF_RULES, 1, {RULES}},
+    {"plurals_category_of_signed_integer", category_of_signed_integer, model_of_signed_integer, PLURALS_OTHER, OF_RULES, 1, {RULES}},
+    {"plurals_category_of_operands", category_of_operands, model_of_operands, PLURALS_OTHER, OF_RULES, 1, {RULES}},
+    {"plurals_categories", categories, model_of_categories, 63, OF_RULES, 1, {RULES}},
+    {"plurals_ranges_from_document", ranges_from_document, model_of_ranges, -1, OF_MEMORY | OF_UTF8 | OF_TEXT | OF_JSON | OF_DOCUMENT, 2,
+     {DOCUMENT, LOCALE}},
+    {"plurals_elements_from_texts", elements_from_texts, model_of_element_texts, -1, OF_MEMORY | OF_UTF8 | OF_PACKED_ELEMENTS, 8,
+     {TEXT_OF_ELEMENT, TEXT_OF_ELEMENT, TEXT_OF_ELEMENT, TEXT_OF_ELEMENT, TEXT_OF_ELEMENT, TEXT_OF_ELEMENT, TEXT_OF_ELEMENT,
+      TEXT_OF_ELEMENT}},
     {"plurals_category", category, model_of_category, PLURALS_OTHER, OF_MEMORY | OF_UTF8 | OF_RULES | OF_NUMBER, 2, {RULES, NUMBER}},
     {"plurals_is_exact", is_exact, model_of_exactness, 1, OF_MEMORY | OF_UTF8 | OF_RULES | OF_NUMBER, 2, {RULES, NUMBER}},
     {"plurals_elements_from_json", elements_from_json, model_of_json, -1, OF_MEMORY | OF_PACKED_ELEMENTS | OF_JSON, 1, {ELEMENTS_JSON}},
@@ -485,7 +522,9 @@ static void wrong(const char *what, int64_t result) {
         for (size_t at = 0; at < slices[k].length && at < MOST_BYTES; at++) printf(" %02x", inputs[k][at]);
         printf("\n");
     }
-    printf("number %" PRIu64 ", type %d, refused allocation %" PRId64 "\n", number, type, refused);
+    printf("number %" PRIu64 ", type %d, refused allocation %" PRId64 ", operands", number, type, refused);
+    for (int k = 0; k < 6; k++) printf(" %" PRIu64, operands[k]);
+    printf("\n");
     exit(1);
 }
 
@@ -562,6 +601,7 @@ static void run_case(void) {
         set_slice(k, (struct slice){text.bytes, text.length});
     }
     number = below(2) ? below(200) : next() >> below(64);
+    for (int k = 0; k < 6; k++) operands[k] = below(2) ? below(12) : next() >> below(64);
     type = below(8) ? (uint8_t)below(2) : (uint8_t)next();
     run_slices();
 }
@@ -591,9 +631,10 @@ static const struct slice good[KINDS] = {
     [ELEMENTS] = BYTES("\x80\10{} items\1\0\x10{} item"),
     [NUMBER] = BYTES("1"),
     [RULE] = BYTES("i = 1 and v = 0"),
-    [DOCUMENT] = BYTES("{\"cardinal\":{\"en\":{\"one\":\"i = 1 and v = 0\"}},\"ordinal\":{\"en\":{}}}"),
+    [DOCUMENT] = BYTES("{\"cardinal\":{\"en\":{\"one\":\"i = 1 and v = 0\"}},\"ordinal\":{\"en\":{}},\"ranges\":{\"en\":{\"ranges\":{}}}}"),
     [ELEMENTS_JSON] = BYTES("{\"other\":[0,\"{} items\"],\"one\":[0,\"{} item\"]}"),
     [LOCALE] = BYTES("en"),
+    [TEXT_OF_ELEMENT] = BYTES("{} items"),
 };
 
 /* Inputs with their fault. */
@@ -628,8 +669,9 @@ static const struct bad {
     {DOCUMENT, BYTES("{\"ranges\":5,\"ordinal\":{\"a\":{\"one\":\"i = 1 @foo\"}}}"), -25},
     {DOCUMENT, BYTES("{\"ranges\":{\"a\":{\"ranges\":{\"one\":5}}}}"), -73},
     {DOCUMENT, BYTES("{\"ranges\":{\"a\":{\"ranges\":{\"one--two\":\"some\",\"two\":\"few\"}}}}"), -74},
-    {DOCUMENT, BYTES("{}"), -75}, {DOCUMENT, BYTES("{\"cardinal\":null}"), -75}, {DOCUMENT, BYTES("{\"ranges\":{\"en\":{\"ranges\":{}}}}"), -75},
+    {DOCUMENT, BYTES("{}"), -75}, {DOCUMENT, BYTES("{\"cardinal\":null}"), -75}, {DOCUMENT, BYTES("{\"ranges\":{\"ru\":{\"ranges\":{}}}}"), -75},
     {LOCALE, BYTES("\xff"), -2}, {LOCALE, BYTES("e"), -75}, {LOCALE, BYTES("EN"), -75}, {LOCALE, BYTES(""), -75},
+    {TEXT_OF_ELEMENT, BYTES("\xff"), -2}, {TEXT_OF_ELEMENT, BYTES("x\xe2\x82"), -2},
     {ELEMENTS_JSON, BYTES(""), -70}, {ELEMENTS_JSON, BYTES("{\"other\":[0,\"x\"],}"), -70}, {ELEMENTS_JSON, BYTES("{\"other\":[0.5,\"x\"]}"), -71},
     {ELEMENTS_JSON, BYTES("[]"), -72}, {ELEMENTS_JSON, BYTES("{\"one\":[0,\"x\"]}"), -72}, {ELEMENTS_JSON, BYTES("{\"other\":[16,\"x\"]}"), -72},
     {ELEMENTS_JSON, BYTES("{\"other\":[0,\"x\",0]}"), -72}, {ELEMENTS_JSON, BYTES("{\"other\":[0,\"x\"],\"few\":[-1,\"x\"]}"), -72},
@@ -715,6 +757,26 @@ static void try_numbers(void) {
     }
 }
 
+/* Each operand is asked in its place, and the rules of some categories have the bits of these. */
+static void try_operands(void) {
+    static uint8_t block[MODEL_BYTES];
+    static const char *const names[] = {"i", "v", "w", "f", "t", "c"};
+    for (int k = 0; k < 6; k++) {
+        char text[16];
+        snprintf(text, sizeof text, "%s = 7", names[k]);
+        struct slice texts[5] = {NO_BYTES, NO_BYTES, NO_BYTES, slice_of(text), NO_BYTES};
+        set_slice(0, (struct slice){block, (size_t)model_rules_from_texts(texts, block)});
+        export = export_of("plurals_categories");
+        run_by_hand(1 << PLURALS_FEW | 1 << PLURALS_OTHER, NO_BYTES);
+        export = export_of("plurals_category_of_operands");
+        for (int seven = 0; seven < 6; seven++) {
+            for (int other = 0; other < 6; other++) operands[other] = other == seven ? 7 : 8;
+            run_by_hand(k == seven ? PLURALS_FEW : PLURALS_OTHER, NO_BYTES);
+        }
+        operands[k] = 7 + (UINT64_C(1) << 32), run_by_hand(PLURALS_OTHER, NO_BYTES);
+    }
+}
+
 /* Each category has its number, of integers and of texts. */
 static void try_categories(void) {
     static uint8_t block[MODEL_BYTES];
@@ -729,6 +791,21 @@ static void try_categories(void) {
         export = export_of("plurals_category");
         run_by_hand(number < 5 ? (int64_t)number : 5, NO_BYTES);
     }
+    for (number = 0; number < 7; number++) {
+        int64_t category = number < 5 ? (int64_t)number : 5;
+        export = export_of("plurals_category_of_signed_integer");
+        run_by_hand(category, NO_BYTES);
+        number = 0 - number, run_by_hand(category, NO_BYTES), number = 0 - number;
+        export = export_of("plurals_category_of_operands");
+        for (int k = 1; k < 6; k++) operands[k] = 0;
+        operands[0] = number, run_by_hand(category, NO_BYTES);
+        /* With a fraction n is no whole number, which w tells. */
+        operands[2] = 1, run_by_hand(5, NO_BYTES);
+    }
+    export = export_of("plurals_categories");
+    run_by_hand(63, NO_BYTES);
+    try_operands();
+    set_slice(0, rules);
     export = export_of("plurals_category_of_integer");
     number = UINT64_MAX;
     run_by_hand(5, NO_BYTES);
@@ -759,6 +836,13 @@ static const struct {
     {"plurals_elements_from_json", {BYTES("{\"one\":[0,\"item\"],\"other\":[0,\"items\"]}")}, BYTES("\x80\5items\1\0\x10item")},
     {"plurals_elements_from_json", {BYTES("{\"other\":[0,\"a\"],\"one\":[0,\"a\"],\"explicit_one\":[0,\"a\"]}")}, BYTES("\x80\1a\1\0\x60" "a")},
     {"plurals_elements_from_json", {BYTES("{\"other\":[15,\"\\u00e9\"],\"x\":[]}")}, BYTES("\17\xc3\xa9")},
+    {"plurals_elements_from_texts", {BYTES("items"), BYTES(""), BYTES("item"), BYTES(""), BYTES(""), BYTES(""), BYTES(""), BYTES("")},
+     BYTES("\x80\5items\1\0\x10item")},
+    {"plurals_elements_from_texts", {BYTES("a"), BYTES("0"), BYTES("a"), BYTES("2"), BYTES("3"), BYTES("4"), BYTES("a"), BYTES("6")},
+     BYTES("\x80\1a\6\0\2\0\4\0\6\0\10\0\12\0\0" "0\x20" "2\x30" "3\x40" "4\x50" "a\x60" "6")},
+    {"plurals_elements_from_texts", {BYTES(""), BYTES(""), BYTES(""), BYTES(""), BYTES(""), BYTES(""), BYTES(""), BYTES("")}, BYTES("\0")},
+    {"plurals_ranges_from_document", {BYTES("{\"ranges\":{\"\":{\"ranges\":{\"one--two\":\"many\",\"other--other\":\"zero\"}}}}"), BYTES("")},
+     BYTES("\0\1\2\3\4\5\0\1\4\3\4\5\0\1\2\3\4\5\0\1\2\3\4\5\0\1\2\3\4\5\0\1\2\3\4\0")},
     {"plurals_element", {BYTES(""), BYTES("\x80\1x\2\0\2\0\x50" "0\x60" "1"), BYTES("0")}, BYTES("0")},
     {"plurals_element", {BYTES(""), BYTES("\x80\1x\2\0\2\0\x50" "0\x60" "1"), BYTES("-1")}, BYTES("1")},
     {"plurals_element", {BYTES(""), BYTES("\x80\1x\2\0\2\0\x50" "0\x60" "1"), BYTES("0.0")}, BYTES("x")},
@@ -812,6 +896,8 @@ static void try_rule(int values, const char *end, const char *two, int fault) {
     set_slice(0, repeated("{\"cardinal\":{\"en\":{\"one\":\"n = 1", ",1", values - 1, after)), set_slice(1, slice_of("en"));
     type = 0;
     run_limit(fault);
+    export = export_of("plurals_ranges_from_document");
+    run_limit(fault == PLURALS_TEXT_START_LIMIT ? fault : PLURALS_LOCALE);
 }
 
 static void try_element(int other, int one, int fault) {
@@ -820,6 +906,10 @@ static void try_element(int other, int one, int fault) {
     snprintf(front, sizeof front, "{\"two\":[0,\"z\"],\"other\":[0,\"%.*s\"],\"one\":[0,\"", other, filler);
     export = export_of("plurals_elements_from_json");
     set_slice(0, repeated(front, "x", one, "\"]}"));
+    run_limit(fault);
+    export = export_of("plurals_elements_from_texts");
+    for (int k = 0; k < 8; k++) set_slice(k, NO_BYTES);
+    set_slice(0, (struct slice){(const uint8_t *)filler, (size_t)other}), set_slice(2, repeated("", "x", one, "")), set_slice(3, slice_of("z"));
     run_limit(fault);
 }
 
@@ -833,6 +923,8 @@ static void try_depth(int depth, int fault) {
     run_limit(fault);
     export = export_of("plurals_rules_from_document");
     set_slice(1, slice_of("en")), type = 1;
+    run_limit(fault ? fault : PLURALS_LOCALE);
+    export = export_of("plurals_ranges_from_document");
     run_limit(fault ? fault : PLURALS_LOCALE);
 }
 

@@ -492,6 +492,19 @@ int64_t model_category_of_integer(struct slice rules, uint64_t number) {
     return fault ? fault : category_of(rules, (struct operands){number, 0, 0, 0, 0, 0});
 }
 
+int64_t model_category_of_operands(struct slice rules, const uint64_t operands[6]) {
+    int64_t fault = model_check_rules(rules);
+    struct operands number = {operands[0], operands[1], operands[2], operands[3], operands[4], operands[5]};
+    return fault ? fault : category_of(rules, number);
+}
+
+int64_t model_categories(struct slice rules) {
+    int64_t fault = model_check_rules(rules), bits = 1 << PLURALS_OTHER;
+    if (fault) return fault;
+    for (size_t k = 0; k < count_of(rules); k++) bits |= 1 << item_of(rules, k).at[0];
+    return bits;
+}
+
 int64_t model_category(struct slice rules, struct slice number) {
     int64_t fault = model_check_rules(rules);
     if (!fault) fault = read_number(number);
@@ -870,20 +883,45 @@ static int part_fault(int document, const char *name) {
     return 0;
 }
 
-int64_t model_rules_from_document(struct slice json, struct slice locale, uint8_t rule_type, uint8_t *out) {
-    if (rule_type > 1) return PLURALS_TYPE;
+static const char *const parts[] = {"cardinal", "ordinal", "ranges"};
+
+/* Finds what a document has for a locale in one of its parts, and returns the fault, or 0. */
+static int find_locale(struct slice json, struct slice locale, const char *name, int *found) {
     if (!is_utf8(locale)) return PLURALS_UTF8;
     int fault = read_json(json);
     if (fault) return fault;
     if (nodes[0].kind != OBJECT) return PLURALS_DOCUMENT_SHAPE;
-    static const char *const parts[] = {"cardinal", "ordinal", "ranges"};
     for (int k = 0; k < 3; k++)
         if ((fault = part_fault(0, parts[k]))) return fault;
-    int object = find_given(0, parts[rule_type]), found = object < 0 ? -1 : find(object, locale);
-    if (found < 0) return PLURALS_LOCALE;
+    int object = find_given(0, name);
+    *found = object < 0 ? -1 : find(object, locale);
+    return *found < 0 ? PLURALS_LOCALE : 0;
+}
+
+int64_t model_rules_from_document(struct slice json, struct slice locale, uint8_t rule_type, uint8_t *out) {
+    if (rule_type > 1) return PLURALS_TYPE;
+    int found, fault = find_locale(json, locale, parts[rule_type], &found);
+    if (fault) return fault;
     struct slice given[5];
     five_texts(found, given);
     return write_rules(given, out);
+}
+
+/* ---- docs/RANGES.md */
+
+int64_t model_ranges_from_document(struct slice json, struct slice locale, uint8_t *out) {
+    int found, fault = find_locale(json, locale, "ranges", &found);
+    if (fault) return fault;
+    int inner = find_text(found, "ranges");
+    for (int cell = 0; cell < 36; cell++) {
+        char key[32];
+        snprintf(key, sizeof key, "%s--%s", names[cell / 6], names[cell % 6]);
+        int value = find_text(inner, key);
+        out[cell] = (uint8_t)(cell % 6);
+        for (int k = 0; k < 6 && value >= 0; k++)
+            if (equals(nodes[value].text, names[k])) out[cell] = (uint8_t)k;
+    }
+    return 36;
 }
 
 /* ---- docs/JSON.md, docs/ELEMENTS.md: elements */
@@ -904,6 +942,19 @@ static void add_element(uint64_t first, struct slice text) {
     for (size_t k = 0; k < text.length; k++) add_byte(&items, text.at[k]);
 }
 
+/* Writes the default and the items. */
+static int64_t write_elements(int64_t metadata, struct slice other, uint8_t *out) {
+    bool has_items = items.count > 0;
+    size_t at = 0;
+    if (has_items && other.length > 255) return PLURALS_ELEMENTS_DEFAULT_LIMIT;
+    out[at++] = (uint8_t)(has_items << 7 | metadata);
+    if (has_items) out[at++] = (uint8_t)other.length;
+    if (other.length) memcpy(out + at, other.at, other.length);
+    at += other.length;
+    int64_t length = write_list(&items, out + at);
+    return length < 0 ? PLURALS_ELEMENTS_START_LIMIT : (int64_t)at + length;
+}
+
 int64_t model_elements_from_json(struct slice json, uint8_t *out) {
     static const char *const keys[] = {"zero", "one", "two", "few", "many", "explicit_zero", "explicit_one"};
     struct slice other, text;
@@ -920,13 +971,18 @@ int64_t model_elements_from_json(struct slice json, uint8_t *out) {
         bool is_other = metadata == other_metadata && text.length == other.length && memcmp(text.at, other.at, text.length) == 0;
         if (key >= 5 || !is_other) add_element((uint64_t)(key << 4 | metadata), text);
     }
-    bool has_items = items.count > 0;
-    size_t at = 0;
-    if (has_items && other.length > 255) return PLURALS_ELEMENTS_DEFAULT_LIMIT;
-    out[at++] = (uint8_t)(has_items << 7 | other_metadata);
-    if (has_items) out[at++] = (uint8_t)other.length;
-    memcpy(out + at, other.at, other.length);
-    at += other.length;
-    int64_t length = write_list(&items, out + at);
-    return length < 0 ? PLURALS_ELEMENTS_START_LIMIT : (int64_t)at + length;
+    return write_elements(other_metadata, other, out);
+}
+
+int64_t model_elements_from_texts(const struct slice texts[8], uint8_t *out) {
+    struct slice other = texts[0];
+    for (int k = 0; k < 8; k++)
+        if (!is_utf8(texts[k])) return PLURALS_UTF8;
+    items.count = items.length = 0;
+    for (int key = 0; key < 7; key++) {
+        struct slice text = texts[key + 1];
+        bool is_other = text.length == other.length && memcmp(text.at, other.at, text.length) == 0;
+        if (text.length && (key >= 5 || !is_other)) add_element((uint64_t)key << 4, text);
+    }
+    return write_elements(0, other, out);
 }

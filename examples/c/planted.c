@@ -15,6 +15,13 @@ int64_t __real_plurals_rules_from_texts(const char *, size_t, const char *, size
                                         size_t, uint8_t *, size_t);
 int32_t __real_plurals_check_rules(const uint8_t *, size_t);
 int32_t __real_plurals_category_of_integer(const uint8_t *, size_t, uint64_t);
+int32_t __real_plurals_category_of_signed_integer(const uint8_t *, size_t, int64_t);
+int32_t __real_plurals_category_of_operands(const uint8_t *, size_t, uint64_t, size_t, size_t, uint64_t, uint64_t, size_t);
+int32_t __real_plurals_categories(const uint8_t *, size_t);
+int64_t __real_plurals_ranges_from_document(const char *, size_t, const char *, size_t, uint8_t *, size_t);
+int64_t __real_plurals_elements_from_texts(const char *, size_t, const char *, size_t, const char *, size_t, const char *, size_t,
+                                           const char *, size_t, const char *, size_t, const char *, size_t, const char *, size_t,
+                                           uint8_t *, size_t);
 int32_t __real_plurals_category(const uint8_t *, size_t, const char *, size_t);
 int32_t __real_plurals_is_exact(const uint8_t *, size_t, const char *, size_t);
 int64_t __real_plurals_elements_from_json(const char *, size_t, uint8_t *, size_t);
@@ -119,4 +126,42 @@ int64_t __wrap_plurals_message(const uint8_t *rules, size_t rules_len, const uin
     int64_t result = __real_plurals_message(rules, rules_len, elements, elements_len, number, number_len, out, out_len);
     if (bug == 22 && result == PLURALS_ELEMENTS_EMPTY) return PLURALS_ELEMENTS_SHORT; /* a fault has the number of the next one */
     return result;
+}
+
+int32_t __wrap_plurals_category_of_signed_integer(const uint8_t *rules, size_t rules_len, int64_t number) {
+    int bug = planted();
+    if (bug == 23 && number < 0) return __real_plurals_category_of_integer(rules, rules_len, (uint64_t)number); /* the sign is a high bit */
+    return __real_plurals_category_of_signed_integer(rules, rules_len, number);
+}
+
+int32_t __wrap_plurals_category_of_operands(const uint8_t *rules, size_t rules_len, uint64_t i, size_t v, size_t w, uint64_t f, uint64_t t,
+                                            size_t c) {
+    int bug = planted();
+    if (bug == 24) return __real_plurals_category_of_operands(rules, rules_len, i, w, v, f, t, c); /* v and w are exchanged */
+    if (bug == 25) c &= UINT32_MAX; /* the exponent is cut */
+    return __real_plurals_category_of_operands(rules, rules_len, i, v, w, f, t, c);
+}
+
+int32_t __wrap_plurals_categories(const uint8_t *rules, size_t rules_len) {
+    int32_t result = __real_plurals_categories(rules, rules_len);
+    return planted() == 26 && result > 0 ? result & ~(1 << PLURALS_OTHER) : result; /* other isn't one of them */
+}
+
+int64_t __wrap_plurals_ranges_from_document(const char *json, size_t json_len, const char *locale, size_t locale_len, uint8_t *out,
+                                            size_t out_len) {
+    int bug = planted();
+    int64_t result = __real_plurals_ranges_from_document(json, json_len, locale, locale_len, out, out_len);
+    if (bug == 27 && result == 36 && out_len >= 36 && out[8] != 2) out[8] = out[13]; /* a pair is that of its end and its start */
+    return result;
+}
+
+int64_t __wrap_plurals_elements_from_texts(const char *other, size_t other_len, const char *zero, size_t zero_len, const char *one,
+                                           size_t one_len, const char *two, size_t two_len, const char *few, size_t few_len,
+                                           const char *many, size_t many_len, const char *explicit_zero, size_t explicit_zero_len,
+                                           const char *explicit_one, size_t explicit_one_len, uint8_t *out, size_t out_len) {
+    int bug = planted();
+    bool is_zero = bug == 28 && explicit_zero_len == 0; /* without a text of exactly 0 it is that of zero */
+    return __real_plurals_elements_from_texts(other, other_len, zero, zero_len, one, one_len, two, two_len, few, few_len, many, many_len,
+                                              is_zero ? zero : explicit_zero, is_zero ? zero_len : explicit_zero_len, explicit_one,
+                                              explicit_one_len, out, out_len);
 }

@@ -2,7 +2,7 @@
  * Prints how much of it each export has used. The inputs are those that take the most: JSON that is nested as deep as it may be, the
  * longest numbers, long rules, and blocks and texts of all kinds.
  *
- * The arguments are the bytes that the two calls with JSON may take, and those of all others. */
+ * The arguments are the bytes that the calls with JSON may take, and those of all others. */
 #define _GNU_SOURCE
 #include <alloca.h>
 #include <plurals.h>
@@ -29,6 +29,14 @@ static void from_document(void) { result = plurals_rules_from_document(text, tex
 static void from_texts(void) { result = plurals_rules_from_texts("", 0, text, text_len, text, text_len, "", 0, "", 0, out, LONG); }
 static void check_rules(void) { result = plurals_check_rules(rules, rules_len); }
 static void category_of_integer(void) { result = plurals_category_of_integer(rules, rules_len, UINT64_MAX); }
+static void category_of_signed_integer(void) { result = plurals_category_of_signed_integer(rules, rules_len, INT64_MIN); }
+static void category_of_operands(void) { result = plurals_category_of_operands(rules, rules_len, UINT64_MAX, 1, 1, 5, 5, 7); }
+static void categories(void) { result = plurals_categories(rules, rules_len); }
+static void ranges(void) { result = plurals_ranges_from_document(text, text_len, "en", 2, out, LONG); }
+static void elements_from_texts(void) {
+    result = plurals_elements_from_texts(number, number_len, number, number_len, "1", 1, "2", 1, "3", 1, "4", 1, "0", 1, number, number_len,
+                                         out, LONG);
+}
 static void category(void) { result = plurals_category(rules, rules_len, number, number_len); }
 static void is_exact(void) { result = plurals_is_exact(rules, rules_len, number, number_len); }
 static void from_json(void) { result = plurals_elements_from_json(text, text_len, out, LONG); }
@@ -44,7 +52,9 @@ static const struct export {
     {"plurals_check_rules", check_rules, false},          {"plurals_category_of_integer", category_of_integer, false},
     {"plurals_category", category, false},                {"plurals_is_exact", is_exact, false},
     {"plurals_elements_from_json", from_json, true},      {"plurals_element", element, false},
-    {"plurals_message", message, false},
+    {"plurals_message", message, false},                  {"plurals_category_of_signed_integer", category_of_signed_integer, false},
+    {"plurals_categories", categories, false},            {"plurals_category_of_operands", category_of_operands, false},
+    {"plurals_ranges_from_document", ranges, true},       {"plurals_elements_from_texts", elements_from_texts, false},
 };
 enum { EXPORTS = sizeof exports / sizeof *exports };
 

@@ -66,6 +66,33 @@ static void rules_and_documents() {
     static_assert(!std::is_copy_constructible_v<Rules> && std::is_nothrow_move_constructible_v<Rules>);
 }
 
+static void operands_and_categories() {
+    Texts texts;
+    texts.one = "i = 1 and v = 0";
+    texts.few = "t = 25 and f = 250 and w = 2 and v = 3 and c = 0";
+    auto rules = Rules::from_texts(texts);
+    plurals::Operands one, few;
+    one.i = 1;
+    few.v = 3, few.w = 2, few.f = 250, few.t = 25;
+    CHECK(rules->category(one) == Category::one);
+    CHECK(rules->category(few) == Category::few);
+    CHECK(*rules->category("7.250") == Category::few);
+    CHECK(rules->category(plurals::Operands()) == Category::other);
+    CHECK(rules->has(Category::one) && rules->has(Category::few) && rules->has(Category::other));
+    CHECK(!rules->has(Category::zero) && !rules->has(Category::two) && !rules->has(Category::many));
+}
+
+static void ranges() {
+    std::string_view json = R"({"ranges":{"lv":{"ranges":{"one--other":"one","zero--zero":"other"}}}})";
+    auto found = plurals::Ranges::from_document(json, "lv");
+    CHECK(found.has_value());
+    CHECK(found->category(Category::one, Category::other) == Category::one);
+    CHECK(found->category(Category::zero, Category::zero) == Category::other);
+    // A pair that isn't there has the end's category.
+    CHECK(found->category(Category::other, Category::one) == Category::one);
+    CHECK(plurals::Ranges::from_document(json, "ru").fault().number() == PLURALS_LOCALE);
+}
+
 static void elements() {
     std::string long_text(1000, 'x');
     auto found = Elements::from_json(R"({"other":[0,"{} items"],"explicit_zero":[0,"none"]})");
@@ -77,6 +104,14 @@ static void elements() {
     CHECK(found->message(*rules, "0.0")->view() == "0.0 items");
     CHECK(large->message(*rules, "1")->view() == long_text);
     CHECK(Elements::from_json("{}").fault().number() == PLURALS_DOCUMENT_SHAPE);
+    plurals::MessageTexts texts;
+    texts.other = "{} items", texts.one = "{} item", texts.explicit_zero = "none";
+    auto from_texts = Elements::from_texts(texts);
+    CHECK(from_texts->message(*rules, "0")->view() == "none");
+    CHECK(from_texts->message(*rules, "1")->view() == "1 items");
+    CHECK(Elements::from_texts({})->message(*rules, "1")->size() == 0);
+    texts.many = "\xff";
+    CHECK(Elements::from_texts(texts).fault().number() == PLURALS_UTF8);
 }
 
 int main() {
@@ -86,6 +121,8 @@ int main() {
     integers();
     texts_of_numbers();
     rules_and_documents();
+    operands_and_categories();
+    ranges();
     elements();
     std::printf("%d failed\n", failed);
     return failed != 0;

@@ -19,7 +19,7 @@ from enum import Enum
 from pathlib import Path
 from typing import Any, Optional, Union
 
-__all__ = ["Category", "Elements", "Fault", "Number", "Rules", "text_of", "version"]
+__all__ = ["Category", "Elements", "Fault", "Number", "Ranges", "Rules", "text_of", "version"]
 
 Number = Union[int, float, Decimal, str]
 _HERE = Path(__file__).resolve()
@@ -68,10 +68,13 @@ def _opened() -> ctypes.CDLL:
     forms: dict[str, tuple[Any, list[Any]]] = {
         "plurals_rules_from_document": (ctypes.c_int64, [*given, *given, ctypes.c_uint8, *given]),
         "plurals_rules_from_texts": (ctypes.c_int64, [*given * 5, *given]),
+        "plurals_ranges_from_document": (ctypes.c_int64, [*given, *given, *given]),
+        "plurals_categories": (ctypes.c_int32, [*given]),
         "plurals_category_of_integer": (ctypes.c_int32, [*given, ctypes.c_uint64]),
         "plurals_category": (ctypes.c_int32, [*given, *given]),
         "plurals_is_exact": (ctypes.c_int32, [*given, *given]),
         "plurals_elements_from_json": (ctypes.c_int64, [*given, *given]),
+        "plurals_elements_from_texts": (ctypes.c_int64, [*given * 8, *given]),
         "plurals_element": (ctypes.c_int64, [*given * 3, *given]),
         "plurals_message": (ctypes.c_int64, [*given * 3, *given]),
         "plurals_category_name": (ctypes.c_char_p, [ctypes.c_int32]),
@@ -142,6 +145,13 @@ def _written(export: Any, *words: Any) -> bytes:
         room = length
 
 
+def _document(given: Optional[Union[str, bytes]]) -> bytes:
+    """Returns the bytes of a document, or of the installed one."""
+    if given is None:
+        return (_HERE.parents[2] / "cldr.json").read_bytes()
+    return given if isinstance(given, bytes) else _bytes(given)
+
+
 class Rules:
     """The rules of a language, which category a number has. Their bytes are the block of docs/FORMATS.md."""
 
@@ -159,13 +169,15 @@ class Rules:
 
         The locale is compared byte by byte: CLDR has ru and pt-PT, not ru-RU.
         """
-        if document is None:
-            document = (_HERE.parents[2] / "cldr.json").read_bytes()
-        json = document if isinstance(document, bytes) else _bytes(document)
         rules = cls.__new__(cls)
-        words = [*_words((json, _bytes(locale))), int(ordinal)]
+        words = [*_words((_document(document), _bytes(locale))), int(ordinal)]
         rules.block = _written(_library.plurals_rules_from_document, *words)
         return rules
+
+    def categories(self) -> list[Category]:
+        """Returns the categories that a number may have, from zero to other."""
+        bits = _checked(_library.plurals_categories(self.block, len(self.block)))
+        return [category for place, category in enumerate(Category) if bits >> place & 1]
 
     def category(self, number: Number) -> Category:
         """Returns the category of a number. 1 and "1.0" are two numbers."""
@@ -180,6 +192,22 @@ class Rules:
         return _checked(_library.plurals_is_exact(*_words((self.block, _bytes(text_of(number)))))) == 1
 
 
+class Ranges:
+    """The categories of ranges of numbers, as 1 to 3, that a document has for a locale."""
+
+    __slots__ = ("table",)
+    table: bytes
+
+    def __init__(self, locale: str, document: Optional[Union[str, bytes]] = None) -> None:
+        """Reads the ranges of a locale, which is compared byte by byte."""
+        self.table = _written(_library.plurals_ranges_from_document, *_words((_document(document), _bytes(locale))))
+
+    def category(self, start: Category, end: Category) -> Category:
+        """Returns the category of a range, by those of its start and its end."""
+        places = {category: place for place, category in enumerate(Category)}
+        return list(Category)[self.table[6 * places[start] + places[end]]]
+
+
 class Elements:
     """The texts of a message by category."""
 
@@ -189,6 +217,16 @@ class Elements:
     def __init__(self, json: str) -> None:
         """Reads a JSON text, as {"other":[0,"{} items"],"one":[0,"{} item"]} (docs/JSON.md)."""
         self.block = _written(_library.plurals_elements_from_json, *_words((_bytes(json),)))
+
+    @classmethod
+    def of_texts(
+        cls, other: str, zero: str = "", one: str = "", two: str = "", few: str = "", many: str = "", explicit_zero: str = "", explicit_one: str = ""
+    ) -> Elements:
+        """Takes a text for each category, and those of exactly 0 and exactly 1. But for other an empty text isn't there."""
+        elements = cls.__new__(cls)
+        texts = tuple(map(_bytes, (other, zero, one, two, few, many, explicit_zero, explicit_one)))
+        elements.block = _written(_library.plurals_elements_from_texts, *_words(texts))
+        return elements
 
     def text(self, rules: Rules, number: Number) -> str:
         """Returns the text that the number takes."""

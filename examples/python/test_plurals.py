@@ -6,7 +6,7 @@ from decimal import Decimal
 
 import plurals
 import pytest
-from plurals import Category, Elements, Fault, Rules, text_of
+from plurals import Category, Elements, Fault, Ranges, Rules, text_of
 
 ENGLISH = Rules(one="i = 1 and v = 0")
 
@@ -128,6 +128,31 @@ def test_elements():
     assert elements.text(ENGLISH, 1) == "{} item"
     long = "ж" * 1000
     assert Elements(f'{{"other":[0,"{long}"]}}').text(ENGLISH, 1) == long
+
+
+def test_elements_of_texts():
+    elements = Elements.of_texts("{} items", one="{} item", explicit_zero="nothing")
+    assert elements.block == Elements('{"other":[0,"{} items"],"one":[0,"{} item"],"explicit_zero":[0,"nothing"]}').block
+    assert [elements.message(ENGLISH, it) for it in (0, 1, 2)] == ["nothing", "1 item", "2 items"]
+    assert Elements.of_texts("").text(ENGLISH, 1) == ""
+    for texts, number in ((("\ud800",), -2), (("x" * 256, "y"), -60)):
+        with pytest.raises(Fault) as fault:
+            Elements.of_texts(*texts)
+        assert fault.value.number == number
+
+
+def test_categories_of_rules():
+    assert Rules.of_locale("pl").categories() == ["one", "few", "many", "other"]
+    assert Rules().categories() == [Category.OTHER]
+
+
+def test_ranges():
+    ranges = Ranges("lv", '{"ranges":{"lv":{"ranges":{"one--other":"one"}}}}')
+    assert ranges.category(Category.ONE, Category.OTHER) is Category.ONE
+    assert ranges.category(Category.OTHER, Category.ZERO) is Category.ZERO
+    with pytest.raises(Fault) as fault:
+        Ranges("xx")
+    assert fault.value.number == -75
 
 
 def test_byte_0_is_no_end():

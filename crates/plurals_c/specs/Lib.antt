@@ -3,7 +3,11 @@ pub mod Results
 pub mod GivenBytes
 pub mod GivenTexts
 pub mod GivenDocuments
+pub mod GivenRanges
+pub mod GivenElements
 pub mod NumberAnswers
+pub mod OperandAnswers
+pub mod RulesCategories
 pub mod WholeTexts
 -- not definitions of the subject
 pub mod Inner

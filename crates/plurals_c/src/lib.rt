@@ -2,13 +2,18 @@
 #![tactic(auto)]
 
 mod buffer;
+mod categories;
 mod category;
 mod document;
+mod element_texts;
 mod elements;
 mod fault;
 mod given;
 mod message;
+mod operands;
+mod ranges;
 mod rules;
+mod signed;
 mod sure;
 mod whole;
 #[cfg(test)]

@@ -113,7 +113,7 @@ fn rules_of_texts(
 }
 
 // The text of a rule, if it has any byte.
-fn given(bytes: &[u8]) -> Result<Option<&str>, Fault>
+pub(crate) fn given(bytes: &[u8]) -> Result<Option<&str>, Fault>
     ensures { Gives option_copied (ReadsGiven bytes.now) result }
 {
     if bytes.is_empty() {

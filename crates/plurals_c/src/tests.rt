@@ -3,6 +3,8 @@
 mod assertion;
 mod faults;
 mod inputs;
+mod integers;
+mod tables;
 
 use crate::category::{plurals_category, plurals_category_of_integer, plurals_is_exact};
 use crate::elements::{plurals_element, plurals_elements_from_json};

@@ -1,6 +1,6 @@
 //! The calls of `plurals.h`, over slices. All that is unsafe is here.
 #![allow(unsafe_code)]
-use crate::PluralsError;
+use crate::{PluralsError, RawPluralOperands};
 
 mod raw {
     extern "C" {
@@ -13,6 +13,15 @@ mod raw {
             zero: *const u8, zero_len: usize, one: *const u8, one_len: usize, two: *const u8, two_len: usize,
             few: *const u8, few_len: usize, many: *const u8, many_len: usize, out: *mut u8, out_len: usize,
         ) -> i64;
+        #[rustfmt::skip]
+        pub fn plurals_ranges_from_document(
+            json: *const u8, json_len: usize, locale: *const u8, locale_len: usize, out: *mut u8, out_len: usize,
+        ) -> i64;
+        pub fn plurals_categories(rules: *const u8, rules_len: usize) -> i32;
+        #[rustfmt::skip]
+        pub fn plurals_category_of_operands(
+            rules: *const u8, rules_len: usize, i: u64, v: usize, w: usize, f: u64, t: u64, c: usize,
+        ) -> i32;
         pub fn plurals_category_of_integer(rules: *const u8, rules_len: usize, number: u64) -> i32;
         pub fn plurals_category(rules: *const u8, rules_len: usize, number: *const u8, number_len: usize) -> i32;
         pub fn plurals_is_exact(rules: *const u8, rules_len: usize, number: *const u8, number_len: usize) -> i32;
@@ -73,6 +82,22 @@ pub fn rules_from_texts(texts: [&str; 5]) -> Result<Vec<u8>, PluralsError> {
         )
     });
     found
+}
+
+pub fn ranges_from_document(json: &str, locale: &str) -> Result<[u8; 36], PluralsError> {
+    let found = written(|out| unsafe {
+        let (json, json_len) = (json.as_ptr(), json.len());
+        raw::plurals_ranges_from_document(json, json_len, locale.as_ptr(), locale.len(), out.as_mut_ptr(), out.len())
+    })?;
+    Ok(found.try_into().expect("the table has 36 bytes"))
+}
+
+pub fn categories(rules: &[u8]) -> Result<i32, PluralsError> {
+    checked(unsafe { raw::plurals_categories(rules.as_ptr(), rules.len()) })
+}
+
+pub fn category_of_operands(rules: &[u8], of: &RawPluralOperands) -> Result<i32, PluralsError> {
+    checked(unsafe { raw::plurals_category_of_operands(rules.as_ptr(), rules.len(), of.i, of.v, of.w, of.f, of.t, of.c) })
 }
 
 pub fn category_of_integer(rules: &[u8], number: u64) -> Result<i32, PluralsError> {

@@ -18,10 +18,12 @@
 mod elements;
 mod ffi;
 mod operands;
+mod ranges;
 
 pub use elements::PluralElements;
-pub use operands::PluralOperands;
 use operands::Written;
+pub use operands::{PluralOperands, RawPluralOperands};
+pub use ranges::PluralRulesWithRanges;
 use std::fmt;
 
 /// The document of the rules of CLDR 41 that is installed with the library.
@@ -194,6 +196,25 @@ impl PluralRules {
             Written::Text(text) => ffi::category(&self.block, &text),
         };
         PluralCategory::of(found.unwrap_or_else(|error| panic!("{error}")))
+    }
+
+    /// The category of six numbers.
+    pub fn category_for_operands(&self, operands: RawPluralOperands) -> PluralCategory {
+        PluralCategory::of(ffi::category_of_operands(&self.block, &operands).unwrap_or_else(|error| panic!("{error}")))
+    }
+
+    /// The categories that a number may have, from zero to other.
+    ///
+    /// ```
+    /// use plurals::PluralCategory::{Few, Many, One, Other};
+    ///
+    /// let rules = plurals::PluralRules::try_new_cardinal(plurals::CLDR, "pl")?;
+    /// assert_eq!(rules.categories().collect::<Vec<_>>(), [One, Few, Many, Other]);
+    /// # Ok::<(), plurals::PluralsError>(())
+    /// ```
+    pub fn categories(&self) -> impl Iterator<Item = PluralCategory> {
+        let bits = ffi::categories(&self.block).unwrap_or_else(|error| panic!("{error}"));
+        PluralCategory::all().filter(move |it| bits >> (*it as i32) & 1 == 1)
     }
 
     /// Whether the category of the number is that of all its digits, however many it has.

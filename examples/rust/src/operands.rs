@@ -16,6 +16,26 @@ use std::str::FromStr;
 #[derive(Clone, Debug, PartialEq, Eq, Hash)]
 pub struct PluralOperands(pub(crate) Written);
 
+/// Six numbers, for callers that format numbers themselves: what [`PluralRules::category_for_operands`] is asked by. Any six are
+/// allowed, also those of no number.
+///
+/// [`PluralRules::category_for_operands`]: crate::PluralRules::category_for_operands
+#[derive(Clone, Copy, Debug, Default, PartialEq, Eq, Hash)]
+pub struct RawPluralOperands {
+    /// The integer part.
+    pub i: u64,
+    /// How many fraction digits are shown.
+    pub v: usize,
+    /// How many fraction digits are shown, without the zeros at the end.
+    pub w: usize,
+    /// The fraction digits as a number.
+    pub f: u64,
+    /// The fraction digits without the zeros at the end as a number.
+    pub t: u64,
+    /// The compact exponent.
+    pub c: usize,
+}
+
 #[derive(Clone, Debug, PartialEq, Eq, Hash)]
 pub(crate) enum Written {
     Integer(u64),

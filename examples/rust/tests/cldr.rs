@@ -1,6 +1,7 @@
 //! Categories, operands and values by category, over the document of CLDR 41. What is expected comes from UTS 35 and CLDR's samples.
 use plurals::PluralCategory::{self, *};
-use plurals::{PluralElements, PluralOperands, PluralRuleType, PluralRules, PluralRulesOptions, CLDR};
+use plurals::{PluralElements, PluralOperands, PluralRuleType, PluralRules, PluralRulesOptions, PluralRulesWithRanges, CLDR};
+use plurals::RawPluralOperands;
 
 fn cardinal(locale: &str) -> PluralRules {
     PluralRules::try_new_cardinal(CLDR, locale).unwrap()
@@ -118,6 +119,32 @@ fn each_category_has_its_value() {
 }
 
 #[test]
+fn rules_have_categories() {
+    let found = |locale| cardinal(locale).categories().collect::<Vec<_>>();
+    assert_eq!(found("en"), [One, Other]);
+    assert_eq!(found("ar"), [Zero, One, Two, Few, Many, Other]);
+    assert_eq!(found("ja"), [Other]);
+}
+
+#[test]
+fn six_numbers_have_a_category() {
+    let rules = cardinal("en");
+    let one = RawPluralOperands { i: 1, ..Default::default() };
+    assert_eq!(rules.category_for_operands(one), One);
+    assert_eq!(rules.category_for_operands(RawPluralOperands { v: 1, ..one }), Other);
+}
+
+#[test]
+fn ranges_have_categories() {
+    let document = r#"{"cardinal":{"lv":{"zero":"n = 0","one":"n = 1"}},"ranges":{"lv":{"ranges":{"zero--one":"other"}}}}"#;
+    let rules = PluralRulesWithRanges::try_new_cardinal(document, "lv").unwrap();
+    assert_eq!((rules.category_for_range(0, 1), rules.category_for_range(1, 0)), (Other, Zero));
+    assert_eq!(rules.resolve_range(Zero, One), Other);
+    assert_eq!(rules.rules().category_for(1), One);
+    assert_eq!(PluralRulesWithRanges::try_new_cardinal(CLDR, "xx").unwrap_err().number(), -75);
+}
+
+#[test]
 fn names_of_categories() {
     for category in PluralCategory::all() {
         assert_eq!(PluralCategory::get_for_cldr_string(category.as_str()), Some(category));
@@ -129,7 +156,7 @@ fn names_of_categories() {
 #[test]
 fn documents_and_texts_are_refused_by_a_number() {
     let fault = PluralRules::try_new_cardinal(CLDR, "xx").unwrap_err();
-    assert_eq!((fault.number(), fault.to_string()), (-75, "the document has no rules of the type for the locale".to_string()));
+    assert_eq!((fault.number(), fault.to_string()), (-75, "the document has no rules of the type, or no ranges, for the locale".to_string()));
     assert_eq!(PluralRules::try_new_ordinal("{", "en").unwrap_err().number(), -70);
     assert_eq!(PluralRules::try_from_texts(["", "i 1", "", "", ""]).unwrap_err().number(), -22);
 }
