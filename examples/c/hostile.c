@@ -72,7 +72,7 @@ struct text {
     size_t length;
 };
 
-enum kind { RULES, ELEMENTS, NUMBER, RULE, DOCUMENT, ELEMENTS_JSON, LOCALE, TEXT_OF_ELEMENT, KINDS };
+enum kind { RULES, ELEMENTS, NUMBER, RULE, DOCUMENT, ELEMENTS_JSON, LOCALE, TEXT_OF_ELEMENT, TEXT_OF_RULE, KINDS };
 
 /* Of each kind the good ones, which mistakes are made in. */
 static struct pool {
@@ -88,6 +88,7 @@ static const char *const alphabets[KINDS] = {
     [ELEMENTS_JSON] = "{}[]:,\"0123456789other one ",
     [LOCALE] = "aenrupl-",
     [TEXT_OF_ELEMENT] = "{} item\xc3\xa9",
+    [TEXT_OF_RULE] = "nivwftce%=!,.~@ 0123456789andorinteger",
 };
 
 static void add(enum kind kind, const void *bytes, size_t length) {
@@ -109,7 +110,7 @@ static void add_rules(const char *zero, const char *one, const char *two, const 
     int64_t length = model_rules_from_texts(slices, block);
     if (length < 0) abort();
     add(RULES, block, (size_t)length);
-    for (int k = 0; k < 5; k++) add_text(RULE, texts[k]);
+    for (int k = 0; k < 5; k++) add_text(RULE, texts[k]), add_text(TEXT_OF_RULE, texts[k]);
 }
 
 static void add_elements(const char *json) {
@@ -268,7 +269,7 @@ static void good_elements(struct text *text) {
 static void make_good(enum kind kind, struct text *text) {
     static uint8_t block[MODEL_BYTES];
     text->length = 0;
-    if (kind == RULE && below(3)) good_rule(text);
+    if ((kind == RULE || kind == TEXT_OF_RULE) && below(3)) good_rule(text);
     if (kind == NUMBER) good_number(text);
     if (kind == DOCUMENT) good_document(text);
     if (kind == ELEMENTS_JSON) good_elements(text);
@@ -375,6 +376,14 @@ static int64_t is_exact(const struct slice *s, uint8_t *out, size_t room) {
     (void)out, (void)room;
     return plurals_is_exact(BLOCK(0), TEXT(1));
 }
+static int64_t sure_category(const struct slice *s, uint8_t *out, size_t room) {
+    (void)out, (void)room;
+    return plurals_sure_category(BLOCK(0), TEXT(1));
+}
+static int64_t is_read_whole(const struct slice *s, uint8_t *out, size_t room) {
+    (void)out, (void)room;
+    return plurals_is_read_whole(TEXT(0));
+}
 static int64_t elements_from_json(const struct slice *s, uint8_t *out, size_t room) {
     return plurals_elements_from_json(TEXT(0), out, room);
 }
@@ -400,13 +409,15 @@ static int64_t model_of_ranges(const struct slice *s, uint8_t *out) { return mod
 static int64_t model_of_element_texts(const struct slice *s, uint8_t *out) { return model_elements_from_texts(s, out); }
 static int64_t model_of_category(const struct slice *s, uint8_t *out) { return (void)out, model_category(s[0], s[1]); }
 static int64_t model_of_exactness(const struct slice *s, uint8_t *out) { return (void)out, model_is_exact(s[0], s[1]); }
+static int64_t model_of_sure_category(const struct slice *s, uint8_t *out) { return (void)out, model_sure_category(s[0], s[1]); }
+static int64_t model_of_wholeness(const struct slice *s, uint8_t *out) { return (void)out, model_is_read_whole(s[0]); }
 static int64_t model_of_json(const struct slice *s, uint8_t *out) { return model_elements_from_json(s[0], out); }
 static int64_t model_of_element(const struct slice *s, uint8_t *out) { return model_element(s[0], s[1], s[2], out); }
 static int64_t model_of_message(const struct slice *s, uint8_t *out) { return model_message(s[0], s[1], s[2], out); }
 
 /* Groups of faults, as bits. */
 enum { OF_MEMORY = 1, OF_UTF8 = 2, OF_TYPE = 4, OF_NUMBER = 8, OF_TEXT = 16, OF_RULES = 32, OF_PACKED_RULES = 64, OF_ELEMENTS = 128,
-       OF_PACKED_ELEMENTS = 256, OF_JSON = 512, OF_DOCUMENT = 1024 };
+       OF_PACKED_ELEMENTS = 256, OF_JSON = 512, OF_DOCUMENT = 1024, OF_BOUND = 2048 };
 
 static const struct export {
     const char *name;
@@ -434,6 +445,9 @@ static const struct export {
       TEXT_OF_ELEMENT}},
     {"plurals_category", category, model_of_category, PLURALS_OTHER, OF_MEMORY | OF_UTF8 | OF_RULES | OF_NUMBER, 2, {RULES, NUMBER}},
     {"plurals_is_exact", is_exact, model_of_exactness, 1, OF_MEMORY | OF_UTF8 | OF_RULES | OF_NUMBER, 2, {RULES, NUMBER}},
+    {"plurals_sure_category", sure_category, model_of_sure_category, PLURALS_OTHER, OF_MEMORY | OF_UTF8 | OF_RULES | OF_NUMBER | OF_BOUND, 2,
+     {RULES, NUMBER}},
+    {"plurals_is_read_whole", is_read_whole, model_of_wholeness, 1, OF_MEMORY, 1, {TEXT_OF_RULE}},
     {"plurals_elements_from_json", elements_from_json, model_of_json, -1, OF_MEMORY | OF_PACKED_ELEMENTS | OF_JSON, 1, {ELEMENTS_JSON}},
     {"plurals_element", element, model_of_element, -1, OF_MEMORY | OF_UTF8 | OF_RULES | OF_ELEMENTS | OF_NUMBER, 3, {RULES, ELEMENTS, NUMBER}},
     {"plurals_message", message, model_of_message, -1, OF_MEMORY | OF_UTF8 | OF_RULES | OF_ELEMENTS | OF_NUMBER, 3, {RULES, ELEMENTS, NUMBER}},
@@ -457,6 +471,7 @@ static struct fault {
     FAULT(PLURALS_TYPE, OF_TYPE),
     FAULT(PLURALS_NUMBER_SYNTAX, OF_NUMBER),
     FAULT(PLURALS_NUMBER_LIMIT, OF_NUMBER),
+    FAULT(PLURALS_OUTSIDE_BOUND, OF_BOUND),
     FAULT(PLURALS_TEXT_EXPECTED_AND_CONDITION, OF_TEXT),
     FAULT(PLURALS_TEXT_EXPECTED_RELATION, OF_TEXT),
     FAULT(PLURALS_TEXT_EXPECTED_OPERATOR, OF_TEXT),
@@ -635,6 +650,7 @@ static const struct slice good[KINDS] = {
     [ELEMENTS_JSON] = BYTES("{\"other\":[0,\"{} items\"],\"one\":[0,\"{} item\"]}"),
     [LOCALE] = BYTES("en"),
     [TEXT_OF_ELEMENT] = BYTES("{} items"),
+    [TEXT_OF_RULE] = BYTES("i = 1 and v = 0"),
 };
 
 /* Inputs with their fault. */
@@ -754,6 +770,27 @@ static void try_numbers(void) {
         run_by_hand(numbers[k].category, NO_BYTES);
         export = export_of("plurals_is_exact");
         run_by_hand(numbers[k].is_exact, NO_BYTES);
+        export = export_of("plurals_sure_category");
+        run_by_hand(numbers[k].is_exact ? numbers[k].category : PLURALS_OUTSIDE_BOUND, NO_BYTES);
+    }
+}
+
+/* Texts, and whether they are rules as a whole. */
+static const struct {
+    struct slice text;
+    int is_whole;
+} wholes[] = {
+    {BYTES(""), 1}, {BYTES("  "), 1}, {BYTES(" n = 1 "), 1}, {BYTES("n = 1 or i != 2,5..7 @integer 1~2, \xe2\x80\xa6 @decimal 1c3"), 1},
+    {BYTES("@decimal 0.1 @integer 1"), 1}, {BYTES("n = 1 x"), 0}, {BYTES("i = 1..2..3"), 0}, {BYTES("i = 01"), 0},
+    {BYTES("i = 1\tand v = 0"), 0}, {BYTES("@integer 1, \xe2\x80\xa6, 2"), 0}, {BYTES("n = 1 and"), 0}, {BYTES("n = 1 @"), 0},
+    {BYTES("\xff"), 0}, {BYTES("n = 1\0"), 0},
+};
+
+static void try_wholes(void) {
+    export = export_of("plurals_is_read_whole");
+    for (size_t k = 0; k < sizeof wholes / sizeof *wholes; k++) {
+        set_slice(0, wholes[k].text);
+        run_by_hand(wholes[k].is_whole, NO_BYTES);
     }
 }
 
@@ -967,6 +1004,7 @@ int main(int count, char **words) {
     try_faults();
     try_categories();
     try_numbers();
+    try_wholes();
     try_written();
     try_limits();
     expect_each_fault();

@@ -273,6 +273,11 @@ static int read_rule(struct slice text) {
     return fault;
 }
 
+int64_t model_is_read_whole(struct slice text) {
+    struct reader reader = {text, 0, END, 0};
+    return !read_condition(&reader) && !read_samples(&reader) && reader.token == END;
+}
+
 /* ---- docs/FORMATS.md: the rules of a language, made */
 
 /* Reads the texts that aren't null into one block. */
@@ -534,6 +539,12 @@ int64_t model_is_exact(struct slice rules, struct slice number) {
     int64_t fault = model_check_rules(rules);
     if (!fault) fault = read_number(number);
     return fault ? fault : is_within_bound(rules);
+}
+
+int64_t model_sure_category(struct slice rules, struct slice number) {
+    int64_t is_exact = model_is_exact(rules, number);
+    if (is_exact < 0) return is_exact;
+    return is_exact ? model_category(rules, number) : PLURALS_OUTSIDE_BOUND;
 }
 
 /* ---- docs/ELEMENTS.md, docs/MESSAGES.md */

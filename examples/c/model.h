@@ -28,5 +28,7 @@ int64_t model_category_of_operands(struct slice rules, const uint64_t operands[6
 int64_t model_category_of_integer(struct slice rules, uint64_t number);
 int64_t model_category(struct slice rules, struct slice number);
 int64_t model_is_exact(struct slice rules, struct slice number);
+int64_t model_sure_category(struct slice rules, struct slice number);
+int64_t model_is_read_whole(struct slice text);
 
 #endif

@@ -39,6 +39,8 @@ static void elements_from_texts(void) {
 }
 static void category(void) { result = plurals_category(rules, rules_len, number, number_len); }
 static void is_exact(void) { result = plurals_is_exact(rules, rules_len, number, number_len); }
+static void sure_category(void) { result = plurals_sure_category(rules, rules_len, number, number_len); }
+static void is_read_whole(void) { result = plurals_is_read_whole(text, text_len); }
 static void from_json(void) { result = plurals_elements_from_json(text, text_len, out, LONG); }
 static void element(void) { result = plurals_element(rules, rules_len, elements, elements_len, number, number_len, (char *)out, LONG); }
 static void message(void) { result = plurals_message(rules, rules_len, elements, elements_len, number, number_len, (char *)out, LONG); }
@@ -55,6 +57,7 @@ static const struct export {
     {"plurals_message", message, false},                  {"plurals_category_of_signed_integer", category_of_signed_integer, false},
     {"plurals_categories", categories, false},            {"plurals_category_of_operands", category_of_operands, false},
     {"plurals_ranges_from_document", ranges, true},       {"plurals_elements_from_texts", elements_from_texts, false},
+    {"plurals_sure_category", sure_category, false},      {"plurals_is_read_whole", is_read_whole, false},
 };
 enum { EXPORTS = sizeof exports / sizeof *exports };
 
