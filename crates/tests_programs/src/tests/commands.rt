@@ -7,7 +7,6 @@ mod elements;
 mod growth;
 mod inputs;
 mod languages;
-mod long;
 mod ranges;
 mod tables;
 mod writers;
