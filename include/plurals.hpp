@@ -121,6 +121,13 @@ struct Texts {
     std::string_view zero{}, one{}, two{}, few{}, many{};
 };
 
+/* Returns whether a text is a rule from its first byte to its last: of other texts a part may be read. */
+inline Result<bool> is_read_whole(std::string_view text) noexcept {
+    std::int32_t found = plurals_is_read_whole(text.data(), text.size());
+    if (found < 0) return Fault(found);
+    return found == 1;
+}
+
 /* The rules of a language. Rules that are moved from are no rules, under which every number is other. */
 class Rules {
 public:
@@ -155,6 +162,13 @@ public:
     /* Returns the category of a number as it is written: "1" and "1.0" are two numbers. */
     Result<Category> category(std::string_view number) const noexcept {
         std::int32_t found = plurals_category(block_.data(), block_.size(), number.data(), number.size());
+        if (found < 0) return Fault(found);
+        return static_cast<Category>(found);
+    }
+
+    /* Returns the category of a number, but none that may be another one for all its digits: PLURALS_OUTSIDE_BOUND is that fault. */
+    Result<Category> sure_category(std::string_view number) const noexcept {
+        std::int32_t found = plurals_sure_category(block_.data(), block_.size(), number.data(), number.size());
         if (found < 0) return Fault(found);
         return static_cast<Category>(found);
     }

@@ -46,6 +46,10 @@ static void texts_of_numbers() {
     CHECK(rules->category(std::string_view()).fault().number() == PLURALS_NUMBER_SYNTAX);
     CHECK(rules->category("\xff").fault().number() == PLURALS_UTF8);
     CHECK(*rules->is_exact("1"));
+    CHECK(*rules->sure_category("1") == Category::one);
+    CHECK(rules->sure_category("0.0000000000000000001").fault().number() == PLURALS_OUTSIDE_BOUND);
+    CHECK(rules->sure_category("x").fault().number() == PLURALS_NUMBER_SYNTAX);
+    CHECK(*plurals::is_read_whole("n = 1") && !*plurals::is_read_whole("n = 1 x") && *plurals::is_read_whole({}));
     CHECK(rules->category("x").fault().text() == "the text isn't a number");
 }
 

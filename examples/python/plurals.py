@@ -19,7 +19,7 @@ from enum import Enum
 from pathlib import Path
 from typing import Any, Optional, Union
 
-__all__ = ["Category", "Elements", "Fault", "Number", "Ranges", "Rules", "text_of", "version"]
+__all__ = ["Category", "Elements", "Fault", "Number", "Ranges", "Rules", "is_read_whole", "text_of", "version"]
 
 Number = Union[int, float, Decimal, str]
 _HERE = Path(__file__).resolve()
@@ -73,6 +73,8 @@ def _opened() -> ctypes.CDLL:
         "plurals_category_of_integer": (ctypes.c_int32, [*given, ctypes.c_uint64]),
         "plurals_category": (ctypes.c_int32, [*given, *given]),
         "plurals_is_exact": (ctypes.c_int32, [*given, *given]),
+        "plurals_sure_category": (ctypes.c_int32, [*given, *given]),
+        "plurals_is_read_whole": (ctypes.c_int32, [*given]),
         "plurals_elements_from_json": (ctypes.c_int64, [*given, *given]),
         "plurals_elements_from_texts": (ctypes.c_int64, [*given * 8, *given]),
         "plurals_element": (ctypes.c_int64, [*given * 3, *given]),
@@ -145,6 +147,11 @@ def _written(export: Any, *words: Any) -> bytes:
         room = length
 
 
+def is_read_whole(text: str) -> bool:
+    """Returns whether a text is a rule from its first byte to its last: of other texts a part may be read."""
+    return _checked(_library.plurals_is_read_whole(*_words((_bytes(text),)))) == 1
+
+
 def _document(given: Optional[Union[str, bytes]]) -> bytes:
     """Returns the bytes of a document, or of the installed one."""
     if given is None:
@@ -185,6 +192,11 @@ class Rules:
             found = _library.plurals_category_of_integer(self.block, len(self.block), abs(number))
         else:
             found = _library.plurals_category(*_words((self.block, _bytes(text_of(number)))))
+        return Category(_library.plurals_category_name(_checked(found)).decode())
+
+    def sure_category(self, number: Number) -> Category:
+        """Returns the category of a number, but none that may be another one for all its digits: that is the fault -12."""
+        found = _library.plurals_sure_category(*_words((self.block, _bytes(text_of(number)))))
         return Category(_library.plurals_category_name(_checked(found)).decode())
 
     def is_exact(self, number: Number) -> bool:

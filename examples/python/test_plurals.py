@@ -104,6 +104,18 @@ def test_exact():
     assert Rules(few="n % 7 = 1").is_exact(10**40) is False
 
 
+def test_sure_categories():
+    rules = Rules(few="n % 7 = 1")
+    assert rules.sure_category(8) is Category.FEW
+    with pytest.raises(Fault) as fault:
+        rules.sure_category(10**40)
+    assert fault.value.number == -12
+
+
+def test_texts_that_are_read_whole():
+    assert [plurals.is_read_whole(it) for it in ("n = 1", "n = 1 @integer 1", "", "n = 1 x", "\ud800")] == [True, True, True, False, False]
+
+
 def test_documents():
     document = '{"cardinal":{"x":{"two":"n = 2"}}}'
     assert Rules.of_locale("x", document=document).category(2) is Category.TWO

@@ -24,6 +24,7 @@ mod raw {
         ) -> i32;
         pub fn plurals_category_of_integer(rules: *const u8, rules_len: usize, number: u64) -> i32;
         pub fn plurals_category(rules: *const u8, rules_len: usize, number: *const u8, number_len: usize) -> i32;
+        pub fn plurals_sure_category(rules: *const u8, rules_len: usize, number: *const u8, number_len: usize) -> i32;
         pub fn plurals_is_exact(rules: *const u8, rules_len: usize, number: *const u8, number_len: usize) -> i32;
         pub fn plurals_elements_from_json(json: *const u8, json_len: usize, out: *mut u8, out_len: usize) -> i64;
         #[rustfmt::skip]
@@ -106,6 +107,10 @@ pub fn category_of_integer(rules: &[u8], number: u64) -> Result<i32, PluralsErro
 
 pub fn category(rules: &[u8], number: &str) -> Result<i32, PluralsError> {
     checked(unsafe { raw::plurals_category(rules.as_ptr(), rules.len(), number.as_ptr(), number.len()) })
+}
+
+pub fn sure_category(rules: &[u8], number: &str) -> Result<i32, PluralsError> {
+    checked(unsafe { raw::plurals_sure_category(rules.as_ptr(), rules.len(), number.as_ptr(), number.len()) })
 }
 
 pub fn is_exact(rules: &[u8], number: &str) -> Result<bool, PluralsError> {

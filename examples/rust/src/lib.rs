@@ -198,6 +198,20 @@ impl PluralRules {
         PluralCategory::of(found.unwrap_or_else(|error| panic!("{error}")))
     }
 
+    /// The category of a number, unless it may be another one for all its digits.
+    ///
+    /// # Panics
+    ///
+    /// If there is no memory.
+    pub fn sure_category_for(&self, number: impl Into<PluralOperands>) -> Option<PluralCategory> {
+        const OUTSIDE_BOUND: i64 = -12;
+        match ffi::sure_category(&self.block, &number.into().0.text()) {
+            Ok(found) => Some(PluralCategory::of(found)),
+            Err(error) if error.number() == OUTSIDE_BOUND => None,
+            Err(error) => panic!("{error}"),
+        }
+    }
+
     /// The category of six numbers.
     pub fn category_for_operands(&self, operands: RawPluralOperands) -> PluralCategory {
         PluralCategory::of(ffi::category_of_operands(&self.block, &operands).unwrap_or_else(|error| panic!("{error}")))

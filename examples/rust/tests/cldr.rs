@@ -83,6 +83,13 @@ fn long_numbers_are_exact_within_the_bound() {
 }
 
 #[test]
+fn a_category_that_may_be_another_one_is_none() {
+    let rules = PluralRules::try_from_texts(["", "", "", "n % 7 = 1", ""]).unwrap();
+    assert_eq!(rules.sure_category_for(8), Some(Few));
+    assert_eq!(rules.sure_category_for(written("10000000000000000000000000000000000000000")), None);
+}
+
+#[test]
 fn values_by_category() {
     let rules = cardinal("en");
     let texts = PluralElements::new("doors").with_one_value(Some("door"));
