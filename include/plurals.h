@@ -223,7 +223,8 @@ int64_t plurals_element(const uint8_t *rules, size_t rules_len, const uint8_t *e
                         const char *number, size_t number_len, char *out, size_t out_len);
 
 /* Writes the message of the number: the text of its element, with the number as it is written in the place of each {}.
- * Allocates for the number and for the message. */
+ * Allocates for the number alone. The length may be much above that of the input: 32000 times {} and as many digits make
+ * 1 GB. A message of 2^63 bytes or more has PLURALS_MEMORY. */
 int64_t plurals_message(const uint8_t *rules, size_t rules_len, const uint8_t *elements, size_t elements_len,
                         const char *number, size_t number_len, char *out, size_t out_len);
 

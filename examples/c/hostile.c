@@ -597,11 +597,19 @@ static void ask_for_bytes(size_t length) {
     if (length > 0) ask(length - 1, 0);
 }
 
+/* A message takes memory for the number alone, as its element does. */
+static void compare_with_element(int64_t taken) {
+    asked = 0, calls++;
+    element(slices, place(MOST_SLICES, 0), 0);
+    expect(asked == taken, "it takes another number of blocks than the call for its element", wanted);
+}
+
 /* Asks for the answer to the slices, in all ways. */
 static void run_slices(void) {
     wanted = export->model(slices, wanted_bytes);
     ask(below(RANDOM_BYTES + 1), 0);
     int64_t taken = asked;
+    if (export->ask == message) compare_with_element(taken);
     ask(below(2) ? 0 : below(RANDOM_BYTES + 1), 0);
     expect(asked == taken, "it takes another number of blocks, when asked again", wanted);
     if (taken > 0) ask(RANDOM_BYTES, 1 + (int64_t)below((size_t)taken));

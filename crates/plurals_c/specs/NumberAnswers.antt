@@ -7,7 +7,7 @@
 --     IsElementOf rules elements number answer      the text of the element that the number chooses
 --     IsMessageFor rules elements number answer      this text with the number's in the place of
 --         each `{}`
-use Rattle.std.specs.Prelude.{◌≡◌, ◌↔◌, ℕ, ℤ, pos, List, Bool, true, false, IsTrue, Result, Ok, Err}
+use Rattle.std.specs.Prelude.{◌≡◌, ◌↔◌, ℕ, ◌≤◌, ◌^◌, ℤ, pos, List, length, Bool, true, false, IsTrue, Result, Ok, Err}
 use Rattle.icu_plurals.specs.declared.PluralCategory.{PluralCategory}
 use Rattle.icu_plurals.specs.declared.PluralCategory.TheVariants.{Zero, One, Two, Few, Many, Other}
 use Rattle.icu_plurals.specs.DecimalChoice.{IsExactChoice, IsKeptChoice}
@@ -100,12 +100,15 @@ abbrev pub IsElementOf : List ℕ → List ℕ → List ℕ → Result (List ℕ
 IsElementOf = AfterAll HasElement
 
 -- The text of the element that the number chooses, filled by the number's text (docs/MESSAGES.md);
--- within the exactness bound the element is that of the number itself. The message allocates.
+-- within the exactness bound the element is that of the number itself. Memory is out only for a
+-- message of 2^63 bytes or more.
 abbrev pub HasMessage : List ℕ → FiveRules → PackedElements → CompactNumber → Result (List ℕ) Fault → Type 0
 HasMessage number rules elements x (Ok text) =
     IsMessageWith (IsKeptElement (elements_of elements) rules) x number text
     × IsMessageWith (IsExactElement (elements_of elements) rules) x number text
-HasMessage number rules elements x (Err fault) = fault ≡ Memory
+HasMessage number rules elements x (Err fault) =
+    (fault ≡ Memory)
+    × (text : List ℕ) × IsMessageWith (IsKeptElement (elements_of elements) rules) x number text × (2 ^ 63 ≤ length text)
 
 abbrev pub IsMessageFor : List ℕ → List ℕ → List ℕ → Result (List ℕ) Fault → Type 0
 IsMessageFor rules elements number = AfterAll (HasMessage number) rules elements number
