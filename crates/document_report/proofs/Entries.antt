@@ -1,5 +1,5 @@
--- The faults of entries and of keys.
-use Rattle.std.proofs.Common.{◌≡◌, ◌↔◌, ℕ, ◌+◌, ◌*◌, ◌/◌, ◌%◌, ◌<◌, List, ◌++◌, codes, Option, Some, None, true, false}
+-- The faults of entries, and names of categories.
+use Rattle.std.proofs.Common.{◌≡◌, ◌↔◌, ℕ, ◌+◌, ◌*◌, ◌/◌, ◌%◌, ◌<◌, List, Option, Some, None}
 use Rattle.std.proofs.Common.{ap, inr, refl, ◌∙◌, arith}
 use Rattle.serde_json.specs.Data.{Data}
 use Rattle.icu_plurals.specs.declared.PluralCategory.{PluralCategory}
@@ -9,12 +9,9 @@ use Rattle.icu_plurals.specs.declared.provider.UnvalidatedPluralRange.{Unvalidat
 use Rattle.icu_plurals.specs.Categories.{category_number, category_of, name_of}
 use Rattle.icu_plurals.specs.Ranges.{range_key, IsKeyOfText}
 use Rattle.plural_checker.specs.LanguageTexts.{SixTexts}
-use Rattle.document_report.specs.DocumentReport.{found_of_part, is_part_name, HasEntryFault, HasRangeFault, IsRangeText}
-use Rattle.document_report.specs.Found.{nothing, one_fault}
+use Rattle.document_report.specs.DocumentReport.{HasEntryFault, HasRangeFault, IsRangeText}
 use Rattle.document_report.specs.Inner.RangeParts.{category_numbered}
-use Rattle.document_report.specs.Names.{name_text}
 use Rattle.document_report.specs.declared.entry.EntryFault.{EntryFault}
-use Rattle.document_report.specs.declared.entry.EntryFault.TheVariants.{RangeKey}
 
 -- ---- The start and the end of a range
 
@@ -75,13 +72,3 @@ pub no_category : (name : List ℕ)
     → ((category : PluralCategory) → ◌≡◌ {A = Option PluralCategory} None (Some category) ↔ (name ≡ name_of category))
     → (category : PluralCategory) → name ≡ name_of category → ⊥
 no_category name only category is = let there : ◌≡◌ {A = Option PluralCategory} None (Some category) = (only category).1 is in cc
-
--- ---- The keys of a document
-
--- a part that is known
-pub known_part : (key : List ℕ) → is_part_name key ≡ true → nothing ≡ found_of_part key
-known_part key known = rw known refl
-
--- any other
-pub unknown_part : (key : List ℕ) → is_part_name key ≡ false → one_fault (name_text key ++ codes ": not a part") ≡ found_of_part key
-unknown_part key other = rw other refl

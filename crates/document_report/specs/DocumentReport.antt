@@ -142,7 +142,7 @@ category_line part name key = locale_place part name ++ codes " " ++ name_text k
 -- a key that names no category has a line, and its value isn't looked at
 abbrev pub IsFoundInKey : Part → List ℕ → List ℕ → Data → Found → Type 0
 IsFoundInKey part name key value found =
-    (IsCategoryName key × (found ≡ nothing)) ⊎ (¬ (IsCategoryName key) × (found ≡ one_fault (category_line part name key)))
+    (IsCategoryName key × (found ≡ nothing)) ⊎ ((¬ (IsCategoryName key)) × (found ≡ one_fault (category_line part name key)))
 
 -- what is found in the rules of a locale: first in its key, then that it has no other; then category by category that the value
 -- is no text, or the faults of the text; then the keys that name no category
@@ -179,8 +179,8 @@ HasValueFault texts value None =
 abbrev pub HasRangeFault : SixTexts → PluralCategory → PluralCategory → Data → Option EntryFault → Type 0
 HasRangeFault texts start end value fault =
     (IsFalse (has_rule texts start) × (fault ≡ Some (NoRule start)))
-    ⊎ (IsTrue (has_rule texts start) × IsFalse (has_rule texts end) × (fault ≡ Some (NoRule end)))
-    ⊎ (IsTrue (has_rule texts start) × IsTrue (has_rule texts end) × HasValueFault texts value fault)
+    ⊎ ((IsTrue (has_rule texts start) × IsFalse (has_rule texts end) × (fault ≡ Some (NoRule end)))
+    ⊎ (IsTrue (has_rule texts start) × IsTrue (has_rule texts end) × HasValueFault texts value fault))
 
 -- the fault of an entry, if it has one: the key must name a range, and the value its category
 abbrev pub HasEntryFault : SixTexts → List ℕ → Data → Option EntryFault → Type 0

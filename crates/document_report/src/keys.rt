@@ -2,7 +2,7 @@
 
 ghost use Rattle.std.specs.Prelude.{◌≡◌, IfOk, OnOk, string_bytes};
 ghost use Rattle.document_report.specs.DocumentReport.{category_line, found_of_key, found_of_length, found_of_underscore};
-ghost use Rattle.document_report.specs.DocumentReport.{is_part_name, IsFoundInKey, IsFoundInPartKey, locale_line};
+ghost use Rattle.document_report.specs.DocumentReport.{found_of_part, is_part_name, IsFoundInKey, IsFoundInPartKey, locale_line};
 ghost use Rattle.document_report.specs.Found.{together};
 ghost use Rattle.document_report.specs.Names.{name_text};
 
@@ -124,12 +124,20 @@ impl MemberCheck for PartCheck {
         _value: &Value,
         found: &mut Found,
     ) -> Result<(), AllocError> {
-        if is_part_name(key) {
-            return Ok(());
-        }
-        let name = name_text(alloc, key)?;
-        found.add_fault(format!(in alloc; "{}: not a part", name.as_str())?)
+        add_part(alloc, key, found)
     }
+}
+
+// Adds a line if a key of a document is no part.
+fn add_part(alloc: Global, key: &str, found: &mut Found) -> Result<(), AllocError>
+    ensures { OnOk result (found.new ≡ together found.old (found_of_part key.now)) }
+{
+    if is_part_name(key) {
+        return Ok(());
+    }
+    let name = name_text(alloc, key)?;
+    let line = format!(in alloc; "{}: not a part", name.as_str())?;
+    found.add_fault(line)
 }
 
 // Returns whether a key names a part that programs know.

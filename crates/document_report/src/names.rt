@@ -21,7 +21,7 @@ pub(crate) fn is_long_name(name: &str) -> bool
 pub(crate) fn has_underscore(name: &str) -> bool
     ensures { result ≡ has_underscore name.now }
 {
-    name.as_bytes().iter().any(|byte| *byte == b'_')
+    name.as_bytes().contains(&b'_')
 }
 
 // Returns what is printed for a name.

@@ -1,10 +1,7 @@
-use Rattle.std.proofs.Common.{◌≡◌, ℕ, List, ◌++◌, codes, ap, sym, ◌∙◌}
-use Rattle.document_report.specs.Found.{nothing, one_fault, together}
-use Rattle.document_report.specs.Names.{name_text}
-use Rattle.document_report.proofs.Entries.{known_part, unknown_part}
-use Rattle.document_report.proofs.FoundParts.{on_ok, together-nothing}
+use Rattle.std.proofs.Common.{refl}
+use Rattle.document_report.specs.DocumentReport.{found_of_part}
+use Rattle.document_report.proofs.FoundParts.{on_ok}
 use Rattle.document_report.proofs.keys.PartCheckMemberCheck.add.Goals as goal
 
-pub returns-then-is_part_name : goal.returns-then-is_part_name
-returns-then-is_part_name c =
-    (nothing, known_part c.args.key.now (sym c.if-is_part_name.ensures), sym (together-nothing c.args.found.now))
+pub returns : goal.returns
+returns c = on_ok c.add_part.result (λ added. (found_of_part c.args.key.now, refl, added)) c.add_part.ensures
