@@ -63,7 +63,7 @@ of_range texts key value fault range start end (first, last, text, byte) at_star
 pub no_range : (key : List ℕ)
     → ((range : UnvalidatedPluralRange) → ◌≡◌ {A = Option UnvalidatedPluralRange} None (Some range) ↔ IsKeyOfText key range)
     → (start end : PluralCategory) → ¬ (IsRangeText key start end)
-no_range key only start end (first, last, text, rest) =
+no_range key only start end (first, last, text, at_start, at_end) =
     let range = range_key first last in
     let there : ◌≡◌ {A = Option UnvalidatedPluralRange} None (Some range) = (only range).1 (first, last, text, refl) in cc
 
