@@ -35,14 +35,6 @@ together_assoc a b c =
       add_assoc a.numbers b.numbers c.numbers,
     ) refl
 
--- three additions, one after the other
-pub three_added : (a b c one two three : Found) → one ≡ together nothing a → two ≡ together one b → three ≡ together two c
-    → three ≡ together a (together b c)
-three_added a b c one two three first second third =
-    third
-    ∙ ap (λ (f : Found). together f c) (second ∙ ap (λ (f : Found). together f b) (first ∙ nothing-together a))
-    ∙ together_assoc a b c
-
 -- two additions, one after the other
 pub two_added : (old a b one two : Found) → one ≡ together old a → two ≡ together one b → two ≡ together old (together a b)
 two_added old a b one two first second = second ∙ ap (λ (f : Found). together f b) first ∙ together_assoc old a b
@@ -55,6 +47,21 @@ three_more old a b c one two three first second third =
     ∙ ap (λ (f : Found). together f c) (second ∙ ap (λ (f : Found). together f b) first)
     ∙ together_assoc (together old a) b c
     ∙ together_assoc old a (together b c)
+
+-- five, of which the third and the fourth belong together
+pub five_more : (old a b c d e one two three four five : Found) → one ≡ together old a → two ≡ together one b
+    → three ≡ together two c → four ≡ together three d → five ≡ together four e
+    → five ≡ together old (together a (together b (together (together c d) e)))
+five_more old a b c d e one two three four five first second third fourth fifth =
+    three_more old a b (together (together c d) e) one two five first second
+    (two_added two (together c d) e four five (two_added two c d three four third fourth) fifth)
+
+-- four additions to nothing
+pub four_added : (a b c d one two three four : Found) → one ≡ together nothing a → two ≡ together one b → three ≡ together two c
+    → four ≡ together three d → four ≡ together a (together b (together c d))
+four_added a b c d one two three four first second third fourth =
+    three_more one b c d two three four second third fourth
+    ∙ ap (λ (f : Found). together f (together b (together c d))) (first ∙ nothing-together a)
 
 -- ---- Member by member
 

@@ -2,19 +2,19 @@
 -- ranges, and how many locales it has (docs/JSON.md). The locales of a part are in the order of their bytes, and so are the
 -- entries of a locale's ranges.
 --     IsReportOf value report      this is the report of a document's value
-use Rattle.std.specs.Prelude.{◌≡◌, ◌≢◌, ℕ, ◌+◌, ◌&&◌, not, ◌-◌, ◌==◌, nat_lt, List, [], ◌∷◌, ◌++◌, length, codes, count_by, filter, map, take}
+use Rattle.std.specs.Prelude.{◌≡◌, ◌≢◌, ℕ, ◌+◌, ◌&&◌, not, ◌-◌, ◌==◌, ◌||◌, ◌⊎◌, nat_lt, bytes_eq, List, [], ◌∷◌, ◌++◌, length, codes, count_by, filter, map, take}
 use Rattle.std.specs.Prelude.{Bool, true, IsTrue, IsFalse}
 use Rattle.std.specs.Prelude.{Option, Some, None, is_some, if◌then◌else◌}
 use Rattle.serde_json.specs.Data.{Data}
-use Rattle.serde_json.specs.Find.{get, as_null, as_str}
+use Rattle.serde_json.specs.Find.{get, as_null, as_object, as_str}
 use Rattle.icu_plurals.specs.declared.PluralCategory.{PluralCategory}
 use Rattle.icu_plurals.specs.declared.PluralCategory.TheVariants.{Zero, One, Two, Few, Many, Other}
-use Rattle.icu_plurals.specs.declared.provider.UnvalidatedPluralRange.{UnvalidatedPluralRange}
+use Rattle.icu_plurals.specs.declared.provider.RawPluralCategory.{RawPluralCategory}
 use Rattle.std.specs.Fmt.{decimal}
-use Rattle.icu_plurals.specs.Categories.{name_of, place_of}
+use Rattle.icu_plurals.specs.Categories.{category_of, name_of, place_of}
 use Rattle.icu_plurals.specs.DocumentJson.{value_of_locale}
 use Rattle.icu_plurals.specs.FiveRules.{five}
-use Rattle.icu_plurals.specs.Ranges.{IsKeyOfText}
+use Rattle.icu_plurals.specs.Ranges.{range_text}
 use Rattle.icu_plurals.specs.RangesJson.{keys_in}
 use Rattle.icu_plurals.specs.RulesJson.{text_under, texts_in}
 use Rattle.plural_checker.specs.LanguageTexts.{SixTexts, has_rule}
@@ -24,7 +24,7 @@ use Rattle.plural_checker.specs.declared.Fault.{Fault}
 use Rattle.plural_checker.specs.declared.Report.{Report as Checked}
 use Rattle.document_report.specs.CheckedDocument.{members_at, members_or_none, table_in}
 use Rattle.document_report.specs.Found.{Found, nothing, one_fault, one_rule, together, IsFoundIn}
-use Rattle.document_report.specs.Names.{is_long_name, name_text}
+use Rattle.document_report.specs.Names.{has_underscore, is_long_name, name_text}
 use Rattle.document_report.specs.Parts.{part_name}
 use Rattle.document_report.specs.declared.entry.EntryFault.{EntryFault}
 use Rattle.document_report.specs.declared.entry.EntryFault.TheVariants.{RangeKey, NoText, RangeValue, NoRule}
@@ -38,10 +38,22 @@ use Rattle.document_report.specs.declared.report.Report.{Report}
 abbrev pub locale_place : Part → List ℕ → List ℕ
 locale_place part name = part_name part ++ codes " " ++ name
 
+-- a fault that names the locale
+abbrev pub locale_line : Part → List ℕ → List ℕ → List ℕ
+locale_line part name fault = locale_place part name ++ codes ": " ++ fault
+
 -- a long key has a line
+abbrev pub found_of_length : Part → List ℕ → Found
+found_of_length part locale =
+    if is_long_name locale then one_fault (locale_line part (name_text locale) (codes "key too long")) else nothing
+
+-- and so has one with `_`, which CLDR writes where documents have a hyphen
+abbrev pub found_of_underscore : Part → List ℕ → Found
+found_of_underscore part locale =
+    if has_underscore locale then one_fault (locale_line part (name_text locale) (codes "key with _")) else nothing
+
 abbrev pub found_of_key : Part → List ℕ → Found
-found_of_key part locale =
-    if is_long_name locale then one_fault (locale_place part (name_text locale) ++ codes ": key too long") else nothing
+found_of_key part locale = together (found_of_length part locale) (found_of_underscore part locale)
 
 -- ---- The rules of a locale, whose printed name is given
 
@@ -107,12 +119,39 @@ found_by_check part name value checked =
 abbrev pub all_texts_in : Data → SixTexts
 all_texts_in value = record { five = texts_in value; other = text_under Other value }
 
--- what is found in the rules of a locale: first that its key is long, then category by category that the value is no text, or
--- the faults of the text
+-- a value is absent or null
+abbrev pub is_absent : Option Data → Bool
+is_absent None = true
+is_absent (Some value) = is_some (as_null value)
+
+-- each language has numbers of other, and so its samples
+abbrev pub lacks_other : Data → Bool
+lacks_other value = is_absent (get (name_of Other) value)
+
+abbrev pub found_of_other : Part → List ℕ → Data → Found
+found_of_other part name value = if lacks_other value then one_fault (locale_line part name (codes "no other")) else nothing
+
+-- the key names a category
+abbrev pub IsCategoryName : List ℕ → Type 0
+IsCategoryName key = (category : PluralCategory) × (key ≡ name_of category)
+
+-- `cardinal ru feew: not a category`
+abbrev pub category_line : Part → List ℕ → List ℕ → List ℕ
+category_line part name key = locale_place part name ++ codes " " ++ name_text key ++ codes ": not a category"
+
+-- a key that names no category has a line, and its value isn't looked at
+abbrev pub IsFoundInKey : Part → List ℕ → List ℕ → Data → Found → Type 0
+IsFoundInKey part name key value found =
+    (IsCategoryName key × (found ≡ nothing)) ⊎ ((¬ (IsCategoryName key)) × (found ≡ one_fault (category_line part name key)))
+
+-- what is found in the rules of a locale: first in its key, then that it has no other; then category by category that the value
+-- is no text, or the faults of the text; then the keys that name no category
 abbrev pub IsFoundInRules : Part → List ℕ → Data → Found → Type 0
 IsFoundInRules part locale value found =
-    (checked : Checked) × AreFindingsOf (all_texts_in value) checked
-    × (found ≡ together (found_of_key part locale) (found_by_check part (name_text locale) value checked))
+    (checked : Checked) × (others : Found) × AreFindingsOf (all_texts_in value) checked
+    × IsFoundIn (IsFoundInKey part (name_text locale)) (members_or_none (as_object value)) others
+    × (found ≡ together (found_of_key part locale) (together (found_of_other part (name_text locale) value)
+    (together (found_by_check part (name_text locale) value checked) others)))
 
 -- ---- The ranges of a locale
 
@@ -121,9 +160,10 @@ abbrev pub texts_at : Option Data → SixTexts
 texts_at None = record { five = five None None None None None; other = None }
 texts_at (Some value) = all_texts_in value
 
--- the text of a range
-abbrev pub IsRangeText : List ℕ → Type 0
-IsRangeText key = (range : UnvalidatedPluralRange) × IsKeyOfText key range
+-- the text of the range from one category to another
+abbrev pub IsRangeText : List ℕ → PluralCategory → PluralCategory → Type 0
+IsRangeText key start end =
+    (first last : RawPluralCategory) × (key ≡ range_text first last) × (start ≡ category_of first) × (end ≡ category_of last)
 
 -- the fault of a range's category, if it has one: the value must name other, or a category that has a cardinal rule
 abbrev pub HasValueFault : SixTexts → Data → Option EntryFault → Type 0
@@ -135,10 +175,18 @@ HasValueFault texts value (Some (NoRule category)) = (as_str value ≡ Some (nam
 HasValueFault texts value None =
     (category : PluralCategory) × (as_str value ≡ Some (name_of category)) × IsTrue (has_rule texts category)
 
+-- the fault of a range, if it has one: start and end must be other or have a cardinal rule, and then so must the value
+abbrev pub HasRangeFault : SixTexts → PluralCategory → PluralCategory → Data → Option EntryFault → Type 0
+HasRangeFault texts start end value fault =
+    (IsFalse (has_rule texts start) × (fault ≡ Some (NoRule start)))
+    ⊎ ((IsTrue (has_rule texts start) × IsFalse (has_rule texts end) × (fault ≡ Some (NoRule end)))
+    ⊎ (IsTrue (has_rule texts start) × IsTrue (has_rule texts end) × HasValueFault texts value fault))
+
 -- the fault of an entry, if it has one: the key must name a range, and the value its category
 abbrev pub HasEntryFault : SixTexts → List ℕ → Data → Option EntryFault → Type 0
-HasEntryFault texts key value (Some RangeKey) = ¬ (IsRangeText key)
-HasEntryFault texts key value fault = IsRangeText key × HasValueFault texts value fault
+HasEntryFault texts key value fault =
+    (((start end : PluralCategory) → ¬ (IsRangeText key start end)) × (fault ≡ Some RangeKey))
+    ⊎ ((start end : PluralCategory) × IsRangeText key start end × HasRangeFault texts start end value fault)
 
 -- the printed text of the fault
 abbrev pub entry_fault_text : EntryFault → List ℕ
@@ -161,7 +209,7 @@ IsFoundInEntry texts name key value found =
 
 -- a locale without cardinal rules has a line
 abbrev pub found_of_rules : List ℕ → Option Data → Found
-found_of_rules name None = one_fault (locale_place Ranges name ++ codes ": no cardinal rules")
+found_of_rules name None = one_fault (locale_line Ranges name (codes "no cardinal rules"))
 found_of_rules name (Some rules) = nothing
 
 -- what is found in the ranges of a locale: first that its key is long, then that it has no cardinal rules, then the faults of its
@@ -191,15 +239,33 @@ first_count part document = count_by (is_first_in part document) (keys_in (membe
 abbrev pub locale_count : Data → ℕ
 locale_count document = first_count Cardinal document + first_count Ordinal document + first_count Ranges document
 
--- what is found in all three parts
+-- a part that programs know: one that is checked, or one of the others that `tools/cldr-document` and messages have
+abbrev pub is_part_name : List ℕ → Bool
+is_part_name key =
+    bytes_eq key (part_name Cardinal) || bytes_eq key (part_name Ordinal) || bytes_eq key (part_name Ranges)
+    || bytes_eq key (codes "elements") || bytes_eq key (codes "parents")
+
+-- any other has a line, and its value isn't looked at: `cardinals: not a part`
+abbrev pub found_of_part : List ℕ → Found
+found_of_part key = if is_part_name key then nothing else one_fault (name_text key ++ codes ": not a part")
+
+abbrev pub IsFoundInPartKey : List ℕ → Data → Found → Type 0
+IsFoundInPartKey key value found = found ≡ found_of_part key
+
+-- a document without locales has a line
+abbrev pub found_of_count : ℕ → Found
+found_of_count locales = if locales == 0 then one_fault (codes "document: no locale") else nothing
+
+-- what is found in the keys of the parts, and in all three parts
 abbrev pub IsFoundInDocument : Data → Found → Type 0
 IsFoundInDocument document found =
-    (cardinal ordinal ranges : Found)
+    (keys cardinal ordinal ranges : Found)
+    × IsFoundIn IsFoundInPartKey (members_or_none (as_object document)) keys
     × IsFoundIn (IsFoundInRules Cardinal) (members_at Cardinal document) cardinal
     × IsFoundIn (IsFoundInRules Ordinal) (members_at Ordinal document) ordinal
     × IsFoundIn (IsFoundInRanges document) (members_at Ranges document) ranges
-    × (found ≡ together cardinal (together ordinal ranges))
+    × (found ≡ together keys (together cardinal (together ordinal ranges)))
 
 pub record IsReportOf (document : Data) (report : Report) : Type 0 where
   pub locales : report.locales ≡ locale_count document
-  pub found : IsFoundInDocument document report.found
+  pub found : (parts : Found) × IsFoundInDocument document parts × (report.found ≡ together parts (found_of_count report.locales))

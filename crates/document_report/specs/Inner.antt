@@ -3,3 +3,4 @@ pub mod Additions
 pub mod CheckViews
 pub mod CheckCalls
 pub mod CheckInputFaults
+pub mod RangeParts

@@ -4,7 +4,7 @@
 use Rattle.std.specs.Prelude.{ℕ, ◌/◌, ◌%◌, ◌==◌, nat_lt, Bool, not, ◌&&◌, if◌then◌else◌, List, [], ◌∷◌, ◌++◌, length, codes}
 use Rattle.std.specs.Char.{digit_char}
 use Rattle.std.specs.Fmt.{decimal}
-use Rattle.std.specs.List.{flat_map}
+use Rattle.std.specs.List.{flat_map, list_any}
 
 -- the most bytes of a name that is printed
 abbrev pub most_name_bytes : ℕ
@@ -12,6 +12,10 @@ most_name_bytes = 255
 
 abbrev pub is_long_name : List ℕ → Bool
 is_long_name name = nat_lt most_name_bytes (length name)
+
+-- it has `_`
+abbrev pub has_underscore : List ℕ → Bool
+has_underscore name = list_any (λ byte. byte == 95) name
 
 -- a byte that is printed as it is: no control character of ASCII and no backslash
 abbrev pub is_plain : ℕ → Bool

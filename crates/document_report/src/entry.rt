@@ -1,8 +1,9 @@
 //! The entries of a locale's ranges.
 
-ghost use Rattle.std.specs.Prelude.{Some};
+ghost use Rattle.std.specs.Prelude.{◌≡◌, ◌/◌, ◌%◌, Some};
 ghost use Rattle.plural_checker.specs.LanguageTexts.{six_texts};
-ghost use Rattle.document_report.specs.DocumentReport.{entry_fault_text, HasEntryFault, HasValueFault};
+ghost use Rattle.document_report.specs.DocumentReport.{entry_fault_text, HasEntryFault, HasRangeFault, HasValueFault};
+ghost use Rattle.document_report.specs.Inner.RangeParts.{category_numbered};
 ghost use Rattle.serde_json.specs.View.{view};
 
 use crate::languages::name_of;
@@ -21,7 +22,7 @@ pub enum EntryFault {
     NoText,
     /// The text names no category.
     RangeValue,
-    /// The category isn't other, and has no cardinal rule.
+    /// This category of the key or of the value isn't other, and has no cardinal rule.
     NoRule(PluralCategory),
 }
 
@@ -43,9 +44,55 @@ pub(crate) fn entry_fault(texts: &LanguageTexts<'_>, key: &str, value: &Value) -
     ensures { HasEntryFault (six_texts texts.now) key.now (view value.now) result }
 {
     match UnvalidatedPluralRange::from_text(key) {
-        Some(_) => value_fault(texts, value),
+        Some(range) => range_fault(texts, start_of(range), end_of(range), value),
         None => Some(EntryFault::RangeKey),
     }
+}
+
+// Returns the category of a range's start.
+fn start_of(range: UnvalidatedPluralRange) -> PluralCategory
+    ensures { result ≡ category_numbered (range.0 / 16) }
+{
+    category_numbered(range.0 / 16)
+}
+
+// Returns the category of a range's end.
+fn end_of(range: UnvalidatedPluralRange) -> PluralCategory
+    ensures { result ≡ category_numbered (range.0 % 16) }
+{
+    category_numbered(range.0 % 16)
+}
+
+// Returns the category of a number in a range's byte.
+fn category_numbered(number: u8) -> PluralCategory
+    ensures { result ≡ category_numbered number }
+{
+    match number {
+        1 => PluralCategory::Zero,
+        2 => PluralCategory::One,
+        3 => PluralCategory::Two,
+        4 => PluralCategory::Few,
+        5 => PluralCategory::Many,
+        _ => PluralCategory::Other,
+    }
+}
+
+// Returns the fault of a range and its value, if there is one.
+fn range_fault(
+    texts: &LanguageTexts<'_>,
+    start: PluralCategory,
+    end: PluralCategory,
+    value: &Value,
+) -> Option<EntryFault>
+    ensures { HasRangeFault (six_texts texts.now) start end (view value.now) result }
+{
+    if !texts.has_rule(start) {
+        return Some(EntryFault::NoRule(start));
+    }
+    if !texts.has_rule(end) {
+        return Some(EntryFault::NoRule(end));
+    }
+    value_fault(texts, value)
 }
 
 // Returns the fault of an entry's value, if it has one.

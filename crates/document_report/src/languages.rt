@@ -5,15 +5,16 @@ ghost use Rattle.std.specs.Option.{option_copied};
 ghost use Rattle.icu_plurals.specs.RulesJson.{text_under};
 ghost use Rattle.icu_plurals.specs.Categories.{name_of};
 ghost use Rattle.plural_checker.specs.LanguageTexts.{six_texts};
-ghost use Rattle.document_report.specs.DocumentReport.{all_texts_in, fault_line, faults_of, found_of_key, found_told};
-ghost use Rattle.document_report.specs.DocumentReport.{found_under, found_under_all, no_text_line, rest_line, rest_lines};
+ghost use Rattle.document_report.specs.DocumentReport.{all_texts_in, fault_line, faults_of, found_of_other, found_told};
+ghost use Rattle.document_report.specs.DocumentReport.{found_under, found_under_all, lacks_other, no_text_line, rest_line, rest_lines};
 ghost use Rattle.document_report.specs.DocumentReport.{text_order, IsFoundInRules};
 ghost use Rattle.document_report.specs.Found.{together};
 ghost use Rattle.document_report.specs.Inner.Additions.{lines_alone, told_after};
 ghost use Rattle.serde_json.specs.View.{view};
 
-use crate::found::{Found, MemberCheck, sum};
-use crate::names::{is_long_name, name_text};
+use crate::found::{Found, MemberCheck, add_members, sum};
+use crate::keys::{CategoryCheck, add_key, locale_line};
+use crate::names::name_text;
 use crate::place::Part;
 use icu_plurals::PluralCategory;
 use icu_plurals::provider::RawPluralCategory;
@@ -53,9 +54,16 @@ impl MemberCheck for LanguageCheck {
         let checked = check_texts(alloc, &texts_of(value))?;
         add_key(alloc, self.part, locale, found)?;
         let name = name_text(alloc, locale)?;
+        let name = name.as_str();
+        add_other(alloc, self.part, name, value, found)?;
         let faults = checked.faults.as_slice();
-        add_texts(alloc, self.part, name.as_str(), value, faults, found)?;
-        found.add_numbers(checked.numbers)
+        add_texts(alloc, self.part, name, value, faults, found)?;
+        found.add_numbers(checked.numbers)?;
+        let keys = CategoryCheck {
+            part: self.part,
+            name,
+        };
+        add_members(alloc, &keys, value.as_object(), found)
     }
 }
 
@@ -87,21 +95,31 @@ pub(crate) fn name_of(category: PluralCategory) -> &'static str
     RawPluralCategory::from(category).as_str()
 }
 
-// Adds a line for a locale's key if it is long.
-pub(crate) fn add_key(
+// Adds a line if a language has no value of other.
+fn add_other(
     alloc: Global,
     part: Part,
-    locale: &str,
+    name: &str,
+    value: &Value,
     found: &mut Found,
 ) -> Result<(), AllocError>
-    ensures { OnOk result (found.new ≡ together found.old (found_of_key part locale.now)) }
+    ensures { OnOk result (found.new ≡ together found.old (found_of_other part name.now (view value.now))) }
 {
-    if !is_long_name(locale) {
+    if !lacks_other(value) {
         return Ok(());
     }
-    let name = name_text(alloc, locale)?;
-    let line = format!(in alloc; "{} {}: key too long", part.as_str(), name.as_str())?;
+    let line = locale_line(alloc, part, name, "no other")?;
     found.add_fault(line)
+}
+
+// Returns whether the value of other is absent or null.
+fn lacks_other(value: &Value) -> bool
+    ensures { result ≡ lacks_other (view value.now) }
+{
+    match value.get(name_of(PluralCategory::Other)) {
+        Some(text) => text.is_null(),
+        None => true,
+    }
 }
 
 // Adds, category by category, a line if the value is no text, and the faults of the text; counts the texts.

@@ -7,6 +7,7 @@ mod entry;
 mod error;
 mod form;
 mod found;
+mod keys;
 mod languages;
 mod locales;
 mod names;

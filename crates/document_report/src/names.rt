@@ -3,7 +3,7 @@
 ghost use Rattle.std.specs.Prelude.{◌≡◌, ◌<◌, ◌++◌, IfOk, OnOk, string_bytes};
 ghost use Rattle.std.specs.Char.{digit_char, encode_utf8};
 ghost use Rattle.std.specs.List.{flat_map};
-ghost use Rattle.document_report.specs.Names.{byte_escape, is_long_name, is_plain, name_text, printed_byte};
+ghost use Rattle.document_report.specs.Names.{byte_escape, has_underscore, is_long_name, is_plain, name_text, printed_byte};
 
 use std::alloc::{AllocError, Global};
 
@@ -15,6 +15,13 @@ pub(crate) fn is_long_name(name: &str) -> bool
     ensures { result ≡ is_long_name name.now }
 {
     name.len() > MOST_NAME_BYTES
+}
+
+// Returns whether a name has `_`.
+pub(crate) fn has_underscore(name: &str) -> bool
+    ensures { result ≡ has_underscore name.now }
+{
+    name.as_bytes().contains(&b'_')
 }
 
 // Returns what is printed for a name.

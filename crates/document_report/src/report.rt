@@ -3,15 +3,16 @@
 ghost use Rattle.std.specs.Prelude.{◌≡◌, ◌++◌, IfOk, OnOk, map, string_bytes};
 ghost use Rattle.std.specs.List.{flat_map};
 ghost use Rattle.document_report.specs.CheckAnswer.{verdict_of, verdict_status};
-ghost use Rattle.document_report.specs.DocumentReport.{IsFoundInDocument, IsFoundInRules, IsReportOf};
+ghost use Rattle.document_report.specs.DocumentReport.{found_of_count, IsFoundInDocument, IsFoundInRules, IsReportOf};
 ghost use Rattle.document_report.specs.CheckedDocument.{members_at};
-ghost use Rattle.document_report.specs.Found.{IsFoundIn};
+ghost use Rattle.document_report.specs.Found.{together, IsFoundIn};
 ghost use Rattle.document_report.specs.Inner.Additions.{Adds};
 ghost use Rattle.document_report.specs.ReportText.{counts_line, counts_of, ended_line, report_text};
 ghost use Rattle.serde_json.specs.View.{view};
 
 use crate::document::members_of;
 use crate::found::{Found, add_members};
+use crate::keys::PartCheck;
 use crate::languages::LanguageCheck;
 use crate::locales::locale_count;
 use crate::place::Part;
@@ -52,15 +53,27 @@ pub(crate) fn report_of(alloc: Global, document: &Value) -> Result<Report, Alloc
     ensures { IfOk result (λ report. IsReportOf (view document.now) report) }
 {
     let locales = locale_count(document)?;
-    let found = found_in(alloc, document)?;
+    let mut found = found_in(alloc, document)?;
+    add_count(alloc, locales, &mut found)?;
     Ok(Report { locales, found })
 }
 
-// Returns what is found in the three parts.
+// Adds a line if there is no locale.
+fn add_count(alloc: Global, locales: u64, found: &mut Found) -> Result<(), AllocError>
+    ensures { OnOk result (found.new ≡ together found.old (found_of_count locales)) }
+{
+    if locales != 0 {
+        return Ok(());
+    }
+    found.add_fault(String::from_str(alloc, "document: no locale")?)
+}
+
+// Returns what is found in the keys of the parts, and in the three parts.
 fn found_in(alloc: Global, document: &Value) -> Result<Found, AllocError>
     ensures { IfOk result (λ found. IsFoundInDocument (view document.now) found) }
 {
     let mut found = Found::new(alloc);
+    add_members(alloc, &PartCheck, document.as_object(), &mut found)?;
     add_rules(alloc, document, Part::Cardinal, &mut found)?;
     add_rules(alloc, document, Part::Ordinal, &mut found)?;
     let ranges = members_of(document, Part::Ranges);

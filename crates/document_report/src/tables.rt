@@ -10,7 +10,8 @@ use crate::document::value_at;
 use crate::entry::{EntryFault, entry_fault};
 use crate::form::table_in;
 use crate::found::{Found, MemberCheck, add_members};
-use crate::languages::{add_key, texts_of};
+use crate::keys::{add_key, locale_line};
+use crate::languages::texts_of;
 use crate::names::name_text;
 use crate::place::Part;
 use plural_checker::LanguageTexts;
@@ -109,5 +110,5 @@ fn add_rules(
     if rules.is_some() {
         return Ok(());
     }
-    found.add_fault(format!(in alloc; "{} {}: no cardinal rules", Part::Ranges.as_str(), name)?)
+    found.add_fault(locale_line(alloc, Part::Ranges, name, "no cardinal rules")?)
 }

@@ -6,19 +6,21 @@ use std::alloc::{AllocError, Global};
 use std::test::Fail;
 
 // A document with a fault of each kind.
-const FAULTY: &str = r#"{"cardinal":{
-"a":{"one":"i 1"},
-"b":{"one":"v = 0 adn i % 10 = 2..4"},
+const FAULTY: &str = r#"{"cardinals":{},"cardinal":{
+"a":{"one":"i 1","other":""},
+"b":{"one":"v = 0 adn i % 10 = 2..4","other":""},
 "c":{"zero":null,"few":5},
-"d":{"one":"i = 1 @integer 1, .~5, 1~1c300, 1~1.5, 0.000000000000000000~1.000000000000000000, 5~2, 0~100, 2, ., 1c300, … @decimal 1.5"},
-"e":{"one":"n % 3 = 1 @integer 1c25"}},
+"d":{"one":"i = 1 @integer 1, .~5, 1~1c300, 1~1.5, 0.000000000000000000~1.000000000000000000, 5~2, 0~100, 2, ., 1c300, … @decimal 1.5","other":""},
+"e_F":{"one":"n % 3 = 1 @integer 1c25","other":"","feew":"n = 2"}},
 "ordinal":{"a":{"two":"n = 1 @integer 1~3","other":"@integer 0"}},
 "ranges":{
-"a":{"ranges":{"one--few":"few","one--other":"other","one--two":5,"one-two":"one","other--one":"some","other--other":"one"}},
+"a":{"ranges":{"few--one":"one","one--few":"one","one--one":"few","one--other":5,"one-two":"one","other--one":"some","other--other":"one"}},
 "z":{"ranges":{"few--few":"few"}}}}"#;
 
-const FAULTS: &str = "cardinal a one: expected operator
+const FAULTS: &str = "cardinals: not a part
+cardinal a one: expected operator
 cardinal b one: read as v = 0
+cardinal c: no other
 cardinal c few: no text
 cardinal d one: sample .~5: bad number
 cardinal d one: sample 1~1c300: number out of limits
@@ -29,15 +31,19 @@ cardinal d one: sample 0~100 has more than 100 numbers
 cardinal d one: sample 2 is other
 cardinal d one: sample .: bad number
 cardinal d one: sample 1c300: number out of limits
-cardinal e one: sample 1c25 is outside the exactness bound
+cardinal e_F: key with _
+cardinal e_F one: sample 1c25 is outside the exactness bound
+cardinal e_F feew: not a category
 ordinal a two: sample 2 is other
+ranges a few--one: few has no rule
 ranges a one--few: few has no rule
-ranges a one--two: no text
+ranges a one--one: few has no rule
+ranges a one--other: no text
 ranges a one-two: range key
 ranges a other--one: range value
 ranges z: no cardinal rules
 ranges z few--few: few has no rule
-locales: 6, rules: 6, numbers: 10, faults: 20
+locales: 6, rules: 10, numbers: 10, faults: 26
 ";
 
 // A locale that is no object.
@@ -50,13 +56,27 @@ fn each_fault_is_told(rt: HostRuntime) {
 }
 
 #[test]
-fn other_keys_and_absent_parts_are_no_faults(rt: HostRuntime) {
+fn parts_and_texts_may_be_absent_but_not_all_locales_or_other(rt: HostRuntime) {
     let table = r#"< {}
-locales: 0, rules: 0, numbers: 0, faults: 0
+document: no locale
+locales: 0, rules: 0, numbers: 0, faults: 1
 < {"cardinal":null,"elements":5}
-locales: 0, rules: 0, numbers: 0, faults: 0
-< {"cardinal":{"a":{"ones":5,"one":null}},"ordinal":{"a":{},"b":{}},"ranges":{"a":{"ranges":{}}}}
-locales: 2, rules: 0, numbers: 0, faults: 0
+document: no locale
+locales: 0, rules: 0, numbers: 0, faults: 1
+< {"cardinal":{"a":{"other":"","one":null}},"ordinal":{"a":{"other":""},"b":{"other":"","few":null}},"ranges":{"a":{"ranges":{}}},"elements":5,"parents":[]}
+locales: 2, rules: 3, numbers: 0, faults: 0
+< {"cardinal":{"a":{"ones":5,"other":null,"":""}},"Cardinal":{},"a\u000a":5}
+Cardinal: not a part
+a\x0a: not a part
+cardinal a: no other
+cardinal a : not a category
+cardinal a ones: not a category
+locales: 1, rules: 0, numbers: 0, faults: 5
+< {"cardinal":{"pt_PT":{"other":""}},"ordinal":{"pt_PT":{"other":""}},"ranges":{"pt_PT":{"ranges":{}}}}
+cardinal pt_PT: key with _
+ordinal pt_PT: key with _
+ranges pt_PT: key with _
+locales: 1, rules: 2, numbers: 0, faults: 3
 < {"cardinal":{"a":{"other":"@integer 1~3"}},"ordinal":{"b":{"other":""}},"ranges":{"a":{"ranges":{"other--other":"other"}},"b":{"ranges":{}},"c":{"ranges":{}}}}
 ranges b: no cardinal rules
 ranges c: no cardinal rules
@@ -65,9 +85,9 @@ locales: 3, rules: 2, numbers: 3, faults: 2
 cardinal a one: sample 0 is other
 cardinal a other: sample 1 is one
 locales: 1, rules: 2, numbers: 101, faults: 2
-< {"cardinal":{"a":{"one":"@integer 3","two":"@integer 3"}}}
+< {"cardinal":{"a":{"one":"@integer 3","two":"@integer 3","other":""}}}
 cardinal a two: sample 3 is one
-locales: 1, rules: 2, numbers: 2, faults: 1
+locales: 1, rules: 3, numbers: 2, faults: 1
 "#;
     table_holds(&rt, rt.alloc(), table)
 }
@@ -109,11 +129,11 @@ locales: 1, rules: 2, numbers: 13, faults: 13
 #[test]
 fn names_are_printed_with_escapes(rt: HostRuntime) {
     let table =
-        r#"< {"cardinal":{"a\u000a\u001b\u007f\\x\u0020\u00e9":{"one":5}},"ranges":{"\u0000":{"ranges":{"\u001f":5}}}}
+        r#"< {"cardinal":{"a\u000a\u001b\u007f\\x\u0020\u00e9":{"one":5,"other":""}},"ranges":{"\u0000":{"ranges":{"\u001f":5}}}}
 cardinal a\x0a\x1b\x7f\x5cx é one: no text
 ranges \x00: no cardinal rules
 ranges \x00 \x1f: range key
-locales: 2, rules: 0, numbers: 0, faults: 3
+locales: 2, rules: 1, numbers: 0, faults: 3
 < {"ordinal":{"\\(3 bytes)":5}}
 2: ordinal \x5c(3 bytes): no object
 "#;
@@ -125,7 +145,7 @@ fn document_of_names(alloc: Global, length: usize) -> Result<String, AllocError>
     let name = String::from_utf8(vec![in alloc; b'n'; length]?).unwrap_or(String::new(alloc));
     let name = name.as_str();
     format!(in alloc;
-        r#"{{"ordinal":{{"{name}":{{"one":5}}}},"ranges":{{"{name}":{{"ranges":{{"{name}":5}}}}}}}}"#
+        r#"{{"ordinal":{{"{name}":{{"one":5,"other":""}}}},"ranges":{{"{name}":{{"ranges":{{"{name}":5}}}}}}}}"#
     )
 }
 
@@ -140,7 +160,7 @@ fn a_long_name_is_told_by_its_length(rt: HostRuntime) -> Result<(), Fail> {
         "ordinal {name} one: no text
 ranges {name}: no cardinal rules
 ranges {name} {name}: range key
-locales: 1, rules: 0, numbers: 0, faults: 3
+locales: 1, rules: 1, numbers: 0, faults: 3
 "
     )?;
     holds!(rt; gives(alloc, false, &mut reader, report.as_str()) == Some(true));
@@ -151,7 +171,7 @@ ordinal \(256 bytes) one: no text
 ranges \(256 bytes): key too long
 ranges \(256 bytes): no cardinal rules
 ranges \(256 bytes) \(256 bytes): range key
-locales: 1, rules: 0, numbers: 0, faults: 5
+locales: 1, rules: 1, numbers: 0, faults: 5
 ";
     holds!(rt; gives(alloc, false, &mut reader, report) == Some(true));
     Ok(())

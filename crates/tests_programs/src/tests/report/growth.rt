@@ -20,14 +20,40 @@ fn holds_again(rt: &impl Abort, alloc: Global, document: &str, answer: &str) {
 #[test]
 fn growth_of_a_report(rt: HostRuntime) {
     let document =
-        r#"{"cardinal":{"a":{"one":5,"two":"i 1"}},"ranges":{"b":{"ranges":{"one":"two"}}}}"#;
-    let report = "cardinal a one: no text
+        r#"{"cardinal":{"a":{"one":5,"two":"i 1","ones":0}},"ranges":{"b_":{"ranges":{"one":"two"}}},"x":0}"#;
+    let report = "x: not a part
+cardinal a: no other
+cardinal a one: no text
 cardinal a two: expected operator
-ranges b: no cardinal rules
-ranges b one: range key
-locales: 2, rules: 1, numbers: 0, faults: 4
+cardinal a ones: not a category
+ranges b_: key with _
+ranges b_: no cardinal rules
+ranges b_ one: range key
+locales: 2, rules: 1, numbers: 0, faults: 8
 ";
     holds_again(&rt, rt.alloc(), document, report)
+}
+
+#[test]
+fn growth_of_a_count_and_of_names(rt: HostRuntime) {
+    let document =
+        r#"{"cardinal":{"\u0007":{"one":"i = 1 @integer 2,2,2,2,2,2,2,2,2,2,2","other":""}}}"#;
+    let report = "cardinal \\x07 one: sample 2 is other
+cardinal \\x07 one: sample 2 is other
+cardinal \\x07 one: sample 2 is other
+cardinal \\x07 one: sample 2 is other
+cardinal \\x07 one: sample 2 is other
+cardinal \\x07 one: sample 2 is other
+cardinal \\x07 one: sample 2 is other
+cardinal \\x07 one: sample 2 is other
+cardinal \\x07 one: sample 2 is other
+cardinal \\x07 one: sample 2 is other
+cardinal \\x07 one: and 1 more
+locales: 1, rules: 2, numbers: 11, faults: 11
+";
+    holds_again(&rt, rt.alloc(), document, report);
+    let empty = "document: no locale\nlocales: 0, rules: 0, numbers: 0, faults: 1\n";
+    holds_again(&rt, rt.alloc(), "{}", empty)
 }
 
 #[test]

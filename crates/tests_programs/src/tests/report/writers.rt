@@ -78,8 +78,8 @@ fn stops_after(alloc: Global, left: usize, refuses: bool, succeeds: bool) -> boo
 
 #[test]
 fn a_refused_write_is_a_fault_and_nothing_is_flushed(rt: HostRuntime) {
-    // The length of `locales: 0, rules: 0, numbers: 0, faults: 0` and its newline.
-    let length = 44;
+    // The length of `document: no locale` and `locales: 0, rules: 0, numbers: 0, faults: 1`, with their newlines.
+    let length = 64;
     for count in 0..length {
         holds!(rt; stops_after(rt.alloc(), count, true, false), at count);
     }
