@@ -15,6 +15,6 @@ mod ranges;
 mod rules;
 mod signed;
 mod sure;
-mod whole;
 #[cfg(test)]
 mod tests;
+mod whole;

@@ -3,9 +3,9 @@
 /// Rules as text and as a tree (UTS 35 Part 3, Plural Rules Syntax).
 pub mod reference {
     pub use plural_reference::{
-        Lexer, LexerError, ParseError, ReadError, Token, ast, is_read_whole, parse, parse_condition, serialize,
-        serialize_condition, serialize_decimal_value, serialize_sample_list,
-        serialize_sample_range, serialize_samples, test_condition,
+        Lexer, LexerError, ParseError, ReadError, Token, ast, is_read_whole, parse,
+        parse_condition, serialize, serialize_condition, serialize_decimal_value,
+        serialize_sample_list, serialize_sample_range, serialize_samples, test_condition,
     };
 }
 

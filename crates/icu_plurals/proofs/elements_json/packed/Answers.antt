@@ -20,7 +20,9 @@ returns-in-Ok-clause-answers c =
 pub returns-in-Err-Memory-clause-packable : goal.returns-in-Err-Memory-clause-packable
 returns-in-Err-Memory-clause-packable c =
     λ _.
-    let values = each_by lent_value c.args.elements.now in
-    (packed_of values, ap (unless_fault (packed_of values)) (no_other_fault values
-    (λ long. absurd (let is = c.in-Err-Memory.ensures.default_limit.1 long in cc))
-    (λ high. absurd (let is = c.in-Err-Memory.ensures.start_limit.1 high in cc))))
+    let values = each_by lent_value c.args.elements.now in (
+      packed_of values,
+      ap (unless_fault (packed_of values)) (no_other_fault values
+          (λ long. absurd (let is = c.in-Err-Memory.ensures.default_limit.1 long in cc))
+          (λ high. absurd (let is = c.in-Err-Memory.ensures.start_limit.1 high in cc))),
+    )
