@@ -5,3 +5,5 @@ pub mod LineTexts
 pub mod PrintedNames
 pub mod Told
 pub mod CheckReadings
+pub mod Faultless
+pub mod FormedParts

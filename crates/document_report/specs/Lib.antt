@@ -5,5 +5,6 @@ pub mod Found
 pub mod DocumentReport
 pub mod ReportText
 pub mod CheckAnswer
+pub mod FaultlessDocuments
 -- not definitions of the subject
 pub mod Inner

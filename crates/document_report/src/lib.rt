@@ -9,6 +9,7 @@ mod form;
 mod found;
 mod keys;
 mod languages;
+pub mod laws;
 mod locales;
 mod names;
 mod place;
