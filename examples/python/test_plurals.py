@@ -102,7 +102,7 @@ def test_the_ends_of_the_range_without_a_text():
 @pytest.mark.parametrize(
     "rule, operands",
     [
-        ("i = 18446744073709551615", {"i": 2**64 - 1}),
+        ("i % 10 = 5", {"i": 2**64 - 1}),
         ("v = 3", {"i": 7, "v": 3}),
         ("w = 3", {"i": 7, "v": 3, "w": 3, "f": 7, "t": 7}),
         ("f = 50", {"i": 1, "v": 2, "w": 1, "f": 50, "t": 5}),
