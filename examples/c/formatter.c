@@ -1,4 +1,5 @@
-/* Prints the messages of some numbers: other "{} items", one "{} item", with English's rule for one. */
+/* Prints the messages of some numbers, other "{} items", one "{} item", with English's rule for one, and the category of the operands
+ * of 1.0. */
 #include <plurals.h>
 #include <stdio.h>
 #include <string.h>
@@ -20,5 +21,7 @@ int main(void) {
         else if (length < 0 || length > (int64_t)sizeof message) return 1;
         else printf("%.*s\n", (int)length, message);
     }
+    int32_t category = plurals_category_of_operands(rules, (size_t)rules_len, 1, 1, 0, 0, 0, 0);
+    printf("i 1, v 1: %s\n", plurals_category_name(category));
     return 0;
 }

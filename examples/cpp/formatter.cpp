@@ -1,4 +1,4 @@
-// Prints the messages of some numbers, as ../c/formatter.c does.
+// Prints the messages of some numbers and a category, as ../c/formatter.c does.
 #include <iostream>
 #include <plurals.hpp>
 
@@ -20,4 +20,7 @@ int main() {
             return 1;
         }
     }
+    plurals::Operands operands;
+    operands.i = operands.v = 1;
+    std::cout << "i 1, v 1: " << plurals::name(rules->category(operands)) << '\n';
 }

@@ -1,4 +1,4 @@
-"""Prints the messages of some numbers, as ../c/formatter.c does."""
+"""Prints the messages of some numbers and a category, as ../c/formatter.c does."""
 import plurals
 
 REFUSED = {-10: "it isn't a number", -11: "it is over a limit"}
@@ -10,3 +10,4 @@ for number in ("0", "1", "1.0", "2", "1c6", "-1", "x", "1c256"):
         print(elements.message(rules, number))
     except plurals.Fault as fault:
         print(f"{number}: {REFUSED[fault.number]}")
+print("i 1, v 1:", rules.category_of_operands(i=1, v=1))

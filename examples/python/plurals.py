@@ -71,6 +71,10 @@ def _opened() -> ctypes.CDLL:
         "plurals_ranges_from_document": (ctypes.c_int64, [*given, *given, *given]),
         "plurals_categories": (ctypes.c_int32, [*given]),
         "plurals_category_of_integer": (ctypes.c_int32, [*given, ctypes.c_uint64]),
+        "plurals_category_of_operands": (
+            ctypes.c_int32,
+            [*given, ctypes.c_uint64, ctypes.c_size_t, ctypes.c_size_t, ctypes.c_uint64, ctypes.c_uint64, ctypes.c_size_t],
+        ),
         "plurals_category": (ctypes.c_int32, [*given, *given]),
         "plurals_is_exact": (ctypes.c_int32, [*given, *given]),
         "plurals_sure_category": (ctypes.c_int32, [*given, *given]),
@@ -192,6 +196,17 @@ class Rules:
             found = _library.plurals_category_of_integer(self.block, len(self.block), abs(number))
         else:
             found = _library.plurals_category(*_words((self.block, _bytes(text_of(number)))))
+        return Category(_library.plurals_category_name(_checked(found)).decode())
+
+    def category_of_operands(self, i: int, v: int = 0, w: int = 0, f: int = 0, t: int = 0, c: int = 0) -> Category:
+        """Returns the category of six operands, for callers that format numbers themselves: those of 1.50 are i=1, v=2, w=1, f=50, t=5.
+
+        Any six from 0 to 2**64 - 1 are allowed, also those of no number (docs/NUMBERS.md).
+        """
+        operands = (i, v, w, f, t, c)
+        if not all(0 <= operand < 2**64 for operand in operands):
+            raise OverflowError("an operand is from 0 to 2**64 - 1")
+        found = _library.plurals_category_of_operands(self.block, len(self.block), *operands)
         return Category(_library.plurals_category_name(_checked(found)).decode())
 
     def sure_category(self, number: Number) -> Category:

@@ -99,6 +99,41 @@ def test_the_ends_of_the_range_without_a_text():
         assert rules.category(number) == rules.category(str(number)) == ("one" if number % 2 else "few")
 
 
+@pytest.mark.parametrize(
+    "rule, operands",
+    [
+        ("i % 10 = 5", {"i": 2**64 - 1}),
+        ("v = 3", {"i": 7, "v": 3}),
+        ("w = 3", {"i": 7, "v": 3, "w": 3, "f": 7, "t": 7}),
+        ("f = 50", {"i": 1, "v": 2, "w": 1, "f": 50, "t": 5}),
+        ("t = 5", {"i": 1, "v": 2, "w": 1, "f": 50, "t": 5}),
+        ("c = 6", {"i": 10**6, "c": 6}),
+        ("v = 0 and t = 9", {"i": 0, "t": 9}),
+    ],
+)
+def test_operands(rule, operands):
+    rules = Rules(few=rule)
+    assert rules.category_of_operands(**operands) is Category.FEW
+    assert rules.category_of_operands(1, 1, 1, 1, 1, 1) is Category.OTHER
+
+
+def test_operands_are_those_of_numbers():
+    rules = Rules.of_locale("ru")
+    assert [rules.category_of_operands(it) for it in range(200)] == [rules.category(it) for it in range(200)]
+    assert rules.category_of_operands(1, 1) == rules.category("1.0") == "other"
+
+
+@pytest.mark.parametrize("operands", [(-1,), (2**64,), (0, -1), (0, 0, 0, 0, 2**64), (0, 0, 0, 0, 0, 2**64)])
+def test_an_operand_of_more_than_64_bits(operands):
+    with pytest.raises(OverflowError):
+        ENGLISH.category_of_operands(*operands)
+
+
+def test_an_operand_that_is_no_integer():
+    with pytest.raises((TypeError, plurals.ctypes.ArgumentError)):
+        ENGLISH.category_of_operands(1.5)
+
+
 def test_exact():
     assert ENGLISH.is_exact(1) is True
     assert Rules(few="n % 7 = 1").is_exact(10**40) is False

@@ -4,6 +4,7 @@ mod assertion;
 mod faults;
 mod inputs;
 mod integers;
+mod lengths;
 mod tables;
 
 use crate::category::{plurals_category, plurals_category_of_integer, plurals_is_exact};

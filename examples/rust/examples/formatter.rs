@@ -1,5 +1,5 @@
-//! Prints the messages of some numbers, as ../../c/formatter.c does.
-use plurals::{Message, PluralRules, PluralsError};
+//! Prints the messages of some numbers and a category, as ../../c/formatter.c does.
+use plurals::{Message, PluralRules, PluralsError, RawPluralOperands};
 
 fn main() -> Result<(), PluralsError> {
     let rules = PluralRules::try_from_texts(["", "i = 1 and v = 0", "", "", ""])?;
@@ -12,5 +12,7 @@ fn main() -> Result<(), PluralsError> {
             Err(error) => return Err(error),
         }
     }
+    let operands = RawPluralOperands { i: 1, v: 1, ..RawPluralOperands::default() };
+    println!("i 1, v 1: {}", rules.category_for_operands(operands));
     Ok(())
 }

@@ -41,6 +41,8 @@ fn faults_of_texts_have_their_numbers(rt: HostRuntime) {
         let mut out = [7u8; 64];
         holds!(rt; one_text(rt.alloc(), text, &mut out) == fault, at text);
         holds!(rt; out == [7u8; 64]);
+        let told = plurals_rules_from_texts(rt.alloc(), b"n = 0", b" ", text, b" ", b"n", &mut out);
+        holds!(rt; told == fault, at text);
     }
     // A text that isn't UTF-8 comes before a text that gives no rule.
     let told = plurals_rules_from_texts(rt.alloc(), b"i", b"", b"", b"", b"\xff", &mut []);
@@ -128,6 +130,8 @@ fn faults_of_long_texts_have_their_numbers(rt: HostRuntime) -> Result<(), Fail> 
     let text = repeated(rt.alloc(), b"i = 1", b",1", 8191, b"")?;
     let zero = text.as_slice();
     let told = plurals_rules_from_texts(rt.alloc(), zero, b"", b"", b"", b"i = 1", &mut []);
+    holds!(rt; told == -40);
+    let told = plurals_rules_from_texts(rt.alloc(), zero, b" ", b" ", b" ", b"i = 1", &mut []);
     holds!(rt; told == -40);
     let before = b"{\"one\":[0,\"\"],\"other\":[0,\"";
     let json = repeated(rt.alloc(), before, b"a", 256, b"\"]}")?;

@@ -7,6 +7,7 @@ mod elements;
 mod growth;
 mod inputs;
 mod languages;
+mod lengths;
 mod ranges;
 mod tables;
 mod writers;
