@@ -1,1 +1,2 @@
 mod LastSeparator
+mod ChainSteps
