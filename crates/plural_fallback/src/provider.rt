@@ -11,6 +11,7 @@ use crate::locales::{Locales, Part};
 use plural_base::{PluralRanges, PluralRulesData, PluralsProvider};
 
 /// A provider, and the keys and parents by which a locale falls back.
+#[derive(Debug, Drop)]
 pub struct FallbackProvider<'a, P, L> {
     /// The provider of rules and ranges.
     pub provider: &'a P,
@@ -19,6 +20,7 @@ pub struct FallbackProvider<'a, P, L> {
 }
 
 /// What was loaded, and under which key.
+#[derive(Debug, Drop)]
 pub struct Loaded<'a, R> {
     /// The key: the first along the chain of the locale.
     pub key: &'a str,
