@@ -23,7 +23,7 @@ loop-steps-preserved g c =
     let before = c.loop-steps.invariant in (
       omega arith,
       advances keys next locale current n before.1 c.in-Some-next_locale.next.now
-      (ap (option_copied {T = List ℕ}) (sym c.in-Some-next_locale.is) ∙ c.next_locale.ensures),
+          (ap (option_copied {T = List ℕ}) (sym c.in-Some-next_locale.is) ∙ c.next_locale.ensures),
       none_yet keys next locale current n before.1 (ap (option_copied {T = List ℕ}) (sym c.in_default.is) ∙ c.find_key.ensures) before.2,
     )
 
@@ -45,5 +45,5 @@ returns g c =
     record {
       ok = tt;
       err = stays_long keys next c.args.locale.now c.loop-steps.current.now c.loop-steps.steps before.1 MOST_LOCALES
-      (λ (found : List ℕ). ⊥) all before.2;
+          (λ (found : List ℕ). ⊥) all before.2;
     }
