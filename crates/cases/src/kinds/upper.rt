@@ -1,10 +1,12 @@
-//! The kinds of the upper crates: `icu_plurals`, `plural_message`, `plural_checker` and `uses`.
+//! The kinds of the upper crates: `icu_plurals`, `plural_message`, `plural_checker`,
+//! `plural_fallback` and `uses`.
 
 mod callers;
 mod checker;
 mod element_values;
 mod elements;
 mod elements_json;
+mod fallback;
 mod messages;
 mod packed_texts;
 mod packing;
@@ -19,5 +21,6 @@ pub fn make(kind: &str, call: &mut Call) -> bool {
         || elements_json::make(kind, call)
         || messages::make(kind, call)
         || checker::make(kind, call)
+        || fallback::make(kind, call)
         || callers::make(kind, call)
 }

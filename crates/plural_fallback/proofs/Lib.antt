@@ -1,0 +1,2 @@
+mod LastSeparator
+mod ChainSteps

@@ -1,0 +1,30 @@
+-- The first locale of a chain that has a key.
+--     locale_at next locale n      the locale after n steps of a chain, if the chain is that long
+--     key_at keys next locale n      its key
+--     IsFirstKey most key found      the first key, among those after fewer than `most` steps
+--     Misses most locale key absent error      why there is none, or nothing is loaded for it
+use Rattle.std.specs.Prelude.{◌≡◌, ℕ, zero, suc, ◌<◌, ◌≤◌, List, Option, Some, None, option_and_then}
+use Rattle.std.specs.Option.{IsSome}
+use Rattle.plural_fallback.specs.LocaleNames.{key_of}
+use Rattle.plural_fallback.specs.declared.error.FallbackError.{FallbackError}
+use Rattle.plural_fallback.specs.declared.error.FallbackError.TheVariants.{NotFound, LongChain, NotLoaded}
+
+unfoldable pub locale_at : (List ℕ → Option (List ℕ)) → List ℕ → ℕ → Option (List ℕ)
+locale_at next locale zero = Some locale
+locale_at next locale (suc n) = option_and_then next (locale_at next locale n)
+
+abbrev pub key_at : List (List ℕ) → (List ℕ → Option (List ℕ)) → List ℕ → ℕ → Option (List ℕ)
+key_at keys next locale n = option_and_then (key_of keys) (locale_at next locale n)
+
+-- after fewer steps there is no key
+abbrev pub NoneBefore : ℕ → (ℕ → Option (List ℕ)) → Type 0
+NoneBefore n key = (m : ℕ) → m < n → key m ≡ None
+
+abbrev pub IsFirstKey : ℕ → (ℕ → Option (List ℕ)) → List ℕ → Type 0
+IsFirstKey most key found = (n : ℕ) × (n < most) × (key n ≡ Some found) × NoneBefore n key
+
+-- the chain ends, or goes on, without a key; or what the first key has is absent
+abbrev pub Misses : ℕ → (ℕ → Option (List ℕ)) → (ℕ → Option (List ℕ)) → (List ℕ → Type 0) → FallbackError → Type 0
+Misses most locale key absent NotFound = (n : ℕ) × (n ≤ most) × (locale n ≡ None) × NoneBefore n key
+Misses most locale key absent LongChain = IsSome (locale most) × NoneBefore most key
+Misses most locale key absent NotLoaded = (found : List ℕ) × IsFirstKey most key found × absent found

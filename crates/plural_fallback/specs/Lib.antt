@@ -1,0 +1,8 @@
+-- locales, and their chains
+pub mod LocaleNames
+pub mod Chain
+pub mod FirstKeys
+-- the keys and the parents in a document
+pub mod LocalesJson
+-- the texts of errors
+pub mod PluralFallbackErrors
