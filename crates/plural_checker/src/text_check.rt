@@ -91,11 +91,11 @@ fn check_reading(
     if has_tokens_of(text, printed.0.as_str()) {
         return Ok(());
     }
-    let kind = if is_out_of_order(alloc, text)? {
-        TextFault::Order
-    } else {
-        TextFault::Partly(printed)
-    };
+    if is_out_of_order(alloc, text)? {
+        let kind = TextFault::Order;
+        return report.add(Fault { category, kind });
+    }
+    let kind = TextFault::Partly(printed);
     report.add(Fault { category, kind })
 }
 
