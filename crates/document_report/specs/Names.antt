@@ -1,12 +1,12 @@
 -- How the names in a document are printed: the keys of its locales, of their texts and ranges.
---     is_long_name name      the name has more bytes than are printed
+--     is_long_name name      the name has more than 255 bytes
 --     name_text name      what is printed for a name
 use Rattle.std.specs.Prelude.{ℕ, ◌/◌, ◌%◌, ◌==◌, nat_lt, Bool, not, ◌&&◌, if◌then◌else◌, List, [], ◌∷◌, ◌++◌, length, codes}
 use Rattle.std.specs.Char.{digit_char}
 use Rattle.std.specs.Fmt.{decimal}
 use Rattle.std.specs.List.{flat_map, list_any}
 
--- the most bytes of a name that is printed
+-- the most bytes of a name that isn't long
 abbrev pub most_name_bytes : ℕ
 most_name_bytes = 255
 
@@ -29,7 +29,19 @@ byte_escape byte = codes "\\x" ++ digit_char (byte / 16) ∷ digit_char (byte % 
 abbrev pub printed_byte : ℕ → List ℕ
 printed_byte byte = if is_plain byte then byte ∷ [] else byte_escape byte
 
--- `\(300 bytes)` in place of a long name: no other name is printed so
+abbrev pub escaped_text : List ℕ → List ℕ
+escaped_text name = flat_map printed_byte name
+
+-- `\(300 bytes)`, which no name prints with escapes
+abbrev pub length_text : List ℕ → List ℕ
+length_text name = codes "\\(" ++ decimal (length name) ++ codes " bytes)"
+
+-- the most bytes that a name prints
+abbrev pub most_printed_bytes : ℕ
+most_printed_bytes = 64
+
+-- the length in place of a name that is long, or that would print more bytes
 abbrev pub name_text : List ℕ → List ℕ
 name_text name =
-    if is_long_name name then codes "\\(" ++ decimal (length name) ++ codes " bytes)" else flat_map printed_byte name
+    if is_long_name name then length_text name
+    else (if nat_lt most_printed_bytes (length (escaped_text name)) then length_text name else escaped_text name)

@@ -3,14 +3,18 @@
 ghost use Rattle.std.specs.Prelude.{◌≡◌, ◌<◌, ◌++◌, IfOk, OnOk, string_bytes};
 ghost use Rattle.std.specs.Char.{digit_char, encode_utf8};
 ghost use Rattle.std.specs.List.{flat_map};
-ghost use Rattle.document_report.specs.Names.{byte_escape, has_underscore, is_long_name, is_plain, name_text, printed_byte};
+ghost use Rattle.document_report.specs.Names.{byte_escape, escaped_text, has_underscore, is_long_name, is_plain, length_text};
+ghost use Rattle.document_report.specs.Names.{name_text, printed_byte};
 
 use std::alloc::{AllocError, Global};
 
-// The most bytes of a name that is printed.
+// The most bytes of a name that isn't long.
 const MOST_NAME_BYTES: usize = 255;
 
-// Returns whether a name has more bytes than are printed.
+// The most bytes that a name prints.
+const MOST_PRINTED_BYTES: usize = 64;
+
+// Returns whether a name is long.
 pub(crate) fn is_long_name(name: &str) -> bool
     ensures { result ≡ is_long_name name.now }
 {
@@ -24,13 +28,31 @@ pub(crate) fn has_underscore(name: &str) -> bool
     name.as_bytes().contains(&b'_')
 }
 
-// Returns what is printed for a name.
+// Returns what is printed for a name. Of a long one no other text is made.
 pub(crate) fn name_text(alloc: Global, name: &str) -> Result<String, AllocError>
     ensures { IfOk result (λ text. string_bytes text ≡ name_text name.now) }
 {
     if is_long_name(name) {
-        return format!(in alloc; "\\({} bytes)", name.len());
+        return length_text(alloc, name);
     }
+    let text = escaped_text(alloc, name)?;
+    if text.len() > MOST_PRINTED_BYTES {
+        return length_text(alloc, name);
+    }
+    Ok(text)
+}
+
+// Returns what is printed in place of a name.
+fn length_text(alloc: Global, name: &str) -> Result<String, AllocError>
+    ensures { IfOk result (λ text. string_bytes text ≡ length_text name.now) }
+{
+    format!(in alloc; "\\({} bytes)", name.len())
+}
+
+// Returns a name with escapes.
+fn escaped_text(alloc: Global, name: &str) -> Result<String, AllocError>
+    ensures { IfOk result (λ text. string_bytes text ≡ escaped_text name.now) }
+{
     let mut text = String::new(alloc);
     push_name(&mut text, name)?;
     Ok(text)

@@ -4,3 +4,5 @@ pub mod Growth
 pub mod AllDigits
 -- what is read from a text
 pub mod TextsRead
+-- the order of lists of samples
+pub mod ListOrders

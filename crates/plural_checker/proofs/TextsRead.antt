@@ -17,7 +17,7 @@ use Rattle.plural_checker.specs.Inner.TextAnswers.{IsTreeOf}
 use Rattle.plural_checker.specs.TextChecks.{IsRead}
 
 -- every text has exactly one list of tokens
-abbrev HaveOneList : Type 0
+abbrev pub HaveOneList : Type 0
 HaveOneList =
     (text : List ℕ)
     → (tokens : List Token) × AreTokensOf text tokens × ((others : List Token) → AreTokensOf text others → others ≡ tokens)

@@ -13,7 +13,7 @@ use Rattle.plural_checker.specs.declared.fault.RangeFault.TheVariants.{End, Unev
 use Rattle.plural_checker.specs.declared.fault.SampleFault.{SampleFault}
 use Rattle.plural_checker.specs.declared.fault.SampleFault.TheVariants.{Range, Number}
 use Rattle.plural_checker.specs.declared.fault.TextFault.{TextFault}
-use Rattle.plural_checker.specs.declared.fault.TextFault.TheVariants.{TooLong, Unread, Partly, Sample}
+use Rattle.plural_checker.specs.declared.fault.TextFault.TheVariants.{TooLong, Unread, Partly, Order, Condition, Sample}
 
 abbrev pub range_fault_text : RangeFault → List ℕ
 range_fault_text (End error) = codes ": " ++ error_text error
@@ -36,6 +36,8 @@ abbrev pub text_fault_text : TextFault → List ℕ
 text_fault_text (TooLong bytes) = codes "text of " ++ decimal bytes ++ codes " bytes"
 text_fault_text (Unread error) = rule_error_text error
 text_fault_text (Partly printed) = codes "read as " ++ printed
+text_fault_text Order = codes "samples out of order"
+text_fault_text Condition = codes "has a condition"
 text_fault_text (Sample type fault) = codes "sample " ++ sample_fault_text fault
 
 abbrev pub fault_text : Fault → List ℕ

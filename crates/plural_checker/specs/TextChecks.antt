@@ -4,10 +4,12 @@
 --     IsFoundInText rules category text found      the faults of one text
 --     AreFindingsOf texts report      the faults of all six, in the order zero, one, two, few,
 --         many, other
-use Rattle.std.specs.Prelude.{◌≡◌, ◌≢◌, ◌⊎◌, ℕ, List, [], ◌∷◌, length, Option, Some, None, Result, Ok, Err, IsTrue, IsFalse}
+use Rattle.std.specs.Prelude.{◌≡◌, ◌≢◌, ◌⊎◌, ℕ, List, [], ◌∷◌, length, filter, Bool, true, false, Option, Some, None, Result, Ok, Err, IsTrue, IsFalse}
 use Rattle.icu_plurals.specs.declared.PluralCategory.{PluralCategory}
 use Rattle.icu_plurals.specs.declared.PluralCategory.TheVariants.{Zero, One, Two, Few, Many, Other}
 use Rattle.icu_plurals.specs.declared.provider.rules.reference.Token.{Token}
+use Rattle.icu_plurals.specs.declared.provider.rules.reference.Token.TheVariants as token
+use Rattle.icu_plurals.specs.declared.provider.rules.reference.ast.AndCondition.{AndCondition}
 use Rattle.icu_plurals.specs.declared.provider.rules.reference.ast.Rule.{Rule}
 use Rattle.icu_plurals.specs.declared.provider.rules.reference.ast.SampleList.{SampleList}
 use Rattle.icu_plurals.specs.declared.provider.rules.reference.ast.SampleRange.{SampleRange}
@@ -19,7 +21,7 @@ use Rattle.icu_plurals.specs.Lexer.{AreTokensOf, TextReads}
 use Rattle.icu_plurals.specs.PackedRelations.{PackedRelation}
 use Rattle.icu_plurals.specs.RuleOfText.{TextGives}
 use Rattle.icu_plurals.specs.RuleTexts.{AreRulesOf, IsFirstRefused}
-use Rattle.icu_plurals.specs.Samples.{ReadsRule}
+use Rattle.icu_plurals.specs.Samples.{ReadsRule, TextIsRule}
 use Rattle.icu_plurals.specs.Serializer.{rule_text}
 use Rattle.plural_checker.specs.Findings.{Findings, nothing, one_fault, Then, EachFinds, IsReportOf}
 use Rattle.plural_checker.specs.LanguageTexts.{SixTexts, has_long, is_long}
@@ -28,7 +30,7 @@ use Rattle.plural_checker.specs.declared.fault.Fault.{Fault}
 use Rattle.plural_checker.specs.declared.fault.SampleFault.{SampleFault}
 use Rattle.plural_checker.specs.declared.fault.SampleType.{SampleType}
 use Rattle.plural_checker.specs.declared.fault.SampleType.TheVariants.{Integer, Decimal}
-use Rattle.plural_checker.specs.declared.fault.TextFault.TheVariants.{TooLong, Unread, Partly, Sample}
+use Rattle.plural_checker.specs.declared.fault.TextFault.TheVariants.{TooLong, Unread, Partly, Order, Condition, Sample}
 use Rattle.plural_checker.specs.declared.report.Report.{Report}
 
 -- ---- The rules
@@ -86,19 +88,51 @@ abbrev pub IsRead : List ℕ → Result Rule RuleError → Type 0
 IsRead text (Ok rule) = TextReads ReadsRule text rule × ((packed : List PackedRelation) × TextGives text (Ok packed))
 IsRead text (Err error) = TextGives text (Err error)
 
--- the text has the tokens of the printed rule; if not, part of the text isn't read
+-- `integer` and `decimal` name the types of lists
+abbrev pub is_list_type : Token → Bool
+is_list_type token.Integer = true
+is_list_type token.Decimal = true
+is_list_type other = false
+
+-- one list of integers at most, and then one of decimals at most
+abbrev pub are_in_order : List Token → Bool
+are_in_order [] = true
+are_in_order (type ∷ []) = true
+are_in_order (token.Integer ∷ token.Decimal ∷ []) = true
+are_in_order types = false
+
+-- whether the lists that the text names are in order
+abbrev pub HasOrder : List ℕ → Bool → Type 0
+HasOrder text ordered = (tokens : List Token) × AreTokensOf text tokens × (ordered ≡ are_in_order (filter is_list_type tokens))
+
+-- the text is a rule as a whole, and its lists are out of order
+abbrev pub IsOutOfOrder : List ℕ → Type 0
+IsOutOfOrder text = TextIsRule text × HasOrder text false
+
+-- the text has the tokens of the printed rule; if not, its lists are out of order, or part of the text isn't read
 abbrev pub IsFoundInReading : PluralCategory → List ℕ → Rule → Findings → Type 0
 IsFoundInReading category text rule found =
     (HaveSameTokens text (rule_text rule) × (found ≡ nothing))
-    ⊎ (HaveOtherTokens text (rule_text rule)
-    × (found ≡ one_fault (record { category = category; kind = Partly (rule_text rule) })))
+    ⊎ ((HaveOtherTokens text (rule_text rule) × IsOutOfOrder text
+    × (found ≡ one_fault (record { category = category; kind = Order })))
+    ⊎ (HaveOtherTokens text (rule_text rule) × (¬ (IsOutOfOrder text))
+    × (found ≡ one_fault (record { category = category; kind = Partly (rule_text rule) }))))
 
--- the text gives no rule; or it gives one, and its samples are checked
+-- the text of other has only samples
+abbrev pub condition_findings : PluralCategory → List AndCondition → Findings
+condition_findings Other (group ∷ groups) = one_fault (record { category = Other; kind = Condition })
+condition_findings category groups = nothing
+
+abbrev pub IsFoundInCondition : PluralCategory → Rule → Findings → Type 0
+IsFoundInCondition category rule found = found ≡ condition_findings category rule.condition.0
+
+-- the text gives no rule; or it gives one, which is checked
 abbrev pub IsFoundInRule : Option FiveRules → PluralCategory → List ℕ → Findings → Type 0
 IsFoundInRule rules category text found =
     ((error : RuleError) × IsRead text (Err error) × (found ≡ one_fault (record { category = category; kind = Unread error })))
     ⊎ ((rule : Rule) × IsRead text (Ok rule)
-    × Then (IsFoundInReading category text rule) (IsFoundInSamples rules category rule.samples) found)
+    × Then (IsFoundInReading category text rule)
+    (Then (IsFoundInCondition category rule) (IsFoundInSamples rules category rule.samples)) found)
 
 -- a long text isn't read
 abbrev pub IsFoundInText : Option FiveRules → PluralCategory → List ℕ → Findings → Type 0

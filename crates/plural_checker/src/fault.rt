@@ -33,6 +33,12 @@ pub enum TextFault {
     /// Part of it isn't read: it has other tokens than the printed text of the rule that was read,
     /// which is kept here.
     Partly(PrintedRule),
+    /// All of it is read, but its lists of samples are others than one of integers at most and then
+    /// one of decimals at most: a list comes before one that it should follow, or replaces an
+    /// earlier one of its type.
+    Order,
+    /// It is the text of other, and has a condition.
+    Condition,
     /// Something is wrong with a sample in the list of this type.
     Sample(SampleType, SampleFault),
 }
@@ -100,6 +106,8 @@ impl fmt::Display for TextFault {
             TextFault::TooLong(bytes) => write!(f, "text of {bytes} bytes"),
             TextFault::Unread(error) => write!(f, "{error}"),
             TextFault::Partly(printed) => write!(f, "read as {printed}"),
+            TextFault::Order => f.write_str("samples out of order"),
+            TextFault::Condition => f.write_str("has a condition"),
             TextFault::Sample(_, fault) => write!(f, "sample {fault}"),
         }
     }

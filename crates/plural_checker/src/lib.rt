@@ -6,6 +6,7 @@
 mod check;
 mod coverage;
 mod fault;
+mod list_order;
 mod number_check;
 mod number_text;
 mod printed_rule;

@@ -2,18 +2,19 @@
 
 ghost use Rattle.std.specs.Prelude.{◌≡◌, ◌≢◌, IfOk, OnOk, MatchBool};
 ghost use Rattle.std.specs.Option.{option_copied};
-ghost use Rattle.plural_checker.specs.Findings.{Adds};
+ghost use Rattle.plural_checker.specs.Findings.{Adds, Grows};
 ghost use Rattle.plural_checker.specs.TextChecks.{HaveOtherTokens, HaveSameTokens, IsRead};
-ghost use Rattle.plural_checker.specs.TextChecks.{IsFoundIn, IsFoundInReading, IsFoundInRule, IsFoundInText};
+ghost use Rattle.plural_checker.specs.TextChecks.{condition_findings, IsFoundIn, IsFoundInReading, IsFoundInRule, IsFoundInText};
 ghost use Rattle.plural_checker.specs.Inner.TextAnswers.{IsTreeOf};
 
 use crate::fault::{Fault, TextFault};
+use crate::list_order::is_out_of_order;
 use crate::printed_rule::PrintedRule;
 use crate::range_check::check_samples;
 use crate::report::Report;
 use crate::texts::is_long;
 use icu_plurals::laws::one_list_of_tokens;
-use icu_plurals::provider::rules::reference::ast::Rule;
+use icu_plurals::provider::rules::reference::ast::{Condition, Rule};
 use icu_plurals::provider::rules::reference::{Lexer, ReadError, parse};
 use icu_plurals::provider::rules::runtime::ast::{Rule as PackedRule, RuleError};
 use icu_plurals::{PluralCategory, PluralRules};
@@ -66,6 +67,7 @@ fn check_rule(
     match rule_of(alloc, text)? {
         Ok(rule) => {
             check_reading(alloc, category, text, &rule, report)?;
+            check_condition(category, &rule.condition, report)?;
             check_samples(alloc, rules, category, &rule.samples, report)
         }
         Err(error) => {
@@ -75,7 +77,7 @@ fn check_rule(
     }
 }
 
-// Adds a fault if part of the text isn't read.
+// Adds a fault if part of the text isn't read, or if its lists of samples are out of order.
 fn check_reading(
     alloc: Global,
     category: PluralCategory,
@@ -89,7 +91,26 @@ fn check_reading(
     if has_tokens_of(text, printed.0.as_str()) {
         return Ok(());
     }
+    if is_out_of_order(alloc, text)? {
+        let kind = TextFault::Order;
+        return report.add(Fault { category, kind });
+    }
     let kind = TextFault::Partly(printed);
+    report.add(Fault { category, kind })
+}
+
+// Adds a fault if this is the text of other and has a condition.
+fn check_condition(
+    category: PluralCategory,
+    condition: &Condition,
+    report: &mut Report,
+) -> Result<(), AllocError>
+    ensures { OnOk result (Grows report.old (condition_findings category condition.now.0) report.new) }
+{
+    if category != PluralCategory::Other || condition.0.is_empty() {
+        return Ok(());
+    }
+    let kind = TextFault::Condition;
     report.add(Fault { category, kind })
 }
 

@@ -11,7 +11,8 @@ const FAULTY: &str = r#"{"cardinals":{},"cardinal":{
 "b":{"one":"v = 0 adn i % 10 = 2..4","other":""},
 "c":{"zero":null,"few":5},
 "d":{"one":"i = 1 @integer 1, .~5, 1~1c300, 1~1.5, 0.000000000000000000~1.000000000000000000, 5~2, 0~100, 2, ., 1c300, … @decimal 1.5","other":""},
-"e_F":{"one":"n % 3 = 1 @integer 1c25","other":"","feew":"n = 2"}},
+"e_F":{"one":"n % 3 = 1 @integer 1c25","other":"","feew":"n = 2"},
+"f":{"one":"n = 1 @decimal 1.0 @integer 1","few":"n = 2 @integer 2 @integer 2","other":"n = 0 @integer 0"}},
 "ordinal":{"a":{"two":"n = 1 @integer 1~3","other":"@integer 0"}},
 "ranges":{
 "a":{"ranges":{"few--one":"one","one--few":"one","one--one":"few","one--other":5,"one-two":"one","other--one":"some","other--other":"one"}},
@@ -34,6 +35,9 @@ cardinal d one: sample 1c300: number out of limits
 cardinal e_F: key with _
 cardinal e_F one: sample 1c25 is outside the exactness bound
 cardinal e_F feew: not a category
+cardinal f one: samples out of order
+cardinal f few: samples out of order
+cardinal f other: has a condition
 ordinal a two: sample 2 is other
 ranges a few--one: few has no rule
 ranges a one--few: few has no rule
@@ -43,7 +47,7 @@ ranges a one-two: range key
 ranges a other--one: range value
 ranges z: no cardinal rules
 ranges z few--few: few has no rule
-locales: 6, rules: 10, numbers: 10, faults: 26
+locales: 7, rules: 13, numbers: 14, faults: 29
 ";
 
 // A locale that is no object.
@@ -134,6 +138,9 @@ cardinal a\x0a\x1b\x7f\x5cx é one: no text
 ranges \x00: no cardinal rules
 ranges \x00 \x1f: range key
 locales: 2, rules: 1, numbers: 0, faults: 3
+< {"cardinal":{"\u007f\u007f\u007f\u007f\u007f\u007f\u007f\u007f\u007f\u007f\u007f\u007f\u007f\u007f\u007f\u007f":{"\u007f\u007f\u007f\u007f\u007f\u007f\u007f\u007f\u007f\u007f\u007f\u007f\u007f\u007f\u007f\u007f-":5,"other":""}}}
+cardinal \x7f\x7f\x7f\x7f\x7f\x7f\x7f\x7f\x7f\x7f\x7f\x7f\x7f\x7f\x7f\x7f \(17 bytes): not a category
+locales: 1, rules: 1, numbers: 0, faults: 1
 < {"ordinal":{"\\(3 bytes)":5}}
 2: ordinal \x5c(3 bytes): no object
 "#;
@@ -152,10 +159,10 @@ fn document_of_names(alloc: Global, length: usize) -> Result<String, AllocError>
 #[test]
 fn a_long_name_is_told_by_its_length(rt: HostRuntime) -> Result<(), Fail> {
     let alloc = rt.alloc();
-    let longest = document_of_names(alloc, 255)?;
+    let longest = document_of_names(alloc, 64)?;
     let text = longest.as_str();
     let mut reader = text.as_bytes();
-    let name = text.get(13..268).unwrap_or("");
+    let name = text.get(13..77).unwrap_or("");
     let report = format!(in alloc;
         "ordinal {name} one: no text
 ranges {name}: no cardinal rules
@@ -164,6 +171,28 @@ locales: 1, rules: 1, numbers: 0, faults: 3
 "
     )?;
     holds!(rt; gives(alloc, false, &mut reader, report.as_str()) == Some(true));
+    let told = document_of_names(alloc, 65)?;
+    let mut reader = told.as_str().as_bytes();
+    let report = r"ordinal \(65 bytes) one: no text
+ranges \(65 bytes): no cardinal rules
+ranges \(65 bytes) \(65 bytes): range key
+locales: 1, rules: 1, numbers: 0, faults: 3
+";
+    holds!(rt; gives(alloc, false, &mut reader, report) == Some(true));
+    Ok(())
+}
+
+#[test]
+fn a_key_of_more_than_255_bytes_is_a_fault(rt: HostRuntime) -> Result<(), Fail> {
+    let alloc = rt.alloc();
+    let longest = document_of_names(alloc, 255)?;
+    let mut reader = longest.as_str().as_bytes();
+    let report = r"ordinal \(255 bytes) one: no text
+ranges \(255 bytes): no cardinal rules
+ranges \(255 bytes) \(255 bytes): range key
+locales: 1, rules: 1, numbers: 0, faults: 3
+";
+    holds!(rt; gives(alloc, false, &mut reader, report) == Some(true));
     let too_long = document_of_names(alloc, 256)?;
     let mut reader = too_long.as_str().as_bytes();
     let report = r"ordinal \(256 bytes): key too long
