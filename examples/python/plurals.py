@@ -159,7 +159,12 @@ def is_read_whole(text: str) -> bool:
 def _document(given: Optional[Union[str, bytes]]) -> bytes:
     """Returns the bytes of a document, or of the installed one."""
     if given is None:
-        return (_HERE.parents[2] / "cldr.json").read_bytes()
+        # It is share/plurals/cldr.json, above this file where it was installed, else below the folder of the library.
+        places = [_HERE.parents[2] / "cldr.json"]
+        library = Path(_found())
+        if library.is_absolute():
+            places += [folder / "share/plurals/cldr.json" for folder in library.parents]
+        return next((place for place in places if place.is_file()), places[0]).read_bytes()
     return given if isinstance(given, bytes) else _bytes(given)
 
 
