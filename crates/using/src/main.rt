@@ -28,6 +28,8 @@ fn show_rules(rt: &impl Print, alloc: Global, provider: &JsonProvider) -> anyhow
     bytes::print_stored_rule(rt, alloc)?;
     println!(rt; "== numbers")?;
     numbers::print_numbers(rt, alloc)?;
+    println!(rt; "== shown")?;
+    numbers::print_shown_numbers(rt, alloc)?;
     println!(rt; "== exact")?;
     numbers::print_exactness(rt, alloc)
 }

@@ -1,7 +1,7 @@
 //! Written numbers: zeros, exponents, and any length.
 
 use icu_plurals::provider::PluralRulesData;
-use icu_plurals::{CompactDecimal, PluralRules};
+use icu_plurals::{CompactDecimal, Decimal, PluralRules};
 use std::alloc::Global;
 
 // The rules of French.
@@ -20,6 +20,32 @@ pub(crate) fn print_numbers(rt: &impl Print, alloc: Global) -> anyhow::Result<()
         let category = rules.category_for_compact(&number);
         println!(rt; "{text}: {category:?}")?;
     }
+    Ok(())
+}
+
+// Prints the category of a decimal, as it is shown.
+fn print_shown(rt: &impl Print, rules: &PluralRules<'_>, number: &Decimal) -> anyhow::Result<()> {
+    let category = rules.category_for_decimal(number);
+    println!(rt; "{number}: {category:?}")?;
+    Ok(())
+}
+
+// Prints a price with two digits, a number of type f64, and a compact decimal.
+pub(crate) fn print_shown_numbers(rt: &impl Print, alloc: Global) -> anyhow::Result<()> {
+    let one = Some("i = 1 and v = 0");
+    let data = PluralRulesData::from_texts(alloc, None, one, None, None, None)?;
+    let rules = PluralRules::from_data(data);
+    let mut price = Decimal::from_i64(alloc, 1)?;
+    print_shown(rt, &rules, &price)?;
+    price.pad_end(-2)?;
+    print_shown(rt, &rules, &price)?;
+    let length = format!(in alloc; "{:.1}", 0.96f64)?;
+    let mut length = Decimal::from_str(alloc, length.as_str())?;
+    print_shown(rt, &rules, &length)?;
+    length.trim_end();
+    print_shown(rt, &rules, &length)?;
+    let compact = CompactDecimal::from_str(alloc, "1.2c6")?;
+    println!(rt; "{compact}: {:?}", rules.category_for_compact(&compact))?;
     Ok(())
 }
 

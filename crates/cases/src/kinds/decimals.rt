@@ -15,6 +15,10 @@ pub fn make(kind: &str, call: &mut Call) -> bool {
         "unsigned_integer" => unsigned_integer(call),
         "signed_integer" => signed_integer(call),
         "shifted_decimal" => shifted_decimal(call),
+        "padded_decimal" => padded_decimal(call),
+        "trimmed_decimal" => trimmed_decimal(call),
+        "shown_decimal" => shown_decimal(call),
+        "shown_compact" => shown_compact(call),
         "magnitudes" => magnitudes(call),
         _ => return makes_unsigned(kind, call),
     }
@@ -180,6 +184,42 @@ fn shifted_decimal(call: &mut Call) {
         }
     }
     print_number(call, &number);
+}
+
+// What zeros that are added give, and the text of the decimal after it.
+fn padded_decimal(call: &mut Call) {
+    let Some(mut number) = next_decimal(call) else {
+        return;
+    };
+    match number.pad_end(call.magnitude()) {
+        Ok(()) => call.print("ok, "),
+        Err(error) => {
+            let _ = write!(call, "error {error:?}, ");
+        }
+    }
+    let _ = write!(call, "{number}");
+}
+
+// The text of a decimal without the zeros at the end of its fraction.
+fn trimmed_decimal(call: &mut Call) {
+    if let Some(mut number) = next_decimal(call) {
+        number.trim_end();
+        let _ = write!(call, "{number}");
+    }
+}
+
+// The text that a decimal prints.
+fn shown_decimal(call: &mut Call) {
+    if let Some(number) = next_decimal(call) {
+        let _ = write!(call, "{number}");
+    }
+}
+
+// The text that a compact decimal prints.
+fn shown_compact(call: &mut Call) {
+    if let Some(number) = next_compact(call) {
+        let _ = write!(call, "{number}");
+    }
 }
 
 // The places of a shifted number, and some of its digits.
