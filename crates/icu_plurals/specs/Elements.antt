@@ -4,10 +4,11 @@
 --     Elements T      the values by key
 --     values_in_order e      the eight places in the order in which closures are called
 --     AreClones IsClone e copy      each value of the copy is a clone of the one at its key
+--     has_value_of e c      the value of a category is present
 --     of_category e c      the value of a category, or that of other
 --     element_at e op rules      the value for operands: the explicit one, else that of the
 --         category by the rules, else of other
-use Rattle.std.specs.Prelude.{ℕ, ◌==◌, ◌&&◌, List, [], ◌∷◌, Bool, Option, Some, None, option_map, unwrap_or, if◌then◌else◌, ◌≡◌}
+use Rattle.std.specs.Prelude.{ℕ, ◌==◌, ◌&&◌, List, [], ◌∷◌, Bool, true, Option, Some, None, is_some, option_map, unwrap_or, if◌then◌else◌, ◌≡◌}
 use Rattle.plural_reference.specs.Operands.{Operands, AreKept, AreExact}
 use Rattle.plural_runtime.specs.PackedTruth.{packed_truth}
 use Rattle.plural_base.specs.FiveRules.{FiveRules, first_category, Five, moduli_of, Paired}
@@ -64,6 +65,15 @@ pub record AreClones {T : Type 0} (IsClone : T → T → Type 0) (e copy : Eleme
 abbrev pub unless_equal : {T : Type 0} → (T → T → Bool) → T → Option T → Option T
 unless_equal eq other None = None
 unless_equal eq other (Some x) = if eq x other then None else Some x
+
+-- the value of a category is present
+abbrev pub has_value_of : {T : Type 0} → Elements T → PluralCategory → Bool
+has_value_of e Zero = is_some e.zero
+has_value_of e One = is_some e.one
+has_value_of e Two = is_some e.two
+has_value_of e Few = is_some e.few
+has_value_of e Many = is_some e.many
+has_value_of e Other = true
 
 -- the value of a category, or that of other
 abbrev pub of_category : {T : Type 0} → Elements T → PluralCategory → T

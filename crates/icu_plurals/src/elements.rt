@@ -1,7 +1,7 @@
 //! A value for each plural category, and for exactly 0 and 1.
 
 ghost use Rattle.std.specs.Prelude.{◌≡◌, IfSome, option_map, unwrap_or};
-ghost use Rattle.icu_plurals.specs.Elements.{only_other, each_by, of_category, explicit_at, element_at};
+ghost use Rattle.icu_plurals.specs.Elements.{only_other, each_by, of_category, explicit_at, element_at, has_value_of};
 
 mod for_each;
 mod for_each_mut;
@@ -136,6 +136,20 @@ impl<T> PluralElements<T> {
         ensures { result.now ≡ self.now.other }
     {
         &self.other
+    }
+
+    /// Returns whether the value of a category is present; that of other always is.
+    pub fn has_value_of(&self, category: PluralCategory) -> bool
+        ensures { result ≡ has_value_of self.now category }
+    {
+        match category {
+            PluralCategory::Zero => self.zero.is_some(),
+            PluralCategory::One => self.one.is_some(),
+            PluralCategory::Two => self.two.is_some(),
+            PluralCategory::Few => self.few.is_some(),
+            PluralCategory::Many => self.many.is_some(),
+            PluralCategory::Other => true,
+        }
     }
 
     /// Returns the value of other, if no other value is present.

@@ -8,6 +8,7 @@ ghost use Rattle.plural_base.specs.Categories.{name_of, all_categories};
 pub(crate) mod by_category;
 pub(crate) mod raw;
 
+use std::fmt;
 use std::marker::Model;
 
 /// A plural category (UTS 35 Part 3, Language Plural Rules). Which numbers have it differs from
@@ -54,6 +55,21 @@ impl PluralCategory {
         ensures { result ≡ all_categories }
     {
         AllCategories { left: ALL }
+    }
+
+    /// Returns the name in lower case, as CLDR writes it. [`PluralCategory::get_for_cldr_string`]
+    /// reads it back.
+    pub fn as_str(self) -> &'static str
+        ensures { result.now ≡ name_of self }
+    {
+        match self {
+            PluralCategory::Zero => "zero",
+            PluralCategory::One => "one",
+            PluralCategory::Two => "two",
+            PluralCategory::Few => "few",
+            PluralCategory::Many => "many",
+            PluralCategory::Other => "other",
+        }
     }
 
     /// Returns the category of a name in lower case, as CLDR writes it; `None` for any other text.
@@ -103,6 +119,15 @@ impl PluralCategory {
             b"other" => Some(PluralCategory::Other),
             _ => None,
         }
+    }
+}
+
+/// The name, as CLDR writes it.
+impl fmt::Display for PluralCategory {
+    ghost output = { λ category. Some (name_of category) };
+
+    fn fmt<W: fmt::Write>(&self, f: &mut fmt::Formatter<W>) -> fmt::Result {
+        f.write_str(self.as_str())
     }
 }
 

@@ -11,6 +11,7 @@ pub fn make(kind: &str, call: &mut Call) -> bool {
     match kind {
         "all_categories" => all_categories(call),
         "category_of_name" => category_of_name(call),
+        "category_name" => category_name(call),
         "raw_category" => raw_category(call),
         "category_order" => category_order(call),
         "raw_category_order" => raw_category_order(call),
@@ -98,6 +99,12 @@ fn category_of_name(call: &mut Call) {
         return call.print("another category of the bytes");
     }
     call.print(name_or_none(found));
+}
+
+// The name of a category, and what it prints.
+fn category_name(call: &mut Call) {
+    let category = category(call);
+    let _ = write!(call, "{} {category}", category.as_str());
 }
 
 // The number of a category, and its name.

@@ -56,14 +56,7 @@ impl RawPluralCategory {
     pub fn as_str(self) -> &'static str
         ensures { result.now ≡ name_of (category_of self) }
     {
-        match self {
-            RawPluralCategory::Other => "other",
-            RawPluralCategory::Zero => "zero",
-            RawPluralCategory::One => "one",
-            RawPluralCategory::Two => "two",
-            RawPluralCategory::Few => "few",
-            RawPluralCategory::Many => "many",
-        }
+        PluralCategory::from(self).as_str()
     }
 }
 

@@ -4,7 +4,7 @@ use crate::call::Call;
 use crate::kinds::rule_truths::operands_of;
 use crate::kinds::upper::element_values::{Elements, next_rules, print_element};
 use icu_plurals::provider::{FourBitMetadata, PluralElementsPackedULE};
-use icu_plurals::{ElementsPackError, PluralElements, PluralRules};
+use icu_plurals::{ElementsPackError, PluralCategory, PluralElements, PluralRules};
 
 /// Makes the call of a kind of this file. Returns whether there is such a kind.
 pub fn make(kind: &str, call: &mut Call) -> bool {
@@ -14,6 +14,7 @@ pub fn make(kind: &str, call: &mut Call) -> bool {
         "packed_elements_for" => packed_elements_for(call),
         "repacked_elements" => repacked_elements(call),
         "chosen_text" => chosen_text(call),
+        "present_texts" => present_texts(call),
         "only_text" => only_text(call),
         "are_equal_texts" => are_equal_texts(call),
         _ => return false,
@@ -87,6 +88,18 @@ fn repacked_elements(call: &mut Call) {
             print_packed(call, packed);
         }
         Err(fault) => call.print_error(&fault),
+    }
+}
+
+// The categories whose texts are present.
+fn present_texts(call: &mut Call) {
+    let owned = Elements::next_texts(call);
+    let texts = owned.texts();
+    for category in PluralCategory::all() {
+        if texts.has_value_of(category) {
+            call.separate(", ");
+            call.print(category.as_str());
+        }
     }
 }
 
