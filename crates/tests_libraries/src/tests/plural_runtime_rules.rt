@@ -49,7 +49,7 @@ fn packs(alloc: Global, text: &str, bytes: &[u8]) -> Option<bool> {
 }
 
 #[test]
-fn packs_again_after_want_of_memory(rt: HostRuntime) {
+fn packs_again_after_a_refused_growth(rt: HostRuntime) {
     let rows: [(&str, &[u8]); 2] = [
         ("i % 0 = 5", b"\x01\0\xc1\0\0\0\0\x05\0\0\0\x05\0\0\0"),
         (
@@ -80,7 +80,7 @@ fn tree_packs(alloc: Global, rule: &Rule<'_>) -> Option<bool> {
 }
 
 #[test]
-fn trees_are_made_again_after_want_of_memory(rt: HostRuntime) {
+fn trees_are_made_again_after_a_refused_growth(rt: HostRuntime) {
     for (text, bytes, _) in CLDR_RULES {
         let rule = Rule::parse_bytes(bytes).expect(&rt, "a rule");
         let first = tree_packs(rt.alloc(), &rule);
