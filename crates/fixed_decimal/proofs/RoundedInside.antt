@@ -23,6 +23,18 @@ pub record IsPlan (a : Inside) (k : ℤ) (m : RoundingMode) (kept gap end : ℕ)
   pub places_is : places ≡ rounded_places up end kept (zeros_below k)
   pub is_end : IsRoundedEnd m a.span.items kept gap end up
 
+-- It is what its calls say.
+pub plan_of : (a : Inside) (k : ℤ) (m : RoundingMode) (kept gap end : ℕ) (up : Bool) (places fraction below : ℕ) (digits : List ℕ)
+    → fraction ≡ places_down_to k → below ≡ zeros_below k → kept ≡ a.whole_places + fraction - (a.leading_zeros + below)
+    → gap ≡ a.leading_zeros + below - (a.whole_places + fraction) → places ≡ rounded_places up end kept below
+    → digits ≡ a.span.items → IsRoundedEnd m digits kept gap end up → IsPlan a k m kept gap end up places
+plan_of a k m kept gap end up places fraction below digits f z kept_is gap_is places_is d h = record {
+  kept_is = omega arith;
+  gap_is = omega arith;
+  places_is = places_is ∙ ap (λ n. rounded_places up end kept n) z;
+  is_end = subst (λ ds. IsRoundedEnd m ds kept gap end up) d h;
+}
+
 -- the digits of a stored number
 stored_span : (a : Inside) → IsSpan a → AreSpan a.span.items
 stored_span a h = record { digits = h.digits; first = h.first_nonzero; last = h.last_nonzero }

@@ -52,8 +52,8 @@ IsChosen mode.Expand m unit a b = IsNextUp unit a b
 IsChosen mode.Ceil m unit a b = IsNextUp unit a b
 IsChosen mode.Floor m unit a b = IsNextDown unit a b
 
--- Both numbers, and 10 to the power k, are counted in one unit, which is as small as the last places
--- of both together.
+-- Both numbers are counted in one unit: with f and g fraction digits, in 10 to the power -(f + g).
+-- 10 to the power k is then a power of ten of such units, since g is as k says.
 pub record IsRounded (mode : RoundingMode) (k : ℤ) (x y : Places) : Type 0 where
   pub written : IsWritten y
   pub fraction : length y.fraction ≡ places_down_to k

@@ -76,8 +76,11 @@ fn rest_after(digits: &[u8], kept: usize, gap: usize) -> Rest
     if kept >= digits.len() {
         return Rest::Nothing;
     }
+    if gap > 0 {
+        return Rest::BelowHalf;
+    }
     let first = digits[kept];
-    if gap > 0 || first < 5 {
+    if first < 5 {
         Rest::BelowHalf
     } else if first == 5 && kept + 1 == digits.len() {
         Rest::Half

@@ -276,7 +276,8 @@ fn rounding_limit(call: &mut Call) {
         return;
     };
     let position = call.magnitude();
-    let Some(mode) = mode_of_name(call.text().as_str()) else {
+    let name = call.text();
+    let Some(mode) = mode_of_name(name.as_str()) else {
         call.not("a rounding mode");
         return;
     };
