@@ -54,14 +54,15 @@ pub returns-clause-rounded : goal.returns-clause-rounded
 returns-clause-rounded c =
     let b = (goal.at.returns-clause-rounded c).After-max in
     let e : c.places_down_to-fraction.result ≡ places_down_to c.args.position = fraction_is b in
-    subst (λ (y : Places). IsRounded c.args.mode c.args.position y
-    (places_of (record {
+    let after : Inside
+    = record {
       whole_places = c.max-whole.result;
       fraction_places = c.places_down_to-fraction.result;
       leading_zeros = c.max-whole.result + c.places_down_to-fraction.result - c.rounded_places-places.result;
       span = c.leave_rounded.new.digits;
-    }))) c.self.view_is
-    (rounded_view c.self.inside c.args.position c.args.mode _ _ _ _ _ c.self.invariant (plan b) _
+    } in
+    subst (λ (y : Places). IsRounded c.args.mode c.args.position y (places_of after)) c.self.view_is
+    (rounded_view c.self.inside c.args.position c.args.mode _ _ _ _ _ c.self.invariant (plan b) after
     (omega arith) e (omega arith) c.leave_rounded.ensures (omega arith))
 
 pub returns-clause-limit : goal.returns-clause-limit
