@@ -1,8 +1,9 @@
 //! Decimals with a sign.
 
 ghost use Rattle.std.specs.Prelude.{◌≡◌, ◌≢◌, ◌<◌, ◌↔◌, ◌++◌, [], pos, nat_abs, int_lt, if◌then◌else◌, IfOk, IfErr, OnOk, OnErr};
-ghost use Rattle.fixed_decimal.specs.Places.{IsWithinLimit, IsOverLimit, shift, most_places};
+ghost use Rattle.fixed_decimal.specs.Places.{Places, IsWithinLimit, IsOverLimit, shift, most_places};
 ghost use Rattle.fixed_decimal.specs.FractionEnds.{places_down_to, padded_to, IsTrimmed};
+ghost use Rattle.fixed_decimal.specs.Rounding.{IsRounded, mode_of_absolute as absolute_mode};
 ghost use Rattle.fixed_decimal.specs.Digits.{IsNumeral};
 ghost use Rattle.fixed_decimal.specs.Written.{WritesDecimal, sign_text};
 ghost use Rattle.fixed_decimal.specs.Inner.TextParts.{HasPointWithin};
@@ -10,6 +11,7 @@ ghost use Rattle.fixed_decimal.specs.declared.sign.Sign.TheVariants as sign;
 ghost use Rattle.fixed_decimal.specs.declared.decimal.Decimal.{Decimal as SignedNumber};
 
 use crate::point::point_within;
+use crate::rounding::{RoundingMode, mode_of_absolute};
 use crate::sign::split_sign;
 use crate::{DecimalError, Sign, UnsignedDecimal};
 use std::alloc::Global;
@@ -118,6 +120,22 @@ impl Decimal {
         ensures absolute { IsTrimmed self.old.absolute self.new.absolute }
     {
         self.absolute.trim_end();
+    }
+
+    /// Rounds to a multiple of `10^position` as [`UnsignedDecimal::round_with_mode`] does, and of a
+    /// negative number `Ceil` is towards zero and `Floor` away from it. The sign stays, also before
+    /// a number that is then 0.
+    pub fn round_with_mode(&mut self, position: i16, mode: RoundingMode) -> Result<(), DecimalError>
+        ensures rounded { OnOk result
+            (IsRounded (absolute_mode self.old.sign mode) position self.old.absolute self.new.absolute) }
+        ensures sign { self.new.sign ≡ self.old.sign }
+        ensures limit { (result ≡ Err DecimalError.Limit)
+            ↔ ((x : Places) × IsRounded (absolute_mode self.old.sign mode) position self.old.absolute x × IsOverLimit x) }
+        ensures only_limit { IfErr result (λ e. e ≡ DecimalError.Limit) }
+        ensures unchanged { OnErr result (self.new ≡ self.old) }
+    {
+        let mode = mode_of_absolute(self.sign, mode);
+        self.absolute.round_with_mode(position, mode)
     }
 }
 

@@ -1,6 +1,7 @@
 //! What holds of the texts of all decimals.
 
 ghost use Rattle.fixed_decimal.specs.Digits.{ReadAlike};
+ghost use Rattle.fixed_decimal.specs.Rounding.{OneRounding};
 ghost use Rattle.fixed_decimal.specs.Shown.{UnsignedReadAgain, DecimalReadAgain, CompactReadAgain};
 ghost use Rattle.fixed_decimal.specs.Written.{OneUnsigned, OneSigned, OneCompact};
 
@@ -22,4 +23,9 @@ pub fn numbers_are_read_again()
     ensures unsigned { UnsignedReadAgain }
     ensures signed { DecimalReadAgain }
     ensures compact { CompactReadAgain }
+{}
+
+/// A mode and a place determine what a number is rounded to, and how that is written.
+pub fn numbers_have_one_rounding()
+    ensures { OneRounding }
 {}

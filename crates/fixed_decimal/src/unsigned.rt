@@ -6,10 +6,12 @@ ghost use Rattle.fixed_decimal.specs.Written.{WritesUnsigned};
 ghost use Rattle.fixed_decimal.specs.Inner.TextParts.{AllDigitBytes, HasPointWithin, places_of_sides, places_around};
 ghost use Rattle.fixed_decimal.specs.Places.{Places, IsWritten, IsWithinLimit, IsOverLimit, shift, shift_left, shift_right, digit_at, digits_from, HasDigitFrom, most_places};
 ghost use Rattle.fixed_decimal.specs.FractionEnds.{places_down_to as fraction_places_to, padded_to, IsTrimmed};
+ghost use Rattle.fixed_decimal.specs.Rounding.{IsRounded, zeros_below as integer_zeros_below};
 
 use crate::DecimalError;
 use crate::digits::{MOST_PLACES, number_of_digits};
 use crate::point::point_within;
+use crate::rounding::{RoundingMode, leave_rounded, rounded_end, rounded_places};
 use crate::span::{INLINE_DIGITS, digits_between, end_before_zeros, zeros_before};
 use itoa::Buffer;
 use smallvec::SmallVec;
@@ -368,6 +370,37 @@ impl UnsignedDecimal {
             self.fraction_places = end.saturating_sub(self.whole_places);
         }
     }
+
+    /// Rounds to a multiple of `10^position`: `1.257` at -2 is `1.26`, and at -4 `1.2570`; `1257` at
+    /// 2 is `1300`. It is written without leading zeros, 0 as one digit, and with a fraction down to
+    /// `10^position`, none from position 0 on. Without a sign, `Ceil` is `Expand` and `Floor` is
+    /// `Trunc`. `Limit` if a side would have more than 32767 places, as the fraction at -32768; the
+    /// number is then unchanged. It allocates nothing.
+    pub fn round_with_mode(&mut self, position: i16, mode: RoundingMode) -> Result<(), DecimalError>
+        ensures rounded { OnOk result (IsRounded mode position self.old self.new) }
+        ensures limit { (result ≡ Err DecimalError.Limit)
+            ↔ ((x : Places) × IsRounded mode position self.old x × IsOverLimit x) }
+        ensures only_limit { IfErr result (λ e. e ≡ DecimalError.Limit) }
+        ensures unchanged { OnErr result (self.new ≡ self.old) }
+    {
+        let fraction = places_down_to(position) as usize;
+        let zeros = zeros_below(position) as usize;
+        let above = self.whole_places as usize + fraction;
+        let below = self.leading_zeros as usize + zeros;
+        let kept = above.saturating_sub(below);
+        let gap = below.saturating_sub(above);
+        let (end, up) = rounded_end(self.span.as_slice(), kept, gap, mode);
+        let places = rounded_places(up, end, kept, zeros);
+        let whole = places.saturating_sub(fraction).max(1);
+        if whole.max(fraction) > MOST_PLACES as usize {
+            return Err(DecimalError::Limit);
+        }
+        leave_rounded(&mut self.span, end, up);
+        self.whole_places = whole as u16;
+        self.fraction_places = fraction as u16;
+        self.leading_zeros = (whole + fraction - places) as u16;
+        Ok(())
+    }
 }
 
 // How many fraction places reach down to a power of ten.
@@ -378,5 +411,16 @@ fn places_down_to(position: i16) -> u16
         position.unsigned_abs()
     } else {
         0
+    }
+}
+
+// How many integer places are below a power of ten.
+fn zeros_below(position: i16) -> u16
+    ensures { result ≡ integer_zeros_below position }
+{
+    if position < 0 {
+        0
+    } else {
+        position.unsigned_abs()
     }
 }

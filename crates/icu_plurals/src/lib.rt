@@ -175,7 +175,9 @@ mod packed;
 pub mod provider;
 
 pub use elements::PluralElements;
-pub use fixed_decimal::{CompactDecimal, Decimal, DecimalError, Sign, UnsignedDecimal};
+pub use fixed_decimal::{
+    CompactDecimal, Decimal, DecimalError, RoundingMode, Sign, UnsignedDecimal,
+};
 pub use packed::error::ElementsBytesError;
 pub use packed_list::{Items, ListError, PackError, PackedList};
 pub use plural_base::{

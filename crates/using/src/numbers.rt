@@ -1,7 +1,7 @@
 //! Written numbers: zeros, exponents, and any length.
 
 use icu_plurals::provider::PluralRulesData;
-use icu_plurals::{CompactDecimal, Decimal, PluralRules};
+use icu_plurals::{CompactDecimal, Decimal, PluralRules, RoundingMode};
 use std::alloc::Global;
 
 // The rules of French.
@@ -39,8 +39,9 @@ pub(crate) fn print_shown_numbers(rt: &impl Print, alloc: Global) -> anyhow::Res
     print_shown(rt, &rules, &price)?;
     price.pad_end(-2)?;
     print_shown(rt, &rules, &price)?;
-    let length = format!(in alloc; "{:.1}", 0.96f64)?;
+    let length = format!(in alloc; "{}", 0.96f64)?;
     let mut length = Decimal::from_str(alloc, length.as_str())?;
+    length.round_with_mode(-1, RoundingMode::HalfEven)?;
     print_shown(rt, &rules, &length)?;
     length.trim_end();
     print_shown(rt, &rules, &length)?;

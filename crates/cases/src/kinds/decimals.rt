@@ -1,7 +1,8 @@
 //! Numbers: read from texts, made of integers, shifted, and their digits.
 
 use crate::call::Call;
-use fixed_decimal::{CompactDecimal, Decimal, DecimalError, UnsignedDecimal};
+use fixed_decimal::{CompactDecimal, Decimal, DecimalError, RoundingMode, UnsignedDecimal};
+use std::alloc::Global;
 use std::fmt::Write;
 
 /// Makes the call of a kind of this file. Returns whether there is such a kind.
@@ -17,6 +18,8 @@ pub fn make(kind: &str, call: &mut Call) -> bool {
         "shifted_decimal" => shifted_decimal(call),
         "padded_decimal" => padded_decimal(call),
         "trimmed_decimal" => trimmed_decimal(call),
+        "rounded_decimal" => rounded_decimal(call),
+        "rounding_limit" => rounding_limit(call),
         "shown_decimal" => shown_decimal(call),
         "shown_compact" => shown_compact(call),
         "magnitudes" => magnitudes(call),
@@ -28,6 +31,7 @@ pub fn make(kind: &str, call: &mut Call) -> bool {
 // Makes the call of a kind that is about an unsigned decimal.
 fn makes_unsigned(kind: &str, call: &mut Call) -> bool {
     match kind {
+        "rounded_unsigned" => rounded_unsigned(call),
         "shifted_digits" => shifted_digits(call),
         "digits_at" => digits_at(call),
         "has_digit_from" => has_digit_from(call),
@@ -205,6 +209,98 @@ fn trimmed_decimal(call: &mut Call) {
     if let Some(mut number) = next_decimal(call) {
         number.trim_end();
         let _ = write!(call, "{number}");
+    }
+}
+
+// The modes, in the order in which their results are printed.
+const MODES: [RoundingMode; 6] = [
+    RoundingMode::HalfEven,
+    RoundingMode::HalfExpand,
+    RoundingMode::Trunc,
+    RoundingMode::Expand,
+    RoundingMode::Ceil,
+    RoundingMode::Floor,
+];
+
+// The texts of a decimal that is rounded in each mode.
+fn rounded_decimal(call: &mut Call) {
+    let text = call.text();
+    let position = call.magnitude();
+    for mode in MODES {
+        call.separate(" ");
+        match read_rounded(call.alloc, text.as_str(), position, mode) {
+            Ok(number) => call.print_value(&number),
+            Err(error) => call.print_error(&error),
+        }
+    }
+}
+
+fn read_rounded(
+    alloc: Global,
+    text: &str,
+    position: i16,
+    mode: RoundingMode,
+) -> Result<Decimal, DecimalError> {
+    let mut number = Decimal::from_str(alloc, text)?;
+    number.round_with_mode(position, mode)?;
+    Ok(number)
+}
+
+// The texts of an unsigned decimal that is rounded in each mode.
+fn rounded_unsigned(call: &mut Call) {
+    let text = call.text();
+    let position = call.magnitude();
+    for mode in MODES {
+        call.separate(" ");
+        match read_rounded_unsigned(call.alloc, text.as_str(), position, mode) {
+            Ok(number) => call.print_value(&number),
+            Err(error) => call.print_error(&error),
+        }
+    }
+}
+
+fn read_rounded_unsigned(
+    alloc: Global,
+    text: &str,
+    position: i16,
+    mode: RoundingMode,
+) -> Result<UnsignedDecimal, DecimalError> {
+    let mut number = UnsignedDecimal::from_str(alloc, text)?;
+    number.round_with_mode(position, mode)?;
+    Ok(number)
+}
+
+// What rounding gives, and the lowest and the highest place after it.
+fn rounding_limit(call: &mut Call) {
+    let Some(mut number) = next_decimal(call) else {
+        return;
+    };
+    let position = call.magnitude();
+    let name = call.text();
+    let Some(mode) = mode_of_name(name.as_str()) else {
+        call.not("a rounding mode");
+        return;
+    };
+    match number.round_with_mode(position, mode) {
+        Ok(()) => call.print("ok, "),
+        Err(error) => {
+            let _ = write!(call, "error {error:?}, ");
+        }
+    }
+    let (low, high) = number.absolute.magnitude_range();
+    let _ = write!(call, "{low}..{high}");
+}
+
+// The mode of a name.
+fn mode_of_name(name: &str) -> Option<RoundingMode> {
+    match name {
+        "HalfEven" => Some(RoundingMode::HalfEven),
+        "HalfExpand" => Some(RoundingMode::HalfExpand),
+        "Trunc" => Some(RoundingMode::Trunc),
+        "Expand" => Some(RoundingMode::Expand),
+        "Ceil" => Some(RoundingMode::Ceil),
+        "Floor" => Some(RoundingMode::Floor),
+        _ => None,
     }
 }
 

@@ -14,6 +14,7 @@ fn types_stand_at_their_paths() {
     named::<icu_plurals::UnsignedDecimal>();
     named::<icu_plurals::Decimal>();
     named::<icu_plurals::CompactDecimal>();
+    named::<icu_plurals::RoundingMode>();
     named::<icu_plurals::Sign>();
     named::<icu_plurals::DecimalError>();
     named::<icu_plurals::PackedList<'static>>();
