@@ -32,8 +32,16 @@ pub passes_on : (at inner : Step) (old new before after : List parts.Part) (e : 
 passes_on at inner old new before after (read.Fault fault) h f = f fault h
 passes_on at inner old new before after read.Memory h f = tt
 
+-- an outcome is passed on
+pub carries : (at inner : Step) (old before new : List parts.Part) (r : Result (Bor (List ℕ)) ReadError) → GivesOutcome inner before new r
+    → ((o : Outcome) → Reads inner (parts_view before) o → Reads at (parts_view old) o) → GivesOutcome at old new r
+carries at inner old before new (Ok rest) h f = f (Read (parts_view new) rest.now) h
+carries at inner old before new (Err (read.Fault fault)) h f = f (Faulty fault) h
+carries at inner old before new (Err read.Memory) h f = tt
+
 -- a fault of a reading is one of the text
-pub fault_of : (text : List ℕ) (new : List parts.Part) (e : ReadError) → GivesOutcome (step (InMessage Whole 0 false) text) [] new (Err e)
+pub fault_of : (text : List ℕ) (old new : List parts.Part) (e : ReadError) → old ≡ [] → GivesOutcome (step (InMessage Whole 0 false) text) old new (Err e)
     → IsFaultOf text (pattern_error text e)
-fault_of text new (read.Fault fault) h = (fault, h, refl, refl)
-fault_of text new read.Memory h = tt
+fault_of text old new (read.Fault fault) e h =
+    (fault, subst (λ (l : List parts.Part). Reads (step (InMessage Whole 0 false) text) (parts_view l) (Faulty fault)) e h, refl, refl)
+fault_of text old new read.Memory e h = tt

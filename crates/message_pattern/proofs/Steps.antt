@@ -92,28 +92,31 @@ argument_ends k d b s rest before after e f =
     (ends _ before _ rest (ap (branches_step k d b) e))
 
 -- where a branch may begin
-may_open : (k : ArgumentKind) (d : ℕ) (b : Bool) (sel : Selector) (rest : List ℕ) → d < DEPTH_LIMIT
+pub may_open : (k : ArgumentKind) (d : ℕ) (b : Bool) (sel : Selector) (rest : List ℕ) → d < DEPTH_LIMIT
     → opens_branch k d b sel rest ≡ Calls (one d (Branch sel)) (InMessage (context_of k) (d + 1) false) (InBranches k d (b || is_other sel)) rest
 may_open k d b sel rest room =
     ap (λ (fits : Bool). if fits then Calls (one d (Branch sel)) (InMessage (context_of k) (d + 1) false) (InBranches k d (b || is_other sel)) rest
     else Fails (fault_at TooDeep rest)) (lt-ltb d DEPTH_LIMIT room)
 
-pub branch_read : (k : ArgumentKind) (d : ℕ) (b : Bool) (s rest end : List ℕ) (sel : Selector) (before after inner : List Part) (o : Outcome)
-    → branch_front k b s ≡ Ok (branch.Opens sel rest) → d < DEPTH_LIMIT → after ≡ before ++ one d (Branch sel)
-    → Reads (step (InMessage (context_of k) (d + 1) false) rest) after (Read inner end)
-    → Reads (step (InBranches k d (b || is_other sel)) end) inner o → Reads (step (InBranches k d b) s) before o
-branch_read k d b s rest end sel before after inner o e room f h g =
+pub branch_read : (k : ArgumentKind) (d : ℕ) (b later : Bool) (c : Context) (s rest end : List ℕ) (sel : Selector) (before after inner : List Part) (o : Outcome)
+    → branch_front k b s ≡ Ok (branch.Opens sel rest) → d < DEPTH_LIMIT → c ≡ context_of k → later ≡ (b || is_other sel) → after ≡ before ++ one d (Branch sel)
+    → Reads (step (InMessage c (d + 1) false) rest) after (Read inner end)
+    → Reads (step (InBranches k d later) end) inner o → Reads (step (InBranches k d b) s) before o
+branch_read k d b later c s rest end sel before after inner o e room same_context same_later f h g =
     calls _ before _ inner (InMessage (context_of k) (d + 1) false) (InBranches k d (b || is_other sel)) rest end o
     (ap (branches_step k d b) e ∙ may_open k d b sel rest room)
-    (subst (λ (all : List Part). Reads (step (InMessage (context_of k) (d + 1) false) rest) all (Read inner end)) f h) g
+    (subst (λ (x : Context). Reads (step (InMessage x (d + 1) false) rest) (before ++ one d (Branch sel)) (Read inner end)) same_context
+    (subst (λ (all : List Part). Reads (step (InMessage c (d + 1) false) rest) all (Read inner end)) f h))
+    (subst (λ (v : Bool). Reads (step (InBranches k d v) end) inner o) same_later g)
 
-pub branch_broken : (k : ArgumentKind) (d : ℕ) (b : Bool) (s rest : List ℕ) (sel : Selector) (before after : List Part) (fault : Fault)
-    → branch_front k b s ≡ Ok (branch.Opens sel rest) → d < DEPTH_LIMIT → after ≡ before ++ one d (Branch sel)
-    → Reads (step (InMessage (context_of k) (d + 1) false) rest) after (Faulty fault) → Reads (step (InBranches k d b) s) before (Faulty fault)
-branch_broken k d b s rest sel before after fault e room f h =
+pub branch_broken : (k : ArgumentKind) (d : ℕ) (b : Bool) (c : Context) (s rest : List ℕ) (sel : Selector) (before after : List Part) (fault : Fault)
+    → branch_front k b s ≡ Ok (branch.Opens sel rest) → d < DEPTH_LIMIT → c ≡ context_of k → after ≡ before ++ one d (Branch sel)
+    → Reads (step (InMessage c (d + 1) false) rest) after (Faulty fault) → Reads (step (InBranches k d b) s) before (Faulty fault)
+branch_broken k d b c s rest sel before after fault e room same_context f h =
     breaks _ before _ (InMessage (context_of k) (d + 1) false) (InBranches k d (b || is_other sel)) rest fault
     (ap (branches_step k d b) e ∙ may_open k d b sel rest room)
-    (subst (λ (all : List Part). Reads (step (InMessage (context_of k) (d + 1) false) rest) all (Faulty fault)) f h)
+    (subst (λ (x : Context). Reads (step (InMessage x (d + 1) false) rest) (before ++ one d (Branch sel)) (Faulty fault)) same_context
+    (subst (λ (all : List Part). Reads (step (InMessage c (d + 1) false) rest) all (Faulty fault)) f h))
 
 pub too_deep : (k : ArgumentKind) (d : ℕ) (b : Bool) (s rest : List ℕ) (sel : Selector) (before : List Part)
     → branch_front k b s ≡ Ok (branch.Opens sel rest) → DEPTH_LIMIT ≤ d → Reads (step (InBranches k d b) s) before (Faulty (fault_at TooDeep rest))

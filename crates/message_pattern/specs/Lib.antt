@@ -4,6 +4,7 @@ pub mod PatternParts
 pub mod PatternText
 pub mod PatternHeads
 pub mod PatternReading
+pub mod PatternGrammar
 pub mod PatternAnswers
 pub mod PatternErrors
 -- not definitions of the subject

@@ -1,15 +1,17 @@
 -- What the reader of patterns may return: what the text is read as, or out of memory.
-use Rattle.std.specs.Prelude.{◌≡◌, ◌⊎◌, ℕ, ◌-◌, List, length, Result, Ok, Err}
+use Rattle.std.specs.Prelude.{◌≡◌, ◌⊎◌, ℕ, ◌-◌, false, List, length, Result, Ok, Err}
 use Rattle.message_pattern.specs.declared.error.Fault.{Fault}
 use Rattle.message_pattern.specs.declared.error.FaultKind.{FaultKind}
 use Rattle.message_pattern.specs.declared.error.PatternError as error
 use Rattle.message_pattern.specs.declared.error.PatternError.TheVariants as errors
+use Rattle.message_pattern.specs.declared.text.Context.TheVariants.{Whole}
 use Rattle.message_pattern.specs.PatternParts.{Part}
-use Rattle.message_pattern.specs.PatternReading.{Outcome, Read, Faulty, ReadsPattern}
+use Rattle.message_pattern.specs.PatternReading.{InMessage, Faulty, ReadsPattern}
+use Rattle.message_pattern.specs.PatternGrammar.{IsRead}
 
--- the text is a pattern with these parts
+-- the text is a pattern with these parts, by the grammar
 abbrev pub IsPattern : List ℕ → List Part → Type 0
-IsPattern text parts = (rest : List ℕ) × ReadsPattern text (Read parts rest)
+IsPattern text parts = (rest : List ℕ) × IsRead (InMessage Whole 0 false) text parts rest
 
 -- the text is none: its first fault is of this kind, at this byte
 abbrev pub HasFault : List ℕ → FaultKind → ℕ → Type 0

@@ -1,6 +1,5 @@
--- The heads of arguments and branches, or the first fault: what follows a brace that begins an
--- argument, up to its end or to its branches, and what stands before a branch (ICU MessageFormat,
--- Patterns and Their Interpretation; PluralFormat and SelectFormat).
+-- The heads of arguments and branches, or their first fault. The head of an argument is what follows
+-- its brace up to its end or its branches, and that of a branch what stands before it.
 use Rattle.std.specs.Prelude.{ℕ, ◌==◌, List, [], ◌∷◌, Bool, true, false, ◌&&◌, ◌||◌, not, Option, Some, None, Result, Ok, Err, length, codes, if◌then◌else◌}
 use Rattle.std.specs.Str.{str_eq_ignore_ascii_case}
 use Rattle.message_pattern.specs.declared.bytes.Class.TheVariants.{Name, Number, Digit, Letter}

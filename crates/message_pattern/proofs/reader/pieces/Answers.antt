@@ -23,6 +23,6 @@ pub pieces-preserved : goal.pieces-preserved
 pieces-preserved c = record {
   read = λ o h.
       c.pieces.invariant.read o
-      (piece_read c.args.context c.args.depth c.pieces.quoted c.in-Takes.remains c.pieces.rest.now c.in-Takes.after.now _ (parts_view c.pieces.parts.items) _ o (sym c.in-Takes.ensures.front) c.in_ok-push_any.ensures.ok h);
+      (piece_read c.args.context c.args.depth c.pieces.quoted c.in-Takes.remains c.pieces.rest.now c.in-Takes.after.now _ (parts_view c.pieces.parts.items) _ o (sym c.in-Takes.ensures.front) c.in_ok-push_any-in-Takes.ensures.ok h);
   shorter = omega (arith, c.in-Takes.ensures.shorter, c.pieces.invariant.shorter);
 }
