@@ -1,5 +1,5 @@
 //! The kinds of the upper crates: `icu_plurals`, `plural_message`, `plural_checker`,
-//! `plural_fallback` and `uses`.
+//! `plural_fallback`, `uses` and `message_pattern`.
 
 mod callers;
 mod checker;
@@ -10,6 +10,7 @@ mod fallback;
 mod messages;
 mod packed_texts;
 mod packing;
+mod patterns;
 
 use crate::call::Call;
 
@@ -23,4 +24,5 @@ pub fn make(kind: &str, call: &mut Call) -> bool {
         || checker::make(kind, call)
         || fallback::make(kind, call)
         || callers::make(kind, call)
+        || patterns::make(kind, call)
 }

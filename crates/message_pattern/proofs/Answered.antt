@@ -1,0 +1,62 @@
+-- What the reader returns is the only answer.
+use Rattle.std.proofs.Common.{◌≡◌, ◌⊎◌, ℕ, ◌-◌, false, List, [], length, Result, Ok, Err, refl, sym, ap, subst, ◌∙◌, inl, inr}
+use Rattle.message_pattern.specs.declared.error.Fault.{Fault}
+use Rattle.message_pattern.specs.declared.error.FaultKind.{FaultKind}
+use Rattle.message_pattern.specs.declared.error.PatternError as error
+use Rattle.message_pattern.specs.declared.error.PatternError.TheVariants as errors
+use Rattle.message_pattern.specs.PatternParts.{Part}
+use Rattle.message_pattern.specs.PatternReading.{InMessage, Outcome, Read, Faulty, ReadsPattern}
+use Rattle.message_pattern.specs.PatternGrammar.{IsRead}
+use Rattle.message_pattern.specs.declared.text.Context.TheVariants.{Whole}
+use Rattle.message_pattern.specs.PatternAnswers.{IsPattern, HasFault, IsUnlessMemory, IsFaultOf, IsAnswer, AnswersExactly}
+use Rattle.message_pattern.proofs.Readings.{one_outcome}
+use Rattle.message_pattern.proofs.GrammarReads.{read_again, reading_in}
+
+-- a pattern of the grammar is read so
+as_read : (text : List ℕ) (parts : List Part) → IsPattern text parts → (rest : List ℕ) × ReadsPattern text (Read parts rest)
+as_read text parts h = (h.0, read_again [] h.1)
+
+-- what is read is a pattern of the grammar
+pub in_grammar : (text rest : List ℕ) (parts : List Part) → ReadsPattern text (Read parts rest) → IsPattern text parts
+in_grammar text rest parts r =
+    let h = reading_in r (InMessage Whole 0 false) text refl in
+    (rest, subst (λ (l : List Part). IsRead (InMessage Whole 0 false) text l rest) (sym h.1) h.2)
+
+-- two lists of parts of a text are one
+pub one_list : (text : List ℕ) (a b : List Part) → IsPattern text a → IsPattern text b → a ≡ b
+one_list text a b h k =
+    let x = as_read text a h in let y = as_read text b k in
+    let e : Read a x.0 ≡ Read b y.0 = one_outcome x.1 y.1 in cc
+
+-- a pattern has no fault
+pub no_fault : (text : List ℕ) (a : List Part) (kind : FaultKind) (place : ℕ) → IsPattern text a → HasFault text kind place → ⊥
+no_fault text a kind place h k =
+    let x = as_read text a h in let e : Read a x.0 ≡ Faulty k.0 = one_outcome x.1 k.1 in cc
+
+-- two faults of a text are one
+pub one_fault : (text : List ℕ) (kind kind' : FaultKind) (place place' : ℕ) → HasFault text kind place → HasFault text kind' place'
+    → (kind ≡ kind') × (place ≡ place')
+one_fault text kind kind' place place' h k =
+    let e : Faulty h.0 ≡ Faulty k.0 = one_outcome h.1 k.1 in
+    let f : h.0 ≡ k.0 = cc in
+    (h.2 ∙ (ap (λ (x : Fault). x.kind) f ∙ sym k.2), h.3 ∙ (ap (λ (x : Fault). length text - x.left) f ∙ sym k.3))
+
+read_only : (text : List ℕ) (r : Result (List Part) error.PatternError) → IsAnswer text r
+    → (parts : List Part) → IsPattern text parts → IsUnlessMemory r (Ok parts)
+read_only text (Ok a) h parts k = inl (ap Ok (one_list text a parts h k))
+read_only text (Err (errors.Fault kind place)) h parts k = absurd (no_fault text parts kind place k h)
+read_only text (Err errors.Memory) h parts k = inr refl
+
+fault_only : (text : List ℕ) (r : Result (List Part) error.PatternError) → IsAnswer text r
+    → (kind : FaultKind) (place : ℕ) → HasFault text kind place → IsUnlessMemory r (Err (errors.Fault kind place))
+fault_only text (Ok a) h kind place k = absurd (no_fault text a kind place h k)
+fault_only text (Err (errors.Fault kind' place')) h kind place k =
+    let same : (kind' ≡ kind) × (place' ≡ place) = one_fault text kind' kind place' place h k in
+    let e : kind' ≡ kind = same.0 in
+    let f : place' ≡ place = same.1 in
+    inl cc
+fault_only text (Err errors.Memory) h kind place k = inr refl
+
+-- an answer is exactly what the text is read as
+pub answers : (text : List ℕ) (r : Result (List Part) error.PatternError) → IsAnswer text r → AnswersExactly text r
+answers text r h = record { only = h; read = read_only text r h; fault = fault_only text r h }

@@ -1,0 +1,11 @@
+pub mod Runs
+pub mod Parts
+pub mod Readings
+pub mod Steps
+pub mod Heads
+pub mod Answered
+pub mod Outcomes
+pub mod Longest
+pub mod GrammarHeads
+pub mod GrammarAgain
+pub mod GrammarReads

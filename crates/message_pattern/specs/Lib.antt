@@ -1,0 +1,11 @@
+-- patterns of messages
+pub mod PatternBytes
+pub mod PatternParts
+pub mod PatternText
+pub mod PatternHeads
+pub mod PatternReading
+pub mod PatternGrammar
+pub mod PatternAnswers
+pub mod PatternErrors
+-- not definitions of the subject
+pub mod Inner

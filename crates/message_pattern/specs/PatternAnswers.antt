@@ -1,0 +1,48 @@
+-- What the reader of patterns may return: what the text is read as, or out of memory.
+use Rattle.std.specs.Prelude.{◌≡◌, ◌⊎◌, ℕ, ◌-◌, false, List, length, Result, Ok, Err}
+use Rattle.message_pattern.specs.declared.error.Fault.{Fault}
+use Rattle.message_pattern.specs.declared.error.FaultKind.{FaultKind}
+use Rattle.message_pattern.specs.declared.error.PatternError as error
+use Rattle.message_pattern.specs.declared.error.PatternError.TheVariants as errors
+use Rattle.message_pattern.specs.declared.text.Context.TheVariants.{Whole}
+use Rattle.message_pattern.specs.PatternParts.{Part}
+use Rattle.message_pattern.specs.PatternReading.{InMessage, Faulty, ReadsPattern}
+use Rattle.message_pattern.specs.PatternGrammar.{IsRead}
+
+-- the text is a pattern with these parts, by the grammar
+abbrev pub IsPattern : List ℕ → List Part → Type 0
+IsPattern text parts = (rest : List ℕ) × IsRead (InMessage Whole 0 false) text parts rest
+
+-- the text is none: its first fault is of this kind, at this byte
+abbrev pub HasFault : List ℕ → FaultKind → ℕ → Type 0
+HasFault text kind place =
+    (fault : Fault) × ReadsPattern text (Faulty fault) × (kind ≡ fault.kind) × (place ≡ length text - fault.left)
+
+-- the result is this one, unless memory ran out
+abbrev pub IsUnlessMemory : Result (List Part) error.PatternError → Result (List Part) error.PatternError → Type 0
+IsUnlessMemory r answer = (r ≡ answer) ⊎ (r ≡ Err errors.Memory)
+
+-- the error is a fault that the text has, or out of memory
+abbrev pub IsFaultOf : List ℕ → error.PatternError → Type 0
+IsFaultOf text (errors.Fault kind place) = HasFault text kind place
+IsFaultOf text errors.Memory = Unit {0}
+
+-- what is returned is what the text is read as
+abbrev pub IsAnswer : List ℕ → Result (List Part) error.PatternError → Type 0
+IsAnswer text (Ok parts) = IsPattern text parts
+IsAnswer text (Err e) = IsFaultOf text e
+
+-- parts are returned if and only if the text is a pattern with these parts, and a fault if and only
+-- if the text has it, out of memory aside
+pub record AnswersExactly (text : List ℕ) (r : Result (List Part) error.PatternError) : Type 0 where
+  pub only : IsAnswer text r
+  pub read : (parts : List Part) → IsPattern text parts → IsUnlessMemory r (Ok parts)
+  pub fault : (kind : FaultKind) (place : ℕ) → HasFault text kind place → IsUnlessMemory r (Err (errors.Fault kind place))
+
+-- a text has at most one list of parts; if it has one, it has no fault; it has at most one fault
+abbrev pub HaveOneReading : Type 0
+HaveOneReading =
+    (text : List ℕ)
+    → ((a b : List Part) → IsPattern text a → IsPattern text b → a ≡ b)
+    × ((parts : List Part) (kind : FaultKind) (place : ℕ) → IsPattern text parts → HasFault text kind place → ⊥)
+    × ((a b : FaultKind) (m n : ℕ) → HasFault text a m → HasFault text b n → (a ≡ b) × (m ≡ n))

@@ -1,0 +1,112 @@
+//! Runs of bytes of one class, white space and words.
+
+ghost use Rattle.std.specs.Prelude.{◌≡◌, ◌≢◌, ◌∷◌, ◌≤◌, ◌<◌, ◌+◌, length, take, drop, IfSome, IfNone, None, Some};
+ghost use Rattle.message_pattern.specs.PatternBytes.{is_digit, is_letter, is_in, run, behind_run, white_width, after_white, after_word};
+
+/// A class of bytes.
+#[derive(Clone, Copy)]
+pub(crate) enum Class {
+    Name,
+    Number,
+    Digit,
+    Letter,
+    Plain,
+    Unquoted,
+}
+
+fn is_digit(byte: u8) -> bool
+    ensures { result ≡ is_digit byte }
+{
+    b'0' <= byte && byte <= b'9'
+}
+
+fn is_letter(byte: u8) -> bool
+    ensures { result ≡ is_letter byte }
+{
+    b'A' <= byte && byte <= b'Z' || b'a' <= byte && byte <= b'z'
+}
+
+fn is_in(class: Class, byte: u8) -> bool
+    ensures { result ≡ is_in class byte }
+{
+    match class {
+        Class::Name => is_letter(byte) || is_digit(byte) || byte == b'_' || 128 <= byte,
+        Class::Number => is_digit(byte) || byte == b'-' || byte == b'.',
+        Class::Digit => is_digit(byte),
+        Class::Letter => is_letter(byte),
+        Class::Plain => !(byte == b'\'' || byte == b'{' || byte == b'}' || byte == b'#'),
+        Class::Unquoted => !(byte == b'\''),
+    }
+}
+
+// What follows the longest front of the class.
+fn behind_run(class: Class, text: &[u8]) -> &[u8]
+    ensures rest { result.now ≡ behind_run class text.now }
+    ensures shorter { length result.now ≤ length text.now }
+{
+    let mut rest = text;
+    while let [first, after @ ..] = rest {
+        if !is_in(class, *first) {
+            return rest;
+        }
+        rest = after;
+    }
+    rest
+}
+
+// The longest front of the class, and what follows it.
+pub(crate) fn split_run(class: Class, text: &[u8]) -> (&[u8], &[u8])
+    ensures front { result.0.now ≡ run class text.now }
+    ensures rest { result.1.now ≡ behind_run class text.now }
+    ensures whole { length result.0.now + length result.1.now ≡ length text.now }
+{
+    text.split_at(text.len() - behind_run(class, text).len())
+}
+
+// How many bytes the white space at the front has.
+fn white_width(text: &[u8]) -> usize
+    ensures width { result ≡ white_width text.now }
+    ensures within { result ≤ length text.now }
+{
+    match text {
+        [a, ..] if 9 <= *a && *a <= 13 || *a == b' ' => 1,
+        [a, b, ..] if *a == 0xc2 && *b == 0x85 => 2,
+        [a, b, c, ..]
+            if (*a == 0xe2 && *b == 0x80)
+                && (0x8e <= *c && *c <= 0x8f || 0xa8 <= *c && *c <= 0xa9) => 3,
+        _ => 0,
+    }
+}
+
+// The bytes after the white space at the front.
+pub(crate) fn after_white(text: &[u8]) -> &[u8]
+    ensures rest { result.now ≡ after_white text.now }
+    ensures shorter { length result.now ≤ length text.now }
+{
+    let mut rest = text;
+    'white: loop {
+        let width = white_width(rest);
+        if width == 0 {
+            return rest;
+        }
+        rest = &rest[width..];
+    }
+}
+
+// What follows the word, if it is at the front.
+pub(crate) fn after_word<'a>(word: &[u8], text: &'a [u8]) -> Option<&'a [u8]>
+    ensures none { IfNone result (after_word word.now text.now ≡ None) }
+    ensures some { IfSome result (λ rest. (after_word word.now text.now ≡ Some rest.now) × (length rest.now ≤ length text.now)) }
+{
+    let mut rest = text;
+    for byte in word {
+        let [next, after @ ..] = rest else {
+            return None;
+        };
+        if byte != next {
+            return None;
+        }
+        rest = after;
+    }
+    Some(rest)
+}

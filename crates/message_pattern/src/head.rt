@@ -1,0 +1,192 @@
+//! The head of an argument: what stands between its brace and its end or its branches.
+
+ghost use Rattle.std.specs.Prelude.{◌≡◌, ◌∷◌, ◌≤◌, ◌<◌, IfOk, length};
+ghost use Rattle.message_pattern.specs.PatternHeads.{fault_at, unclosed, missing, is_bad_number, name_front, kind_named, style_front, kind_before, kind_front, digits_front, offset_front, choice_front, behind_name, head_front};
+ghost use Rattle.message_pattern.specs.Inner.PatternViews.{seen, head_view, digits_view};
+
+use crate::bytes::{Class, after_white, after_word, split_run};
+use crate::error::{Fault, FaultKind};
+use crate::part::ArgumentKind;
+
+// What follows the brace that begins an argument.
+pub(crate) enum Head<'p> {
+    Plain(&'p [u8]),
+    Choice(ArgumentKind, &'p [u8], Option<&'p [u8]>),
+}
+
+// The fault of this kind in front of the text.
+pub(crate) fn fault_at(kind: FaultKind, text: &[u8]) -> Fault
+    ensures { result ≡ fault_at kind text.now }
+{
+    Fault {
+        kind,
+        left: text.len(),
+    }
+}
+
+// The fault of a text that ends where more has to come.
+pub(crate) fn unclosed() -> Fault
+    ensures { result ≡ unclosed }
+{
+    Fault {
+        kind: FaultKind::Unclosed,
+        left: 0,
+    }
+}
+
+// What is expected isn't in front of the text.
+pub(crate) fn missing(kind: FaultKind, text: &[u8]) -> Fault
+    ensures { result ≡ missing kind text.now }
+{
+    match text {
+        [] => unclosed(),
+        _ => fault_at(kind, text),
+    }
+}
+
+// A number with a zero before other digits.
+fn is_bad_number(name: &[u8]) -> bool
+    ensures { result ≡ is_bad_number name.now }
+{
+    match name {
+        [first, rest @ ..] if *first == b'0' && !rest.is_empty() => {
+            let (_, after) = split_run(Class::Digit, rest);
+            after.is_empty()
+        }
+        _ => false,
+    }
+}
+
+// The name in front of the text, and what follows it and white space.
+fn name_front(text: &[u8]) -> Result<(&[u8], &[u8]), Fault>
+    ensures name { seen (λ x. (x.0.now, x.1.now)) result ≡ name_front text.now }
+    ensures shorter { IfOk result (λ x. length x.1.now ≤ length text.now) }
+{
+    let (name, rest) = split_run(Class::Name, text);
+    if name.is_empty() {
+        return Err(missing(FaultKind::ExpectedName, text));
+    }
+    if is_bad_number(name) {
+        return Err(fault_at(FaultKind::BadNumber, text));
+    }
+    Ok((name, after_white(rest)))
+}
+
+// The kind that a type names.
+fn kind_named(word: &[u8]) -> Option<ArgumentKind>
+    ensures { result ≡ kind_named word.now }
+{
+    if word.eq_ignore_ascii_case(b"plural") {
+        Some(ArgumentKind::Plural)
+    } else if word.eq_ignore_ascii_case(b"selectordinal") {
+        Some(ArgumentKind::Ordinal)
+    } else if word.eq_ignore_ascii_case(b"select") {
+        Some(ArgumentKind::Select)
+    } else {
+        None
+    }
+}
+
+// The comma before the argument's style.
+fn style_front(kind: ArgumentKind, text: &[u8]) -> Result<(ArgumentKind, &[u8]), Fault>
+    ensures style { seen (λ x. (x.0, x.1.now)) result ≡ style_front kind text.now }
+    ensures shorter { IfOk result (λ x. length x.1.now ≤ length text.now) }
+{
+    let [first, rest @ ..] = text else {
+        return Err(unclosed());
+    };
+    if *first != b',' {
+        return Err(fault_at(FaultKind::ExpectedStyle, text));
+    }
+    Ok((kind, rest))
+}
+
+// A type is in front of the text, which is followed by the rest.
+fn kind_before<'p>(
+    text: &[u8],
+    kind: Option<ArgumentKind>,
+    rest: &'p [u8],
+) -> Result<(ArgumentKind, &'p [u8]), Fault>
+    ensures kind { seen (λ x. (x.0, x.1.now)) result ≡ kind_before text.now kind rest.now }
+    ensures shorter { IfOk result (λ x. length x.1.now ≤ length rest.now) }
+{
+    match kind {
+        Some(kind) => style_front(kind, rest),
+        None => Err(fault_at(FaultKind::UnsupportedType, text)),
+    }
+}
+
+// The type in front of the text, and what follows it and its comma.
+fn kind_front(text: &[u8]) -> Result<(ArgumentKind, &[u8]), Fault>
+    ensures kind { seen (λ x. (x.0, x.1.now)) result ≡ kind_front text.now }
+    ensures shorter { IfOk result (λ x. length x.1.now ≤ length text.now) }
+{
+    let (word, rest) = split_run(Class::Letter, text);
+    if word.is_empty() {
+        return Err(missing(FaultKind::ExpectedType, text));
+    }
+    kind_before(text, kind_named(word), after_white(rest))
+}
+
+// The digits in front of the text.
+fn digits_front(text: &[u8]) -> Result<(Option<&[u8]>, &[u8]), Fault>
+    ensures digits { seen digits_view result ≡ digits_front text.now }
+    ensures shorter { IfOk result (λ x. length x.1.now ≤ length text.now) }
+{
+    let (digits, rest) = split_run(Class::Digit, text);
+    if digits.is_empty() {
+        return Err(missing(FaultKind::ExpectedOffset, text));
+    }
+    Ok((Some(digits), rest))
+}
+
+// The offset in front of the text: a select has none.
+fn offset_front(kind: ArgumentKind, text: &[u8]) -> Result<(Option<&[u8]>, &[u8]), Fault>
+    ensures offset { seen digits_view result ≡ offset_front kind text.now }
+    ensures shorter { IfOk result (λ x. length x.1.now ≤ length text.now) }
+{
+    if let ArgumentKind::Select = kind {
+        return Ok((None, text));
+    }
+    let text = after_white(text);
+    match after_word(b"offset:", text) {
+        Some(rest) => digits_front(after_white(rest)),
+        None => Ok((None, text)),
+    }
+}
+
+// The argument with this name chooses: its type and its offset are in front of the text.
+fn choice_front<'p>(name: &'p [u8], text: &'p [u8]) -> Result<(Head<'p>, &'p [u8]), Fault>
+    ensures head { seen (λ x. (head_view x.0, x.1.now)) result ≡ choice_front name.now text.now }
+    ensures shorter { IfOk result (λ x. length x.1.now ≤ length text.now) }
+{
+    let (kind, rest) = kind_front(after_white(text))?;
+    let (offset, rest) = offset_front(kind, rest)?;
+    Ok((Head::Choice(kind, name, offset), rest))
+}
+
+// What follows the name of an argument.
+fn behind_name<'p>(name: &'p [u8], text: &'p [u8]) -> Result<(Head<'p>, &'p [u8]), Fault>
+    ensures head { seen (λ x. (head_view x.0, x.1.now)) result ≡ behind_name name.now text.now }
+    ensures shorter { IfOk result (λ x. length x.1.now ≤ length text.now) }
+{
+    let [first, rest @ ..] = text else {
+        return Err(unclosed());
+    };
+    if *first == b'}' {
+        Ok((Head::Plain(name), rest))
+    } else if *first == b',' {
+        choice_front(name, rest)
+    } else {
+        Err(fault_at(FaultKind::ExpectedEnd, text))
+    }
+}
+
+// The head of an argument, in front of the text.
+pub(crate) fn head_front(text: &[u8]) -> Result<(Head<'_>, &[u8]), Fault>
+    ensures head { seen (λ x. (head_view x.0, x.1.now)) result ≡ head_front text.now }
+    ensures shorter { IfOk result (λ x. length x.1.now ≤ length text.now) }
+{
+    let (name, rest) = name_front(after_white(text))?;
+    behind_name(name, rest)
+}

@@ -1,0 +1,8 @@
+//! Laws of the definitions that the contracts name.
+
+ghost use Rattle.message_pattern.specs.PatternAnswers.{HaveOneReading};
+
+/// A text is read in at most one way: it has one list of parts, or one first fault, and never both.
+pub fn one_reading()
+    ensures { HaveOneReading }
+{}

@@ -1,0 +1,17 @@
+//! Patterns of messages, as ICU's MessageFormat writes them: read into a flat list of parts.
+#![tactic(auto)]
+
+mod branch;
+mod bytes;
+mod error;
+mod head;
+pub mod laws;
+mod part;
+mod pattern;
+mod reader;
+mod text;
+
+pub use error::{FaultKind, PatternError};
+pub use part::{ArgumentKind, Part, Piece, Selector};
+pub use pattern::Pattern;
+pub use reader::DEPTH_LIMIT;

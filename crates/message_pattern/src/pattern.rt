@@ -1,0 +1,61 @@
+//! A pattern that was read.
+
+ghost use Rattle.std.specs.Prelude.{◌≡◌};
+ghost use Rattle.message_pattern.specs.PatternParts.{parts_view};
+ghost use Rattle.message_pattern.specs.PatternAnswers.{AnswersExactly};
+ghost use Rattle.message_pattern.specs.Inner.PatternViews.{pattern_error};
+
+use crate::error::{PatternError, ReadError};
+use crate::part::Part;
+use crate::reader::message;
+use crate::text::Context;
+use std::alloc::Global;
+use std::marker::Model;
+
+/// A pattern of messages: the flat list of its parts, which borrow from the text.
+#[derive(Drop)]
+pub struct Pattern<'p> {
+    parts: Vec<Part<'p>>,
+}
+
+impl<'p> Model for Pattern<'p> {
+    ghost use Rattle.std.specs.Prelude.{List};
+    ghost use Rattle.message_pattern.specs.PatternParts.{parts_view};
+    ghost use Rattle.message_pattern.specs.PatternParts.{Part as SpecPart};
+
+    ghost Value = { List SpecPart };
+
+    ghost view = { λ pattern. parts_view pattern.parts.items };
+}
+
+impl<'p> Pattern<'p> {
+    /// Reads a pattern. It allocates the list of parts.
+    pub fn parse(alloc: Global, text: &'p [u8]) -> Result<Pattern<'p>, PatternError>
+        ensures { AnswersExactly text.now result }
+    {
+        let mut parts = Vec::new(alloc);
+        match message(Context::Whole, 0, text, &mut parts) {
+            Ok(_) => Ok(Pattern { parts }),
+            Err(error) => Err(pattern_error(text, error)),
+        }
+    }
+
+    /// Returns the parts, from the first to the last.
+    pub fn parts(&self) -> &[Part<'p>]
+        ensures { parts_view result.now ≡ self.now }
+    {
+        &self.parts
+    }
+}
+
+// The error of a reading: the place of a fault is counted from the text's first byte.
+fn pattern_error(text: &[u8], error: ReadError) -> PatternError
+    ensures { result ≡ pattern_error text.now error }
+{
+    match error {
+        ReadError::Fault(fault) => {
+            PatternError::Fault(fault.kind, text.len().saturating_sub(fault.left))
+        }
+        ReadError::Memory => PatternError::Memory,
+    }
+}
