@@ -16,16 +16,15 @@ use std::marker::Model;
 /// <!-- snippet crates/using/src/calls/numbers.rt: body of fn print_compact -->
 /// ```
 /// let number = CompactDecimal::from_str(alloc, "1.2c6")?;
-/// println!(rt; "{}", number.exponent())?;
-/// println!(rt; "{}", number.significand().absolute.digit_at(-1))?;
+/// let digit = number.significand().absolute.digit_at(-1);
+/// println!(rt; "exponent {}, tenths {digit}", number.exponent())?;
 /// ```
 ///
 /// This prints
 ///
 /// <!-- snippet crates/using/stdout: section a compact decimal -->
 /// ```text
-/// 6
-/// 2
+/// exponent 6, tenths 2
 /// ```
 #[derive(Debug, Drop)]
 pub struct CompactDecimal {

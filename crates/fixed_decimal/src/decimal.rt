@@ -19,17 +19,15 @@ use std::alloc::Global;
 /// <!-- snippet crates/using/src/calls/numbers.rt: body of fn print_decimal -->
 /// ```
 /// let number = Decimal::from_str(alloc, "-12.50")?;
-/// println!(rt; "{:?}", number.sign)?;
 /// let (lowest, highest) = number.absolute.magnitude_range();
-/// println!(rt; "{lowest} to {highest}")?;
+/// println!(rt; "{:?}, {lowest} to {highest}", number.sign)?;
 /// ```
 ///
 /// This prints
 ///
 /// <!-- snippet crates/using/stdout: section a decimal -->
 /// ```text
-/// Negative
-/// -2 to 1
+/// Negative, -2 to 1
 /// ```
 #[derive(Debug, Drop)]
 pub struct Decimal {

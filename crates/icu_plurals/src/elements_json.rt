@@ -28,11 +28,10 @@ impl PluralElementsPackedCow<'static> {
     ///
     /// For example:
     ///
-    /// <!-- snippet crates/using/src/calls/packed.rt: "let value" to "println" of fn print_json -->
+    /// <!-- snippet crates/using/src/calls/packed.rt: "let value" to "let elements" of fn show_json -->
     /// ```
     /// let value = Value::from_str(alloc, r#"{"other":[0,"files"],"one":[0,"file"]}"#)?;
     /// let elements = PluralElementsPackedCow::from_json(alloc, &value)?;
-    /// println!(rt; "{} bytes", elements.as_packed().as_bytes().len())?;
     /// ```
     ///
     /// [`JsonError::Float`] if the value holds a float, else [`JsonError::Shape`] if a part has
@@ -66,22 +65,32 @@ impl<'data> PluralElementsPackedCow<'data> {
     /// an object with a list of metadata and text under the key of each value that is present. It
     /// allocates; the only error is [`JsonError::Memory`].
     ///
-    /// <!-- snippet crates/using/src/calls/packed.rt: body of fn print_json -->
+    /// <!-- snippet crates/using/src/calls/packed.rt: fn show_json; fn print_json -->
     /// ```
-    /// let value = Value::from_str(alloc, r#"{"other":[0,"files"],"one":[0,"file"]}"#)?;
-    /// let elements = PluralElementsPackedCow::from_json(alloc, &value)?;
-    /// println!(rt; "{} bytes", elements.as_packed().as_bytes().len())?;
-    /// let written = elements.to_json(alloc)?;
-    /// let again = PluralElementsPackedCow::from_json(alloc, &written)?;
-    /// println!(rt; "{}", again == elements)?;
+    /// fn show_json(rt: &HostRuntime, alloc: Global) -> anyhow::Result<()> {
+    ///     let value = Value::from_str(alloc, r#"{"other":[0,"files"],"one":[0,"file"]}"#)?;
+    ///     let elements = PluralElementsPackedCow::from_json(alloc, &value)?;
+    ///     print_json(rt, alloc, &elements)
+    /// }
+    ///
+    /// fn print_json(
+    ///     rt: &HostRuntime,
+    ///     alloc: Global,
+    ///     elements: &PluralElementsPackedCow<'_>,
+    /// ) -> anyhow::Result<()> {
+    ///     let written = elements.to_json(alloc)?;
+    ///     let again = PluralElementsPackedCow::from_json(alloc, &written)?;
+    ///     let size = elements.as_packed().as_bytes().len();
+    ///     println!(rt; "{size} bytes, {}", again == *elements)?;
+    ///     Ok(())
+    /// }
     /// ```
     ///
     /// This prints
     ///
     /// <!-- snippet crates/using/stdout: section elements as JSON -->
     /// ```text
-    /// 14 bytes
-    /// true
+    /// 14 bytes, true
     /// ```
     pub fn to_json(&self, alloc: Global) -> Result<Value, JsonError>
         ensures written { IfOk result (λ value. view value ≡ elements_json (elements_of self.now)) }

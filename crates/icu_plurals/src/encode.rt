@@ -24,7 +24,7 @@ impl PluralElementsPackedULE<'_> {
     /// other is the default.
     ///
     /// <!-- snippet crates/using/src/calls/packed.rt:
-    ///      "let elements" to "let bytes" of fn print_encoded -->
+    ///      "let elements" to "let bytes" of fn show_encoded -->
     /// ```
     /// let elements = PluralElements::new((FourBitMetadata::zero(), "files")).with_one_value(Some((
     ///     FourBitMetadata::zero(),

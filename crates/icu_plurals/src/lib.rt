@@ -9,13 +9,15 @@
 //!
 //! The rules of a language are read from texts as CLDR writes them, those of Czech from
 //!
-//! <!-- snippet crates/using/src/texts.rt: "let one" to "let czech" of fn print_czech -->
+//! <!-- snippet crates/using/src/texts.rt: fn czech -->
 //! ```
-//! let one = Some("i = 1 and v = 0 @integer 1");
-//! let few = Some("i = 2..4 and v = 0 @integer 2~4");
-//! let many = Some("v != 0 @decimal 0.0~1.5, 10.0, 100.0, …");
-//! let data = PluralRulesData::from_texts(alloc, None, one, None, few, many)?;
-//! let czech = PluralRules::from_data(data);
+//! fn czech(alloc: Global) -> anyhow::Result<PluralRules<'static>> {
+//!     let one = Some("i = 1 and v = 0 @integer 1");
+//!     let few = Some("i = 2..4 and v = 0 @integer 2~4");
+//!     let many = Some("v != 0 @decimal 0.0~1.5, 10.0, 100.0, …");
+//!     let data = PluralRulesData::from_texts(alloc, None, one, None, few, many)?;
+//!     Ok(PluralRules::from_data(data))
+//! }
 //! ```
 //!
 //! A JSON document has rules of several locales, and the categories of their ranges:
@@ -40,9 +42,10 @@
 //!
 //! # The category of a number
 //!
-//! <!-- snippet crates/using/src/json.rt: body of fn print_places -->
+//! <!-- snippet crates/using/src/json.rt: "let ordinal" to "let ordinal" of fn show_places; body of fn print_places -->
 //! ```
 //! let ordinal = PluralRules::try_new_ordinal_unstable(provider, "en")?;
+//!
 //! for place in [1u32, 2, 3, 11, 22] {
 //!     let category = ordinal.category_for(PluralOperands::from(place));
 //!     println!(rt; "{place}: {category:?}")?;
@@ -64,7 +67,7 @@
 //! [`PluralRules::is_exact_for`] returns whether its category is that of the number itself, and not
 //! only of what is kept of it: with the rules of French
 //!
-//! <!-- snippet crates/using/src/numbers.rt: fn french; body of fn print_exactness -->
+//! <!-- snippet crates/using/src/numbers.rt: fn french; "let french" to "let french" of fn show_exactness; body of fn print_exactness -->
 //! ```
 //! fn french(alloc: Global) -> anyhow::Result<PluralRules<'static>> {
 //!     let one = Some("i = 0,1");
@@ -73,15 +76,16 @@
 //!     Ok(PluralRules::from_data(data))
 //! }
 //!
-//! let rules = french(alloc)?;
+//! let french = french(alloc)?;
+//!
 //! for text in [
 //!     "100000000000000000000000000000",
 //!     "0.000000000000000001",
 //!     "0.0000000000000000001",
 //! ] {
 //!     let number = CompactDecimal::from_str(alloc, text)?;
-//!     let category = rules.category_for_compact(&number);
-//!     let is_exact = rules.is_exact_for(&number);
+//!     let category = french.category_for_compact(&number);
+//!     let is_exact = french.is_exact_for(&number);
 //!     println!(rt; "{text}: {category:?}, exact: {is_exact}")?;
 //! }
 //! ```
@@ -97,9 +101,10 @@
 //!
 //! # Ranges
 //!
-//! <!-- snippet crates/using/src/ranges.rt: body of fn print_ranges -->
+//! <!-- snippet crates/using/src/ranges.rt: "let english" to "let english" of fn show_ranges; body of fn print_ranges -->
 //! ```
 //! let english = PluralRulesWithRanges::try_new_cardinal_unstable(provider, "en")?;
+//!
 //! for (start, end) in [(0u8, 1u8), (1, 2)] {
 //!     let start = PluralOperands::from(start);
 //!     let end = PluralOperands::from(end);
@@ -119,37 +124,36 @@
 //!
 //! [`PluralElements`] have a value for each category. Texts may be packed, and read in place:
 //!
-//! <!-- snippet crates/using/src/elements.rt: body of fn print_stored_texts -->
+//! <!-- snippet crates/using/src/elements.rt: "let texts" to "let bytes" of fn show_stored_texts; body of fn print_stored_texts -->
 //! ```
 //! let texts = PluralElements::new("files").with_one_value(Some("file"));
 //! let packed = PluralElementsPackedCow::from_elements(alloc, &texts)?;
 //! let bytes = packed.as_packed().as_bytes();
-//! println!(rt; "{} bytes", bytes.len())?;
 //!
 //! let stored = PluralElementsPackedULE::parse_bytes(bytes)?;
 //! let (_, text) = stored.get(PluralOperands::from(1u8), rules);
-//! println!(rt; "{text}")?;
+//! println!(rt; "{} bytes: {text}", bytes.len())?;
 //! ```
 //!
 //! prints
 //!
 //! <!-- snippet crates/using/stdout: section stored -->
 //! ```text
-//! 14 bytes
-//! file
+//! 14 bytes: file
 //! ```
 //!
 //! # Messages
 //!
 //! The crate `plural_message`, which a caller names beside this one, puts the number into the text:
 //!
-//! <!-- snippet crates/using/src/messages.rt: body of fn print_messages -->
+//! <!-- snippet crates/using/src/messages.rt: "let texts" to "let message" of fn show_messages; body of fn print_messages -->
 //! ```
 //! let texts = PluralElements::new("{} files were copied")
 //!     .with_one_value(Some("{} file was copied"))
 //!     .with_explicit_zero_value(Some("no file was copied"));
 //! let packed = PluralElementsPackedCow::from_elements(alloc, &texts)?;
 //! let message = Message::new(packed.as_packed());
+//!
 //! for number in ["0", "1", "1.5"] {
 //!     let text = message.format(alloc, number, rules)?;
 //!     println!(rt; "{text}")?;

@@ -22,18 +22,25 @@ use plural_reference::PluralOperands;
 /// Elements as checked bytes: a default, and either nothing else or a packed list of items after
 /// it. Each value is metadata and a text. Two are equal if and only if their bytes are.
 ///
-/// <!-- snippet crates/using/src/calls/packed.rt: body of fn print_encoded -->
+/// <!-- snippet crates/using/src/calls/packed.rt: fn show_encoded; fn print_encoded -->
 /// ```
-/// let elements = PluralElements::new((FourBitMetadata::zero(), "files")).with_one_value(Some((
-///     FourBitMetadata::zero(),
-///     "file",
-/// )));
-/// let bytes = PluralElementsPackedULE::encode(alloc, &elements)?;
-/// let packed = PluralElementsPackedULE::parse_bytes(&bytes)?;
-/// for number in [1u8, 2] {
-///     let (metadata, text) = packed.get(PluralOperands::from(number), rules);
-///     let metadata = metadata.get();
-///     println!(rt; "{number}: {text}, {metadata}")?;
+/// fn show_encoded(rt: &HostRuntime, alloc: Global, rules: &PluralRules<'_>) -> anyhow::Result<()> {
+///     let elements = PluralElements::new((FourBitMetadata::zero(), "files")).with_one_value(Some((
+///         FourBitMetadata::zero(),
+///         "file",
+///     )));
+///     let bytes = PluralElementsPackedULE::encode(alloc, &elements)?;
+///     print_encoded(rt, bytes.as_slice(), rules)
+/// }
+///
+/// fn print_encoded(rt: &HostRuntime, bytes: &[u8], rules: &PluralRules<'_>) -> anyhow::Result<()> {
+///     let packed = PluralElementsPackedULE::parse_bytes(bytes)?;
+///     for number in [1u8, 2] {
+///         let (metadata, text) = packed.get(PluralOperands::from(number), rules);
+///         let metadata = metadata.get();
+///         println!(rt; "{number}: {text}, {metadata}")?;
+///     }
+///     Ok(())
 /// }
 /// ```
 ///
@@ -64,7 +71,7 @@ impl<'a> PluralElementsPackedULE<'a> {
     /// ```
     /// let stored = PluralElementsPackedULE::parse_bytes(bytes)?;
     /// let (_, text) = stored.get(PluralOperands::from(1u8), rules);
-    /// println!(rt; "{text}")?;
+    /// println!(rt; "{} bytes: {text}", bytes.len())?;
     /// ```
     ///
     /// The faults, in the order in which they are looked for: no byte
@@ -139,18 +146,15 @@ impl<'a> PluralElementsPackedULE<'a> {
     /// let packed = PluralElementsPackedULE::parse_bytes(b"\x85\x05files\x01\0\x10file")?;
     /// let elements = packed.decode();
     /// let (metadata, text) = *elements.other();
-    /// let metadata = metadata.get();
-    /// println!(rt; "{text}, {metadata}")?;
-    /// let (_, text) = *elements.one();
-    /// println!(rt; "{text}")?;
+    /// let (_, one) = *elements.one();
+    /// println!(rt; "{text}, {one}, {}", metadata.get())?;
     /// ```
     ///
     /// This prints
     ///
     /// <!-- snippet crates/using/stdout: section decode -->
     /// ```text
-    /// files, 5
-    /// file
+    /// files, file, 5
     /// ```
     pub fn decode(&self) -> PluralElements<(FourBitMetadata, &'a str)>
         ensures { each_by lent_value result ≡ elements_of (lent_elements self.now) }

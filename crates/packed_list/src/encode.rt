@@ -16,7 +16,7 @@ impl<'a> PackedList<'a> {
     /// ([`PackError::StartLimit`]); out of memory ([`PackError::Memory`]).
     ///
     /// <!-- snippet crates/using/src/calls/lists.rt:
-    ///      "let items" to "let bytes" of fn print_list -->
+    ///      "let items" to "let bytes" of fn show_list -->
     /// ```
     /// let items: [&[u8]; 3] = [b"ab", b"", b"cd"];
     /// let bytes = PackedList::encode(alloc, &items)?;

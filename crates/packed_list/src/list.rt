@@ -48,14 +48,21 @@ impl<'a> PackedList<'a> {
     /// count and the starts take ([`ListError::Header`]); a count of 0 ([`ListError::ZeroCount`]);
     /// a start that is below the previous one or after the data ([`ListError::Start`]).
     ///
-    /// <!-- snippet crates/using/src/calls/lists.rt: body of fn print_list -->
+    /// <!-- snippet crates/using/src/calls/lists.rt: fn show_list; fn print_list -->
     /// ```
-    /// let items: [&[u8]; 3] = [b"ab", b"", b"cd"];
-    /// let bytes = PackedList::encode(alloc, &items)?;
-    /// let list = PackedList::parse_bytes(&bytes)?;
-    /// println!(rt; "{} items in {} bytes", list.len(), bytes.len())?;
-    /// if let Some(item) = list.get(2) {
-    ///     println!(rt; "the last one has {} bytes", item.len())?;
+    /// fn show_list(rt: &HostRuntime, alloc: Global) -> anyhow::Result<()> {
+    ///     let items: [&[u8]; 3] = [b"ab", b"", b"cd"];
+    ///     let bytes = PackedList::encode(alloc, &items)?;
+    ///     print_list(rt, bytes.as_slice())
+    /// }
+    ///
+    /// fn print_list(rt: &HostRuntime, bytes: &[u8]) -> anyhow::Result<()> {
+    ///     let list = PackedList::parse_bytes(bytes)?;
+    ///     println!(rt; "{} items in {} bytes", list.len(), bytes.len())?;
+    ///     if let Some(item) = list.get(2) {
+    ///         println!(rt; "the last one has {} bytes", item.len())?;
+    ///     }
+    ///     Ok(())
     /// }
     /// ```
     ///

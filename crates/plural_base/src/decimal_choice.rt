@@ -14,10 +14,15 @@ impl<'data> PluralRules<'data> {
     /// [`PluralRules::is_exact_for_decimal`] holds and the rules come from texts, it is the
     /// category of the number itself, whatever its length. It allocates nothing.
     ///
-    /// <!-- snippet crates/using/src/calls/rules.rt: body of fn print_decimals -->
+    /// <!-- snippet crates/using/src/calls/rules.rt: fn by_three; "let rules" to "let rules" of fn show_by_three; body of fn print_decimals -->
     /// ```
-    /// let data = PluralRulesData::from_texts(alloc, None, Some("i % 3 = 2"), None, None, None)?;
-    /// let rules = PluralRules::from_data(data);
+    /// fn by_three(alloc: Global) -> anyhow::Result<PluralRules<'static>> {
+    ///     let data = PluralRulesData::from_texts(alloc, None, Some("i % 3 = 2"), None, None, None)?;
+    ///     Ok(PluralRules::from_data(data))
+    /// }
+    ///
+    /// let rules = by_three(alloc)?;
+    ///
     /// for text in ["5.0", "2000000000000000000"] {
     ///     let number = Decimal::from_str(alloc, text)?;
     ///     let category = rules.category_for_decimal(&number);
@@ -48,7 +53,7 @@ impl<'data> PluralRules<'data> {
     ///
     /// In French
     ///
-    /// <!-- snippet crates/using/src/numbers.rt: fn french; body of fn print_numbers -->
+    /// <!-- snippet crates/using/src/numbers.rt: fn french; "let french" to "let french" of fn show_numbers; body of fn print_numbers -->
     /// ```
     /// fn french(alloc: Global) -> anyhow::Result<PluralRules<'static>> {
     ///     let one = Some("i = 0,1");
@@ -57,10 +62,11 @@ impl<'data> PluralRules<'data> {
     ///     Ok(PluralRules::from_data(data))
     /// }
     ///
-    /// let rules = french(alloc)?;
+    /// let french = french(alloc)?;
+    ///
     /// for text in ["1", "1.50", "1000000", "1000000.0", "1.2c6", "-2"] {
     ///     let number = CompactDecimal::from_str(alloc, text)?;
-    ///     let category = rules.category_for_compact(&number);
+    ///     let category = french.category_for_compact(&number);
     ///     println!(rt; "{text}: {category:?}")?;
     /// }
     /// ```

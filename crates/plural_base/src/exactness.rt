@@ -24,7 +24,7 @@ impl<'data> PluralRules<'data> {
     /// rules whose moduli on `n` and `i` all divide `10^18`. Places count as they are written, with
     /// leading and trailing zeros. It allocates nothing.
     ///
-    /// <!-- snippet crates/using/src/numbers.rt: fn french; body of fn print_exactness -->
+    /// <!-- snippet crates/using/src/numbers.rt: fn french; "let french" to "let french" of fn show_exactness; body of fn print_exactness -->
     /// ```
     /// fn french(alloc: Global) -> anyhow::Result<PluralRules<'static>> {
     ///     let one = Some("i = 0,1");
@@ -33,15 +33,16 @@ impl<'data> PluralRules<'data> {
     ///     Ok(PluralRules::from_data(data))
     /// }
     ///
-    /// let rules = french(alloc)?;
+    /// let french = french(alloc)?;
+    ///
     /// for text in [
     ///     "100000000000000000000000000000",
     ///     "0.000000000000000001",
     ///     "0.0000000000000000001",
     /// ] {
     ///     let number = CompactDecimal::from_str(alloc, text)?;
-    ///     let category = rules.category_for_compact(&number);
-    ///     let is_exact = rules.is_exact_for(&number);
+    ///     let category = french.category_for_compact(&number);
+    ///     let is_exact = french.is_exact_for(&number);
     ///     println!(rt; "{text}: {category:?}, exact: {is_exact}")?;
     /// }
     /// ```
@@ -63,10 +64,15 @@ impl<'data> PluralRules<'data> {
 
     /// As [`PluralRules::is_exact_for`], for a number without an exponent.
     ///
-    /// <!-- snippet crates/using/src/calls/rules.rt: body of fn print_decimals -->
+    /// <!-- snippet crates/using/src/calls/rules.rt: fn by_three; "let rules" to "let rules" of fn show_by_three; body of fn print_decimals -->
     /// ```
-    /// let data = PluralRulesData::from_texts(alloc, None, Some("i % 3 = 2"), None, None, None)?;
-    /// let rules = PluralRules::from_data(data);
+    /// fn by_three(alloc: Global) -> anyhow::Result<PluralRules<'static>> {
+    ///     let data = PluralRulesData::from_texts(alloc, None, Some("i % 3 = 2"), None, None, None)?;
+    ///     Ok(PluralRules::from_data(data))
+    /// }
+    ///
+    /// let rules = by_three(alloc)?;
+    ///
     /// for text in ["5.0", "2000000000000000000"] {
     ///     let number = Decimal::from_str(alloc, text)?;
     ///     let category = rules.category_for_decimal(&number);

@@ -22,13 +22,18 @@ use std::marker::Model;
 /// number's category: the first of zero, one, two, few and many whose rule is present and true,
 /// else other.
 ///
-/// <!-- snippet crates/using/src/texts.rt: "let one" to "}" of fn print_czech -->
+/// <!-- snippet crates/using/src/texts.rt: fn czech; "let czech" to "let czech" of fn show_czech; body of fn print_czech -->
 /// ```
-/// let one = Some("i = 1 and v = 0 @integer 1");
-/// let few = Some("i = 2..4 and v = 0 @integer 2~4");
-/// let many = Some("v != 0 @decimal 0.0~1.5, 10.0, 100.0, …");
-/// let data = PluralRulesData::from_texts(alloc, None, one, None, few, many)?;
-/// let czech = PluralRules::from_data(data);
+/// fn czech(alloc: Global) -> anyhow::Result<PluralRules<'static>> {
+///     let one = Some("i = 1 and v = 0 @integer 1");
+///     let few = Some("i = 2..4 and v = 0 @integer 2~4");
+///     let many = Some("v != 0 @decimal 0.0~1.5, 10.0, 100.0, …");
+///     let data = PluralRulesData::from_texts(alloc, None, one, None, few, many)?;
+///     Ok(PluralRules::from_data(data))
+/// }
+///
+/// let czech = czech(alloc)?;
+///
 /// for number in [1u32, 3, 5] {
 ///     let category = czech.category_for(PluralOperands::from(number));
 ///     println!(rt; "{number}: {category:?}")?;
@@ -71,10 +76,15 @@ impl<'data> PluralRules<'data> {
 
     /// The category of a number by its operands. It allocates nothing.
     ///
-    /// <!-- snippet crates/using/src/calls/rules.rt: body of fn print_integers -->
+    /// <!-- snippet crates/using/src/calls/rules.rt: fn by_three; "let rules" to "let rules" of fn show_by_three; body of fn print_integers -->
     /// ```
-    /// let data = PluralRulesData::from_texts(alloc, None, Some("i % 3 = 2"), None, None, None)?;
-    /// let rules = PluralRules::from_data(data);
+    /// fn by_three(alloc: Global) -> anyhow::Result<PluralRules<'static>> {
+    ///     let data = PluralRulesData::from_texts(alloc, None, Some("i % 3 = 2"), None, None, None)?;
+    ///     Ok(PluralRules::from_data(data))
+    /// }
+    ///
+    /// let rules = by_three(alloc)?;
+    ///
     /// for number in [5u64, 6, 2_000_000_000_000_000_000] {
     ///     let category = rules.category_for(PluralOperands::from(number));
     ///     println!(rt; "{number}: {category:?}")?;

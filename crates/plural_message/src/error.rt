@@ -7,11 +7,12 @@ use std::fmt;
 
 /// Why there is no message for a number.
 ///
-/// <!-- snippet crates/using/src/calls/messages.rt: body of fn print_faults -->
+/// <!-- snippet crates/using/src/calls/messages.rt: "let texts" to "let message" of fn show_all; body of fn print_faults -->
 /// ```
-/// let texts = PluralElements::new("{} items");
+/// let texts = PluralElements::new("{} items").with_one_value(Some("{} item"));
 /// let packed = PluralElementsPackedCow::from_elements(alloc, &texts)?;
 /// let message = Message::new(packed.as_packed());
+///
 /// for number in ["x", "1c0256", "1c256"] {
 ///     if let Err(error) = message.format(alloc, number, rules) {
 ///         println!(rt; "{number}: {error}")?;

@@ -20,13 +20,14 @@ use std::marker::Model;
 /// A text for each plural category, and for exactly 0 and exactly 1, in which `{}` marks the
 /// number's place.
 ///
-/// <!-- snippet crates/using/src/messages.rt: body of fn print_messages -->
+/// <!-- snippet crates/using/src/messages.rt: "let texts" to "let message" of fn show_messages; body of fn print_messages -->
 /// ```
 /// let texts = PluralElements::new("{} files were copied")
 ///     .with_one_value(Some("{} file was copied"))
 ///     .with_explicit_zero_value(Some("no file was copied"));
 /// let packed = PluralElementsPackedCow::from_elements(alloc, &texts)?;
 /// let message = Message::new(packed.as_packed());
+///
 /// for number in ["0", "1", "1.5"] {
 ///     let text = message.format(alloc, number, rules)?;
 ///     println!(rt; "{text}")?;
@@ -71,11 +72,12 @@ impl<'a> Message<'a> {
     ///
     /// For example:
     ///
-    /// <!-- snippet crates/using/src/calls/messages.rt: body of fn print_written -->
+    /// <!-- snippet crates/using/src/calls/messages.rt: "let texts" to "let message" of fn show_all; body of fn print_written -->
     /// ```
     /// let texts = PluralElements::new("{} items").with_one_value(Some("{} item"));
     /// let packed = PluralElementsPackedCow::from_elements(alloc, &texts)?;
     /// let message = Message::new(packed.as_packed());
+    ///
     /// for number in ["1", "1.0", "1c6", "-1"] {
     ///     println!(rt; "{}", message.format(alloc, number, rules)?)?;
     /// }
@@ -158,7 +160,7 @@ impl<'a> Message<'a> {
     /// <!-- snippet crates/using/src/messages.rt: "let mut room" to "}" of fn print_in_place -->
     /// ```
     /// let mut room = [0u8; 32];
-    /// let length = message.format_number_into(&number, "1,234,567", rules, &mut room);
+    /// let length = message.format_number_into(number, "1,234,567", rules, &mut room);
     /// if let Some(written) = room.get(..length) {
     ///     println!(rt; "{length} bytes: {}", std::str::from_utf8(written)?)?;
     /// }

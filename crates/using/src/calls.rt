@@ -13,23 +13,23 @@ use std::alloc::Global;
 
 // Calls of elements, packed and not, and of messages.
 pub(crate) fn show_elements(
-    rt: &impl Print,
+    rt: &HostRuntime,
     alloc: Global,
     rules: &PluralRules<'_>,
 ) -> anyhow::Result<()> {
-    closures::show(rt, alloc)?;
-    packed::show(rt, alloc, rules)?;
-    messages::show(rt, alloc, rules)
+    closures::show_all(rt, alloc)?;
+    packed::show_all(rt, alloc, rules)?;
+    messages::show_all(rt, alloc, rules)
 }
 
 // Calls of rules, ranges, numbers and lists.
 pub(crate) fn show_rules(
-    rt: &impl Print,
+    rt: &HostRuntime,
     alloc: Global,
     provider: &JsonProvider,
 ) -> anyhow::Result<()> {
-    rules::show(rt, alloc, provider)?;
-    ranges::show(rt, alloc)?;
-    numbers::show(rt, alloc)?;
-    lists::show(rt, alloc)
+    rules::show_all(rt, alloc, provider)?;
+    ranges::show_all(rt, alloc)?;
+    numbers::show_all(rt, alloc)?;
+    lists::show_all(rt, alloc)
 }

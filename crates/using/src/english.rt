@@ -1,7 +1,7 @@
 //! A provider of rules for English only.
 
 use icu_plurals::provider::{PluralRanges, PluralRulesData};
-use icu_plurals::{DataError, PluralOperands, PluralRules, PluralsProvider};
+use icu_plurals::{DataError, PluralCategory, PluralOperands, PluralRules, PluralsProvider};
 use std::alloc::Global;
 
 #[derive(Drop)]
@@ -38,16 +38,25 @@ impl PluralsProvider for English {
 }
 
 // Prints a category by the provider's rules, and that no other locale stands in.
-pub(crate) fn print_english(rt: &impl Print, alloc: Global) -> anyhow::Result<()> {
+pub(crate) fn show_english(rt: &HostRuntime, alloc: Global) -> anyhow::Result<()> {
     let one = Some("i = 1 and v = 0");
     let english = English {
         cardinal: PluralRulesData::from_texts(alloc, None, one, None, None, None)?,
     };
-    let rules = PluralRules::try_new_cardinal_unstable(&english, "en")?;
-    let category = rules.category_for(PluralOperands::from(1u8));
-    println!(rt; "{category:?}")?;
-    if let Err(error) = PluralRules::try_new_cardinal_unstable(&english, "en-GB") {
-        println!(rt; "{error}")?;
+    print_english(rt, &english)
+}
+
+fn category_in(english: &English, locale: &str) -> Result<PluralCategory, DataError> {
+    let rules = PluralRules::try_new_cardinal_unstable(english, locale)?;
+    Ok(rules.category_for(PluralOperands::from(1u8)))
+}
+
+fn print_english(rt: &HostRuntime, english: &English) -> anyhow::Result<()> {
+    for locale in ["en", "en-GB"] {
+        match category_in(english, locale) {
+            Ok(category) => println!(rt; "{category:?}")?,
+            Err(error) => println!(rt; "{error}")?,
+        }
     }
     Ok(())
 }

@@ -21,8 +21,12 @@ pub(crate) fn provider(alloc: Global) -> anyhow::Result<JsonProvider> {
 }
 
 // Prints the categories of places in English.
-pub(crate) fn print_places(rt: &impl Print, provider: &JsonProvider) -> anyhow::Result<()> {
+pub(crate) fn show_places(rt: &HostRuntime, provider: &JsonProvider) -> anyhow::Result<()> {
     let ordinal = PluralRules::try_new_ordinal_unstable(provider, "en")?;
+    print_places(rt, &ordinal)
+}
+
+fn print_places(rt: &HostRuntime, ordinal: &PluralRules<'_>) -> anyhow::Result<()> {
     for place in [1u32, 2, 3, 11, 22] {
         let category = ordinal.category_for(PluralOperands::from(place));
         println!(rt; "{place}: {category:?}")?;

@@ -19,14 +19,22 @@ impl<'data> AsPluralRules<'data> for Named<'data> {
 }
 
 // Prints the category of a range by named rules.
-pub(crate) fn print_named_range(rt: &impl Print, provider: &JsonProvider) -> anyhow::Result<()> {
+pub(crate) fn show_named_range(rt: &HostRuntime, provider: &JsonProvider) -> anyhow::Result<()> {
     let named = Named {
         name: "English",
         rules: PluralRules::try_new_cardinal_unstable(provider, "en")?,
     };
-    println!(rt; "{}", named.name)?;
+    let name = named.name;
     let ranges = PluralRulesWithRanges::try_new_with_rules_unstable(provider, "en", named)?;
+    print_named_range(rt, name, &ranges)
+}
+
+fn print_named_range(
+    rt: &HostRuntime,
+    name: &str,
+    ranges: &PluralRulesWithRanges<Named<'_>>,
+) -> anyhow::Result<()> {
     let category = ranges.resolve_range(PluralCategory::Other, PluralCategory::One);
-    println!(rt; "{category:?}")?;
+    println!(rt; "{name}: {category:?}")?;
     Ok(())
 }

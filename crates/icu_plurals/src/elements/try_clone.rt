@@ -12,11 +12,18 @@ impl<T: Clone> PluralElements<T> {
     /// error is out of memory, and there is none if clones of `T` never fail. It equals what was
     /// cloned if clones of `T` equal their sources.
     ///
-    /// <!-- snippet crates/using/src/calls/closures.rt: body of fn print_cloned -->
+    /// <!-- snippet crates/using/src/calls/closures.rt: fn print_cloned; fn print_clone -->
     /// ```
-    /// let texts = PluralElements::new(format!(in alloc; "files")?);
-    /// let clone = texts.try_clone()?;
-    /// println!(rt; "{}", clone == texts)?;
+    /// fn print_cloned(rt: &HostRuntime, alloc: Global) -> anyhow::Result<()> {
+    ///     let texts = PluralElements::new(format!(in alloc; "files")?);
+    ///     print_clone(rt, &texts)
+    /// }
+    ///
+    /// fn print_clone(rt: &HostRuntime, texts: &PluralElements<String>) -> anyhow::Result<()> {
+    ///     let is_equal = texts.try_clone()? == *texts;
+    ///     println!(rt; "{is_equal}")?;
+    ///     Ok(())
+    /// }
     /// ```
     ///
     /// This prints

@@ -15,8 +15,10 @@ impl<'data> PluralRules<'data> {
     /// ```
     /// for rule_type in [PluralRuleType::Cardinal, PluralRuleType::Ordinal] {
     ///     let options = PluralRulesOptions::from(rule_type);
-    ///     let rules = PluralRules::try_new_unstable(provider, "en", options)?;
-    ///     println!(rt; "{:?}", rules.category_for(PluralOperands::from(2u8)))?;
+    ///     let category = PluralRules::try_new_unstable(provider, "en", options)?.category_for(
+    ///         PluralOperands::from(2u8),
+    ///     );
+    ///     println!(rt; "{category:?}")?;
     /// }
     /// ```
     ///
@@ -47,13 +49,18 @@ impl<'data> PluralRules<'data> {
     /// Returns the rules of a locale for cardinal numbers, borrowed from the provider.
     /// [`DataError::NotFound`] if and only if it has none. It allocates nothing.
     ///
-    /// <!-- snippet crates/using/src/english.rt: "let rules" to "}" of fn print_english -->
+    /// <!-- snippet crates/using/src/english.rt: fn category_in; body of fn print_english -->
     /// ```
-    /// let rules = PluralRules::try_new_cardinal_unstable(&english, "en")?;
-    /// let category = rules.category_for(PluralOperands::from(1u8));
-    /// println!(rt; "{category:?}")?;
-    /// if let Err(error) = PluralRules::try_new_cardinal_unstable(&english, "en-GB") {
-    ///     println!(rt; "{error}")?;
+    /// fn category_in(english: &English, locale: &str) -> Result<PluralCategory, DataError> {
+    ///     let rules = PluralRules::try_new_cardinal_unstable(english, locale)?;
+    ///     Ok(rules.category_for(PluralOperands::from(1u8)))
+    /// }
+    ///
+    /// for locale in ["en", "en-GB"] {
+    ///     match category_in(english, locale) {
+    ///         Ok(category) => println!(rt; "{category:?}")?,
+    ///         Err(error) => println!(rt; "{error}")?,
+    ///     }
     /// }
     /// ```
     ///
@@ -76,9 +83,10 @@ impl<'data> PluralRules<'data> {
     /// Returns the rules of a locale for ordinal numbers, borrowed from the provider.
     /// [`DataError::NotFound`] if and only if it has none. It allocates nothing.
     ///
-    /// <!-- snippet crates/using/src/json.rt: body of fn print_places -->
+    /// <!-- snippet crates/using/src/json.rt: "let ordinal" to "let ordinal" of fn show_places; body of fn print_places -->
     /// ```
     /// let ordinal = PluralRules::try_new_ordinal_unstable(provider, "en")?;
+    ///
     /// for place in [1u32, 2, 3, 11, 22] {
     ///     let category = ordinal.category_for(PluralOperands::from(place));
     ///     println!(rt; "{place}: {category:?}")?;

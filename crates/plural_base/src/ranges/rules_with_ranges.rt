@@ -20,9 +20,10 @@ use std::marker::Model;
 /// its end (UTS 35 Part 3, Plural Ranges). The order of start and end isn't checked, nor that both
 /// are positive.
 ///
-/// <!-- snippet crates/using/src/ranges.rt: body of fn print_ranges -->
+/// <!-- snippet crates/using/src/ranges.rt: "let english" to "let english" of fn show_ranges; body of fn print_ranges -->
 /// ```
 /// let english = PluralRulesWithRanges::try_new_cardinal_unstable(provider, "en")?;
+///
 /// for (start, end) in [(0u8, 1u8), (1, 2)] {
 ///     let start = PluralOperands::from(start);
 ///     let end = PluralOperands::from(end);
@@ -162,16 +163,17 @@ impl<R: Drop> PluralRulesWithRanges<R> {
     /// isn't checked. [`DataError::NotFound`] if and only if the provider has no ranges. It
     /// allocates nothing.
     ///
-    /// <!-- snippet crates/using/src/named.rt: body of fn print_named_range -->
+    /// <!-- snippet crates/using/src/named.rt: "let named" to "let ranges" of fn show_named_range; body of fn print_named_range -->
     /// ```
     /// let named = Named {
     ///     name: "English",
     ///     rules: PluralRules::try_new_cardinal_unstable(provider, "en")?,
     /// };
-    /// println!(rt; "{}", named.name)?;
+    /// let name = named.name;
     /// let ranges = PluralRulesWithRanges::try_new_with_rules_unstable(provider, "en", named)?;
+    ///
     /// let category = ranges.resolve_range(PluralCategory::Other, PluralCategory::One);
-    /// println!(rt; "{category:?}")?;
+    /// println!(rt; "{name}: {category:?}")?;
     /// ```
     pub fn try_new_with_rules_unstable<P: PluralsProvider>(
         provider: &P,

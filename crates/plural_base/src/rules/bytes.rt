@@ -27,11 +27,13 @@ impl<'data> PluralRulesData<'data> {
     /// For example:
     ///
     /// <!-- snippet crates/using/src/calls/rules.rt:
-    ///      "let (one, few)" to "let bytes" of fn print_stored_rules -->
+    ///      fn stored -->
     /// ```
-    /// let (one, few) = (Some("n = 1"), Some("n = 2"));
-    /// let data = PluralRulesData::from_texts(alloc, None, one, None, few, None)?;
-    /// let bytes = data.to_bytes(alloc)?;
+    /// fn stored(alloc: Global) -> anyhow::Result<Vec<u8>> {
+    ///     let (one, few) = (Some("n = 1"), Some("n = 2"));
+    ///     let data = PluralRulesData::from_texts(alloc, None, one, None, few, None)?;
+    ///     Ok(data.to_bytes(alloc)?)
+    /// }
     /// ```
     ///
     /// The errors: a rule would start after place 65535 of the data
@@ -48,12 +50,17 @@ impl<'data> PluralRulesData<'data> {
 
     /// Returns the rules in these bytes, borrowed from them. It allocates nothing.
     ///
-    /// <!-- snippet crates/using/src/calls/rules.rt: body of fn print_stored_rules -->
+    /// <!-- snippet crates/using/src/calls/rules.rt: fn stored; "let bytes" to "let stored" of fn show_stored_rules; body of fn print_stored_rules -->
     /// ```
-    /// let (one, few) = (Some("n = 1"), Some("n = 2"));
-    /// let data = PluralRulesData::from_texts(alloc, None, one, None, few, None)?;
-    /// let bytes = data.to_bytes(alloc)?;
+    /// fn stored(alloc: Global) -> anyhow::Result<Vec<u8>> {
+    ///     let (one, few) = (Some("n = 1"), Some("n = 2"));
+    ///     let data = PluralRulesData::from_texts(alloc, None, one, None, few, None)?;
+    ///     Ok(data.to_bytes(alloc)?)
+    /// }
+    ///
+    /// let bytes = stored(alloc)?;
     /// let stored = PluralRules::from_data(PluralRulesData::from_bytes(&bytes)?);
+    ///
     /// for number in [0u8, 1, 2] {
     ///     let category = stored.category_for(PluralOperands::from(number));
     ///     println!(rt; "{number}: {category:?}")?;

@@ -8,15 +8,18 @@ use std::alloc::AllocError;
 /// The rules of one language and type: at most one for each category but other, which all remaining
 /// numbers have. Two are equal if their rules have the same bytes.
 ///
-/// <!-- snippet crates/using/src/bytes.rt: "let one" to "let category" of fn print_stored_rule -->
+/// <!-- snippet crates/using/src/bytes.rt: fn stored; "let category" to "let category" of fn print_stored_rule -->
 /// ```
-/// let one = Rule::parse_bytes(bytes)?;
-/// let data = PluralRulesData {
-///     one: Some(one),
-///     ..PluralRulesData::default()
-/// };
-/// let rules = PluralRules::from_data(data);
-/// let category = rules.category_for(PluralOperands::from(1u8));
+/// fn stored(bytes: &[u8]) -> anyhow::Result<PluralRules<'_>> {
+///     let one = Rule::parse_bytes(bytes)?;
+///     let data = PluralRulesData {
+///         one: Some(one),
+///         ..PluralRulesData::default()
+///     };
+///     Ok(PluralRules::from_data(data))
+/// }
+///
+/// let category = stored(bytes)?.category_for(PluralOperands::from(1u8));
 /// ```
 #[derive(Debug, Default, Drop, PartialEq)]
 pub struct PluralRulesData<'data> {

@@ -4,7 +4,7 @@ use icu_plurals::{CompactDecimal, Decimal, PluralOperands, RawPluralOperands, Un
 use std::alloc::Global;
 
 // Prints what each call returns.
-pub(crate) fn show(rt: &impl Print, alloc: Global) -> anyhow::Result<()> {
+pub(crate) fn show_all(rt: &HostRuntime, alloc: Global) -> anyhow::Result<()> {
     println!(rt; "== digits")?;
     print_digits(rt, alloc)?;
     println!(rt; "== a decimal")?;
@@ -15,7 +15,7 @@ pub(crate) fn show(rt: &impl Print, alloc: Global) -> anyhow::Result<()> {
     print_operands(rt, alloc)
 }
 
-fn print_digits(rt: &impl Print, alloc: Global) -> anyhow::Result<()> {
+fn print_digits(rt: &HostRuntime, alloc: Global) -> anyhow::Result<()> {
     let number = UnsignedDecimal::from_str(alloc, "98.70")?;
     for magnitude in [2i16, 1, 0, -1, -2] {
         let digit = number.digit_at(magnitude);
@@ -24,22 +24,21 @@ fn print_digits(rt: &impl Print, alloc: Global) -> anyhow::Result<()> {
     Ok(())
 }
 
-fn print_decimal(rt: &impl Print, alloc: Global) -> anyhow::Result<()> {
+fn print_decimal(rt: &HostRuntime, alloc: Global) -> anyhow::Result<()> {
     let number = Decimal::from_str(alloc, "-12.50")?;
-    println!(rt; "{:?}", number.sign)?;
     let (lowest, highest) = number.absolute.magnitude_range();
-    println!(rt; "{lowest} to {highest}")?;
+    println!(rt; "{:?}, {lowest} to {highest}", number.sign)?;
     Ok(())
 }
 
-fn print_compact(rt: &impl Print, alloc: Global) -> anyhow::Result<()> {
+fn print_compact(rt: &HostRuntime, alloc: Global) -> anyhow::Result<()> {
     let number = CompactDecimal::from_str(alloc, "1.2c6")?;
-    println!(rt; "{}", number.exponent())?;
-    println!(rt; "{}", number.significand().absolute.digit_at(-1))?;
+    let digit = number.significand().absolute.digit_at(-1);
+    println!(rt; "exponent {}, tenths {digit}", number.exponent())?;
     Ok(())
 }
 
-fn print_operands(rt: &impl Print, alloc: Global) -> anyhow::Result<()> {
+fn print_operands(rt: &HostRuntime, alloc: Global) -> anyhow::Result<()> {
     let number = CompactDecimal::from_str(alloc, "1.00000020c6")?;
     let operands = RawPluralOperands::from(PluralOperands::from(&number));
     let RawPluralOperands { i, v, w, f, t, c } = operands;

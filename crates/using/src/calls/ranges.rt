@@ -4,7 +4,7 @@ use icu_plurals::provider::{PluralRanges, RawPluralCategory, UnvalidatedPluralRa
 use std::alloc::Global;
 
 // Prints what each call returns.
-pub(crate) fn show(rt: &impl Print, alloc: Global) -> anyhow::Result<()> {
+pub(crate) fn show_all(rt: &HostRuntime, alloc: Global) -> anyhow::Result<()> {
     println!(rt; "== a table of ranges")?;
     print_table(rt)?;
     println!(rt; "== a key")?;
@@ -13,7 +13,7 @@ pub(crate) fn show(rt: &impl Print, alloc: Global) -> anyhow::Result<()> {
     print_json(rt, alloc)
 }
 
-fn print_table(rt: &impl Print) -> anyhow::Result<()> {
+fn print_table(rt: &HostRuntime) -> anyhow::Result<()> {
     let (one, few) = (RawPluralCategory::One, RawPluralCategory::Few);
     let mut ranges = PluralRanges::new();
     ranges.insert(one, few, few);
@@ -22,7 +22,7 @@ fn print_table(rt: &impl Print) -> anyhow::Result<()> {
     Ok(())
 }
 
-fn print_key(rt: &impl Print) -> anyhow::Result<()> {
+fn print_key(rt: &HostRuntime) -> anyhow::Result<()> {
     let key = UnvalidatedPluralRange::from_range(RawPluralCategory::Two, RawPluralCategory::One);
     println!(rt; "{}", key.0)?;
     let named = UnvalidatedPluralRange::from_text("two--one");
@@ -30,7 +30,7 @@ fn print_key(rt: &impl Print) -> anyhow::Result<()> {
     Ok(())
 }
 
-fn print_json(rt: &impl Print, alloc: Global) -> anyhow::Result<()> {
+fn print_json(rt: &HostRuntime, alloc: Global) -> anyhow::Result<()> {
     let (one, few) = (RawPluralCategory::One, RawPluralCategory::Few);
     let mut ranges = PluralRanges::new();
     ranges.insert(one, few, few);
