@@ -2,9 +2,10 @@
 
 use crate::call::Call;
 use fixed_decimal::CompactDecimal;
-use plural_base::PluralRulesData;
+use plural_base::{PluralRulesData, RulesTextError};
 use plural_reference::{PluralOperands, RawPluralOperands};
 use serde_json::Value;
+use std::alloc::Global;
 
 /// Five texts of rules, from zero to many.
 #[derive(Drop)]
@@ -19,6 +20,20 @@ pub struct FiveTexts {
     pub few: Option<String>,
     /// The text of `many`.
     pub many: Option<String>,
+}
+
+impl FiveTexts {
+    /// Returns the rules of the texts, or the first text that gives none.
+    pub fn read(&self, alloc: Global) -> Result<PluralRulesData<'static>, RulesTextError> {
+        PluralRulesData::from_texts(
+            alloc,
+            self.zero.as_deref(),
+            self.one.as_deref(),
+            self.two.as_deref(),
+            self.few.as_deref(),
+            self.many.as_deref(),
+        )
+    }
 }
 
 impl Call {
@@ -126,19 +141,13 @@ impl Call {
     /// Returns five rules, read from their texts.
     pub fn rules(&mut self) -> PluralRulesData<'static> {
         let texts = self.five_texts();
-        let read = PluralRulesData::from_texts(
-            self.alloc,
-            texts.zero.as_deref(),
-            texts.one.as_deref(),
-            texts.two.as_deref(),
-            texts.few.as_deref(),
-            texts.many.as_deref(),
-        );
-        if let Ok(rules) = read {
-            return rules;
+        match texts.read(self.alloc) {
+            Ok(rules) => rules,
+            Err(_) => {
+                self.not("five rules");
+                PluralRulesData::default()
+            }
         }
-        self.not("five rules");
-        PluralRulesData::default()
     }
 
     // The operands of a compact decimal's text.

@@ -78,7 +78,12 @@ fn show_own(rt: &HostRuntime, alloc: Global, provider: &JsonProvider) -> anyhow:
     english::show_english(rt, alloc)
 }
 
-fn show(
+fn show(rt: &HostRuntime, alloc: Global, provider: &JsonProvider) -> anyhow::Result<()> {
+    let rules = PluralRules::try_new_cardinal_unstable(provider, "en")?;
+    show_all(rt, alloc, provider, &rules)
+}
+
+fn show_all(
     rt: &HostRuntime,
     alloc: Global,
     provider: &JsonProvider,
@@ -94,6 +99,5 @@ fn show(
 fn main(rt: HostRuntime) -> anyhow::Result<()> {
     let alloc = rt.alloc();
     let provider = json::provider(alloc)?;
-    let rules = PluralRules::try_new_cardinal_unstable(&provider, "en")?;
-    show(&rt, alloc, &provider, &rules)
+    show(&rt, alloc, &provider)
 }

@@ -37,9 +37,17 @@ fn english(alloc: Global) -> anyhow::Result<PluralRules<'static>> {
 // Prints a price with two digits, a number of type f64, and a compact decimal.
 pub(crate) fn show_shown_numbers(rt: &HostRuntime, alloc: Global) -> anyhow::Result<()> {
     let english = english(alloc)?;
-    print_price(rt, alloc, &english)?;
-    print_length(rt, alloc, &english)?;
-    print_compact(rt, alloc, &english)
+    print_shown_numbers(rt, alloc, &english)
+}
+
+fn print_shown_numbers(
+    rt: &HostRuntime,
+    alloc: Global,
+    rules: &PluralRules<'_>,
+) -> anyhow::Result<()> {
+    print_price(rt, alloc, rules)?;
+    print_length(rt, alloc, rules)?;
+    print_compact(rt, alloc, rules)
 }
 
 // Prints the category of a decimal, as it is shown.

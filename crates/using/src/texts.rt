@@ -31,9 +31,9 @@ fn print_czech(rt: &HostRuntime, czech: &PluralRules<'_>) -> anyhow::Result<()> 
 pub(crate) fn print_refusal(rt: &HostRuntime, alloc: Global) -> anyhow::Result<()> {
     let one = Some("i = 1");
     let few = Some("i 2..4");
-    match PluralRulesData::from_texts(alloc, None, one, None, few, None) {
-        Ok(_) => println!(rt; "rules")?,
-        Err(error) => println!(rt; "{:?}: {}", error.category, error.error)?,
+    let read = PluralRulesData::from_texts(alloc, None, one, None, few, None);
+    if let Some(error) = read.err() {
+        println!(rt; "{:?}: {}", error.category, error.error)?;
     }
     Ok(())
 }

@@ -1,8 +1,9 @@
 //! Categories, and the categories that rules choose.
 
+use crate::arguments::FiveTexts;
 use crate::call::Call;
 use fixed_decimal::{CompactDecimal, Decimal};
-use plural_base::{PluralCategory, PluralRules, RawPluralCategory};
+use plural_base::{PluralCategory, PluralRules, PluralRulesData, RawPluralCategory};
 use plural_reference::PluralOperands;
 use std::fmt::Write;
 
@@ -64,6 +65,11 @@ fn all_categories(call: &mut Call) {
 // The categories of rules, and how many are still to come.
 fn categories(call: &mut Call) {
     let rules = PluralRules::from_data(call.rules());
+    print_categories(call, &rules);
+}
+
+// Prints the categories of rules, and how many are still to come.
+fn print_categories(call: &mut Call, rules: &PluralRules<'_>) {
     let mut categories = rules.categories();
     for _ in 0..8u8 {
         let (left, bounds) = (categories.len(), categories.size_hint());
@@ -136,17 +142,32 @@ fn raw_category_order(call: &mut Call) {
 fn category_of_integer(call: &mut Call) {
     let data = call.rules();
     let operands = PluralOperands::from(call.number());
-    let borrowed = PluralRules::from_data(data.as_borrowed()).category_for(operands);
-    let category = PluralRules::from_data(data).category_for(operands);
+    let borrowed = category_by_borrowed(&data, operands);
+    let category = category_by(data, operands);
     if borrowed != category {
         return call.print("another category by borrowed rules");
     }
     call.print(name_of(category));
 }
 
+// The category of operands by rules that are borrowed.
+fn category_by_borrowed(data: &PluralRulesData<'_>, operands: PluralOperands) -> PluralCategory {
+    category_by(data.as_borrowed(), operands)
+}
+
+/// Returns the category of operands by rules.
+pub fn category_by(data: PluralRulesData<'_>, operands: PluralOperands) -> PluralCategory {
+    PluralRules::from_data(data).category_for(operands)
+}
+
 // The category of a decimal, and whether it is exact.
 fn category_of_decimal(call: &mut Call) {
     let rules = PluralRules::from_data(call.rules());
+    print_decimal_by(call, &rules);
+}
+
+// Prints the category of a decimal by rules, and whether it is exact.
+fn print_decimal_by(call: &mut Call, rules: &PluralRules<'_>) {
     let text = call.text();
     match Decimal::from_str(call.alloc, text.as_str()) {
         Ok(number) => print_chosen(
@@ -161,6 +182,11 @@ fn category_of_decimal(call: &mut Call) {
 // The category of a compact decimal, and whether it is exact.
 fn category_of_compact(call: &mut Call) {
     let rules = PluralRules::from_data(call.rules());
+    print_compact_by(call, &rules);
+}
+
+// Prints the category of a compact decimal by rules, and whether it is exact.
+fn print_compact_by(call: &mut Call, rules: &PluralRules<'_>) {
     let text = call.text();
     match CompactDecimal::from_str(call.alloc, text.as_str()) {
         Ok(number) => print_chosen(
@@ -181,6 +207,11 @@ fn print_chosen(call: &mut Call, category: PluralCategory, is_exact: bool) {
 // The category of a number's text under five texts, where it is sure.
 fn sure_category(call: &mut Call) {
     let texts = call.five_texts();
+    print_sure(call, &texts);
+}
+
+// Prints the category of a number's text under five texts, where it is sure.
+fn print_sure(call: &mut Call, texts: &FiveTexts) {
     let number = call.text();
     let found = plural_base::sure_category(
         call.alloc,

@@ -1,8 +1,8 @@
 //! The rules of a language, read from texts and cloned.
 
 use crate::call::Call;
-use crate::kinds::categories::name_of;
-use plural_base::{PluralRules, PluralRulesData, RulesTextError};
+use crate::kinds::categories::{category_by, name_of};
+use plural_base::{PluralRulesData, RulesTextError};
 use plural_reference::PluralOperands;
 use std::fmt::Write;
 
@@ -28,14 +28,7 @@ pub fn print_rules(call: &mut Call, rules: &PluralRulesData<'_>) {
 // The rules of five texts, or the first text that gives none.
 fn read(call: &mut Call) -> Result<PluralRulesData<'static>, RulesTextError> {
     let texts = call.five_texts();
-    PluralRulesData::from_texts(
-        call.alloc,
-        texts.zero.as_deref(),
-        texts.one.as_deref(),
-        texts.two.as_deref(),
-        texts.few.as_deref(),
-        texts.many.as_deref(),
-    )
+    texts.read(call.alloc)
 }
 
 // Prints the category and the fault of a text that gives no rule.
@@ -48,15 +41,28 @@ fn print_refusal(call: &mut Call, refusal: &RulesTextError) {
 // The rules of five texts as JSON, if they are read from it and cloned as they are.
 fn rules_of_texts(call: &mut Call) {
     match read(call) {
-        Ok(rules) => {
-            if cloned(call, &rules) == rules && read_again(call, &rules) == rules {
-                print_rules(call, &rules);
-            } else {
-                call.print("another copy");
-            }
-        }
+        Ok(rules) => print_copied(call, &rules),
         Err(refusal) => print_refusal(call, &refusal),
     }
+}
+
+// Prints rules as JSON, if they are read from it and cloned as they are.
+fn print_copied(call: &mut Call, rules: &PluralRulesData<'_>) {
+    if is_cloned(call, rules) && is_read_again(call, rules) {
+        print_rules(call, rules);
+    } else {
+        call.print("another copy");
+    }
+}
+
+// Whether a clone of rules is equal to them.
+fn is_cloned(call: &mut Call, rules: &PluralRulesData<'_>) -> bool {
+    cloned(call, rules) == *rules
+}
+
+// Whether the rules that are read from these rules as JSON are equal to them.
+fn is_read_again(call: &mut Call, rules: &PluralRulesData<'_>) -> bool {
+    read_again(call, rules) == *rules
 }
 
 // A clone of rules.
@@ -82,15 +88,18 @@ fn read_again(call: &mut Call, rules: &PluralRulesData<'_>) -> PluralRulesData<'
 // How many bytes a clone has, which is equal.
 fn cloned_rules(call: &mut Call) {
     match read(call) {
-        Ok(rules) => {
-            let clone = cloned(call, &rules);
-            if clone == rules {
-                print_size(call, &clone);
-            } else {
-                call.print("another clone");
-            }
-        }
+        Ok(rules) => print_cloned(call, &rules),
         Err(refusal) => print_refusal(call, &refusal),
+    }
+}
+
+// Prints how many bytes a clone has, which is equal.
+fn print_cloned(call: &mut Call, rules: &PluralRulesData<'_>) {
+    let clone = cloned(call, rules);
+    if clone == *rules {
+        print_size(call, &clone);
+    } else {
+        call.print("another clone");
     }
 }
 
@@ -106,9 +115,19 @@ fn print_size(call: &mut Call, rules: &PluralRulesData<'_>) {
 fn category_of_copies(call: &mut Call) {
     let rules = call.rules();
     let operands = PluralOperands::from(call.number());
-    let clone = PluralRules::from_data(cloned(call, &rules));
-    call.print(name_of(clone.category_for(operands)));
-    let again = PluralRules::from_data(read_again(call, &rules));
+    print_by_clone(call, &rules, operands);
     call.separate(" ");
-    call.print(name_of(again.category_for(operands)));
+    print_by_reading(call, &rules, operands);
+}
+
+// Prints the category of operands by a clone of the rules.
+fn print_by_clone(call: &mut Call, rules: &PluralRulesData<'_>, operands: PluralOperands) {
+    let clone = cloned(call, rules);
+    call.print(name_of(category_by(clone, operands)));
+}
+
+// Prints the category of operands by what is read from the rules as JSON.
+fn print_by_reading(call: &mut Call, rules: &PluralRulesData<'_>, operands: PluralOperands) {
+    let again = read_again(call, rules);
+    call.print(name_of(category_by(again, operands)));
 }

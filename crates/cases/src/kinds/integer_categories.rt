@@ -27,10 +27,15 @@ pub fn make(kind: &str, call: &mut Call) -> bool {
 // The categories of the integers from one to another: `one 1, 21; few 2~4, 22~24`.
 fn integer_categories(call: &mut Call) {
     let rules = PluralRules::from_data(call.rules());
+    print_categories(call, &rules);
+}
+
+// Prints the categories of the integers from one argument to the next.
+fn print_categories(call: &mut Call, rules: &PluralRules<'_>) {
     let first = call.number();
     let last = call.number();
     for category in CATEGORIES {
-        print_integers(call, category, &rules, first, last);
+        print_integers(call, category, rules, first, last);
     }
 }
 

@@ -55,9 +55,13 @@ pub fn options_of(rule_type: Option<PluralRuleType>) -> PluralRulesOptions {
 
 // The rules of a locale, as JSON.
 fn loaded_rules(call: &mut Call) {
-    let Some(provider) = next_provider(call) else {
-        return;
-    };
+    if let Some(provider) = next_provider(call) {
+        print_loaded_rules(call, &provider);
+    }
+}
+
+// Prints the rules that a provider has for a locale, as JSON.
+fn print_loaded_rules(call: &mut Call, provider: &JsonProvider) {
     let locale = call.text();
     let loaded = match next_type(call) {
         Some(PluralRuleType::Ordinal) => provider.load_ordinal(locale.as_str()),
@@ -71,9 +75,13 @@ fn loaded_rules(call: &mut Call) {
 
 // The ranges of a locale, as JSON.
 fn loaded_ranges(call: &mut Call) {
-    let Some(provider) = next_provider(call) else {
-        return;
-    };
+    if let Some(provider) = next_provider(call) {
+        print_loaded_ranges(call, &provider);
+    }
+}
+
+// Prints the ranges that a provider has for a locale, as JSON.
+fn print_loaded_ranges(call: &mut Call, provider: &JsonProvider) {
     let locale = call.text();
     match provider.load_ranges(locale.as_str()) {
         Ok(ranges) => match ranges.to_json(call.alloc) {
@@ -92,22 +100,22 @@ fn category_of_locale(call: &mut Call) {
     let rule_type = next_type(call);
     let number = next_compact(call);
     if let (Some(provider), Some(number)) = (provider, number) {
-        let options = options_of(rule_type);
-        let by_options = PluralRules::try_new_unstable(&provider, locale.as_str(), options);
-        let by_type = rules_of_type(&provider, locale.as_str(), rule_type);
-        print_category(call, &number, by_options, by_type);
+        print_category(call, &provider, locale.as_str(), rule_type, &number);
     }
 }
 
-// Prints the category of a number, if both rules choose it.
+// Prints the category of a number, if the rules of the type and of the options choose it.
 fn print_category(
     call: &mut Call,
+    provider: &JsonProvider,
+    locale: &str,
+    rule_type: Option<PluralRuleType>,
     number: &CompactDecimal,
-    by_options: Result<PluralRules<'_>, DataError>,
-    by_type: Result<PluralRules<'_>, DataError>,
 ) {
+    let options = options_of(rule_type);
+    let by_options = PluralRules::try_new_unstable(provider, locale, options);
     let category = category_by(by_options, number);
-    if category_by(by_type, number) != category {
+    if category_by(rules_of_type(provider, locale, rule_type), number) != category {
         return call.print("another category by the options");
     }
     match category {

@@ -23,15 +23,18 @@ pub fn make(kind: &str, call: &mut Call) -> bool {
 
 // The category of a pair by given rules and the locale's ranges.
 fn resolved_range(call: &mut Call) {
-    let Some(provider) = next_provider(call) else {
-        return;
-    };
-    let locale = call.text();
-    let rules = PluralRules::from_data(call.rules());
+    if let Some(provider) = next_provider(call) {
+        let locale = call.text();
+        let rules = PluralRules::from_data(call.rules());
+        print_resolved(call, &provider, locale.as_str(), &rules);
+    }
+}
+
+// Prints the category of a pair by given rules and the locale's ranges.
+fn print_resolved(call: &mut Call, provider: &JsonProvider, locale: &str, rules: &PluralRules<'_>) {
     let start = category(call);
     let end = category(call);
-    let both = PluralRulesWithRanges::try_new_with_rules_unstable(&provider, &locale, &rules);
-    match both {
+    match PluralRulesWithRanges::try_new_with_rules_unstable(provider, locale, rules) {
         Ok(ranges) => call.print(name_of(ranges.resolve_range(start, end))),
         Err(error) => call.print_error(&error),
     }
@@ -47,15 +50,18 @@ fn next_operands(call: &mut Call) -> PluralOperands {
 
 // The category of a range of decimals by given rules and the locale's ranges.
 fn range_of_rules(call: &mut Call) {
-    let Some(provider) = next_provider(call) else {
-        return;
-    };
-    let locale = call.text();
-    let rules = PluralRules::from_data(call.rules());
+    if let Some(provider) = next_provider(call) {
+        let locale = call.text();
+        let rules = PluralRules::from_data(call.rules());
+        print_range(call, &provider, locale.as_str(), rules);
+    }
+}
+
+// Prints the category of a range of decimals by given rules and the locale's ranges.
+fn print_range(call: &mut Call, provider: &JsonProvider, locale: &str, rules: PluralRules<'_>) {
     let start = next_operands(call);
     let end = next_operands(call);
-    let both = PluralRulesWithRanges::try_new_with_rules_unstable(&provider, &locale, rules);
-    match both {
+    match PluralRulesWithRanges::try_new_with_rules_unstable(provider, locale, rules) {
         Ok(ranges) => call.print(name_of(ranges.category_for_range(start, end))),
         Err(error) => call.print_error(&error),
     }
@@ -63,14 +69,17 @@ fn range_of_rules(call: &mut Call) {
 
 // The category of an integer by the rules that stand beside the ranges.
 fn rules_beside_ranges(call: &mut Call) {
-    let Some(provider) = next_provider(call) else {
-        return;
-    };
-    let locale = call.text();
-    let rules = PluralRules::from_data(call.rules());
+    if let Some(provider) = next_provider(call) {
+        let locale = call.text();
+        let rules = PluralRules::from_data(call.rules());
+        print_beside(call, &provider, locale.as_str(), &rules);
+    }
+}
+
+// Prints the category of an integer by the rules that stand beside the ranges.
+fn print_beside(call: &mut Call, provider: &JsonProvider, locale: &str, rules: &PluralRules<'_>) {
     let operands = PluralOperands::from(call.number());
-    let both = PluralRulesWithRanges::try_new_with_rules_unstable(&provider, &locale, &rules);
-    match both {
+    match PluralRulesWithRanges::try_new_with_rules_unstable(provider, locale, rules) {
         Ok(ranges) => call.print(name_of(ranges.rules().category_for(operands))),
         Err(error) => call.print_error(&error),
     }
@@ -79,17 +88,21 @@ fn rules_beside_ranges(call: &mut Call) {
 // The category of a range of integers by the locale's own rules, which are those that the options
 // name.
 fn range_category(call: &mut Call) {
-    let Some(provider) = next_provider(call) else {
-        return;
-    };
-    let locale = call.text();
+    if let Some(provider) = next_provider(call) {
+        let locale = call.text();
+        print_by_locale(call, &provider, locale.as_str());
+    }
+}
+
+// Prints the category of a range of integers, if the rules of the type and of the options choose it.
+fn print_by_locale(call: &mut Call, provider: &JsonProvider, locale: &str) {
     let rule_type = next_type(call);
     let start = PluralOperands::from(call.number());
     let end = PluralOperands::from(call.number());
     let options = options_of(rule_type);
-    let by_options = PluralRulesWithRanges::try_new_unstable(&provider, &locale, options);
+    let by_options = PluralRulesWithRanges::try_new_unstable(provider, locale, options);
     let found = category_of_range(by_options, start, end);
-    if category_of_range(by_type(&provider, &locale, rule_type), start, end) != found {
+    if category_of_range(by_type(provider, locale, rule_type), start, end) != found {
         return call.print("another category by the options");
     }
     match found {

@@ -1,10 +1,10 @@
 //! The rules of a language as one block of bytes.
 
 use crate::call::Call;
-use crate::kinds::categories::name_of;
+use crate::kinds::categories::{category_by, name_of};
 use crate::kinds::five_rules::print_rules;
 use crate::kinds::runs::Runs;
-use plural_base::{PluralRules, PluralRulesData};
+use plural_base::PluralRulesData;
 use plural_reference::PluralOperands;
 use std::alloc::Global;
 
@@ -23,21 +23,31 @@ pub fn make(kind: &str, call: &mut Call) -> bool {
 
 // The bytes of rules, from which the rules are read again.
 fn rules_bytes(call: &mut Call) {
+    if let Some(bytes) = next_packed(call) {
+        call.print_bytes(&bytes);
+    }
+}
+
+// The bytes of the next argument's rules.
+fn next_packed(call: &mut Call) -> Option<Vec<u8>> {
     let rules = call.rules();
+    packed(call, &rules)
+}
+
+// The bytes of rules, from which the rules are read again. If there are none, prints the reason.
+fn packed(call: &mut Call, rules: &PluralRulesData<'_>) -> Option<Vec<u8>> {
     match rules.to_bytes(call.alloc) {
-        Ok(bytes) if comes_back(call.alloc, &rules, &bytes) => call.print_bytes(&bytes),
+        Ok(bytes) if comes_back(call.alloc, rules, &bytes) => return Some(bytes),
         Ok(_) => call.print("other rules are read"),
         Err(error) => call.print_error(&error),
     }
+    None
 }
 
 // How many bytes rules have, from which they are read again.
 fn rules_bytes_size(call: &mut Call) {
-    let rules = call.rules();
-    match rules.to_bytes(call.alloc) {
-        Ok(bytes) if comes_back(call.alloc, &rules, &bytes) => call.print_size(&bytes),
-        Ok(_) => call.print("other rules are read"),
-        Err(error) => call.print_error(&error),
+    if let Some(bytes) = next_packed(call) {
+        call.print_size(&bytes);
     }
 }
 
@@ -60,8 +70,13 @@ fn has_bytes(alloc: Global, rules: &PluralRulesData<'_>, bytes: &[u8]) -> bool {
 // The rules that bytes hold, as JSON, which have these bytes again.
 fn rules_of_bytes(call: &mut Call) {
     let bytes = call.bytes();
-    match PluralRulesData::from_bytes(&bytes) {
-        Ok(rules) if has_bytes(call.alloc, &rules, &bytes) => print_rules(call, &rules),
+    print_rules_of(call, &bytes);
+}
+
+// Prints the rules that bytes hold as JSON, which have these bytes again.
+fn print_rules_of(call: &mut Call, bytes: &[u8]) {
+    match PluralRulesData::from_bytes(bytes) {
+        Ok(rules) if has_bytes(call.alloc, &rules, bytes) => print_rules(call, &rules),
         Ok(_) => call.print("rules with other bytes"),
         Err(error) => call.print_error(&error),
     }
@@ -71,8 +86,13 @@ fn rules_of_bytes(call: &mut Call) {
 fn category_of_bytes(call: &mut Call) {
     let bytes = call.bytes();
     let operands = PluralOperands::from(call.number());
-    match PluralRulesData::from_bytes(&bytes) {
-        Ok(rules) => call.print(name_of(PluralRules::from_data(rules).category_for(operands))),
+    print_category_of(call, &bytes, operands);
+}
+
+// Prints the category of operands by the rules that bytes hold.
+fn print_category_of(call: &mut Call, bytes: &[u8], operands: PluralOperands) {
+    match PluralRulesData::from_bytes(bytes) {
+        Ok(rules) => call.print(name_of(category_by(rules, operands))),
         Err(error) => call.print_error(&error),
     }
 }

@@ -105,18 +105,38 @@ fn document_json_text(call: &mut Call) {
 fn numbered_locales(call: &mut Call) {
     let count = call.number();
     let rules = call.value();
-    let text = numbered_document(call, count, &rules);
-    let document = value_of_text(call, text.as_str());
-    let wanted = PluralRulesData::from_json(call.alloc, &rules);
-    match (JsonProvider::from_value(call.alloc, &document), wanted) {
-        (Ok(provider), Ok(wanted)) => print_locales(call, &provider, count, &wanted),
-        (Err(error), _) => call.print_error(&error),
-        (_, Err(_)) => call.not("five rules"),
+    match numbered_provider(call, count, &rules) {
+        Ok(provider) => print_numbered(call, &provider, count, &rules),
+        Err(error) => call.print_error(&error),
     }
 }
 
+// Prints how many of the numbered locales have the rules of a value.
+fn print_numbered(call: &mut Call, provider: &JsonProvider, count: u64, rules: &Value) {
+    match PluralRulesData::from_json(call.alloc, rules) {
+        Ok(wanted) => print_locales(call, provider, count, &wanted),
+        Err(_) => call.not("five rules"),
+    }
+}
+
+// The provider of a document with the same rules for the locales l0, l1 and so on.
+fn numbered_provider(
+    call: &mut Call,
+    count: u64,
+    rules: &Value,
+) -> Result<JsonProvider, JsonError> {
+    let document = numbered_document(call, count, rules);
+    JsonProvider::from_value(call.alloc, &document)
+}
+
 // A document with the same rules for the locales l0, l1 and so on.
-fn numbered_document(call: &mut Call, count: u64, rules: &Value) -> String {
+fn numbered_document(call: &mut Call, count: u64, rules: &Value) -> Value {
+    let text = numbered_text(call, count, rules);
+    value_of_text(call, text.as_str())
+}
+
+// The text of a document with the same rules for the locales l0, l1 and so on.
+fn numbered_text(call: &mut Call, count: u64, rules: &Value) -> String {
     let rules = call.made(rules.to_string(call.alloc));
     call.print("{\"cardinal\":{");
     for place in 0..count {
@@ -138,11 +158,17 @@ fn print_locales(
     for place in 0..count {
         let _ = write!(call, "l{place}");
         let locale = call.take_printed();
-        if let Ok(rules) = provider.load_cardinal(locale.as_str()) {
-            if rules == *wanted {
-                found = found.saturating_add(1);
-            }
+        if has_rules(provider, locale.as_str(), wanted) {
+            found = found.saturating_add(1);
         }
     }
     let _ = write!(call, "{found} locales");
+}
+
+// Whether a locale has these rules.
+fn has_rules(provider: &JsonProvider, locale: &str, wanted: &PluralRulesData<'_>) -> bool {
+    match provider.load_cardinal(locale) {
+        Ok(rules) => rules == *wanted,
+        Err(_) => false,
+    }
 }

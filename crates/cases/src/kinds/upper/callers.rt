@@ -24,11 +24,14 @@ pub fn make(kind: &str, call: &mut Call) -> bool {
 
 // The message of a formatter.
 fn formatter(call: &mut Call) {
-    let Some(texts) = next_packed(call) else {
-        return;
-    };
-    let rules = next_rules(call);
-    let formatter = Formatter { texts, rules };
+    if let Some(texts) = next_packed(call) {
+        let rules = next_rules(call);
+        print_formatted(call, &Formatter { texts, rules });
+    }
+}
+
+// Prints the message of a formatter for the number in the next argument.
+fn print_formatted(call: &mut Call, formatter: &Formatter) {
     let number = call.text();
     let message = formatter.format(call.alloc, number.as_str());
     print_message(call, message);
@@ -39,12 +42,17 @@ fn relative_time(call: &mut Call) {
     let (Some(future), Some(past)) = (next_packed(call), next_packed(call)) else {
         return;
     };
-    let rules = next_rules(call);
-    let amount = call.text();
     let time = RelativeTime {
         future: Message::new(future.as_packed()),
         past: Message::new(past.as_packed()),
     };
+    print_time(call, &time);
+}
+
+// Prints the text of an amount of time, by the rules and for the amount in the next arguments.
+fn print_time(call: &mut Call, time: &RelativeTime<'_>) {
+    let rules = next_rules(call);
+    let amount = call.text();
     let message = time.format(call.alloc, amount.as_str(), &rules);
     print_message(call, message);
 }
@@ -57,13 +65,18 @@ fn compact_units(call: &mut Call) {
     let Some(plain) = next_packed(call) else {
         return;
     };
-    let rules = next_rules(call);
-    let number = call.text();
     let units = CompactUnits {
         thousand: Message::new(thousand.as_packed()),
         million: Message::new(million.as_packed()),
         plain: Message::new(plain.as_packed()),
     };
+    print_units(call, &units);
+}
+
+// Prints the text of a number with its unit, by the rules and for the number in the next arguments.
+fn print_units(call: &mut Call, units: &CompactUnits<'_>) {
+    let rules = next_rules(call);
+    let number = call.text();
     let message = units.format(call.alloc, number.as_str(), &rules);
     print_message(call, message);
 }

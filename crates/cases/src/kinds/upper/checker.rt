@@ -141,7 +141,11 @@ fn coverage(call: &mut Call) {
         include(call, &mut elements, name.as_str());
     }
     let rules = call.rules();
-    let coverage = Coverage::of(elements, &rules);
+    print_coverage(call, Coverage::of(elements, &rules));
+}
+
+// Prints the categories that elements lack, and those that they have in vain.
+fn print_coverage(call: &mut Call, coverage: Coverage) {
     call.print("lacking ");
     print_names(call, coverage.lacking);
     call.print("; unused ");

@@ -3,8 +3,8 @@
 use crate::call::Call;
 use crate::kinds::rule_truths::operands_of;
 use crate::kinds::upper::element_values::{next_rules, print_element, print_optional};
-use icu_plurals::PluralElements;
 use icu_plurals::provider::{FourBitMetadata, PluralElementsPackedULE};
+use icu_plurals::{PluralElements, PluralRules};
 use std::fmt::Write;
 
 /// Makes the call of a kind of this file. Returns whether there is such a kind.
@@ -38,13 +38,18 @@ fn metadata(call: &mut Call) {
 fn element_for(call: &mut Call) {
     let bytes = call.bytes();
     let rules = next_rules(call);
+    print_elements_for(call, bytes.as_slice(), &rules);
+}
+
+// Prints the value of each number in the bytes of elements.
+fn print_elements_for(call: &mut Call, bytes: &[u8], rules: &PluralRules<'_>) {
     let numbers = call.texts();
-    match PluralElementsPackedULE::parse_bytes(bytes.as_slice()) {
+    match PluralElementsPackedULE::parse_bytes(bytes) {
         Ok(elements) => {
             for number in &numbers {
                 let operands = operands_of(call, number.as_str());
                 call.separate(", ");
-                print_element(call, elements.get(operands, &rules));
+                print_element(call, elements.get(operands, rules));
             }
         }
         Err(fault) => call.print_error(&fault),

@@ -3,6 +3,7 @@
 use crate::call::Call;
 use crate::kinds::decimals::next_compact;
 use crate::kinds::upper::element_values::{Elements, next_rules};
+use icu_plurals::PluralRules;
 use icu_plurals::provider::PluralElementsPackedCow;
 use plural_message::{Message, MessageError};
 
@@ -36,25 +37,33 @@ pub fn print_message(call: &mut Call, message: Result<String, MessageError>) {
 
 // The message of a number.
 fn message(call: &mut Call) {
-    let Some(packed) = next_packed(call) else {
-        return;
-    };
-    let rules = next_rules(call);
+    if let Some(packed) = next_packed(call) {
+        let rules = next_rules(call);
+        print_filled(call, &Message::new(packed.as_packed()), &rules);
+    }
+}
+
+// Prints the message of the number in the next argument.
+fn print_filled(call: &mut Call, message: &Message<'_>, rules: &PluralRules<'_>) {
     let number = call.text();
-    let message = Message::new(packed.as_packed());
-    let filled = message.format(call.alloc, number.as_str(), &rules);
+    let filled = message.format(call.alloc, number.as_str(), rules);
     print_message(call, filled);
 }
 
 // The message of a number that was read before, with a text that shows it.
 fn message_with(call: &mut Call) {
-    let packed = next_packed(call);
-    let rules = next_rules(call);
+    if let Some(packed) = next_packed(call) {
+        let rules = next_rules(call);
+        print_with(call, &Message::new(packed.as_packed()), &rules);
+    }
+}
+
+// Prints the message of a number that was read before, with a text that shows it.
+fn print_with(call: &mut Call, message: &Message<'_>, rules: &PluralRules<'_>) {
     let number = next_compact(call);
     let text = call.text();
-    if let (Some(packed), Some(number)) = (packed, number) {
-        let message = Message::new(packed.as_packed());
-        let filled = message.format_number(call.alloc, &number, text.as_str(), &rules);
+    if let Some(number) = number {
+        let filled = message.format_number(call.alloc, &number, text.as_str(), rules);
         let filled = call.made(filled);
         call.print_quoted(filled.as_str());
     }

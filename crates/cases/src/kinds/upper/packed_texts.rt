@@ -3,6 +3,7 @@
 use crate::call::Call;
 use crate::kinds::rule_truths::operands_of;
 use crate::kinds::upper::element_values::{Elements, next_rules};
+use icu_plurals::PluralRules;
 use icu_plurals::provider::PluralElementsPackedCow;
 use serde_json::Value;
 
@@ -85,14 +86,28 @@ fn lent_elements(call: &mut Call) {
 fn text_for(call: &mut Call) {
     let source = Source::next(call);
     let rules = next_rules(call);
+    print_texts(call, &source, &rules);
+}
+
+// Prints the text of each number by rules.
+fn print_texts(call: &mut Call, source: &Source, rules: &PluralRules<'_>) {
     let numbers = call.texts();
-    let Some(packed) = source.packed(call) else {
-        return;
-    };
-    for number in &numbers {
+    if let Some(packed) = source.packed(call) {
+        print_each(call, &packed, rules, numbers.as_slice());
+    }
+}
+
+// Prints the text of each of these numbers.
+fn print_each(
+    call: &mut Call,
+    packed: &PluralElementsPackedCow<'_>,
+    rules: &PluralRules<'_>,
+    numbers: &[String],
+) {
+    for number in numbers {
         let operands = operands_of(call, number.as_str());
         call.separate(", ");
-        call.print_quoted(packed.get(operands, &rules));
+        call.print_quoted(packed.get(operands, rules));
     }
 }
 

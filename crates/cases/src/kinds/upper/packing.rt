@@ -48,15 +48,33 @@ fn packed_elements_size(call: &mut Call) {
 
 // The value of each number after packing, which has to be the same as before.
 fn packed_elements_for(call: &mut Call) {
-    let owned = Elements::next_values(call);
-    let elements = owned.values();
+    let elements = Elements::next_values(call);
     let rules = next_rules(call);
-    match PluralElementsPackedULE::encode(call.alloc, &elements) {
-        Ok(bytes) => match PluralElementsPackedULE::parse_bytes(bytes.as_slice()) {
-            Ok(packed) => print_both(call, packed, &elements, &rules),
-            Err(_) => call.print("refused"),
-        },
+    print_packed_values(call, &elements.values(), &rules);
+}
+
+// Prints the value of each number after packing.
+fn print_packed_values(
+    call: &mut Call,
+    elements: &PluralElements<(FourBitMetadata, &str)>,
+    rules: &PluralRules<'_>,
+) {
+    match PluralElementsPackedULE::encode(call.alloc, elements) {
+        Ok(bytes) => print_values(call, bytes.as_slice(), elements, rules),
         Err(fault) => call.print_error(&fault),
+    }
+}
+
+// Prints the value of each number in the bytes of elements.
+fn print_values(
+    call: &mut Call,
+    bytes: &[u8],
+    elements: &PluralElements<(FourBitMetadata, &str)>,
+    rules: &PluralRules<'_>,
+) {
+    match PluralElementsPackedULE::parse_bytes(bytes) {
+        Ok(packed) => print_both(call, packed, elements, rules),
+        Err(_) => call.print("refused"),
     }
 }
 
@@ -105,13 +123,17 @@ fn present_texts(call: &mut Call) {
 
 // The text of each number.
 fn chosen_text(call: &mut Call) {
-    let owned = Elements::next_texts(call);
-    let elements = owned.texts();
+    let elements = Elements::next_texts(call);
     let rules = next_rules(call);
+    print_chosen(call, &elements.texts(), &rules);
+}
+
+// Prints the text of each number of the next argument.
+fn print_chosen(call: &mut Call, elements: &PluralElements<&str>, rules: &PluralRules<'_>) {
     for number in &call.texts() {
         let operands = operands_of(call, number.as_str());
         call.separate(", ");
-        call.print_quoted(*elements.get(operands, &rules));
+        call.print_quoted(*elements.get(operands, rules));
     }
 }
 
