@@ -4,5 +4,8 @@ pub mod PrintedLemmas
 pub mod LineLemmas
 -- the state after some bytes
 pub mod AfterLemmas
+pub mod StreamLemmas
 -- answers to documents
 pub mod AnswerLemmas
+-- the lines of forms
+pub mod FormLemmas

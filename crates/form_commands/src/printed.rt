@@ -1,14 +1,17 @@
 //! What is printed for a question.
 
 ghost use Rattle.std.specs.Prelude.{◌≡◌, OnOk, string_bytes};
+ghost use Rattle.form_commands.specs.Inner.RunSteps.{WritesText};
 ghost use Rattle.form_commands.specs.NumberAnswers.{category_answer, fault_answer};
 ghost use Rattle.form_commands.specs.PrintedTexts.{joined, nothing, only_text, verdict_of, without_text};
 
-use crate::error::Verdict;
+use crate::error::{FormsError, Verdict};
 use icu_plurals::PluralCategory;
 use icu_plurals::provider::RawPluralCategory;
+use plural_documents::write_output;
 use std::alloc::{AllocError, Global};
 use std::fmt;
+use std::io::Write;
 use std::marker::Model;
 
 // A text, and whether a line of it is a fault.
@@ -112,6 +115,16 @@ impl Printed {
         ensures { self.new ≡ without_text self.old }
     {
         self.text.clear();
+    }
+
+    // Writes the text, and returns whether each number has a category.
+    pub(crate) fn write_to<W: Write>(&self, writer: &mut W) -> Result<Verdict, FormsError>
+        ensures { WritesText self.now (W.contents writer.old) (W.contents writer.new) result }
+    {
+        match write_output(writer, self.as_bytes()) {
+            Ok(()) => Ok(self.verdict()),
+            Err(_) => Err(FormsError::Write),
+        }
     }
 
     // Whether each number has a category.

@@ -3,7 +3,7 @@
 ghost use Rattle.std.specs.Prelude.{IfOk, List, ℕ};
 ghost use Rattle.form_commands.specs.FormsAnswers.{Answers, IsAnswered, IsAnsweredLines, IsListAnswer, IsNumbersAnswer};
 ghost use Rattle.form_commands.specs.Inner.QuestionViews.{words_view};
-ghost use Rattle.form_commands.specs.Inner.RunSteps.{AnswersLines, GivesDocument, GivesValue, WritesAnswer, WritesText};
+ghost use Rattle.form_commands.specs.Inner.RunSteps.{AnswersLines, GivesDocument, GivesValue, WritesAnswer};
 ghost use Rattle.plural_documents.specs.Inputs.{IsInput};
 ghost use Rattle.serde_json.specs.View.{view};
 
@@ -13,7 +13,7 @@ use crate::list::list_text;
 use crate::number::numbers_text;
 use crate::printed::Printed;
 use crate::stream::answer_input;
-use plural_documents::{JsonTextError, json_value, read_input, write_output};
+use plural_documents::{JsonTextError, json_value, read_input};
 use plural_fallback::Part;
 use serde_json::Value;
 use std::alloc::{AllocError, Global};
@@ -156,18 +156,8 @@ fn write_answer<W: Write>(
     ensures { WritesAnswer answer (W.contents writer.old) (W.contents writer.new) result }
 {
     match answer {
-        Ok(Ok(printed)) => write_text(&printed, writer),
+        Ok(Ok(printed)) => printed.write_to(writer),
         Ok(Err(error)) => Err(FormsError::Language(error)),
         Err(_) => Err(FormsError::Memory),
-    }
-}
-
-// Writes a text.
-fn write_text<W: Write>(printed: &Printed, writer: &mut W) -> Result<Verdict, FormsError>
-    ensures { WritesText printed.now (W.contents writer.old) (W.contents writer.new) result }
-{
-    match write_output(writer, printed.as_bytes()) {
-        Ok(()) => Ok(printed.verdict()),
-        Err(_) => Err(FormsError::Write),
     }
 }

@@ -102,13 +102,13 @@ fn last_line<W: Write>(
 ) -> Result<Verdict, FormsError>
     ensures { FinishesLines rules.now lines.old (W.contents writer.old) (W.contents writer.new) result }
 {
-    if !lines.line.is_empty() {
-        if end_line(alloc, rules, lines).is_err() {
-            return Err(FormsError::Memory);
-        }
-        write_printed(lines, writer)?;
+    if lines.line.is_empty() {
+        return Ok(lines.printed.verdict());
     }
-    Ok(lines.printed.verdict())
+    match end_line(alloc, rules, lines) {
+        Ok(()) => lines.printed.write_to(writer),
+        Err(_) => Err(FormsError::Memory),
+    }
 }
 
 // Takes bytes, one after the other.
@@ -138,9 +138,10 @@ fn take_byte(
     if byte == b'\n' {
         return end_line(alloc, rules, lines);
     }
-    if lines.line.len() <= MOST_NUMBER_BYTES {
-        lines.line.push(byte)?;
+    if lines.line.len() > MOST_NUMBER_BYTES {
+        return Ok(());
     }
+    lines.line.push(byte)?;
     Ok(())
 }
 

@@ -63,5 +63,6 @@ abbrev pub AnswersLines : Data → Part → List ℕ → Option (List ℕ) → O
     → Result Verdict FormsError → Type 0
 AnswersLines document part locale before left old new result =
     ((language : code.Language) × IsLanguageOf document part locale (Ok language) × IsStreamed language.rules before left old new result)
-    ⊎ ((error : LanguageError) × IsLanguageOf document part locale (Err error) × (result ≡ Err (Language error)) × IsUntouched before left old new)
-    ⊎ ((result ≡ Err Memory) × IsUntouched before left old new)
+    ⊎ (((error : LanguageError) × IsLanguageOf document part locale (Err error) × (result ≡ Err (Language error))
+    × IsUntouched before left old new)
+    ⊎ ((result ≡ Err Memory) × IsUntouched before left old new))
