@@ -2,7 +2,11 @@
 use Rattle.std.proofs.Common.{◌≡◌, ℕ, List, [], ◌∷◌, ◌++◌, refl, sym, ◌∙◌, ap, subst, append_assoc}
 use Rattle.std.proofs.lemmas.List.{append-nil}
 use Rattle.icu_plurals.specs.declared.PluralCategory.{PluralCategory}
-use Rattle.form_commands.specs.FormLines.{AreForms, IsForm}
+use Rattle.std.specs.Prelude.{codes}
+use Rattle.icu_plurals.specs.Categories.{name_of}
+use Rattle.icu_plurals.specs.RulesJson.{text_under}
+use Rattle.serde_json.specs.View.{view}
+use Rattle.form_commands.specs.FormLines.{AreForms, IsForm, IsSamplesOf, IsWholesText}
 use Rattle.form_commands.specs.Inner.PrintedSteps.{Grows}
 use Rattle.form_commands.specs.declared.language.Language.{Language}
 
@@ -30,3 +34,22 @@ pub all_grown : (language : Language) (all left : List PluralCategory) (initial 
 all_grown language all left initial text none so_far =
     let whole = subst (λ (cs : List PluralCategory). Completes language all cs initial text) none so_far [] refl in
     (whole.0, whole.1, sym (append-nil text) ∙ sym whole.2)
+
+-- ---- One line
+
+five_parts : (old n k w s e : List ℕ) → ((((old ++ n) ++ k) ++ w) ++ s) ++ e ≡ old ++ ((((n ++ k) ++ w) ++ s) ++ e)
+five_parts old n k w s e = simp append_assoc
+
+-- its parts are appended one after the other
+pub form_grown : (language : Language) (category : PluralCategory) (old first second third fourth new : List ℕ)
+    → first ≡ old ++ name_of category → second ≡ first ++ codes ": " → Grows (IsWholesText language.rules category) second third
+    → Grows (IsSamplesOf (text_under category (view language.value.now))) third fourth → new ≡ fourth ++ codes "\n"
+    → Grows (IsForm language category) old new
+form_grown language category old first second third fourth new a b w s e =
+    let all : new ≡ ((((old ++ name_of category) ++ codes ": ") ++ w.0) ++ s.0) ++ codes "\n" =
+    e ∙ ap (λ (t : List ℕ). t ++ codes "\n") (s.2 ∙ ap (λ (t : List ℕ). t ++ s.0) (w.2 ∙ ap (λ (t : List ℕ). t ++ w.0)
+    (b ∙ ap (λ (t : List ℕ). t ++ codes ": ") a))) in (
+      name_of category ++ codes ": " ++ w.0 ++ s.0 ++ codes "\n",
+      (w.0, s.0, w.1, s.1, refl),
+      all ∙ five_parts old (name_of category) (codes ": ") w.0 s.0 (codes "\n"),
+    )

@@ -1,10 +1,14 @@
 -- What is printed, one after the other.
-use Rattle.std.proofs.Common.{◌≡◌, ℕ, List, [], ◌∷◌, ◌++◌, Bool, true, false, refl, sym, ◌∙◌, ap, subst, append_assoc}
-use Rattle.std.specs.Prelude.{◌||◌}
+use Rattle.std.proofs.Common.{◌≡◌, ℕ, List, [], ◌∷◌, ◌++◌, Bool, true, false, Result, Ok, Err, refl, sym, ◌∙◌, ap, subst, append_assoc}
+use Rattle.std.specs.Prelude.{◌||◌, OnOk, ⊤}
+use Rattle.std.specs.declared.alloc.AllocError.{AllocError}
+use Rattle.icu_plurals.specs.declared.PluralCategory.{PluralCategory}
 use Rattle.std.proofs.lemmas.List.{append-nil}
 use Rattle.icu_plurals.specs.FiveRules.{FiveRules}
 use Rattle.form_commands.specs.Inner.LineSteps.{place_after}
-use Rattle.form_commands.specs.NumberAnswers.{AreAnswersFrom, IsAnswerAt, next_place}
+use Rattle.form_commands.specs.NumberAnswers.{AreAnswersFrom, IsAnswerAt, IsCategoryOf, answer_text, next_place}
+use Rattle.form_commands.specs.Inner.PrintedSteps.{Adds}
+use Rattle.form_commands.specs.declared.printed.NumberFault.{NumberFault}
 use Rattle.form_commands.specs.PrintedTexts.{PrintedText, after_text, joined, nothing}
 use Rattle.form_commands.specs.declared.printed.Place.{Place}
 
@@ -59,3 +63,12 @@ pub place_after_one : (place : ℕ) (done : List (List ℕ)) (line : List ℕ)
     → place_after place (done ++ line ∷ []) ≡ next_place (place_after place done)
 place_after_one place [] line = refl
 place_after_one place (word ∷ done) line = place_after_one (next_place place) done line
+
+-- ---- One answer
+
+-- the line of a category, or of a fault
+pub answered : (rules : FiveRules) (place : Place) (word : List ℕ) (old new : PrintedText) (answer : Result PluralCategory NumberFault)
+    (r : Result ⊤ AllocError) → IsCategoryOf rules word answer → OnOk r (new ≡ joined old (answer_text place answer))
+    → OnOk r (Adds (IsAnswerAt rules place word) old new)
+answered rules place word old new answer (Ok x) is grown = (answer_text place answer, (answer, is, refl), grown)
+answered rules place word old new answer (Err e) is grown = tt

@@ -1,7 +1,8 @@
 //! The question that the words of a command line ask.
 
 ghost use Rattle.std.specs.Prelude.{◌≡◌, map, option_map};
-ghost use Rattle.form_commands.specs.Questions.{has_option, in_part, of_command, of_words, options_of, part_of, file_of};
+ghost use Rattle.std.specs.Option.{option_copied};
+ghost use Rattle.form_commands.specs.Questions.{file_of, has_option, in_part, of_command, of_word, of_words, options_of, part_of, with_file};
 ghost use Rattle.form_commands.specs.Inner.QuestionViews.{options_view, question_view, words_view};
 
 use plural_fallback::Part;
@@ -118,10 +119,12 @@ fn file_of<'w>(words: &'w [&'w str]) -> (Option<&'w str>, &'w [&'w str])
 fn has_option(words: &[&str]) -> bool
     ensures { result ≡ has_option (words_view words.now) }
 {
-    for word in words {
+    let mut rest = words;
+    while let [word, after @ ..] = rest {
         if word.starts_with("--") {
             return true;
         }
+        rest = after;
     }
     false
 }

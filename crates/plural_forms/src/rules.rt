@@ -8,9 +8,9 @@ use std::rt::{Env, Files};
 // The variable that names a file of rules.
 const VARIABLE: &str = "PLURALS_RULES";
 
-/// Returns the name of the file that has the rules: the given one, else the one that the variable
-/// `PLURALS_RULES` names. `None` if the variable is absent or empty.
-pub fn rules_name<R: Env + AllocGlobal>(
+// Returns the name of the file that has the rules: the given one, else the one that the variable
+// `PLURALS_RULES` names. `None` if the variable is absent or empty.
+pub(crate) fn rules_name<R: Env + AllocGlobal>(
     rt: &R,
     file: Option<&str>,
 ) -> Result<Option<String>, Failure> {
@@ -33,8 +33,8 @@ fn named_by_variable<R: Env + AllocGlobal>(rt: &R) -> Result<Option<String>, Fai
     }
 }
 
-/// Opens a file.
-pub fn open<R: Files + AllocGlobal>(rt: &R, name: &String) -> Result<R::File, Failure> {
+// Opens a file.
+pub(crate) fn open<R: Files + AllocGlobal>(rt: &R, name: &String) -> Result<R::File, Failure> {
     match File::open(rt, name.as_str()) {
         Ok(file) => Ok(file),
         Err(_) => match name.try_clone() {
