@@ -1,3 +1,5 @@
+-- the options of a question
+pub mod QuestionLemmas
 -- what is printed, one after the other
 pub mod PrintedLemmas
 -- the lines of an input

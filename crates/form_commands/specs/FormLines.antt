@@ -12,7 +12,7 @@ use Rattle.icu_plurals.specs.Serializer.{prefixed, samples_text}
 use Rattle.icu_plurals.specs.declared.PluralCategory.{PluralCategory}
 use Rattle.icu_plurals.specs.declared.provider.rules.reference.ParseError.{ParseError}
 use Rattle.icu_plurals.specs.declared.provider.rules.reference.ast.Rule.{Rule}
-use Rattle.plural_checker.specs.WholeNumbers.{AreTwoLeast, whole_limit}
+use Rattle.plural_checker.specs.WholeNumbers.{AreTwoLeast}
 use Rattle.plural_fallback.specs.LocalesJson.{part_name}
 use Rattle.plural_fallback.specs.declared.locales.Part.{Part}
 use Rattle.serde_json.specs.View.{view}
@@ -72,7 +72,7 @@ alone_text alone = if alone then codes ", other alone" else []
 abbrev pub header_line : Part → List ℕ → Language → List ℕ
 header_line part locale language =
     locale ++ codes ": " ++ part_name part ++ codes " rules of " ++ language.key.now ++ alone_text (is_alone language.rules)
-    ++ codes ", whole numbers below " ++ decimal whole_limit ++ codes "\n"
+    ++ codes ", whole numbers below 10000\n"
 
 -- the categories that have a rule, from zero to many, and other
 abbrev pub IsFormList : Part → List ℕ → Language → List ℕ → Type 0

@@ -57,7 +57,7 @@ options_with file found = record { part = found.part; file = file; rest = found.
 -- `--ordinal`, and then `--rules FILE`; or, if `--ordinal` isn't first, these in the other order; each may be absent
 abbrev pub options_after : Part → FileAndRest → Options
 options_after Ordinal found = options_with found.file (in_part Ordinal found.rest)
-options_after Cardinal found = options_with found.file (part_of found.rest)
+options_after part found = options_with found.file (part_of found.rest)
 
 abbrev pub options_of : List (List ℕ) → Options
 options_of words = options_after (part_of words).part (file_of (part_of words).rest)

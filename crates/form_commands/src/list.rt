@@ -5,7 +5,7 @@ ghost use Rattle.std.specs.Option.{option_copied};
 ghost use Rattle.icu_plurals.specs.FiveRules.{categories_of};
 ghost use Rattle.icu_plurals.specs.RulesJson.{text_under};
 ghost use Rattle.icu_plurals.specs.Serializer.{prefixed, samples_text};
-ghost use Rattle.form_commands.specs.FormLines.{AreForms, IsForm, IsFormList, IsSamplesOf, IsSamplesText, IsWholesText, header_line, is_alone, wholes_text};
+ghost use Rattle.form_commands.specs.FormLines.{AreForms, IsForm, IsFormList, IsSamplesOf, IsSamplesText, IsWholesText, alone_text, header_line, is_alone, wholes_text};
 ghost use Rattle.form_commands.specs.Inner.PrintedSteps.{Grows};
 ghost use Rattle.serde_json.specs.View.{view};
 
@@ -15,7 +15,7 @@ use icu_plurals::provider::RawPluralCategory;
 use icu_plurals::provider::rules::reference::ast::Samples;
 use icu_plurals::provider::rules::reference::{ReadError, parse, serialize_samples};
 use icu_plurals::{PluralCategory, PluralRules};
-use plural_checker::{WHOLE_LIMIT, two_least};
+use plural_checker::two_least;
 use plural_fallback::Part;
 use serde_json::Value;
 use std::alloc::{AllocError, Global};
@@ -43,19 +43,22 @@ fn header(
 ) -> Result<String, AllocError>
     ensures { IfOk result (λ text. string_bytes text ≡ header_line part locale.now language.now) }
 {
-    let alone = if is_alone(&language.rules) {
-        ", other alone"
-    } else {
-        ""
-    };
+    let alone = alone_text(&language.rules);
+    let key = language.key;
     format!(in alloc;
-        "{}: {} rules of {}{}, whole numbers below {}\n",
+        "{}: {} rules of {}{}, whole numbers below 10000\n",
         locale,
         part.as_str(),
-        language.key,
-        alone,
-        WHOLE_LIMIT
+        key,
+        alone
     )
+}
+
+// Returns what is printed if there is no form but other.
+fn alone_text(rules: &PluralRules<'_>) -> &'static str
+    ensures { result.now ≡ alone_text (is_alone rules.now) }
+{
+    if is_alone(rules) { ", other alone" } else { "" }
 }
 
 // Returns whether there is no form but other.

@@ -1,6 +1,6 @@
 //! The categories of numbers.
 
-ghost use Rattle.std.specs.Prelude.{IfOk, OnOk};
+ghost use Rattle.std.specs.Prelude.{◌≡◌, IfOk, OnOk};
 ghost use Rattle.form_commands.specs.Inner.PrintedSteps.{Adds};
 ghost use Rattle.form_commands.specs.Inner.QuestionViews.{words_view};
 ghost use Rattle.form_commands.specs.NumberAnswers.{AreNumberAnswers, IsAnswerAt, IsCategoryOf, IsShortCategoryOf, next_place};

@@ -2,7 +2,7 @@
 
 ghost use Rattle.std.specs.Prelude.{◌≡◌, map, option_map};
 ghost use Rattle.std.specs.Option.{option_copied};
-ghost use Rattle.form_commands.specs.Questions.{file_of, has_option, in_part, of_command, of_word, of_words, options_of, part_of, with_file};
+ghost use Rattle.form_commands.specs.Questions.{file_of, has_option, in_part, of_command, of_word, of_words, options_after, options_of, options_with, part_of, with_file};
 ghost use Rattle.form_commands.specs.Inner.QuestionViews.{options_view, question_view, words_view};
 
 use plural_fallback::Part;
@@ -87,11 +87,25 @@ fn options_of<'w>(words: &'w [&'w str]) -> Options<'w>
     ensures { options_view result ≡ options_of (words_view words.now) }
 {
     let (part, rest) = part_of(words);
-    let (file, rest) = file_of(rest);
-    if part == Part::Ordinal {
-        return Options { part, file, rest };
+    options_after(part, rest)
+}
+
+// The options after `--ordinal`, or without it.
+fn options_after<'w>(part: Part, words: &'w [&'w str]) -> Options<'w>
+    ensures { options_view result ≡ options_after part (file_of (words_view words.now)) }
+{
+    let (file, rest) = file_of(words);
+    match part {
+        Part::Ordinal => Options { part, file, rest },
+        _ => options_with(file, rest),
     }
-    let (part, rest) = part_of(rest);
+}
+
+// The options after `--rules FILE`, or without it.
+fn options_with<'w>(file: Option<&'w str>, words: &'w [&'w str]) -> Options<'w>
+    ensures { options_view result ≡ options_with (option_copied file.entry) (part_of (words_view words.now)) }
+{
+    let (part, rest) = part_of(words);
     Options { part, file, rest }
 }
 

@@ -10,8 +10,8 @@ returns-in-Ok g c =
       d.0,
       d.1,
       document_answered (Answers (IsNumbersAnswer (words_view c.args.numbers.now)) c.args.part c.args.locale.now) d.0 (view c.in-Ok.document)
-          (g.W.Write.contents c.args.writer.now) (g.W.Write.contents c.write_answer.new.writer) c.categories_of.result c.write_answer.result
-          d.2 c.categories_of.ensures c.write_answer.ensures,
+          (g.W.Write.contents c.args.writer.now) (g.W.Write.contents c.write_answer.new.writer) c.categories_of-answer.result c.write_answer.result
+          d.2 c.categories_of-answer.ensures c.write_answer.ensures,
     )
 
 pub returns-in-Err : goal.returns-in-Err
