@@ -1,6 +1,6 @@
 -- The lines of an input.
-use Rattle.std.proofs.Common.{◌≡◌, ℕ, ◌≤◌, ◌<◌, ◌+◌, List, [], ◌∷◌, ◌++◌, length, take, Bool, true, false, refl, sym, ◌∙◌, ap, subst, arith, inl, inr}
-use Rattle.std.specs.Prelude.{◌≢◌, ◌==◌}
+use Rattle.std.proofs.Common.{◌≡◌, ℕ, ◌≤◌, ◌<◌, ◌+◌, List, [], ◌∷◌, ◌++◌, length, take, refl, sym, ◌∙◌, subst, arith, inl, inr}
+use Rattle.std.specs.Prelude.{◌≢◌}
 use Rattle.std.proofs.lemmas.Bool.{ne_eqb}
 use Rattle.std.proofs.lemmas.List.{length-take, take-append-le, take_all, length-append}
 use Rattle.icu_plurals.specs.FiveRules.{FiveRules}
@@ -59,11 +59,6 @@ kept_nothing n (byte ∷ bytes) none =
 
 -- ---- Whether a line has begun
 
-pub empty_items : (xs : List ℕ) (b : Bool) → b ≡ (length xs == 0) → b ≡ true → xs ≡ []
-empty_items [] b is holds = refl
-empty_items (x ∷ xs) b is holds =
-    let none : (length (x ∷ xs) == 0) ≡ false = ne_eqb (length (x ∷ xs)) 0 (λ same. omega arith) in absurd cc
-
-pub some_items : (xs : List ℕ) (b : Bool) → b ≡ (length xs == 0) → b ≡ false → xs ≡ [] → ⊥
-some_items xs b is fails none =
-    let holds : b ≡ true = is ∙ ap (λ (l : List ℕ). length l == 0) none in absurd cc
+pub no_items : (xs : List ℕ) → length xs ≡ 0 → xs ≡ []
+no_items [] none = refl
+no_items (x ∷ xs) none = absurd (omega arith)

@@ -1,11 +1,12 @@
 -- What is printed, one after the other.
-use Rattle.std.proofs.Common.{◌≡◌, ℕ, List, [], ◌∷◌, ◌++◌, Bool, true, false, Result, Ok, Err, refl, sym, ◌∙◌, ap, subst, append_assoc}
+use Rattle.std.proofs.Common.{◌≡◌, ℕ, List, [], ◌∷◌, ◌++◌, Bool, true, false, Result, Ok, Err, Bor, length, ◌<◌, arith, refl, sym, ◌∙◌, ap, subst, append_assoc}
 use Rattle.std.specs.Prelude.{◌||◌, OnOk, ⊤}
 use Rattle.std.specs.declared.alloc.AllocError.{AllocError}
 use Rattle.icu_plurals.specs.declared.PluralCategory.{PluralCategory}
 use Rattle.std.proofs.lemmas.List.{append-nil}
 use Rattle.icu_plurals.specs.FiveRules.{FiveRules}
 use Rattle.form_commands.specs.Inner.LineSteps.{place_after}
+use Rattle.form_commands.specs.Inner.QuestionViews.{words_view}
 use Rattle.form_commands.specs.NumberAnswers.{AreAnswersFrom, IsAnswerAt, IsCategoryOf, answer_text, next_place}
 use Rattle.form_commands.specs.Inner.PrintedSteps.{Adds}
 use Rattle.form_commands.specs.declared.printed.NumberFault.{NumberFault}
@@ -63,6 +64,15 @@ pub place_after_one : (place : ℕ) (done : List (List ℕ)) (line : List ℕ)
     → place_after place (done ++ line ∷ []) ≡ next_place (place_after place done)
 place_after_one place [] line = refl
 place_after_one place (word ∷ done) line = place_after_one (next_place place) done line
+
+-- the answers to the first number are what is printed with it
+pub start_answers : (old more : PrintedText) → old ≡ nothing → more ≡ joined old more
+start_answers old more none = rw none refl
+
+-- a list shorter than 1 has no word
+pub empty_words : (xs : List (Bor (List ℕ))) → length xs < 1 → words_view xs ≡ []
+empty_words [] short = refl
+empty_words (x ∷ xs) short = absurd (omega arith)
 
 -- ---- One answer
 

@@ -1,8 +1,8 @@
 -- What is taken of an input and written of its answers.
-use Rattle.std.proofs.Common.{◌≡◌, ℕ, List, [], ◌∷◌, ◌++◌, Option, Result, Ok, Err, refl, sym, ◌∙◌, ap, subst, append_assoc, inl, inr}
+use Rattle.std.proofs.Common.{◌≡◌, ℕ, List, [], ◌∷◌, ◌++◌, Option, Result, Ok, Err, take, refl, sym, ◌∙◌, ap, subst, append_assoc, inl, inr}
 use Rattle.std.specs.Prelude.{◌⊎◌, OnOk, IfErr, ⊤}
 use Rattle.std.specs.Io.KnownBytes.{Appends, Consumes, IsAtEnd}
-use Rattle.std.proofs.KnownBytes.{Appends-nil, Appends-trans}
+use Rattle.std.proofs.KnownBytes.{Appends-nil, Appends-trans, Consumes-trans}
 use Rattle.std.proofs.lemmas.List.{append-nil}
 use Rattle.std.specs.declared.alloc.AllocError.{AllocError}
 use Rattle.icu_plurals.specs.FiveRules.{FiveRules}
@@ -121,3 +121,18 @@ streamed rules bytes text lines before left old mid new (Ok verdict) consumed en
 streamed rules bytes text lines before left old mid new (Err error) consumed end appended after finish =
     failed rules before left old new error finish.0
     (begun_all rules bytes text before left old mid new consumed appended (finish.1 bytes text after))
+
+-- a read that gave nothing takes nothing
+pub at_end : (before mid left : Option (List ℕ)) (bytes buf : List ℕ) (n : ℕ) → n ≡ 0 → Consumes before mid bytes
+    → Consumes mid left (take n buf) → Consumes before left bytes
+at_end before mid left bytes buf n none first second =
+    subst (Consumes before left) (ap (λ (k : ℕ). bytes ++ take k buf) none ∙ append-nil bytes)
+    (Consumes-trans before mid left bytes (take n buf) first second)
+
+-- a call that gave no error took the bytes, and wrote
+pub took : (rules : FiveRules) (more : List ℕ) (lines new : Lines) (before after : Option (List ℕ)) (r : Result ⊤ FormsError)
+    → TakesAndWrites rules more lines new before after r → ((e : FormsError) → r ≡ Err e → ⊥) → (bytes text : List ℕ)
+    → IsWrittenAfter rules bytes text lines
+    → (added : List ℕ) × Appends before after added × IsWrittenAfter rules (bytes ++ more) (text ++ added) new
+took rules more lines new before after (Ok x) takes not bytes text h = takes bytes text h
+took rules more lines new before after (Err e) takes not bytes text h = absurd (not e refl)

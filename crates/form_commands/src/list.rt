@@ -92,7 +92,8 @@ fn push_form(
     text.push_str(": ")?;
     push_wholes(alloc, &language.rules, category, text)?;
     push_samples_of(alloc, text_under(language.value, category), text)?;
-    text.push_str("\n")
+    text.push_str("\n")?;
+    Ok(())
 }
 
 // Appends which whole numbers have a category.

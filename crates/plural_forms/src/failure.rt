@@ -45,7 +45,10 @@ pub(crate) enum Failure {
 
 impl Failure {
     // Passes an answer on that has rules from this file.
-    pub(crate) fn of_file(name: String, answer: Result<Verdict, FormsError>) -> Result<Verdict, Failure> {
+    pub(crate) fn of_file(
+        name: String,
+        answer: Result<Verdict, FormsError>,
+    ) -> Result<Verdict, Failure> {
         match answer {
             Ok(verdict) => Ok(verdict),
             Err(error) if error.is_of_rules() => Err(Failure::File(name, error)),

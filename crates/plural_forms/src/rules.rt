@@ -37,7 +37,7 @@ fn named_by_variable<R: Env + AllocGlobal>(rt: &R) -> Result<Option<String>, Fai
 pub(crate) fn open<R: Files + AllocGlobal>(rt: &R, name: &String) -> Result<R::File, Failure> {
     match File::open(rt, name.as_str()) {
         Ok(file) => Ok(file),
-        Err(_) => match name.try_clone() {
+        Err(_) => match String::from_str(rt.alloc(), name.as_str()) {
             Ok(name) => Err(Failure::Open(name)),
             Err(_) => Err(Failure::Memory),
         },

@@ -1,4 +1,4 @@
-use Rattle.std.proofs.Common.{◌≡◌, ℕ, List, [], ◌∷◌, ◌++◌, ◌<◌, length, arith, rules, refl, sym, ◌∙◌, ap, subst}
+use Rattle.std.proofs.Common.{◌≡◌, ℕ, List, [], ◌∷◌, ◌++◌, ◌<◌, ◌≤◌, length, arith, rules, refl, sym, ◌∙◌, ap, subst}
 use Rattle.form_commands.specs.Inner.LineSteps.{EndsLine, IsAfter, Takes}
 use Rattle.form_commands.specs.NumberAnswers.{most_number_bytes}
 use Rattle.form_commands.proofs.AfterLemmas.{after_byte, after_end}
@@ -23,4 +23,10 @@ returns-then-len-gt-MOST_NUMBER_BYTES c =
     (λ last kept. kept ∙ kept_stays most_number_bytes last c.args.byte (subst (λ (l : List ℕ). most_number_bytes < length l) kept full)) a
 
 pub returns : goal.returns
-returns c = ?
+returns c =
+    let old = c.args.lines.now in
+    let room : length old.line.items ≤ most_number_bytes = omega arith in
+    λ bytes text a. after_byte c.args.rules.now bytes text old (record old { line = c.push.new.self }) c.args.byte c.if-byte-eq10.false
+    refl refl
+    (λ last kept. c.in_ok-push.ensures.items ∙ ap (λ (l : List ℕ). l ++ c.args.byte ∷ []) kept
+    ∙ kept_grows most_number_bytes last c.args.byte (subst (λ (l : List ℕ). length l ≤ most_number_bytes) kept room)) a
