@@ -2,6 +2,7 @@
 
 ghost use Rattle.std.specs.Prelude.{◌≡◌, ◌++◌, IfOk, OnOk, codes, string_bytes};
 ghost use Rattle.std.specs.Option.{option_copied};
+ghost use Rattle.icu_plurals.specs.Categories.{name_of};
 ghost use Rattle.icu_plurals.specs.FiveRules.{categories_of};
 ghost use Rattle.icu_plurals.specs.RulesJson.{text_under};
 ghost use Rattle.icu_plurals.specs.Serializer.{prefixed, samples_text};
@@ -88,7 +89,7 @@ fn push_form(
 ) -> Result<(), AllocError>
     ensures { OnOk result (Grows (IsForm language.now category) (string_bytes text.old) (string_bytes text.new)) }
 {
-    text.push_str(RawPluralCategory::from(category).as_str())?;
+    text.push_str(name_of(category))?;
     text.push_str(": ")?;
     push_wholes(alloc, &language.rules, category, text)?;
     push_samples_of(alloc, text_under(language.value, category), text)?;
@@ -125,9 +126,14 @@ fn wholes_text(alloc: Global, first: Option<u16>, second: Option<u16>) -> Result
 fn text_under(value: &Value, category: PluralCategory) -> Option<&str>
     ensures { option_copied result ≡ text_under category (view value.now) }
 {
-    value
-        .get(RawPluralCategory::from(category).as_str())?
-        .as_str()
+    value.get(name_of(category))?.as_str()
+}
+
+// Returns the name of a category.
+fn name_of(category: PluralCategory) -> &'static str
+    ensures { result.now ≡ name_of category }
+{
+    RawPluralCategory::from(category).as_str()
 }
 
 // Appends the samples of a text, if it is present.

@@ -9,7 +9,8 @@ use plural_fallback::Part;
 use std::alloc::Global;
 
 // The rules of English, and a chain that leads to them.
-const RULES: &[u8] = br#"{"cardinal":{"en":{"one":"i = 1 and v = 0 @integer 1","other":"@integer 0, 2~16"}},
+const RULES: &[u8] =
+    br#"{"cardinal":{"en":{"one":"i = 1 and v = 0 @integer 1","other":"@integer 0, 2~16"}},
     "parents":{"en-GB":"en-001"}}"#;
 
 const FORMS: &[u8] =
@@ -29,7 +30,13 @@ fn answered(
 fn forms_are_listed(rt: HostRuntime) {
     let mut rules = RULES;
     let mut written = Vec::new(rt.alloc());
-    let answer = list_forms(rt.alloc(), Part::Cardinal, "en-GB", &mut rules, &mut written);
+    let answer = list_forms(
+        rt.alloc(),
+        Part::Cardinal,
+        "en-GB",
+        &mut rules,
+        &mut written,
+    );
     holds!(rt; matches!(answer, Ok(Verdict::Complete)));
     holds!(rt; written.as_slice() == FORMS);
 }
@@ -48,7 +55,14 @@ fn each_number_has_a_line(rt: HostRuntime) {
     let mut rules = RULES;
     let mut written = Vec::new(rt.alloc());
     let numbers = ["1", "x", "1c256", "-1.0"];
-    let answer = answer_numbers(rt.alloc(), Part::Cardinal, "en", &numbers, &mut rules, &mut written);
+    let answer = answer_numbers(
+        rt.alloc(),
+        Part::Cardinal,
+        "en",
+        &numbers,
+        &mut rules,
+        &mut written,
+    );
     holds!(rt; matches!(answer, Ok(Verdict::Faults)));
     holds!(rt; written.as_slice() == b"one\nnumber 2: bad number\nnumber 3: number out of limits\nother\n");
 }
@@ -75,7 +89,10 @@ fn a_refused_write_is_a_fault(rt: HostRuntime) {
 
 #[test]
 fn a_long_line_is_a_fault(rt: HostRuntime) {
-    for (length, line) in [(65_540, "line 1: number out of limits\n"), (65_541, "line 1: more than 65540 bytes\n")] {
+    for (length, line) in [
+        (65_540, "line 1: number out of limits\n"),
+        (65_541, "line 1: more than 65540 bytes\n"),
+    ] {
         let Ok(digits) = vec![in rt.alloc(); b'1'; length] else {
             continue;
         };

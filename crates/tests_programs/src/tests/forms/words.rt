@@ -26,12 +26,37 @@ fn words_ask_for_forms_or_categories(rt: HostRuntime) {
         (&["list", "ru"], None, Part::Cardinal, ""),
         (&["list", "ru", "--ordinal"], None, Part::Ordinal, ""),
         (&["list", "ru", "--rules", "a"], None, Part::Cardinal, "a"),
-        (&["list", "ru", "--ordinal", "--rules", "a"], None, Part::Ordinal, "a"),
-        (&["list", "ru", "--rules", "--ordinal", "--ordinal"], None, Part::Ordinal, "--ordinal"),
+        (
+            &["list", "ru", "--ordinal", "--rules", "a"],
+            None,
+            Part::Ordinal,
+            "a",
+        ),
+        (
+            &["list", "ru", "--rules", "--ordinal", "--ordinal"],
+            None,
+            Part::Ordinal,
+            "--ordinal",
+        ),
         (&["category", "ru"], Some(0), Part::Cardinal, ""),
-        (&["category", "ru", "1", "-2", "x"], Some(3), Part::Cardinal, ""),
-        (&["category", "ru", "--ordinal", "1"], Some(1), Part::Ordinal, ""),
-        (&["category", "ru", "--rules", "a", "--ordinal", ""], Some(1), Part::Ordinal, "a"),
+        (
+            &["category", "ru", "1", "-2", "x"],
+            Some(3),
+            Part::Cardinal,
+            "",
+        ),
+        (
+            &["category", "ru", "--ordinal", "1"],
+            Some(1),
+            Part::Ordinal,
+            "",
+        ),
+        (
+            &["category", "ru", "--rules", "a", "--ordinal", ""],
+            Some(1),
+            Part::Ordinal,
+            "a",
+        ),
     ];
     for (words, numbers, part, file) in rows {
         holds!(rt; asks(words, numbers, part, file), at words);
