@@ -1,5 +1,5 @@
 # shellcheck shell=bash
-# For `plurals`, `tools/build` and `tools/archive`, which set `top` and `crate`, the folder of the crate that is built: whether what was
+# For `plurals`, `plural_forms`, `tools/build` and `tools/archive`, which set `top` and `crate`, the folder of the crate that is built: whether what was
 # built of it is from the present sources.
 # The output of `state` before it was built.
 built=${crate:?}/out/sources

@@ -3,7 +3,7 @@
 mod answers;
 mod documents;
 mod growth;
-mod inputs;
+pub(crate) mod inputs;
 mod words;
 mod writers;
 

@@ -1,0 +1,103 @@
+-- The answers to documents.
+use Rattle.std.proofs.Common.{◌≡◌, ℕ, ◌<◌, ◌≤◌, List, [], length, Option, Some, None, Result, Ok, Err, Vec, refl, inl, inr}
+use Rattle.std.specs.Prelude.{IfOk}
+use Rattle.std.specs.Io.KnownBytes.{Keeps}
+use Rattle.std.proofs.KnownBytes.{Keeps-refl}
+use Rattle.std.specs.declared.alloc.AllocError.{AllocError}
+use Rattle.plural_documents.specs.Inputs.{GivesInput, IsInput, most_bytes}
+use Rattle.plural_documents.specs.declared.input.InputError.{InputError}
+use Rattle.plural_documents.specs.declared.input.InputError.TheVariants as cause
+use Rattle.plural_documents.proofs.InputLemmas.{some_input}
+use Rattle.plural_fallback.specs.declared.locales.Part.{Part}
+use Rattle.serde_json.specs.Data.{Data}
+use Rattle.serde_json.specs.View.{view}
+use Rattle.serde_json.specs.declared.Value.{Value}
+use Rattle.form_commands.specs.FormsAnswers.{IsAnswered, IsAnsweredLines, IsDocumentIn, IsStreamed}
+use Rattle.form_commands.specs.Inner.FormsInputFaults.{input_fault}
+use Rattle.form_commands.specs.Inner.RunSteps.{AnswersLines, GivesDocument, GivesValue, WritesAnswer, WritesText}
+use Rattle.form_commands.specs.PrintedTexts.{PrintedText}
+use Rattle.form_commands.specs.declared.error.FormsError.{FormsError}
+use Rattle.form_commands.specs.declared.error.FormsError.TheVariants.{Rules, TooLong, Json, Language, Numbers, Write, Memory}
+use Rattle.form_commands.specs.declared.error.LanguageError.{LanguageError}
+use Rattle.form_commands.specs.declared.error.Verdict.{Verdict}
+
+-- ---- The document
+
+-- an input that isn't read has no document
+pub no_document : (left : Option (List ℕ)) (error : InputError) (r : Result Value FormsError) → r ≡ Err (input_fault error)
+    → GivesInput left (Err error) → (input : List ℕ) × IsInput left input × GivesDocument input r
+no_document left cause.Read r is given = let some = some_input left in (some.0, some.1, rw is tt)
+no_document left cause.TooLong r is given = (given.0, given.1, rw is given.2)
+no_document left cause.Memory r is given = let some = some_input left in (some.0, some.1, rw is tt)
+
+-- the document is that of the bytes that were read
+pub document_in : (input bytes : List ℕ) (r : Result Value FormsError) → bytes ≡ input → length input ≤ most_bytes
+    → GivesValue bytes r → GivesDocument input r
+document_in input bytes (Ok value) is short given = (short, rw (← is) given)
+document_in input bytes (Err Rules) is short given = tt
+document_in input bytes (Err TooLong) is short given = absurd given
+document_in input bytes (Err Json) is short given = rw (← is) given
+document_in input bytes (Err (Language error)) is short given = given
+document_in input bytes (Err Numbers) is short given = given
+document_in input bytes (Err Write) is short given = given
+document_in input bytes (Err Memory) is short given = tt
+
+-- ---- What is written
+
+-- without a document nothing is
+pub no_answer : (IsAnswer : Data → Result PrintedText LanguageError → Type 0) (input : List ℕ) (old : Option (List ℕ)) (error : FormsError)
+    → GivesDocument input (Err error) → IsAnswered IsAnswer input old old (Err error)
+no_answer IsAnswer input old Rules given = Keeps-refl old
+no_answer IsAnswer input old TooLong given = (given, Keeps-refl old)
+no_answer IsAnswer input old Json given = (given, Keeps-refl old)
+no_answer IsAnswer input old (Language error) given = absurd given
+no_answer IsAnswer input old Numbers given = given
+no_answer IsAnswer input old Write given = absurd given
+no_answer IsAnswer input old Memory given = Keeps-refl old
+
+text_answered : (IsAnswer : Data → Result PrintedText LanguageError → Type 0) (input : List ℕ) (document : Data) (old new : Option (List ℕ))
+    (printed : PrintedText) (r : Result Verdict FormsError)
+    → IsDocumentIn input document → IsAnswer document (Ok printed) → WritesText printed old new r → IsAnswered IsAnswer input old new r
+text_answered IsAnswer input document old new printed (Ok verdict) given answer written =
+    (document, printed, given, answer, written.0, written.1)
+text_answered IsAnswer input document old new printed (Err error) given answer written =
+    rw written.0 (document, printed, given, answer, written.1)
+
+-- the answer of a document, or that there is none
+pub document_answered : (IsAnswer : Data → Result PrintedText LanguageError → Type 0) (input : List ℕ) (document : Data) (old new : Option (List ℕ))
+    (answer : Result (Result PrintedText LanguageError) AllocError) (r : Result Verdict FormsError)
+    → IsDocumentIn input document → IfOk answer (λ a. IsAnswer document a) → WritesAnswer answer old new r → IsAnswered IsAnswer input old new r
+document_answered IsAnswer input document old new (Ok (Ok printed)) r given is written =
+    text_answered IsAnswer input document old new printed r given is written
+document_answered IsAnswer input document old new (Ok (Err error)) r given is written =
+    rw written.0 (document, given, is, written.1)
+document_answered IsAnswer input document old new (Err error) r given is written = rw written.0 written.1
+
+-- ---- The lines of another input
+
+-- without a document nothing is taken
+pub no_lines : (part : Part) (locale input : List ℕ) (before old : Option (List ℕ)) (error : FormsError)
+    → GivesDocument input (Err error) → IsAnsweredLines part locale input before before old old (Err error)
+no_lines part locale input before old Rules given = (Keeps-refl before, Keeps-refl old)
+no_lines part locale input before old TooLong given = (given, (Keeps-refl before, Keeps-refl old))
+no_lines part locale input before old Json given = (given, (Keeps-refl before, Keeps-refl old))
+no_lines part locale input before old (Language error) given = absurd given
+no_lines part locale input before old Numbers given = absurd given
+no_lines part locale input before old Write given = absurd given
+no_lines part locale input before old Memory given = inl (Keeps-refl before, Keeps-refl old)
+
+-- the answers by the rules of a document
+pub lines_answered : (part : Part) (locale input : List ℕ) (document : Data) (before left old new : Option (List ℕ)) (r : Result Verdict FormsError)
+    → IsDocumentIn input document → AnswersLines document part locale before left old new r
+    → IsAnsweredLines part locale input before left old new r
+lines_answered part locale input document before left old new (Ok verdict) given (inl by) =
+    (document, by.0, given, by.1, by.2)
+lines_answered part locale input document before left old new (Err Rules) given (inl by) = absurd by.2
+lines_answered part locale input document before left old new (Err TooLong) given (inl by) = absurd by.2
+lines_answered part locale input document before left old new (Err Json) given (inl by) = absurd by.2
+lines_answered part locale input document before left old new (Err (Language error)) given (inl by) = absurd by.2
+lines_answered part locale input document before left old new (Err Numbers) given (inl by) = (document, by.0, given, by.1, by.2)
+lines_answered part locale input document before left old new (Err Write) given (inl by) = (document, by.0, given, by.1, by.2)
+lines_answered part locale input document before left old new (Err Memory) given (inl by) = inr (document, by.0, given, by.1, by.2)
+lines_answered part locale input document before left old new r given (inr (inl none)) = rw none.2 (document, given, none.1, none.3)
+lines_answered part locale input document before left old new r given (inr (inr none)) = rw none.0 (inl none.1)

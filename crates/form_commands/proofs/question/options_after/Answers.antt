@@ -1,0 +1,17 @@
+use Rattle.std.proofs.Common.{ap, sym, ◌∙◌}
+use Rattle.std.specs.Option.{option_copied}
+use Rattle.plural_fallback.specs.declared.locales.Part.TheVariants.{Ordinal}
+use Rattle.form_commands.specs.Inner.QuestionViews.{words_view}
+use Rattle.form_commands.specs.Questions.{FileAndRest, file_of, in_part, options_after, options_with, part_of}
+use Rattle.form_commands.proofs.QuestionLemmas.{not_ordinal}
+use Rattle.form_commands.proofs.question.options_after.Goals as goal
+
+pub returns-in-Ordinal : goal.returns-in-Ordinal
+returns-in-Ordinal c =
+    rw c.in-Ordinal.is (ap (λ (found : FileAndRest). options_with found.file (in_part Ordinal found.rest)) c.file_of.ensures)
+
+pub returns-in_default : goal.returns-in_default
+returns-in_default c =
+    c.options_with.ensures
+    ∙ ap (λ (found : FileAndRest). options_with found.file (part_of found.rest)) c.file_of.ensures
+    ∙ sym (not_ordinal c.args.part (file_of (words_view c.args.words.now)) c.in_default.not-Ordinal)

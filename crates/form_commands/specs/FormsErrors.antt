@@ -1,0 +1,40 @@
+-- The texts of errors, and the exit status of the program: 0, 1 if something is missing, or 2.
+use Rattle.std.specs.Prelude.{ℕ, List, ◌++◌, codes, Bool, true, false}
+use Rattle.icu_plurals.specs.PluralBaseErrors.{json_error_text}
+use Rattle.plural_fallback.specs.LocalesJson.{part_name}
+use Rattle.plural_fallback.specs.PluralFallbackErrors.{fallback_error_text}
+use Rattle.plural_fallback.specs.declared.error.FallbackError.TheVariants as chain
+use Rattle.form_commands.specs.declared.error.FormsError.{FormsError}
+use Rattle.form_commands.specs.declared.error.FormsError.TheVariants as forms
+use Rattle.form_commands.specs.declared.error.LanguageError.{LanguageError}
+use Rattle.form_commands.specs.declared.error.LanguageError.TheVariants.{NotFound, Refused}
+use Rattle.form_commands.specs.declared.error.Verdict.{Verdict}
+use Rattle.form_commands.specs.declared.error.Verdict.TheVariants.{Complete, Faults}
+
+-- the part, the locale or the key, and the reason
+abbrev pub language_error_text : LanguageError → List ℕ
+language_error_text (NotFound part locale reason) = part_name part ++ codes " " ++ locale ++ codes ": " ++ fallback_error_text reason
+language_error_text (Refused part key reason) = part_name part ++ codes " " ++ key ++ codes ": " ++ json_error_text reason
+
+-- the chain ends without a key: the locale has no rules
+abbrev pub language_status : LanguageError → ℕ
+language_status (NotFound part locale chain.NotFound) = 1
+language_status error = 2
+
+abbrev pub status_of : FormsError → ℕ
+status_of (forms.Language error) = language_status error
+status_of error = 2
+
+-- the rules are at fault
+abbrev pub is_of_rules : FormsError → Bool
+is_of_rules forms.Rules = true
+is_of_rules forms.TooLong = true
+is_of_rules forms.Json = true
+is_of_rules (forms.Language error) = true
+is_of_rules forms.Numbers = false
+is_of_rules forms.Write = false
+is_of_rules forms.Memory = false
+
+abbrev pub verdict_status : Verdict → ℕ
+verdict_status Complete = 0
+verdict_status Faults = 1

@@ -1,0 +1,53 @@
+-- Not a definition of the subject: the state after some bytes of an input, and one step of it.
+use Rattle.std.specs.Prelude.{◌≡◌, ◌≢◌, ◌⊎◌, ℕ, ◌+◌, List, [], ◌∷◌, ◌++◌, take, Option, ⊤}
+use Rattle.std.specs.Io.KnownBytes.{Appends, Keeps}
+use Rattle.icu_plurals.specs.FiveRules.{FiveRules}
+use Rattle.plural_documents.specs.Outputs.{IsPartWritten}
+use Rattle.form_commands.specs.InputLines.{lines_of}
+use Rattle.form_commands.specs.NumberAnswers.{AreLineAnswers, IsAnswerAt, most_number_bytes, next_place}
+use Rattle.form_commands.specs.PrintedTexts.{PrintedText, after_text, joined, without_text}
+use Rattle.form_commands.specs.declared.error.FormsError.{FormsError}
+use Rattle.form_commands.specs.declared.error.FormsError.TheVariants.{Write, Memory}
+use Rattle.form_commands.specs.declared.printed.Place.TheVariants.{Line}
+use Rattle.form_commands.specs.declared.stream.Lines.{Lines}
+
+-- ---- The state
+
+-- the place after some lines
+abbrev pub place_after : ℕ → List (List ℕ) → ℕ
+place_after place [] = place
+place_after place (line ∷ lines) = place_after (next_place place) lines
+
+-- no byte ends a line
+abbrev pub HasNoEnd : List ℕ → Type 0
+HasNoEnd [] = ⊤
+HasNoEnd (byte ∷ bytes) = (byte ≢ 10) × HasNoEnd bytes
+
+-- After these bytes some lines have ended, and are answered by a text that was written and what is printed since; the last one hasn't,
+-- and of it not more than one byte above the limit is kept.
+pub record IsAfter (rules : FiveRules) (bytes text : List ℕ) (lines : Lines) : Type 0 where
+  pub done : List (List ℕ)
+  pub last : List ℕ
+  pub cut : (rest : List ℕ) → lines_of (bytes ++ rest) ≡ done ++ lines_of (last ++ rest)
+  pub no_end : HasNoEnd last
+  pub kept : lines.line.items ≡ take (most_number_bytes + 1) last
+  pub place : lines.place ≡ place_after 1 done
+  pub answered : AreLineAnswers rules done (after_text text lines.printed)
+
+-- ---- Steps
+
+-- more bytes are taken
+abbrev pub Takes : FiveRules → List ℕ → Lines → Lines → Type 0
+Takes rules more old new = (bytes text : List ℕ) → IsAfter rules bytes text old → IsAfter rules (bytes ++ more) text new
+
+-- the line is answered, and a new one begins
+pub record EndsLine (rules : FiveRules) (old new : Lines) : Type 0 where
+  pub answer : PrintedText
+  pub answers : IsAnswerAt rules (Line old.place) old.line.items answer
+  pub line : new.line.items ≡ []
+  pub place : new.place ≡ next_place old.place
+  pub printed : new.printed ≡ joined old.printed answer
+
+-- what is printed was written
+abbrev pub Forgets : Lines → Lines → Type 0
+Forgets old new = new ≡ record old { printed = without_text old.printed }

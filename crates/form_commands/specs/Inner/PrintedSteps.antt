@@ -1,0 +1,11 @@
+-- Not a definition of the subject: what is printed has grown.
+use Rattle.std.specs.Prelude.{◌≡◌, ℕ, List, ◌++◌}
+use Rattle.form_commands.specs.PrintedTexts.{PrintedText, joined}
+
+-- by something of this kind
+abbrev pub Adds : (PrintedText → Type 0) → PrintedText → PrintedText → Type 0
+Adds Is old new = (more : PrintedText) × Is more × (new ≡ joined old more)
+
+-- a text has grown by a text of this kind
+abbrev pub Grows : (List ℕ → Type 0) → List ℕ → List ℕ → Type 0
+Grows Is old new = (more : List ℕ) × Is more × (new ≡ old ++ more)

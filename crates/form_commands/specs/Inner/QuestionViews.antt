@@ -1,0 +1,24 @@
+-- Not a definition of the subject: words, options and questions, in the words of the definitions.
+use Rattle.std.specs.Prelude.{ℕ, List, map}
+use Rattle.std.specs.Borrow.{Bor}
+use Rattle.std.specs.Option.{option_copied}
+use Rattle.form_commands.specs.Questions.{Options, Question, Wanted, category, help, list, version}
+use Rattle.form_commands.specs.declared.question.Options.{Options as CodeOptions}
+use Rattle.form_commands.specs.declared.question.Question.{Question as CodeQuestion}
+use Rattle.form_commands.specs.declared.question.Question.TheVariants as code
+use Rattle.form_commands.specs.declared.question.Wanted.{Wanted as CodeWanted}
+
+abbrev pub words_view : List (Bor (List ℕ)) → List (List ℕ)
+words_view words = map (λ w. w.now) words
+
+abbrev pub options_view : CodeOptions → Options
+options_view options = record { part = options.part; file = option_copied options.file; rest = words_view options.rest.now }
+
+abbrev pub wanted_view : CodeWanted → Wanted
+wanted_view wanted = record { part = wanted.part; locale = wanted.locale.now; file = option_copied wanted.file }
+
+abbrev pub question_view : CodeQuestion → Question
+question_view code.Help = help
+question_view code.Version = version
+question_view (code.List wanted) = list (wanted_view wanted)
+question_view (code.Category wanted numbers) = category (wanted_view wanted) (words_view numbers.now)

@@ -1,0 +1,68 @@
+-- Not a definition of the subject: the results of private calls.
+use Rattle.std.specs.Prelude.{◌≡◌, ◌⊎◌, ℕ, ◌<◌, List, length, Option, Some, None, Result, Ok, Err, ⊤}
+use Rattle.std.specs.Io.KnownBytes.{Appends, Keeps}
+use Rattle.std.specs.declared.alloc.AllocError.{AllocError}
+use Rattle.plural_documents.specs.Inputs.{most_bytes}
+use Rattle.plural_documents.specs.JsonTexts.{json_of}
+use Rattle.plural_documents.specs.Outputs.{IsPartWritten}
+use Rattle.plural_fallback.specs.declared.locales.Part.{Part}
+use Rattle.serde_json.specs.Data.{Data}
+use Rattle.serde_json.specs.View.{view}
+use Rattle.serde_json.specs.declared.Value.{Value}
+use Rattle.form_commands.specs.FormsAnswers.{IsDocumentIn, IsStreamed, IsUntouched}
+use Rattle.form_commands.specs.Languages.{IsLanguageOf}
+use Rattle.form_commands.specs.PrintedTexts.{PrintedText, verdict_of}
+use Rattle.form_commands.specs.declared.error.FormsError.{FormsError}
+use Rattle.form_commands.specs.declared.error.FormsError.TheVariants.{Rules, TooLong, Json, Language, Numbers, Write, Memory}
+use Rattle.form_commands.specs.declared.error.LanguageError.{LanguageError}
+use Rattle.form_commands.specs.declared.error.Verdict.{Verdict}
+use Rattle.form_commands.specs.declared.language.Language as code
+
+-- ---- The document
+
+-- the value of bytes, or that they have none
+abbrev pub GivesValue : List ℕ → Result Value FormsError → Type 0
+GivesValue bytes (Ok value) = json_of bytes ≡ Some (view value)
+GivesValue bytes (Err Rules) = ⊥
+GivesValue bytes (Err TooLong) = ⊥
+GivesValue bytes (Err Json) = json_of bytes ≡ None
+GivesValue bytes (Err (Language error)) = ⊥
+GivesValue bytes (Err Numbers) = ⊥
+GivesValue bytes (Err Write) = ⊥
+GivesValue bytes (Err Memory) = ⊤
+
+-- the document of an input, or why there is none
+abbrev pub GivesDocument : List ℕ → Result Value FormsError → Type 0
+GivesDocument input (Ok value) = IsDocumentIn input (view value)
+GivesDocument input (Err Rules) = ⊤
+GivesDocument input (Err TooLong) = most_bytes < length input
+GivesDocument input (Err Json) = json_of input ≡ None
+GivesDocument input (Err (Language error)) = ⊥
+GivesDocument input (Err Numbers) = ⊥
+GivesDocument input (Err Write) = ⊥
+GivesDocument input (Err Memory) = ⊤
+
+-- ---- What is written
+
+-- the text, or a beginning of it
+abbrev pub WritesText : PrintedText → Option (List ℕ) → Option (List ℕ) → Result Verdict FormsError → Type 0
+WritesText printed old new (Ok verdict) = (verdict ≡ verdict_of printed) × Appends old new printed.text
+WritesText printed old new (Err error) = (error ≡ Write) × IsPartWritten old new printed.text
+
+-- what is printed, or a fault and nothing at all
+abbrev pub WritesAnswer : Result (Result PrintedText LanguageError) AllocError → Option (List ℕ) → Option (List ℕ)
+    → Result Verdict FormsError → Type 0
+WritesAnswer (Ok (Ok printed)) old new result = WritesText printed old new result
+WritesAnswer (Ok (Err error)) old new result = (result ≡ Err (Language error)) × Keeps old new
+WritesAnswer (Err error) old new result = (result ≡ Err Memory) × Keeps old new
+
+-- ---- The lines of another input
+
+-- the answers by the rules of a locale, or that there are none
+abbrev pub AnswersLines : Data → Part → List ℕ → Option (List ℕ) → Option (List ℕ) → Option (List ℕ) → Option (List ℕ)
+    → Result Verdict FormsError → Type 0
+AnswersLines document part locale before left old new result =
+    ((language : code.Language) × IsLanguageOf document part locale (Ok language) × IsStreamed language.rules before left old new result)
+    ⊎ (((error : LanguageError) × IsLanguageOf document part locale (Err error) × (result ≡ Err (Language error))
+    × IsUntouched before left old new)
+    ⊎ ((result ≡ Err Memory) × IsUntouched before left old new))

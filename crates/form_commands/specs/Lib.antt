@@ -1,0 +1,14 @@
+-- the words of a command line
+pub mod Questions
+-- the rules of a locale, and what is printed of them and of numbers
+pub mod Languages
+pub mod FormLines
+pub mod PrintedTexts
+pub mod NumberAnswers
+pub mod InputLines
+-- errors and statuses
+pub mod FormsErrors
+-- answers, and what is read and written
+pub mod FormsAnswers
+-- not definitions of the subject
+pub mod Inner

@@ -1,0 +1,94 @@
+-- The questions of the program, and the words that ask them.
+--     of_words words      the question, if the words are one
+use Rattle.std.specs.Prelude.{ℕ, List, [], ◌∷◌, codes, Bool, true, false, ◌&&◌, not, Option, Some, None, bytes_eq, nat_eq, if◌then◌else◌}
+use Rattle.std.specs.List.{list_any, starts_with}
+use Rattle.plural_fallback.specs.declared.locales.Part.{Part}
+use Rattle.plural_fallback.specs.declared.locales.Part.TheVariants.{Cardinal, Ordinal}
+
+-- the part whose rules are asked for, the locale, and the file after `--rules`
+pub record Wanted : Type 0 where
+  pub part : Part
+  pub locale : List ℕ
+  pub file : Option (List ℕ)
+
+-- --help, --version, list LOCALE, category LOCALE NUMBER..
+pub data Question : Type 0 where
+  help : Question
+  version : Question
+  list : Wanted → Question
+  category : Wanted → List (List ℕ) → Question
+
+-- ---- Options
+
+-- whether `--ordinal` is at the front, and the words after it
+pub record PartAndRest : Type 0 where
+  pub part : Part
+  pub rest : List (List ℕ)
+
+abbrev pub in_part : Part → List (List ℕ) → PartAndRest
+in_part part rest = record { part = part; rest = rest }
+
+abbrev pub part_of : List (List ℕ) → PartAndRest
+part_of [] = in_part Cardinal []
+part_of (first ∷ rest) = if bytes_eq first (codes "--ordinal") then in_part Ordinal rest else in_part Cardinal (first ∷ rest)
+
+-- the file that `--rules` at the front names, and the words after it
+pub record FileAndRest : Type 0 where
+  pub file : Option (List ℕ)
+  pub rest : List (List ℕ)
+
+abbrev pub with_file : Option (List ℕ) → List (List ℕ) → FileAndRest
+with_file file rest = record { file = file; rest = rest }
+
+abbrev pub file_of : List (List ℕ) → FileAndRest
+file_of (first ∷ file ∷ rest) =
+    if bytes_eq first (codes "--rules") then with_file (Some file) rest else with_file None (first ∷ file ∷ rest)
+file_of words = with_file None words
+
+-- the options at the front, and the words after them
+pub record Options : Type 0 where
+  pub part : Part
+  pub file : Option (List ℕ)
+  pub rest : List (List ℕ)
+
+abbrev pub options_with : Option (List ℕ) → PartAndRest → Options
+options_with file found = record { part = found.part; file = file; rest = found.rest }
+
+-- `--ordinal`, and then `--rules FILE`; or, if `--ordinal` isn't first, these in the other order; each may be absent
+abbrev pub options_after : Part → FileAndRest → Options
+options_after Ordinal found = options_with found.file (in_part Ordinal found.rest)
+options_after part found = options_with found.file (part_of found.rest)
+
+abbrev pub options_of : List (List ℕ) → Options
+options_of words = options_after (part_of words).part (file_of (part_of words).rest)
+
+-- ---- Questions
+
+abbrev pub has_option : List (List ℕ) → Bool
+has_option words = list_any (λ word. starts_with nat_eq word (codes "--")) words
+
+abbrev pub is_empty : List (List ℕ) → Bool
+is_empty [] = true
+is_empty (word ∷ words) = false
+
+abbrev pub of_word : List ℕ → Option Question
+of_word word =
+    if bytes_eq word (codes "--help") then Some help else (if bytes_eq word (codes "--version") then Some version else None)
+
+abbrev pub wanted_by : List ℕ → Options → Wanted
+wanted_by locale options = record { part = options.part; locale = locale; file = options.file }
+
+-- a command, a locale and the words after it, of which those after the options begin no option
+abbrev pub of_options : List ℕ → List ℕ → Options → Option Question
+of_options command locale options =
+    if bytes_eq command (codes "list") && is_empty options.rest then Some (list (wanted_by locale options))
+    else (if bytes_eq command (codes "category") && not (has_option options.rest)
+    then Some (category (wanted_by locale options) options.rest) else None)
+
+abbrev pub of_command : List ℕ → List ℕ → List (List ℕ) → Option Question
+of_command command locale words = of_options command locale (options_of words)
+
+abbrev pub of_words : List (List ℕ) → Option Question
+of_words (word ∷ []) = of_word word
+of_words (command ∷ locale ∷ words) = of_command command locale words
+of_words words = None

@@ -1,0 +1,140 @@
+//! Why a question has no answer, and the exit status of the program.
+
+ghost use Rattle.std.specs.Prelude.{◌≡◌, Some};
+ghost use Rattle.form_commands.specs.FormsErrors.{is_of_rules, language_error_text, language_status, status_of, verdict_status};
+
+use crate::name::Name;
+use icu_plurals::JsonError;
+use plural_documents::InputError;
+use plural_fallback::{FallbackError, Part};
+use std::{error, fmt};
+use thiserror::Error;
+
+/// Whether each number has a category.
+#[derive(Clone, Copy, Debug, PartialEq, Eq)]
+pub enum Verdict {
+    /// Each has one, or none was asked for.
+    Complete,
+    /// A number has none: its text is out of form, or over a limit.
+    Faults,
+}
+
+impl Verdict {
+    /// Returns the exit status of the program: 0 if each number has a category, otherwise 1.
+    pub fn status(self) -> u8
+        ensures { result ≡ verdict_status self }
+    {
+        match self {
+            Verdict::Complete => 0,
+            Verdict::Faults => 1,
+        }
+    }
+}
+
+/// Why a document gives no rules for a locale.
+#[derive(Debug, Drop)]
+pub enum LanguageError {
+    /// The chain of this locale gives no key in the part.
+    NotFound(Part, Name, FallbackError),
+    /// What the part has under this key is refused. The reason is never out of memory.
+    Refused(Part, Name, JsonError),
+}
+
+impl fmt::Display for LanguageError {
+    ghost output = { λ error. Some (language_error_text error) };
+
+    fn fmt<W: fmt::Write>(&self, f: &mut fmt::Formatter<W>) -> fmt::Result {
+        match self {
+            LanguageError::NotFound(part, locale, reason) => {
+                write!(f, "{} {}: {}", part.as_str(), locale.as_str(), *reason)
+            }
+            LanguageError::Refused(part, key, reason) => {
+                write!(f, "{} {}: {}", part.as_str(), key.as_str(), *reason)
+            }
+        }
+    }
+}
+
+impl error::Error for LanguageError {}
+
+impl LanguageError {
+    // The exit status: 1 if the locale has no rules, otherwise 2.
+    fn status(&self) -> u8
+        ensures { result ≡ language_status self.now }
+    {
+        match self {
+            LanguageError::NotFound(_, _, FallbackError::NotFound) => 1,
+            LanguageError::NotFound(_, _, FallbackError::LongChain)
+            | LanguageError::NotFound(_, _, FallbackError::NotLoaded)
+            | LanguageError::Refused(_, _, _) => 2,
+        }
+    }
+}
+
+/// Why a question has no answer, or only a beginning of it.
+#[derive(Debug, Drop, Error)]
+pub enum FormsError {
+    /// The reader of the rules failed.
+    #[error("cannot read rules")]
+    Rules,
+    /// The rules have more than 4194304 bytes.
+    #[error("rules too long")]
+    TooLong,
+    /// The rules are no JSON text.
+    #[error("rules are not JSON")]
+    Json,
+    /// The rules have none for the locale.
+    #[error("{0}")]
+    Language(LanguageError),
+    /// The reader of the numbers failed. The lines before were answered.
+    #[error("cannot read numbers")]
+    Numbers,
+    /// The writer failed; it took a beginning of the answer.
+    #[error("cannot write output")]
+    Write,
+    /// Out of memory. Of the answer at most a beginning was written.
+    #[error("out of memory")]
+    Memory,
+}
+
+impl From<InputError> for FormsError {
+    ghost use Rattle.form_commands.specs.Inner.FormsInputFaults.{input_fault};
+
+    ghost from_gives = { λ error fault. fault ≡ input_fault error };
+
+    fn from(error: InputError) -> FormsError {
+        match error {
+            InputError::Read => FormsError::Rules,
+            InputError::TooLong => FormsError::TooLong,
+            InputError::Memory => FormsError::Memory,
+        }
+    }
+}
+
+impl FormsError {
+    /// Returns whether the rules are at fault.
+    pub fn is_of_rules(&self) -> bool
+        ensures { result ≡ is_of_rules self.now }
+    {
+        match self {
+            FormsError::Rules | FormsError::TooLong | FormsError::Json | FormsError::Language(_) =>
+                true,
+            FormsError::Numbers | FormsError::Write | FormsError::Memory => false,
+        }
+    }
+
+    /// Returns the exit status of the program: 1 if the locale has no rules, otherwise 2.
+    pub fn status(&self) -> u8
+        ensures { result ≡ status_of self.now }
+    {
+        match self {
+            FormsError::Language(error) => error.status(),
+            FormsError::Rules
+            | FormsError::TooLong
+            | FormsError::Json
+            | FormsError::Numbers
+            | FormsError::Write
+            | FormsError::Memory => 2,
+        }
+    }
+}

@@ -1,0 +1,82 @@
+//! The rules that a document has for a locale.
+
+ghost use Rattle.std.specs.Prelude.{◌≡◌, Err, IfOk, option_map};
+ghost use Rattle.form_commands.specs.Languages.{IsFoundAt, IsLanguageOf, value_at};
+ghost use Rattle.serde_json.specs.View.{view};
+
+use crate::error::LanguageError;
+use crate::name::Name;
+use icu_plurals::provider::PluralRulesData;
+use icu_plurals::{JsonError, PluralRules};
+use plural_fallback::{Part, find_first};
+use serde_json::Value;
+use std::alloc::{AllocError, Global};
+
+// A key of a document, what stands under it, and the rules of that.
+#[derive(Drop)]
+pub(crate) struct Language<'a> {
+    pub(crate) key: &'a str,
+    pub(crate) value: &'a Value,
+    pub(crate) rules: PluralRules<'static>,
+}
+
+// Returns the rules of the first key of a locale's chain, or why there are none.
+pub(crate) fn language_of<'a>(
+    alloc: Global,
+    document: &'a Value,
+    part: Part,
+    locale: &str,
+) -> Result<Result<Language<'a>, LanguageError>, AllocError>
+    ensures { IfOk result (λ answer. IsLanguageOf (view document.now) part locale.now answer) }
+{
+    match find_first(document, part, locale) {
+        Ok(key) => at_key(alloc, document, part, key),
+        Err(reason) => {
+            let locale = Name::from_str(alloc, locale)?;
+            Ok(Err(LanguageError::NotFound(part, locale, reason)))
+        }
+    }
+}
+
+// Returns the rules of a key, or why there are none.
+fn at_key<'a>(
+    alloc: Global,
+    document: &'a Value,
+    part: Part,
+    key: &'a str,
+) -> Result<Result<Language<'a>, LanguageError>, AllocError>
+    ensures { IfOk result (λ answer. IsFoundAt (view document.now) part key.now answer) }
+{
+    let Some(value) = value_at(document, part, key) else {
+        return refused(alloc, part, key, JsonError::Shape);
+    };
+    match PluralRulesData::from_json(alloc, value) {
+        Ok(data) => Ok(Ok(Language {
+            key,
+            value,
+            rules: PluralRules::from_data(data),
+        })),
+        Err(JsonError::Memory) => Err(AllocError),
+        Err(reason) => refused(alloc, part, key, reason),
+    }
+}
+
+// Returns what stands under a key of a part.
+fn value_at<'a>(document: &'a Value, part: Part, key: &str) -> Option<&'a Value>
+    ensures { option_map (λ v. view v.now) result ≡ value_at (view document.now) part key.now }
+{
+    document.get(part.as_str())?.get(key)
+}
+
+// Returns that what stands under a key is refused.
+fn refused<'a>(
+    alloc: Global,
+    part: Part,
+    key: &str,
+    reason: JsonError,
+) -> Result<Result<Language<'a>, LanguageError>, AllocError>
+    ensures { IfOk result (λ answer. answer ≡ Err (LanguageError.Refused part key.now reason)) }
+{
+    let key = Name::from_str(alloc, key)?;
+    Ok(Err(LanguageError::Refused(part, key, reason)))
+}

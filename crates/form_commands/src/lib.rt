@@ -1,0 +1,18 @@
+//! Which forms a language has, and which of them a number takes, over any reader and writer.
+#![tactic(auto)]
+
+mod error;
+mod language;
+mod list;
+mod name;
+mod number;
+mod printed;
+mod question;
+mod run;
+mod stream;
+
+pub use error::{FormsError, LanguageError, Verdict};
+pub use name::Name;
+pub use printed::{NumberFault, Place};
+pub use question::{Question, Wanted, question_of};
+pub use run::{answer_lines, answer_numbers, list_forms};

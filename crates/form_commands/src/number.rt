@@ -1,0 +1,95 @@
+//! The categories of numbers.
+
+ghost use Rattle.std.specs.Prelude.{◌≡◌, IfOk, OnOk};
+ghost use Rattle.form_commands.specs.Inner.PrintedSteps.{Adds};
+ghost use Rattle.form_commands.specs.Inner.QuestionViews.{words_view};
+ghost use Rattle.form_commands.specs.NumberAnswers.{AreNumberAnswers, IsAnswerAt, IsCategoryOf, IsShortCategoryOf, next_place};
+
+use crate::printed::{NumberFault, Place, Printed};
+use icu_plurals::{CompactDecimal, DecimalError, PluralCategory, PluralRules};
+use std::alloc::{AllocError, Global};
+use std::str;
+
+// The most bytes of a number within the limits.
+pub(crate) const MOST_NUMBER_BYTES: usize = 65_540;
+
+// Returns the lines of numbers.
+pub(crate) fn numbers_text(
+    alloc: Global,
+    rules: &PluralRules<'_>,
+    numbers: &[&str],
+) -> Result<Printed, AllocError>
+    ensures { IfOk result (λ printed. AreNumberAnswers rules.now (words_view numbers.now) printed) }
+{
+    let mut printed = Printed::new(alloc);
+    let mut place = 1;
+    let mut rest = numbers;
+    while let [number, after @ ..] = rest {
+        push_answer(
+            alloc,
+            rules,
+            Place::Number(place),
+            number.as_bytes(),
+            &mut printed,
+        )?;
+        place = next_place(place);
+        rest = after;
+    }
+    Ok(printed)
+}
+
+// Returns the place after a place.
+pub(crate) fn next_place(place: u64) -> u64
+    ensures { result ≡ next_place place }
+{
+    if place < u64::MAX { place + 1 } else { place }
+}
+
+// Appends the line of a number.
+pub(crate) fn push_answer(
+    alloc: Global,
+    rules: &PluralRules<'_>,
+    place: Place,
+    number: &[u8],
+    printed: &mut Printed,
+) -> Result<(), AllocError>
+    ensures { OnOk result (Adds (IsAnswerAt rules.now place number.now) printed.old printed.new) }
+{
+    match category_of(alloc, rules, number)? {
+        Ok(category) => printed.push_category(category),
+        Err(fault) => printed.push_fault(alloc, place, fault),
+    }
+}
+
+// Returns the category of a number, or why it has none.
+fn category_of(
+    alloc: Global,
+    rules: &PluralRules<'_>,
+    number: &[u8],
+) -> Result<Result<PluralCategory, NumberFault>, AllocError>
+    ensures { IfOk result (λ answer. IsCategoryOf rules.now number.now answer) }
+{
+    if number.len() > MOST_NUMBER_BYTES {
+        return Ok(Err(NumberFault::TooLong));
+    }
+    match str::from_utf8(number) {
+        Ok(text) => category_of_text(alloc, rules, text),
+        Err(_) => Ok(Err(NumberFault::NotText)),
+    }
+}
+
+// Returns the category of a number as a text, or why it has none.
+fn category_of_text(
+    alloc: Global,
+    rules: &PluralRules<'_>,
+    text: &str,
+) -> Result<Result<PluralCategory, NumberFault>, AllocError>
+    ensures { IfOk result (λ answer. IsShortCategoryOf rules.now text.now answer) }
+{
+    match CompactDecimal::from_str(alloc, text) {
+        Ok(number) => Ok(Ok(rules.category_for_compact(&number))),
+        Err(DecimalError::Syntax) => Ok(Err(NumberFault::Syntax)),
+        Err(DecimalError::Limit) => Ok(Err(NumberFault::Limit)),
+        Err(DecimalError::Memory) => Err(AllocError),
+    }
+}

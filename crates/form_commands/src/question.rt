@@ -1,0 +1,144 @@
+//! The question that the words of a command line ask.
+
+ghost use Rattle.std.specs.Prelude.{◌≡◌, map, option_map};
+ghost use Rattle.std.specs.Option.{option_copied};
+ghost use Rattle.form_commands.specs.Questions.{file_of, has_option, in_part, of_command, of_word, of_words, options_after, options_of, options_with, part_of, with_file};
+ghost use Rattle.form_commands.specs.Inner.QuestionViews.{options_view, question_view, words_view};
+
+use plural_fallback::Part;
+
+/// Whose rules are asked for, and where they are.
+#[derive(Clone, Copy, Debug)]
+pub struct Wanted<'w> {
+    /// The part: for cardinal or for ordinal numbers.
+    pub part: Part,
+    /// The locale.
+    pub locale: &'w str,
+    /// The file after `--rules`, if there is one.
+    pub file: Option<&'w str>,
+}
+
+/// What the words of a command line ask.
+#[derive(Clone, Copy, Debug)]
+pub enum Question<'w> {
+    /// How the program is used.
+    Help,
+    /// Which version it is.
+    Version,
+    /// Which forms a language has.
+    List(Wanted<'w>),
+    /// Which category each of these numbers has. Without any, they are in the input.
+    Category(Wanted<'w>, &'w [&'w str]),
+}
+
+// The words that are options, and those after them.
+#[derive(Clone, Copy)]
+struct Options<'w> {
+    part: Part,
+    file: Option<&'w str>,
+    rest: &'w [&'w str],
+}
+
+/// Returns the question of the words after the program's name: `--help`, `--version`,
+/// `list LOCALE [OPTION..]` or `category LOCALE [OPTION..] [NUMBER..]`, where an option is `--ordinal`
+/// or `--rules FILE`, each at most once. `None` for other words. It allocates nothing.
+pub fn question_of<'w>(words: &'w [&'w str]) -> Option<Question<'w>>
+    ensures { option_map question_view result ≡ of_words (words_view words.now) }
+{
+    match words {
+        [word] => of_word(word),
+        [command, locale, rest @ ..] => of_command(command, locale, rest),
+        _ => None,
+    }
+}
+
+// The question of a single word.
+fn of_word<'w>(word: &str) -> Option<Question<'w>>
+    ensures { option_map question_view result ≡ of_word word.now }
+{
+    match word {
+        "--help" => Some(Question::Help),
+        "--version" => Some(Question::Version),
+        _ => None,
+    }
+}
+
+// The question of a command, a locale and the words after it.
+fn of_command<'w>(command: &str, locale: &'w str, words: &'w [&'w str]) -> Option<Question<'w>>
+    ensures { option_map question_view result ≡ of_command command.now locale.now (words_view words.now) }
+{
+    let options = options_of(words);
+    let wanted = Wanted {
+        part: options.part,
+        locale,
+        file: options.file,
+    };
+    if command == "list" && options.rest.is_empty() {
+        Some(Question::List(wanted))
+    } else if command == "category" && !has_option(options.rest) {
+        Some(Question::Category(wanted, options.rest))
+    } else {
+        None
+    }
+}
+
+// The options at the front of the words, in either order.
+fn options_of<'w>(words: &'w [&'w str]) -> Options<'w>
+    ensures { options_view result ≡ options_of (words_view words.now) }
+{
+    let (part, rest) = part_of(words);
+    options_after(part, rest)
+}
+
+// The options after `--ordinal`, or without it.
+fn options_after<'w>(part: Part, words: &'w [&'w str]) -> Options<'w>
+    ensures { options_view result ≡ options_after part (file_of (words_view words.now)) }
+{
+    let (file, rest) = file_of(words);
+    match part {
+        Part::Ordinal => Options { part, file, rest },
+        _ => options_with(file, rest),
+    }
+}
+
+// The options after `--rules FILE`, or without it.
+fn options_with<'w>(file: Option<&'w str>, words: &'w [&'w str]) -> Options<'w>
+    ensures { options_view result ≡ options_with (option_copied file.entry) (part_of (words_view words.now)) }
+{
+    let (part, rest) = part_of(words);
+    Options { part, file, rest }
+}
+
+// The part that `--ordinal` at the front names, or the cardinal one; and the words after it.
+fn part_of<'w>(words: &'w [&'w str]) -> (Part, &'w [&'w str])
+    ensures { in_part result.0 (words_view result.1.now) ≡ part_of (words_view words.now) }
+{
+    match words {
+        [first, rest @ ..] if *first == "--ordinal" => (Part::Ordinal, rest),
+        _ => (Part::Cardinal, words),
+    }
+}
+
+// The file that `--rules` at the front names, and the words after it.
+fn file_of<'w>(words: &'w [&'w str]) -> (Option<&'w str>, &'w [&'w str])
+    ensures { with_file (option_copied result.0) (words_view result.1.now) ≡ file_of (words_view words.now) }
+{
+    match words {
+        [first, file, rest @ ..] if *first == "--rules" => (Some(*file), rest),
+        _ => (None, words),
+    }
+}
+
+// Whether one of the words begins as an option does.
+fn has_option(words: &[&str]) -> bool
+    ensures { result ≡ has_option (words_view words.now) }
+{
+    let mut rest = words;
+    while let [word, after @ ..] = rest {
+        if word.starts_with("--") {
+            return true;
+        }
+        rest = after;
+    }
+    false
+}

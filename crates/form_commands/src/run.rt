@@ -1,0 +1,163 @@
+//! The answers to questions, over any readers and writer.
+
+ghost use Rattle.std.specs.Prelude.{IfOk, List, ℕ};
+ghost use Rattle.form_commands.specs.FormsAnswers.{Answers, IsAnswered, IsAnsweredLines, IsListAnswer, IsNumbersAnswer};
+ghost use Rattle.form_commands.specs.Inner.QuestionViews.{words_view};
+ghost use Rattle.form_commands.specs.Inner.RunSteps.{AnswersLines, GivesDocument, GivesValue, WritesAnswer};
+ghost use Rattle.plural_documents.specs.Inputs.{IsInput};
+ghost use Rattle.serde_json.specs.View.{view};
+
+use crate::error::{FormsError, LanguageError, Verdict};
+use crate::language::language_of;
+use crate::list::list_text;
+use crate::number::numbers_text;
+use crate::printed::Printed;
+use crate::stream::answer_input;
+use plural_documents::{JsonTextError, json_value, read_input};
+use plural_fallback::Part;
+use serde_json::Value;
+use std::alloc::{AllocError, Global};
+use std::io::{Read, Write};
+
+/// Writes the forms of a language.
+pub fn list_forms<R: Read, W: Write>(
+    alloc: Global,
+    part: Part,
+    locale: &str,
+    rules: &mut R,
+    writer: &mut W,
+) -> Result<Verdict, FormsError>
+    ensures { (input : List ℕ) × IsInput (R.remaining rules.old) input
+        × IsAnswered (Answers (IsListAnswer part locale.now) part locale.now) input (W.contents writer.old) (W.contents writer.new) result }
+{
+    match document_of(alloc, rules) {
+        Ok(document) => write_answer(list_of(alloc, &document, part, locale), writer),
+        Err(error) => Err(error),
+    }
+}
+
+/// Writes a line for each of the numbers: its category, or why it has none.
+pub fn answer_numbers<R: Read, W: Write>(
+    alloc: Global,
+    part: Part,
+    locale: &str,
+    numbers: &[&str],
+    rules: &mut R,
+    writer: &mut W,
+) -> Result<Verdict, FormsError>
+    ensures { (input : List ℕ) × IsInput (R.remaining rules.old) input
+        × IsAnswered (Answers (IsNumbersAnswer (words_view numbers.now)) part locale.now) input (W.contents writer.old) (W.contents writer.new) result }
+{
+    match document_of(alloc, rules) {
+        Ok(document) => {
+            let answer = categories_of(alloc, &document, part, locale, numbers);
+            write_answer(answer, writer)
+        }
+        Err(error) => Err(error),
+    }
+}
+
+/// Writes a line for each line of the numbers: its category, or why it has none.
+pub fn answer_lines<R: Read, N: Read, W: Write>(
+    alloc: Global,
+    part: Part,
+    locale: &str,
+    rules: &mut R,
+    numbers: &mut N,
+    writer: &mut W,
+) -> Result<Verdict, FormsError>
+    ensures { (input : List ℕ) × IsInput (R.remaining rules.old) input
+        × IsAnsweredLines part locale.now input (N.remaining numbers.old) (N.remaining numbers.new) (W.contents writer.old) (W.contents writer.new) result }
+{
+    match document_of(alloc, rules) {
+        Ok(document) => lines_by(alloc, &document, part, locale, numbers, writer),
+        Err(error) => Err(error),
+    }
+}
+
+// Writes the answers to the lines of the numbers by the rules of a locale.
+fn lines_by<N: Read, W: Write>(
+    alloc: Global,
+    document: &Value,
+    part: Part,
+    locale: &str,
+    numbers: &mut N,
+    writer: &mut W,
+) -> Result<Verdict, FormsError>
+    ensures { AnswersLines (view document.now) part locale.now (N.remaining numbers.old) (N.remaining numbers.new) (W.contents writer.old) (W.contents writer.new) result }
+{
+    match language_of(alloc, document, part, locale) {
+        Ok(Ok(language)) => answer_input(alloc, &language.rules, numbers, writer),
+        Ok(Err(error)) => Err(FormsError::Language(error)),
+        Err(_) => Err(FormsError::Memory),
+    }
+}
+
+// Returns the document in a reader.
+fn document_of<R: Read>(alloc: Global, reader: &mut R) -> Result<Value, FormsError>
+    ensures { (input : List ℕ) × IsInput (R.remaining reader.old) input × GivesDocument input result }
+{
+    match read_input(alloc, reader) {
+        Ok(input) => value_of(alloc, input.as_slice()),
+        Err(error) => Err(FormsError::from(error)),
+    }
+}
+
+// Returns the JSON value of bytes.
+fn value_of(alloc: Global, bytes: &[u8]) -> Result<Value, FormsError>
+    ensures { GivesValue bytes.now result }
+{
+    match json_value(alloc, bytes) {
+        Ok(value) => Ok(value),
+        Err(JsonTextError::Json) => Err(FormsError::Json),
+        Err(JsonTextError::Memory) => Err(FormsError::Memory),
+    }
+}
+
+// Returns the lines of the forms of a locale.
+fn list_of(
+    alloc: Global,
+    document: &Value,
+    part: Part,
+    locale: &str,
+) -> Result<Result<Printed, LanguageError>, AllocError>
+    ensures { IfOk result (λ answer. Answers (IsListAnswer part locale.now) part locale.now (view document.now) answer) }
+{
+    match language_of(alloc, document, part, locale)? {
+        Ok(language) => {
+            let text = list_text(alloc, part, locale, &language)?;
+            Ok(Ok(Printed::of(text)))
+        }
+        Err(error) => Ok(Err(error)),
+    }
+}
+
+// Returns the lines of numbers by the rules of a locale.
+fn categories_of(
+    alloc: Global,
+    document: &Value,
+    part: Part,
+    locale: &str,
+    numbers: &[&str],
+) -> Result<Result<Printed, LanguageError>, AllocError>
+    ensures { IfOk result (λ answer. Answers (IsNumbersAnswer (words_view numbers.now)) part locale.now (view document.now) answer) }
+{
+    match language_of(alloc, document, part, locale)? {
+        Ok(language) => Ok(Ok(numbers_text(alloc, &language.rules, numbers)?)),
+        Err(error) => Ok(Err(error)),
+    }
+}
+
+// Writes what is printed.
+fn write_answer<W: Write>(
+    answer: Result<Result<Printed, LanguageError>, AllocError>,
+    writer: &mut W,
+) -> Result<Verdict, FormsError>
+    ensures { WritesAnswer answer (W.contents writer.old) (W.contents writer.new) result }
+{
+    match answer {
+        Ok(Ok(printed)) => printed.write_to(writer),
+        Ok(Err(error)) => Err(FormsError::Language(error)),
+        Err(_) => Err(FormsError::Memory),
+    }
+}

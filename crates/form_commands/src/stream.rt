@@ -1,0 +1,162 @@
+//! The lines of an input, answered as they are read.
+
+ghost use Rattle.std.specs.Prelude.{◌≡◌, ◌∷◌, [], IfErr, OnOk};
+ghost use Rattle.std.specs.Io.KnownBytes.{Appends};
+ghost use Rattle.form_commands.specs.FormsAnswers.{IsStreamed};
+ghost use Rattle.form_commands.specs.Inner.LineSteps.{EndsLine, Forgets, Takes};
+ghost use Rattle.form_commands.specs.Inner.StreamSteps.{FinishesLines, TakesAndWrites};
+ghost use Rattle.plural_documents.specs.Outputs.{IsPartWritten};
+
+use crate::error::{FormsError, Verdict};
+use crate::number::{MOST_NUMBER_BYTES, next_place, push_answer};
+use crate::printed::{Place, Printed};
+use icu_plurals::PluralRules;
+use plural_documents::write_output;
+use std::alloc::{AllocError, Global};
+use std::io::{ErrorKind, Read, Write};
+
+// The bytes of the present line, as far as they are kept, its place, and what is printed and not yet written.
+#[derive(Drop)]
+pub(crate) struct Lines {
+    line: Vec<u8>,
+    place: u64,
+    printed: Printed,
+}
+
+// Writes the answers to the lines of the numbers.
+pub(crate) fn answer_input<N: Read, W: Write>(
+    alloc: Global,
+    rules: &PluralRules<'_>,
+    numbers: &mut N,
+    writer: &mut W,
+) -> Result<Verdict, FormsError>
+    ensures { IsStreamed rules.now (N.remaining numbers.old) (N.remaining numbers.new) (W.contents writer.old) (W.contents writer.new) result }
+{
+    let mut lines = Lines {
+        line: Vec::new(alloc),
+        place: 1,
+        printed: Printed::new(alloc),
+    };
+    let mut chunk = [0u8; 4096];
+    for _ in 0..u64::MAX {
+        match numbers.read(&mut chunk) {
+            Ok(0) => return last_line(alloc, rules, &mut lines, writer),
+            Ok(count) => {
+                if let Err(error) = answer_bytes(
+                    alloc,
+                    rules,
+                    &chunk[..count],
+                    &mut lines,
+                    writer,
+                ) {
+                    return Err(error);
+                }
+            }
+            Err(fault) => {
+                if fault.kind() != ErrorKind::Interrupted {
+                    return Err(FormsError::Numbers);
+                }
+            }
+        }
+    }
+    Err(FormsError::Numbers)
+}
+
+// Writes the answers to the lines that end in these bytes.
+fn answer_bytes<W: Write>(
+    alloc: Global,
+    rules: &PluralRules<'_>,
+    bytes: &[u8],
+    lines: &mut Lines,
+    writer: &mut W,
+) -> Result<(), FormsError>
+    ensures { TakesAndWrites rules.now bytes.now lines.old lines.new (W.contents writer.old) (W.contents writer.new) result }
+{
+    match take_bytes(alloc, rules, bytes, lines) {
+        Ok(()) => write_printed(lines, writer),
+        Err(_) => Err(FormsError::Memory),
+    }
+}
+
+// Writes what is printed and not yet written.
+fn write_printed<W: Write>(lines: &mut Lines, writer: &mut W) -> Result<(), FormsError>
+    ensures written { OnOk result (Appends (W.contents writer.old) (W.contents writer.new) lines.old.printed.text) }
+    ensures forgotten { OnOk result (Forgets lines.old lines.new) }
+    ensures part { IfErr result (λ e. (e ≡ FormsError.Write) × IsPartWritten (W.contents writer.old) (W.contents writer.new) lines.old.printed.text) }
+{
+    match write_output(writer, lines.printed.as_bytes()) {
+        Ok(()) => {
+            lines.printed.clear();
+            Ok(())
+        }
+        Err(_) => Err(FormsError::Write),
+    }
+}
+
+// Writes the answer to a last line that has no end.
+fn last_line<W: Write>(
+    alloc: Global,
+    rules: &PluralRules<'_>,
+    lines: &mut Lines,
+    writer: &mut W,
+) -> Result<Verdict, FormsError>
+    ensures { FinishesLines rules.now lines.old (W.contents writer.old) (W.contents writer.new) result }
+{
+    if lines.line.is_empty() {
+        return Ok(lines.printed.verdict());
+    }
+    match end_line(alloc, rules, lines) {
+        Ok(()) => lines.printed.write_to(writer),
+        Err(_) => Err(FormsError::Memory),
+    }
+}
+
+// Takes bytes, one after the other.
+fn take_bytes(
+    alloc: Global,
+    rules: &PluralRules<'_>,
+    bytes: &[u8],
+    lines: &mut Lines,
+) -> Result<(), AllocError>
+    ensures { OnOk result (Takes rules.now bytes.now lines.old lines.new) }
+{
+    for byte in bytes {
+        take_byte(alloc, rules, *byte, lines)?;
+    }
+    Ok(())
+}
+
+// Takes a byte: a newline ends the line. Of a line that is too long no more than one byte above the limit is kept.
+fn take_byte(
+    alloc: Global,
+    rules: &PluralRules<'_>,
+    byte: u8,
+    lines: &mut Lines,
+) -> Result<(), AllocError>
+    ensures { OnOk result (Takes rules.now (byte ∷ []) lines.old lines.new) }
+{
+    if byte == b'\n' {
+        return end_line(alloc, rules, lines);
+    }
+    if lines.line.len() > MOST_NUMBER_BYTES {
+        return Ok(());
+    }
+    lines.line.push(byte)?;
+    Ok(())
+}
+
+// Answers the present line, and begins the next one.
+fn end_line(alloc: Global, rules: &PluralRules<'_>, lines: &mut Lines) -> Result<(), AllocError>
+    ensures { OnOk result (EndsLine rules.now lines.old lines.new) }
+{
+    push_answer(
+        alloc,
+        rules,
+        Place::Line(lines.place),
+        lines.line.as_slice(),
+        &mut lines.printed,
+    )?;
+    lines.line.clear();
+    lines.place = next_place(lines.place);
+    Ok(())
+}

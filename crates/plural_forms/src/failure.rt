@@ -1,0 +1,90 @@
+//! Why the program fails.
+
+use form_commands::{FormsError, Verdict};
+use plural_commands::RunError;
+use thiserror::Error;
+
+// How the program is used.
+pub(crate) const USAGE: &str = "usage: plural_forms list LOCALE [--ordinal] [--rules FILE]
+       plural_forms category LOCALE [--ordinal] [--rules FILE] [NUMBER..]
+       plural_forms --help | --version
+Without --rules, the rules are in the file that PLURALS_RULES names, else in standard input.
+Without a NUMBER, the numbers are the lines of standard input.";
+
+// Which version it is.
+pub(crate) const VERSION: &str = "plural_forms 0.1.0";
+
+// Why the program fails.
+#[derive(Debug, Drop, Error)]
+pub(crate) enum Failure {
+    // The words ask nothing, or numbers and rules would both be in standard input.
+    #[error("{}", USAGE)]
+    Usage,
+    // The variable `PLURALS_RULES` isn't UTF-8.
+    #[error("PLURALS_RULES: not UTF-8")]
+    Variable,
+    // The file can't be opened.
+    #[error("{0}: cannot open")]
+    Open(String),
+    // The rules in this file have a fault.
+    #[error("{0}: {1}")]
+    File(String, FormsError),
+    // The rules in standard input have a fault.
+    #[error("standard input: {0}")]
+    Input(FormsError),
+    // Something else.
+    #[error("{0}")]
+    Other(FormsError),
+    // The output can't be written.
+    #[error("cannot write output")]
+    Write,
+    // Out of memory.
+    #[error("out of memory")]
+    Memory,
+}
+
+impl Failure {
+    // Passes an answer on that has rules from this file.
+    pub(crate) fn of_file(
+        name: String,
+        answer: Result<Verdict, FormsError>,
+    ) -> Result<Verdict, Failure> {
+        match answer {
+            Ok(verdict) => Ok(verdict),
+            Err(error) if error.is_of_rules() => Err(Failure::File(name, error)),
+            Err(error) => Err(Failure::Other(error)),
+        }
+    }
+
+    // Passes an answer on that has rules from standard input.
+    pub(crate) fn of_input(answer: Result<Verdict, FormsError>) -> Result<Verdict, Failure> {
+        match answer {
+            Ok(verdict) => Ok(verdict),
+            Err(error) if error.is_of_rules() => Err(Failure::Input(error)),
+            Err(error) => Err(Failure::Other(error)),
+        }
+    }
+
+    // Returns the exit status: 1 if the locale has no rules, otherwise 2.
+    pub(crate) fn status(&self) -> u8 {
+        match self {
+            Failure::File(_, error) | Failure::Input(error) | Failure::Other(error) => {
+                error.status()
+            }
+            Failure::Usage
+            | Failure::Variable
+            | Failure::Open(_)
+            | Failure::Write
+            | Failure::Memory => 2,
+        }
+    }
+}
+
+impl From<RunError> for Failure {
+    fn from(error: RunError) -> Failure {
+        match error {
+            RunError::Memory => Failure::Memory,
+            _ => Failure::Usage,
+        }
+    }
+}
