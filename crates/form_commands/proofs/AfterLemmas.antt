@@ -1,6 +1,6 @@
 -- The state after some bytes of an input.
 use Rattle.std.proofs.Common.{◌≡◌, ℕ, ◌+◌, List, [], ◌∷◌, ◌++◌, take, refl, sym, ◌∙◌, ap, subst, append_assoc, inl, inr, Result, Option}
-use Rattle.std.specs.Prelude.{◌≢◌, ◌⊎◌, ◌<◌, ◌≤◌, length}
+use Rattle.std.specs.Prelude.{◌≢◌, ◌<◌, ◌≤◌, length}
 use Rattle.std.proofs.lemmas.List.{append-nil}
 use Rattle.std.proofs.Math.Seq.{take-nil}
 use Rattle.std.proofs.KnownBytes.{Appends-nil}
@@ -10,8 +10,8 @@ use Rattle.icu_plurals.specs.declared.PluralCategory.{PluralCategory}
 use Rattle.form_commands.specs.InputLines.{lines_of}
 use Rattle.form_commands.specs.Inner.LineSteps.{EndsLine, Forgets, HasNoEnd, IsAfter, place_after}
 use Rattle.form_commands.specs.Inner.StreamSteps.{IsBegunAfter, IsWrittenAfter}
-use Rattle.form_commands.specs.NumberAnswers.{AreLineAnswers, IsAnswerAt, IsCategoryOf, IsShortCategoryOf, most_number_bytes, next_place}
-use Rattle.form_commands.specs.PrintedTexts.{PrintedText, after_text, joined, nothing}
+use Rattle.form_commands.specs.NumberAnswers.{AreLineAnswers, IsAnswerAt, IsCategoryOf, most_number_bytes, next_place}
+use Rattle.form_commands.specs.PrintedTexts.{PrintedText, after_text, nothing}
 use Rattle.form_commands.specs.declared.printed.NumberFault.{NumberFault}
 use Rattle.form_commands.specs.declared.printed.Place.{Place}
 use Rattle.form_commands.specs.declared.printed.Place.TheVariants.{Line}

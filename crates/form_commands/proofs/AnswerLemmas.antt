@@ -1,7 +1,6 @@
 -- The answers to documents.
-use Rattle.std.proofs.Common.{◌≡◌, ℕ, ◌<◌, ◌≤◌, List, [], length, Option, Some, None, Result, Ok, Err, Vec, refl, inl, inr}
+use Rattle.std.proofs.Common.{◌≡◌, ℕ, ◌≤◌, List, length, Option, Result, Ok, Err, inl, inr}
 use Rattle.std.specs.Prelude.{IfOk}
-use Rattle.std.specs.Io.KnownBytes.{Keeps}
 use Rattle.std.proofs.KnownBytes.{Keeps-refl}
 use Rattle.std.specs.declared.alloc.AllocError.{AllocError}
 use Rattle.plural_documents.specs.Inputs.{GivesInput, IsInput, most_bytes}
@@ -10,9 +9,8 @@ use Rattle.plural_documents.specs.declared.input.InputError.TheVariants as cause
 use Rattle.plural_documents.proofs.InputLemmas.{some_input}
 use Rattle.plural_fallback.specs.declared.locales.Part.{Part}
 use Rattle.serde_json.specs.Data.{Data}
-use Rattle.serde_json.specs.View.{view}
 use Rattle.serde_json.specs.declared.Value.{Value}
-use Rattle.form_commands.specs.FormsAnswers.{IsAnswered, IsAnsweredLines, IsDocumentIn, IsStreamed}
+use Rattle.form_commands.specs.FormsAnswers.{IsAnswered, IsAnsweredLines, IsDocumentIn}
 use Rattle.form_commands.specs.Inner.FormsInputFaults.{input_fault}
 use Rattle.form_commands.specs.Inner.RunSteps.{AnswersLines, GivesDocument, GivesValue, WritesAnswer, WritesText}
 use Rattle.form_commands.specs.PrintedTexts.{PrintedText}

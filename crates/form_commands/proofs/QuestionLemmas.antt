@@ -1,5 +1,5 @@
 -- The options at the front of words.
-use Rattle.std.proofs.Common.{◌≡◌, refl, sym, ◌∙◌, ap}
+use Rattle.std.proofs.Common.{◌≡◌, refl}
 use Rattle.plural_fallback.specs.declared.locales.Part.{Part}
 use Rattle.plural_fallback.specs.declared.locales.Part.TheVariants.{Cardinal, Ordinal, Ranges}
 use Rattle.form_commands.specs.Questions.{FileAndRest, options_after, options_with, part_of}

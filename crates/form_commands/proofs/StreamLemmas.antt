@@ -1,5 +1,5 @@
 -- What is taken of an input and written of its answers.
-use Rattle.std.proofs.Common.{◌≡◌, ℕ, List, [], ◌∷◌, ◌++◌, Option, Result, Ok, Err, take, refl, sym, ◌∙◌, ap, subst, append_assoc, inl, inr}
+use Rattle.std.proofs.Common.{◌≡◌, ℕ, List, [], ◌++◌, Option, Result, Ok, Err, take, refl, sym, ◌∙◌, ap, subst, append_assoc, inl, inr}
 use Rattle.std.specs.Prelude.{◌⊎◌, OnOk, IfErr, ⊤}
 use Rattle.std.specs.Io.KnownBytes.{Appends, Consumes, IsAtEnd}
 use Rattle.std.proofs.KnownBytes.{Appends-nil, Appends-trans, Consumes-trans}
@@ -12,12 +12,12 @@ use Rattle.form_commands.specs.InputLines.{lines_of}
 use Rattle.form_commands.specs.Inner.LineSteps.{EndsLine, Forgets, Takes}
 use Rattle.form_commands.specs.Inner.RunSteps.{WritesText}
 use Rattle.form_commands.specs.Inner.StreamSteps.{FinishesLines, IsBegunAfter, IsWrittenAfter, TakesAndWrites}
-use Rattle.form_commands.specs.PrintedTexts.{PrintedText, after_text, verdict_of}
+use Rattle.form_commands.specs.PrintedTexts.{after_text, verdict_of}
 use Rattle.form_commands.specs.declared.error.FormsError.{FormsError}
-use Rattle.form_commands.specs.declared.error.FormsError.TheVariants.{Rules, TooLong, Json, Language, Numbers, Write, Memory}
+use Rattle.form_commands.specs.declared.error.FormsError.TheVariants.{Write, Memory}
 use Rattle.form_commands.specs.declared.error.Verdict.{Verdict}
 use Rattle.form_commands.specs.declared.stream.Lines.{Lines}
-use Rattle.form_commands.proofs.AfterLemmas.{begun_before, begun_here, begun_part, last_answered, none_left, written_on}
+use Rattle.form_commands.proofs.AfterLemmas.{begun_part, last_answered, none_left, written_on}
 
 -- what holds at Ok has a consequence there
 pub on_ok : {P Q : Type 0} (r : Result ⊤ AllocError) → (P → Q) → OnOk r P → OnOk r Q

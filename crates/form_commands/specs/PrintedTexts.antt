@@ -1,6 +1,6 @@
 -- What is printed: a text, and whether a line of it tells a fault.
 --     joined first second      one after the other
-use Rattle.std.specs.Prelude.{ℕ, List, [], ◌++◌, Bool, true, false, ◌||◌, if◌then◌else◌}
+use Rattle.std.specs.Prelude.{ℕ, List, [], ◌++◌, Bool, false, ◌||◌, if◌then◌else◌}
 use Rattle.form_commands.specs.declared.error.Verdict.{Verdict}
 use Rattle.form_commands.specs.declared.error.Verdict.TheVariants.{Complete, Faults}
 

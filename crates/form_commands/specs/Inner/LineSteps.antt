@@ -1,13 +1,9 @@
 -- Not a definition of the subject: the state after some bytes of an input, and one step of it.
-use Rattle.std.specs.Prelude.{◌≡◌, ◌≢◌, ◌⊎◌, ℕ, ◌+◌, List, [], ◌∷◌, ◌++◌, take, Option, ⊤}
-use Rattle.std.specs.Io.KnownBytes.{Appends, Keeps}
+use Rattle.std.specs.Prelude.{◌≡◌, ◌≢◌, ℕ, ◌+◌, List, [], ◌∷◌, ◌++◌, take, ⊤}
 use Rattle.icu_plurals.specs.FiveRules.{FiveRules}
-use Rattle.plural_documents.specs.Outputs.{IsPartWritten}
 use Rattle.form_commands.specs.InputLines.{lines_of}
 use Rattle.form_commands.specs.NumberAnswers.{AreLineAnswers, IsAnswerAt, most_number_bytes, next_place}
 use Rattle.form_commands.specs.PrintedTexts.{PrintedText, after_text, joined, without_text}
-use Rattle.form_commands.specs.declared.error.FormsError.{FormsError}
-use Rattle.form_commands.specs.declared.error.FormsError.TheVariants.{Write, Memory}
 use Rattle.form_commands.specs.declared.printed.Place.TheVariants.{Line}
 use Rattle.form_commands.specs.declared.stream.Lines.{Lines}
 

@@ -1,6 +1,6 @@
 -- Not a definition of the subject: what is taken of an input and written at each step.
 use Rattle.std.specs.Prelude.{◌≡◌, ◌⊎◌, ℕ, List, [], ◌++◌, Option, Result, Ok, Err, ⊤}
-use Rattle.std.specs.Io.KnownBytes.{Appends, Keeps}
+use Rattle.std.specs.Io.KnownBytes.{Appends}
 use Rattle.icu_plurals.specs.FiveRules.{FiveRules}
 use Rattle.plural_documents.specs.Outputs.{IsPartWritten}
 use Rattle.form_commands.specs.InputLines.{lines_of}

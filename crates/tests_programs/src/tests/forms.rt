@@ -100,6 +100,6 @@ fn a_long_line_is_a_fault(rt: HostRuntime) {
         let mut numbers = Input::of(Some(digits.as_slice()));
         let answer = answered(rt.alloc(), &mut numbers, &mut &mut room[..]);
         holds!(rt; matches!(answer, Ok(Verdict::Faults)), line);
-        holds!(rt; room[..line.len()] == *line.as_bytes(), line);
+        holds!(rt; &room[..line.len()] == line.as_bytes(), line);
     }
 }

@@ -1,4 +1,4 @@
-use Rattle.std.proofs.Common.{◌≡◌, ◌<◌, ℕ, [], ◌++◌, length, take, arith, rules, refl}
+use Rattle.std.proofs.Common.{◌≡◌, ◌<◌, [], ◌++◌, length, take, arith, rules, refl}
 use Rattle.std.proofs.KnownBytes.{Appends-nil, Appends-trans, Consumes-kept, Consumes-nil, Consumes-trans}
 use Rattle.form_commands.proofs.AfterLemmas.{after_nothing, begun_here}
 use Rattle.form_commands.proofs.StreamLemmas.{at_end, begun_all, failed, streamed, took}

@@ -1,5 +1,4 @@
-use Rattle.std.proofs.Common.{◌≡◌, ℕ, length, vec_len, true, false, arith, ap, inl, refl, sym, ◌∙◌}
-use Rattle.std.specs.Prelude.{◌==◌}
+use Rattle.std.proofs.Common.{◌≡◌, length, vec_len, true, false, arith, ap, inl, refl, sym, ◌∙◌}
 use Rattle.std.proofs.lemmas.Bool.{eqb-true, eq-eqb}
 use Rattle.form_commands.proofs.AfterLemmas.{begun_here}
 use Rattle.form_commands.proofs.LineLemmas.{no_items}

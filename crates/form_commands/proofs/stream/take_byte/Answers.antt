@@ -1,4 +1,4 @@
-use Rattle.std.proofs.Common.{◌≡◌, ℕ, List, [], ◌∷◌, ◌++◌, ◌<◌, ◌≤◌, length, arith, rules, refl, sym, ◌∙◌, ap, subst}
+use Rattle.std.proofs.Common.{ℕ, List, [], ◌∷◌, ◌++◌, ◌<◌, ◌≤◌, length, arith, refl, sym, ◌∙◌, ap, subst}
 use Rattle.form_commands.specs.Inner.LineSteps.{EndsLine, IsAfter, Takes}
 use Rattle.form_commands.specs.NumberAnswers.{most_number_bytes}
 use Rattle.form_commands.proofs.AfterLemmas.{after_byte, after_end}
