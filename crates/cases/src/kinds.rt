@@ -9,6 +9,7 @@ mod lists;
 mod locales;
 mod operands;
 mod packed_rules;
+mod prepared_categories;
 mod range_categories;
 mod ranges;
 mod relations;
@@ -55,6 +56,7 @@ fn of_languages(kind: &str, call: &mut Call) -> bool {
     categories::make(kind, call)
         || five_rules::make(kind, call)
         || integer_categories::make(kind, call)
+        || prepared_categories::make(kind, call)
         || rules_bytes::make(kind, call)
 }
 

@@ -187,7 +187,7 @@ pub use packed_list::{Items, ListError, PackError, PackedList};
 pub use plural_base::{
     AllCategories, AsPluralRules, Categories, DataError, ElementsPackError, JsonError,
     JsonProvider, PluralCategory, PluralRuleType, PluralRules, PluralRulesOptions,
-    PluralRulesWithRanges, PluralsProvider, RulesBytesError, RulesPackError, RulesTextError,
-    SureCategoryError, rule_from_json, rule_to_json, sure_category,
+    PluralRulesWithRanges, PluralsProvider, PreparedRules, RulesBytesError, RulesPackError,
+    RulesTextError, SureCategoryError, rule_from_json, rule_to_json, sure_category,
 };
 pub use plural_reference::{OperandsError, PluralOperands, RawPluralOperands, Sequence};

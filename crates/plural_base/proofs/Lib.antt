@@ -3,3 +3,4 @@ pub mod bound
 pub mod reading
 pub mod pairs
 pub mod encoding
+pub mod integers

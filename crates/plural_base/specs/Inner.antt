@@ -3,3 +3,4 @@ pub mod CategoriesLeft
 pub mod ModulusTests
 pub mod JsonSteps
 pub mod KeyedItems
+pub mod WholeNumbers

@@ -40,5 +40,6 @@ pub use rules::as_plural_rules::AsPluralRules;
 pub use rules::bytes::error::{RulesBytesError, RulesPackError};
 pub use rules::categories::Categories;
 pub use rules::data::PluralRulesData;
+pub use rules::prepared::PreparedRules;
 pub use rules::text::RulesTextError;
 pub use sure_choice::{SureCategoryError, sure_category};

@@ -9,6 +9,8 @@ pub(crate) mod as_plural_rules;
 pub(crate) mod bytes;
 pub(crate) mod categories;
 pub(crate) mod data;
+pub(crate) mod prepared;
+pub(crate) mod residue_class;
 pub(crate) mod text;
 
 use crate::category::PluralCategory;

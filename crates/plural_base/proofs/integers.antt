@@ -1,0 +1,4 @@
+-- The categories of integers by tables.
+pub mod Residues
+pub mod Walk
+pub mod Lists

@@ -1,0 +1,15 @@
+use Rattle.std.proofs.Common.{◌≡◌, ◌<◌, ℕ, length, sym, subst, arith, Bool}
+use Rattle.std.proofs.lemmas.List.Folds.{list_any_more}
+use Rattle.plural_reference.specs.Truth.{range_holds}
+use Rattle.plural_runtime.specs.Inner.RuleViews.{lent_relation}
+use Rattle.plural_base.specs.Inner.WholeNumbers.{IsTold}
+use Rattle.plural_base.proofs.rules.residue_class.told_list.Goals as goal
+
+pub loop-k-preserved : goal.loop-k-preserved
+loop-k-preserved c = λ value fits.
+    let ranges = (lent_relation c.args.relation.now).meaning.ranges in
+    let k = c.loop-k.k in
+    let within : k < length ranges = omega (arith, c.loop-k-test.true, c.len-count.ensures) in
+    let P : Bool → Type 0 = λ b. IsTold b c.either-told.result in
+    subst P (sym (list_any_more (range_holds value) ranges k (0, 0) within))
+    (c.either-told.ensures _ _ (c.loop-k.invariant value fits) (c.told_at.ensures value fits))

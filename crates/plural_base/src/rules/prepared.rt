@@ -1,0 +1,132 @@
+//! Rules with tables of the categories of integers.
+
+ghost use Rattle.std.specs.Prelude.{◌≡◌, ℕ, ◌<◌, Contains};
+ghost use Rattle.plural_reference.specs.Operands.{of_whole};
+ghost use Rattle.plural_runtime.specs.PackedTruth.{packed_truth};
+ghost use Rattle.plural_base.specs.FiveRules.{first_category, categories_of, rules_of};
+ghost use Rattle.plural_base.specs.Inner.WholeNumbers.{AreLow, AreTold};
+
+use crate::category::PluralCategory;
+use crate::rules::PluralRules;
+use crate::rules::as_plural_rules::AsPluralRules;
+use crate::rules::data::PluralRulesData;
+use crate::rules::residue_class::{CYCLE, ResidueClass, bound_of, told_category};
+use plural_reference::PluralOperands;
+use std::marker::Model;
+
+// How many numbers have an entry of their own.
+const LOW: u64 = 128;
+
+/// Rules with the categories of integers in two tables, which are made once: one of the numbers
+/// below 128, and one of the remainders by 100, for all numbers above the ends of the rules.
+/// Where the remainder doesn't tell, as under a modulus 1000000, the rules are asked.
+#[derive(Debug, Drop)]
+pub struct PreparedRules<'data> {
+    rules: PluralRules<'data>,
+    bound: u64,
+    low: [PluralCategory; 128],
+    cycle: [Option<PluralCategory>; 100],
+}
+
+impl<'data> Model for PreparedRules<'data> {
+    ghost use Rattle.plural_base.specs.FiveRules.{FiveRules};
+
+    ghost Value = { FiveRules };
+
+    ghost use Rattle.plural_base.specs.Inner.WholeNumbers.{AreLow, AreTold};
+
+    ghost view = { λ prepared. prepared.rules };
+
+    ghost invariant = { λ prepared.
+        AreLow prepared.rules prepared.low × AreTold prepared.rules prepared.bound prepared.cycle };
+}
+
+impl<'data> PreparedRules<'data> {
+    /// Returns these rules with their tables. It allocates nothing.
+    pub fn from_rules(rules: PluralRules<'data>) -> PreparedRules<'data>
+        ensures { result ≡ rules.entry }
+    {
+        let bound = bound_of(&rules.data);
+        let low = low_categories(&rules);
+        let cycle = cycle_categories(&rules.data, bound);
+        PreparedRules {
+            rules,
+            bound,
+            low,
+            cycle,
+        }
+    }
+
+    /// Returns the rules.
+    pub fn rules(&self) -> &PluralRules<'data>
+        ensures { result.now ≡ self.now }
+    {
+        &self.rules
+    }
+
+    /// Returns the category of an integer, as [`PluralRules::category_for`] does by its operands. It
+    /// allocates nothing.
+    #[inline]
+    pub fn category_for_integer(&self, number: u64) -> PluralCategory
+        ensures first { result ≡ first_category (packed_truth (of_whole number)) self.now }
+        ensures member { Contains (categories_of self.now) result }
+    {
+        self.by_tables(number)
+    }
+
+    // The category by the tables where they have it, else by the rules.
+    #[inline]
+    fn by_tables(&self, number: u64) -> PluralCategory
+        ensures { result ≡ first_category (packed_truth (of_whole number)) self.now }
+    {
+        if number < LOW {
+            return self.low[number as usize];
+        }
+        if number >= self.bound {
+            let told = self.cycle[(number % CYCLE) as usize];
+            if let Some(category) = told {
+                return category;
+            }
+        }
+        asked(&self.rules, number)
+    }
+}
+
+impl<'data> AsPluralRules<'data> for PreparedRules<'data> {
+    ghost rules = { λ rules. rules };
+
+    fn as_plural_rules(&self) -> &PluralRules<'data> {
+        &self.rules
+    }
+}
+
+// The category of an integer by the rules themselves.
+#[inline(never)]
+fn asked(rules: &PluralRules<'_>, number: u64) -> PluralCategory
+    ensures { result ≡ first_category (packed_truth (of_whole number)) rules.now }
+{
+    rules.category_for(PluralOperands::from(number))
+}
+
+// The categories of the numbers below 128.
+fn low_categories(rules: &PluralRules<'_>) -> [PluralCategory; 128]
+    ensures { AreLow rules.now result }
+{
+    let mut low = [PluralCategory::Other; 128];
+    for k in 0..128usize {
+        low[k] = asked(rules, k as u64);
+    }
+    low
+}
+
+// The categories of all numbers from the bound on, by their remainder by 100, where that tells.
+fn cycle_categories(rules: &PluralRulesData<'_>, bound: u64) -> [Option<PluralCategory>; 100]
+    ensures { AreTold (rules_of rules.now) bound result }
+{
+    let mut cycle = [None; 100];
+    for k in 0..100usize {
+        let residue = k as u64;
+        cycle[k] = told_category(rules, ResidueClass { bound, residue });
+    }
+    cycle
+}
