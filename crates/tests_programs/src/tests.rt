@@ -3,5 +3,4 @@
 
 mod assertion;
 mod commands;
-mod forms;
 mod report;

@@ -3,7 +3,7 @@
 mod answers;
 mod documents;
 mod growth;
-pub(crate) mod inputs;
+mod inputs;
 mod words;
 mod writers;
 

@@ -57,14 +57,6 @@ impl<'a> Input<'a> {
         }
     }
 
-    // Returns a reader that fails after a text.
-    pub(crate) fn failing_after(text: &'a [u8]) -> Input<'a> {
-        Input {
-            fails: true,
-            ..Input::of(Some(text))
-        }
-    }
-
     pub(crate) fn failing() -> Input<'static> {
         Input::of(None)
     }
