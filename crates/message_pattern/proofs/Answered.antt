@@ -8,9 +8,10 @@ use Rattle.message_pattern.specs.PatternParts.{Part}
 use Rattle.message_pattern.specs.PatternReading.{InMessage, Outcome, Read, Faulty, ReadsPattern}
 use Rattle.message_pattern.specs.PatternGrammar.{IsRead}
 use Rattle.message_pattern.specs.declared.text.Context.TheVariants.{Whole}
-use Rattle.message_pattern.specs.PatternAnswers.{IsPattern, HasFault, IsUnlessMemory, IsFaultOf, IsAnswer, AnswersExactly}
+use Rattle.message_pattern.specs.PatternAnswers.{IsPattern, HasFault, IsUnlessMemory, IsFaultOf, IsAnswer, AnswersExactly, IsPatternOrFaulty}
 use Rattle.message_pattern.proofs.Readings.{one_outcome}
 use Rattle.message_pattern.proofs.GrammarReads.{read_again, reading_in}
+use Rattle.message_pattern.proofs.Total.{found}
 
 -- a pattern of the grammar is read so
 as_read : (text : List ℕ) (parts : List Part) → IsPattern text parts → (rest : List ℕ) × ReadsPattern text (Read parts rest)
@@ -60,3 +61,11 @@ fault_only text (Err errors.Memory) h kind place k = inr refl
 -- an answer is exactly what the text is read as
 pub answers : (text : List ℕ) (r : Result (List Part) error.PatternError) → IsAnswer text r → AnswersExactly text r
 answers text r h = record { only = h; read = read_only text r h; fault = fault_only text r h }
+
+outcome_is : (text : List ℕ) (o : Outcome) → ReadsPattern text o → IsPatternOrFaulty text
+outcome_is text (Read parts rest) r = inl (parts, in_grammar text rest parts r)
+outcome_is text (Faulty fault) r = inr (fault.kind, length text - fault.left, (fault, r, refl, refl))
+
+-- every text is a pattern, or has a fault
+pub all_read : (text : List ℕ) → IsPatternOrFaulty text
+all_read text = let f = found (InMessage Whole 0 false) text [] in outcome_is text f.0 f.1

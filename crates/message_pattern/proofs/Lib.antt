@@ -9,3 +9,5 @@ pub mod Longest
 pub mod GrammarHeads
 pub mod GrammarAgain
 pub mod GrammarReads
+pub mod Shorter
+pub mod Total

@@ -46,3 +46,11 @@ HaveOneReading =
     → ((a b : List Part) → IsPattern text a → IsPattern text b → a ≡ b)
     × ((parts : List Part) (kind : FaultKind) (place : ℕ) → IsPattern text parts → HasFault text kind place → ⊥)
     × ((a b : FaultKind) (m n : ℕ) → HasFault text a m → HasFault text b n → (a ≡ b) × (m ≡ n))
+
+-- a text is a pattern, or has a fault
+abbrev pub IsPatternOrFaulty : List ℕ → Type 0
+IsPatternOrFaulty text = ((parts : List Part) × IsPattern text parts) ⊎ ((kind : FaultKind) × (place : ℕ) × HasFault text kind place)
+
+-- every text is a pattern, or has a fault
+abbrev pub EveryTextIsRead : Type 0
+EveryTextIsRead = (text : List ℕ) → IsPatternOrFaulty text

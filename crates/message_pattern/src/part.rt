@@ -41,6 +41,8 @@ pub enum Piece<'p> {
 /// A piece of a pattern, and how many branches it is in.
 #[derive(Clone, Copy, Debug)]
 pub struct Part<'p> {
+    /// How many branches it is in.
     pub depth: usize,
+    /// What it is.
     pub piece: Piece<'p>,
 }

@@ -13,7 +13,7 @@ use std::alloc::Global;
 use std::marker::Model;
 
 /// A pattern of messages: the flat list of its parts, which borrow from the text.
-#[derive(Drop)]
+#[derive(Debug, Drop)]
 pub struct Pattern<'p> {
     parts: Vec<Part<'p>>,
 }
@@ -29,7 +29,9 @@ impl<'p> Model for Pattern<'p> {
 }
 
 impl<'p> Pattern<'p> {
-    /// Reads a pattern. It allocates the list of parts.
+    /// Reads a pattern (ICU MessageFormat, in the apostrophe mode DOUBLE_OPTIONAL). It allocates the
+    /// list of parts. The error is the text's first fault, with the byte where it is, or out of
+    /// memory.
     pub fn parse(alloc: Global, text: &'p [u8]) -> Result<Pattern<'p>, PatternError>
         ensures { AnswersExactly text.now result }
     {
