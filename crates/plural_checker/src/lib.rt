@@ -16,6 +16,7 @@ mod report;
 mod sample_range;
 mod text_check;
 mod texts;
+mod whole_numbers;
 
 pub use check::check_texts;
 pub use coverage::{CategorySet, Coverage};
@@ -24,3 +25,4 @@ pub use printed_rule::PrintedRule;
 pub use report::Report;
 pub use sample_range::{SampleNumbers, Steps};
 pub use texts::{LanguageTexts, MOST_TEXT_BYTES};
+pub use whole_numbers::{WHOLE_LIMIT, least_from, two_least};
