@@ -3,6 +3,7 @@
 //! other than its own.
 #![tactic(auto)]
 
+mod category_sets;
 mod check;
 mod coverage;
 mod fault;

@@ -1,0 +1,71 @@
+//! What is known of a language's rules of one type.
+
+ghost use Rattle.std.specs.Prelude.{◌≡◌};
+ghost use Rattle.message_report.specs.FormFaults.{IsLanguageOf};
+ghost use Rattle.message_report.specs.Inner.LanguageViews.{language_view, numbers_at};
+
+use crate::category_numbers::{CategoryNumbers, TwoNumbers};
+use icu_plurals::{PluralCategory, PluralRules};
+use plural_checker::CategorySet;
+
+// The categories that a language has, and what is known of the numbers of each.
+#[derive(Clone, Copy, Debug)]
+pub(crate) struct Language {
+    categories: CategorySet,
+    zero: CategoryNumbers,
+    one: CategoryNumbers,
+    two: CategoryNumbers,
+    few: CategoryNumbers,
+    many: CategoryNumbers,
+    other: CategoryNumbers,
+}
+
+impl Language {
+    // Returns what is known of these rules.
+    pub(crate) fn of(rules: &PluralRules<'_>) -> Language
+        ensures { IsLanguageOf rules.now (language_view result) }
+    {
+        Language {
+            categories: CategorySet::of_rules(rules.rules()),
+            zero: CategoryNumbers::of(rules, PluralCategory::Zero),
+            one: CategoryNumbers::of(rules, PluralCategory::One),
+            two: CategoryNumbers::of(rules, PluralCategory::Two),
+            few: CategoryNumbers::of(rules, PluralCategory::Few),
+            many: CategoryNumbers::of(rules, PluralCategory::Many),
+            other: CategoryNumbers::of(rules, PluralCategory::Other),
+        }
+    }
+
+    // Returns whether the language has a category.
+    pub(crate) fn has(&self, category: PluralCategory) -> bool
+        ensures { result ≡ (language_view self.now).has category }
+    {
+        self.categories.has(category)
+    }
+
+    // Returns the two least numbers that choose a category's form.
+    pub(crate) fn numbers(
+        &self,
+        category: PluralCategory,
+        own_zero: bool,
+        own_one: bool,
+    ) -> TwoNumbers
+        ensures { result ≡ (language_view self.now).numbers category own_zero own_one }
+    {
+        self.numbers_at(category).chosen(own_zero, own_one)
+    }
+
+    // Returns what is known of a category's numbers.
+    fn numbers_at(&self, category: PluralCategory) -> CategoryNumbers
+        ensures { result ≡ numbers_at self.now category }
+    {
+        match category {
+            PluralCategory::Zero => self.zero,
+            PluralCategory::One => self.one,
+            PluralCategory::Two => self.two,
+            PluralCategory::Few => self.few,
+            PluralCategory::Many => self.many,
+            PluralCategory::Other => self.other,
+        }
+    }
+}
