@@ -1,10 +1,12 @@
 //! What is known of a language's rules of one type.
 
 ghost use Rattle.std.specs.Prelude.{◌≡◌};
+ghost use Rattle.icu_plurals.specs.FiveRules.{rules_of};
 ghost use Rattle.message_report.specs.FormFaults.{IsLanguageOf};
 ghost use Rattle.message_report.specs.Inner.LanguageViews.{language_view, numbers_at};
 
 use crate::category_numbers::{CategoryNumbers, TwoNumbers};
+use icu_plurals::provider::PluralRulesData;
 use icu_plurals::{PluralCategory, PluralRules};
 use plural_checker::CategorySet;
 
@@ -21,12 +23,13 @@ pub(crate) struct Language {
 }
 
 impl Language {
-    // Returns what is known of these rules.
-    pub(crate) fn of(rules: &PluralRules<'_>) -> Language
-        ensures { IsLanguageOf rules.now (language_view result) }
+    // Returns what is known of a language.
+    pub(crate) fn of(data: &PluralRulesData<'_>) -> Language
+        ensures { IsLanguageOf (rules_of data.now) (language_view result) }
     {
+        let rules = &PluralRules::from_data(data.as_borrowed());
         Language {
-            categories: CategorySet::of_rules(rules.rules()),
+            categories: CategorySet::of_rules(data),
             zero: CategoryNumbers::of(rules, PluralCategory::Zero),
             one: CategoryNumbers::of(rules, PluralCategory::One),
             two: CategoryNumbers::of(rules, PluralCategory::Two),

@@ -1,7 +1,7 @@
 //! What is found in the messages of a type.
 
 ghost use Rattle.std.specs.Prelude.{◌≡◌, codes, IfOk, OnOk, option_map, string_bytes};
-ghost use Rattle.std.specs.Option.{option_copied};
+ghost use Rattle.icu_plurals.specs.FiveRules.{rules_of};
 ghost use Rattle.message_report.specs.FoundInMessages.{together};
 ghost use Rattle.message_report.specs.Inner.Added.{Adds};
 ghost use Rattle.message_report.specs.Inner.LanguageViews.{language_view};
@@ -17,7 +17,8 @@ use crate::language::Language;
 use crate::message::MessageCheck;
 use crate::printed_key::name_text;
 use crate::source::RulesOfLocales;
-use icu_plurals::{PluralRuleType, PluralRules};
+use icu_plurals::PluralRuleType;
+use icu_plurals::provider::PluralRulesData;
 use serde_json::{Map, Value};
 use std::alloc::{AllocError, Global};
 
@@ -115,13 +116,13 @@ fn add_messages<S: RulesOfLocales>(
 // Adds what is found in messages under these rules, given the printed name of the locale.
 fn add_under(
     alloc: Global,
-    rules: Option<&PluralRules<'_>>,
+    rules: Option<&PluralRulesData<'_>>,
     rule_type: PluralRuleType,
     locale: &str,
     members: &Map<String, Value>,
     found: &mut Found,
 ) -> Result<(), AllocError>
-    ensures { OnOk result (Adds (IsFoundUnder (option_copied rules.entry) rule_type locale.now
+    ensures { OnOk result (Adds (IsFoundUnder (option_map (λ r. rules_of r.now) rules.entry) rule_type locale.now
         (members_view members.now.entries)) found.old found.new) }
 {
     add_no_rules(alloc, rules, rule_type, locale, found)?;
@@ -136,12 +137,12 @@ fn add_under(
 // Adds a line if there are no rules.
 fn add_no_rules(
     alloc: Global,
-    rules: Option<&PluralRules<'_>>,
+    rules: Option<&PluralRulesData<'_>>,
     rule_type: PluralRuleType,
     locale: &str,
     found: &mut Found,
 ) -> Result<(), AllocError>
-    ensures { OnOk result (found.new ≡ together found.old (found_of_rules rule_type locale.now (option_copied rules.entry))) }
+    ensures { OnOk result (found.new ≡ together found.old (found_of_rules rule_type locale.now (option_map (λ r. rules_of r.now) rules.entry))) }
 {
     if rules.is_some() {
         return Ok(());
@@ -160,8 +161,8 @@ fn no_rules_text(rule_type: PluralRuleType) -> &'static str
 }
 
 // Returns the language of rules, if there are any.
-fn language_of(rules: Option<&PluralRules<'_>>) -> Option<Language>
-    ensures { IsLanguageIf (option_copied rules.entry) (option_map language_view result) }
+fn language_of(rules: Option<&PluralRulesData<'_>>) -> Option<Language>
+    ensures { IsLanguageIf (option_map (λ r. rules_of r.now) rules.entry) (option_map language_view result) }
 {
     match rules {
         Some(rules) => Some(Language::of(rules)),

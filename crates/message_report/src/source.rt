@@ -1,10 +1,13 @@
 //! The rules of locales.
 
-use icu_plurals::{PluralRuleType, PluralRules, PluralsProvider};
+use icu_plurals::provider::PluralRulesData;
+use icu_plurals::{PluralRuleType, PluralsProvider};
 use plural_fallback::{FallbackProvider, Locales};
 
 /// The rules of locales, each by its chain.
 pub trait RulesOfLocales {
+    ghost use Rattle.std.specs.Prelude.{option_map};
+    ghost use Rattle.icu_plurals.specs.FiveRules.{rules_of};
     ghost use Rattle.message_report.specs.RulesSource.{HasRules, RulesSource};
 
     // The rules under keys, the keys, and the parents of locales.
@@ -12,8 +15,8 @@ pub trait RulesOfLocales {
 
     /// Returns the rules of a type of the first key of a locale's chain; `None` if there is no key
     /// among the first locales, or no rules under it.
-    fn rules_of(&self, rule_type: PluralRuleType, locale: &str) -> Option<PluralRules<'_>>
-        ensures { HasRules (source self.now) rule_type locale.now result };
+    fn rules_of(&self, rule_type: PluralRuleType, locale: &str) -> Option<PluralRulesData<'_>>
+        ensures { HasRules (source self.now) rule_type locale.now (option_map rules_of result) };
 }
 
 impl<'a, P: PluralsProvider, L: Locales> RulesOfLocales for FallbackProvider<'a, P, L> {
@@ -22,14 +25,14 @@ impl<'a, P: PluralsProvider, L: Locales> RulesOfLocales for FallbackProvider<'a,
     ghost source = { λ fallback. source_of (P.cardinal fallback.provider.now) (P.ordinal fallback.provider.now)
         (L.keys fallback.locales.now) (L.parent fallback.locales.now) };
 
-    fn rules_of(&self, rule_type: PluralRuleType, locale: &str) -> Option<PluralRules<'_>> {
+    fn rules_of(&self, rule_type: PluralRuleType, locale: &str) -> Option<PluralRulesData<'_>> {
         match rule_type {
             PluralRuleType::Cardinal => match self.load_cardinal(locale) {
-                Ok(loaded) => Some(PluralRules::from_data(loaded.value)),
+                Ok(loaded) => Some(loaded.value),
                 Err(_) => None,
             },
             PluralRuleType::Ordinal => match self.load_ordinal(locale) {
-                Ok(loaded) => Some(PluralRules::from_data(loaded.value)),
+                Ok(loaded) => Some(loaded.value),
                 Err(_) => None,
             },
         }

@@ -1,5 +1,5 @@
 //! The kinds of the upper crates: `icu_plurals`, `plural_message`, `plural_checker`,
-//! `plural_fallback` and `uses`.
+//! `plural_fallback`, `message_report` and `uses`.
 
 mod callers;
 mod checker;
@@ -7,6 +7,7 @@ mod element_values;
 mod elements;
 mod elements_json;
 mod fallback;
+mod message_reports;
 mod messages;
 mod packed_texts;
 mod packing;
@@ -22,5 +23,6 @@ pub fn make(kind: &str, call: &mut Call) -> bool {
         || messages::make(kind, call)
         || checker::make(kind, call)
         || fallback::make(kind, call)
+        || message_reports::make(kind, call)
         || callers::make(kind, call)
 }

@@ -1,0 +1,4 @@
+pub mod ChosenLemmas
+pub mod FoundLemmas
+pub mod PrintedChars
+pub mod ToldLemmas
