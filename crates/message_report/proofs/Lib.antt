@@ -1,4 +1,5 @@
 pub mod ChosenLemmas
 pub mod FoundLemmas
+pub mod LanguageLemmas
 pub mod PrintedChars
 pub mod ToldLemmas

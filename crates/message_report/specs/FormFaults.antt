@@ -2,16 +2,15 @@
 --     IsLanguageOf rules language      what the rules say of categories and of the numbers that choose their forms
 --     HasFormFault language form message fault      the fault of a form in a message, if it has one; without a language only
 --         that it has no text
-use Rattle.std.specs.Prelude.{◌≡◌, ◌↔◌, ◌⊎◌, ℕ, Bool, IsTrue, IsFalse, List, ◌++◌, codes, Option, Some, None, is_some, if◌then◌else◌}
+use Rattle.std.specs.Prelude.{◌≡◌, ◌⊎◌, ℕ, Bool, true, IsTrue, IsFalse, List, ◌++◌, codes, Option, Some, None, is_some, if◌then◌else◌}
 use Rattle.std.specs.Fmt.{decimal}
 use Rattle.std.specs.Str.Iter.{HasSubslice}
 use Rattle.serde_json.specs.Data.{Data}
 use Rattle.serde_json.specs.Find.{as_str}
 use Rattle.icu_plurals.specs.declared.PluralCategory.{PluralCategory}
+use Rattle.icu_plurals.specs.declared.PluralCategory.TheVariants.{Zero, One, Two, Few, Many, Other}
 use Rattle.icu_plurals.specs.Categories.{name_of}
 use Rattle.icu_plurals.specs.FiveRules.{FiveRules}
-use Rattle.plural_checker.specs.CategorySets.{has_category}
-use Rattle.plural_checker.specs.Coverage.{categories_with_rule}
 use Rattle.plural_message.specs.Messages.{placeholder}
 use Rattle.message_report.specs.ChosenNumbers.{Chooses, AreTwoLeast}
 use Rattle.message_report.specs.MessageForms.{form_under, has_form}
@@ -23,15 +22,23 @@ use Rattle.message_report.specs.declared.form.Form.TheVariants.{ExplicitZero, Ex
 
 -- ---- A language
 
+-- a language has the categories that have a rule, and other
+abbrev pub has_category : FiveRules → PluralCategory → Bool
+has_category rules Zero = is_some rules.zero
+has_category rules One = is_some rules.one
+has_category rules Two = is_some rules.two
+has_category rules Few = is_some rules.few
+has_category rules Many = is_some rules.many
+has_category rules Other = true
+
 -- the categories that it has; and the two least whole numbers that choose the form of a category, where 0 and 1 may have forms of
 -- their own
 pub record Language : Type 0 where
   pub has : PluralCategory → Bool
   pub numbers : PluralCategory → Bool → Bool → TwoNumbers
 
--- a language has the categories that have a rule, and other
 pub record IsLanguageOf (rules : FiveRules) (language : Language) : Type 0 where
-  pub has : (category : PluralCategory) → language.has category ≡ has_category (categories_with_rule rules) category
+  pub has : (category : PluralCategory) → language.has category ≡ has_category rules category
   pub numbers : (category : PluralCategory) (own_zero own_one : Bool)
       → AreTwoLeast (Chooses rules category own_zero own_one)
       (language.numbers category own_zero own_one).first (language.numbers category own_zero own_one).second

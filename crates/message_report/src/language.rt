@@ -43,7 +43,14 @@ impl Language {
     pub(crate) fn has(&self, category: PluralCategory) -> bool
         ensures { result ≡ (language_view self.now).has category }
     {
-        self.categories.has(category)
+        match category {
+            PluralCategory::Zero => self.categories.zero,
+            PluralCategory::One => self.categories.one,
+            PluralCategory::Two => self.categories.two,
+            PluralCategory::Few => self.categories.few,
+            PluralCategory::Many => self.categories.many,
+            PluralCategory::Other => true,
+        }
     }
 
     // Returns the two least numbers that choose a category's form.

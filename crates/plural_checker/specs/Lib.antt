@@ -7,7 +7,6 @@ pub mod Findings
 pub mod TextChecks
 -- for translators: the categories that a message lacks, and those without a rule
 pub mod Coverage
-pub mod CategorySets
 -- the whole numbers that have a category
 pub mod WholeNumbers
 -- the texts of faults

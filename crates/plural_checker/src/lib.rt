@@ -3,7 +3,6 @@
 //! other than its own.
 #![tactic(auto)]
 
-mod category_sets;
 mod check;
 mod coverage;
 mod fault;
