@@ -40,6 +40,7 @@ module _ (rules : FiveRules) (category : PluralCategory) (own_zero own_one : Boo
       at : (m : ℕ) → start ≤ m → m < n → Chosen m → (low : Bool) → nat_lt m end ≡ low → ⊥
       at m after under other true low = nowhere m after (ltb-true m end low) other
       at m after under other false high = none m (ltb-false m end high) under other
+
       before : HoldsNowhere Chosen start n
       before m after under other = at m after under other (nat_lt m end) refl
 

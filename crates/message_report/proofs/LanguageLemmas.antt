@@ -29,6 +29,7 @@ language_is rules language categories zero one two few many other = record {
     ruled Few = refl
     ruled Many = refl
     ruled Other = refl
+
     known : (category : PluralCategory) → AreNumbersOf rules category (numbers_at language category)
     known Zero = zero
     known One = one
@@ -36,6 +37,7 @@ language_is rules language categories zero one two few many other = record {
     known Few = few
     known Many = many
     known Other = other
+
     at : (category : PluralCategory) (own_zero own_one : Bool)
         → AreTwoLeast (Chooses rules category own_zero own_one) (chosen_of (numbers_at language category) own_zero own_one).first
         (chosen_of (numbers_at language category) own_zero own_one).second

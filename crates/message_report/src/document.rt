@@ -83,7 +83,14 @@ fn add_parts<S: RulesOfLocales>(
 ) -> Result<(), AllocError>
     ensures { OnOk result (Adds (IsFoundInBoth (S.source source.now) locale.now (view value.now)) found.old found.new) }
 {
-    add_part(alloc, source, PluralRuleType::Cardinal, locale, value, found)?;
+    add_part(
+        alloc,
+        source,
+        PluralRuleType::Cardinal,
+        locale,
+        value,
+        found,
+    )?;
     add_part(alloc, source, PluralRuleType::Ordinal, locale, value, found)
 }
 
@@ -120,12 +127,7 @@ impl<'a> MemberCheck for PartKeyCheck<'a> {
 }
 
 // Adds a line if a key of a locale is no part.
-fn add_part_key(
-    alloc: Global,
-    locale: &str,
-    key: &str,
-    found: &mut Found,
-) -> Result<(), AllocError>
+fn add_part_key(alloc: Global, locale: &str, key: &str, found: &mut Found) -> Result<(), AllocError>
     ensures { OnOk result (found.new ≡ together found.old (found_of_part_key locale.now key.now)) }
 {
     if is_type_name(key) {

@@ -2,8 +2,9 @@
 
 ghost use Rattle.std.specs.Prelude.{◌≡◌, Some, None, option_map};
 ghost use Rattle.message_report.specs.FormFaults.{form_fault_text, no_number, numbers_in, value_fault};
-ghost use Rattle.message_report.specs.FormFaults.{HasCategoryFault, HasFormFault, HasPresentFault, HasTextFault};
+ghost use Rattle.message_report.specs.FormFaults.{HasCategoryFault, HasFaultUnder, HasFormFault, HasPresentFault, HasTextFault};
 ghost use Rattle.message_report.specs.Inner.LanguageViews.{language_view};
+ghost use Rattle.message_report.specs.declared.form.Form.TheVariants.{Category};
 ghost use Rattle.serde_json.specs.View.{view};
 
 use crate::category_numbers::TwoNumbers;
@@ -35,10 +36,22 @@ impl fmt::Display for FormFault {
             FormFault::NoText => f.write_str("no text"),
             FormFault::Unused(category) => write!(f, "no number is {}", name_of(category)),
             FormFault::NoNumber(category, first, second) => {
-                write!(f, "no {{}}, but {} and {} are {}", first, second, name_of(category))
+                write!(
+                    f,
+                    "no {{}}, but {} and {} are {}",
+                    first,
+                    second,
+                    name_of(category)
+                )
             }
             FormFault::Missing(category, Some(first), Some(second)) => {
-                write!(f, "missing, but {} and {} are {}", first, second, name_of(category))
+                write!(
+                    f,
+                    "missing, but {} and {} are {}",
+                    first,
+                    second,
+                    name_of(category)
+                )
             }
             FormFault::Missing(category, Some(first), None) => {
                 write!(f, "missing, but {} is {}", first, name_of(category))
@@ -56,9 +69,24 @@ pub(crate) fn form_fault(
 ) -> Option<FormFault>
     ensures { HasFormFault (option_map language_view language) form (view message.now) result }
 {
-    match (form, language) {
-        (Form::Category(category), Some(language)) => category_fault(&language, category, message),
-        _ => value_fault(form.in_message(message)),
+    match form {
+        Form::ExplicitZero => value_fault(form.in_message(message)),
+        Form::ExplicitOne => value_fault(form.in_message(message)),
+        Form::Category(category) => category_fault_if(language, category, message),
+    }
+}
+
+// Returns the fault of a category's form in a message; without a language only that it has no text.
+fn category_fault_if(
+    language: Option<Language>,
+    category: PluralCategory,
+    message: &Value,
+) -> Option<FormFault>
+    ensures { HasFormFault (option_map language_view language) (Category category) (view message.now) result }
+{
+    match language {
+        Some(language) => category_fault(&language, category, message),
+        None => value_fault(Form::Category(category).in_message(message)),
     }
 }
 
@@ -66,9 +94,10 @@ pub(crate) fn form_fault(
 fn value_fault(value: Option<&Value>) -> Option<FormFault>
     ensures { result ≡ value_fault (option_map (λ v. view v.now) value.entry) }
 {
-    match value {
-        Some(value) if !value.is_string() => Some(FormFault::NoText),
-        _ => None,
+    if value?.is_string() {
+        None
+    } else {
+        Some(FormFault::NoText)
     }
 }
 
@@ -81,12 +110,9 @@ fn category_fault(
     ensures { HasCategoryFault (language_view language.now) category (view message.now) result }
 {
     let numbers = numbers_in(language, category, message);
-    let has = language.has(category);
     match Form::Category(category).in_message(message) {
-        Some(value) if has => present_fault(category, numbers, value),
-        Some(_) => Some(FormFault::Unused(category)),
-        None if has => Some(FormFault::Missing(category, numbers.first, numbers.second)),
-        None => None,
+        Some(value) => fault_of_value(language, category, numbers, value),
+        None => fault_of_none(language, category, numbers),
     }
 }
 
@@ -99,12 +125,39 @@ fn numbers_in(language: &Language, category: PluralCategory, message: &Value) ->
     language.numbers(category, own_zero, own_one)
 }
 
-// Returns the fault of a form that numbers choose, given its value.
-fn present_fault(
+// Returns the fault of a form that isn't there, if it has one.
+fn fault_of_none(
+    language: &Language,
+    category: PluralCategory,
+    numbers: TwoNumbers,
+) -> Option<FormFault>
+    ensures { HasFaultUnder (language_view language.now) category numbers None result }
+{
+    if language.has(category) {
+        Some(FormFault::Missing(category, numbers.first, numbers.second))
+    } else {
+        None
+    }
+}
+
+// Returns the fault of a form, given its value.
+fn fault_of_value(
+    language: &Language,
     category: PluralCategory,
     numbers: TwoNumbers,
     value: &Value,
 ) -> Option<FormFault>
+    ensures { HasFaultUnder (language_view language.now) category numbers (Some (view value.now)) result }
+{
+    if language.has(category) {
+        present_fault(category, numbers, value)
+    } else {
+        Some(FormFault::Unused(category))
+    }
+}
+
+// Returns the fault of a form that numbers choose, given its value.
+fn present_fault(category: PluralCategory, numbers: TwoNumbers, value: &Value) -> Option<FormFault>
     ensures { HasPresentFault category numbers (view value.now) result }
 {
     match value.as_str() {
@@ -128,8 +181,7 @@ fn text_fault(category: PluralCategory, numbers: TwoNumbers, text: &str) -> Opti
 fn no_number(category: PluralCategory, numbers: TwoNumbers) -> Option<FormFault>
     ensures { result ≡ no_number category numbers.first numbers.second }
 {
-    match (numbers.first, numbers.second) {
-        (Some(first), Some(second)) => Some(FormFault::NoNumber(category, first, second)),
-        _ => None,
-    }
+    let first = numbers.first?;
+    let second = numbers.second?;
+    Some(FormFault::NoNumber(category, first, second))
 }

@@ -166,12 +166,7 @@ fn add_fault(
 }
 
 // Returns the line for a fault of a form.
-fn form_line(
-    alloc: Global,
-    place: &str,
-    form: Form,
-    fault: FormFault,
-) -> Result<String, AllocError>
+fn form_line(alloc: Global, place: &str, form: Form, fault: FormFault) -> Result<String, AllocError>
     ensures { IfOk result (λ line. string_bytes line ≡ named_line place.now (form_name form) (form_fault_text fault)) }
 {
     let name = form.as_str();

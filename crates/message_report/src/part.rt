@@ -69,11 +69,7 @@ fn add_object<S: RulesOfLocales>(
 }
 
 // Returns the line for a part that is no object.
-fn part_line(
-    alloc: Global,
-    rule_type: PluralRuleType,
-    locale: &str,
-) -> Result<String, AllocError>
+fn part_line(alloc: Global, rule_type: PluralRuleType, locale: &str) -> Result<String, AllocError>
     ensures { IfOk result (λ line. string_bytes line ≡ place_line (part_place rule_type (name_text locale.now)) (codes "no object")) }
 {
     let name = name_text(alloc, locale)?;
@@ -82,11 +78,7 @@ fn part_line(
 }
 
 // Returns the place of a part, given the printed name of the locale.
-fn part_place(
-    alloc: Global,
-    rule_type: PluralRuleType,
-    locale: &str,
-) -> Result<String, AllocError>
+fn part_place(alloc: Global, rule_type: PluralRuleType, locale: &str) -> Result<String, AllocError>
     ensures { IfOk result (λ place. string_bytes place ≡ part_place rule_type locale.now) }
 {
     let part = type_name(rule_type);
@@ -110,7 +102,14 @@ fn add_messages<S: RulesOfLocales>(
     }
     let name = name_text(alloc, locale)?;
     let rules = source.rules_of(rule_type, locale);
-    add_under(alloc, rules.as_ref(), rule_type, name.as_str(), members, found)
+    add_under(
+        alloc,
+        rules.as_ref(),
+        rule_type,
+        name.as_str(),
+        members,
+        found,
+    )
 }
 
 // Adds what is found in messages under these rules, given the printed name of the locale.
