@@ -20,6 +20,3 @@ mod source;
 pub use counts::Counts;
 pub use error::ReportError;
 pub use fault::FormFault;
-
-#[cfg(test)]
-mod scratch;
