@@ -31,7 +31,7 @@ has_category rules Few = is_some rules.few
 has_category rules Many = is_some rules.many
 has_category rules Other = true
 
--- the categories that it has; and the two least whole numbers that choose the form of a category, where 0 and 1 may have forms of
+-- the categories that it has; and the two least whole numbers that choose the form of one of these, where 0 and 1 may have forms of
 -- their own
 pub record Language : Type 0 where
   pub has : PluralCategory → Bool
@@ -39,7 +39,7 @@ pub record Language : Type 0 where
 
 pub record IsLanguageOf (rules : FiveRules) (language : Language) : Type 0 where
   pub has : (category : PluralCategory) → language.has category ≡ has_category rules category
-  pub numbers : (category : PluralCategory) (own_zero own_one : Bool)
+  pub numbers : (category : PluralCategory) → IsTrue (language.has category) → (own_zero own_one : Bool)
       → AreTwoLeast (Chooses rules category own_zero own_one)
       (language.numbers category own_zero own_one).first (language.numbers category own_zero own_one).second
 

@@ -1,6 +1,6 @@
 //! The whole numbers that have a category.
 
-ghost use Rattle.std.specs.Prelude.{◌≡◌};
+ghost use Rattle.std.specs.Prelude.{◌≡◌, IsTrue};
 ghost use Rattle.message_report.specs.Inner.KnownNumbers.{chosen_of, AreNumbersOf, AreTwoFrom};
 
 use icu_plurals::{PluralCategory, PluralOperands, PluralRules};
@@ -25,8 +25,35 @@ pub(crate) struct CategoryNumbers {
 }
 
 impl CategoryNumbers {
+    // Returns what is known of a category's numbers under these rules, if the language has it; else they aren't sought.
+    pub(crate) fn if_there(
+        rules: &PluralRules<'_>,
+        category: PluralCategory,
+        has: bool,
+    ) -> CategoryNumbers
+        ensures { IsTrue has → AreNumbersOf rules.now category result }
+    {
+        if has {
+            CategoryNumbers::of(rules, category)
+        } else {
+            CategoryNumbers::none()
+        }
+    }
+
+    // Returns no numbers.
+    fn none() -> CategoryNumbers {
+        CategoryNumbers {
+            zero: false,
+            one: false,
+            from_two: TwoNumbers {
+                first: None,
+                second: None,
+            },
+        }
+    }
+
     // Returns what is known of a category's numbers under these rules.
-    pub(crate) fn of(rules: &PluralRules<'_>, category: PluralCategory) -> CategoryNumbers
+    fn of(rules: &PluralRules<'_>, category: PluralCategory) -> CategoryNumbers
         ensures { AreNumbersOf rules.now category result }
     {
         CategoryNumbers {

@@ -28,14 +28,15 @@ impl Language {
         ensures { IsLanguageOf (rules_of data.now) (language_view result) }
     {
         let rules = &PluralRules::from_data(data.as_borrowed());
+        let categories = CategorySet::of_rules(data);
         Language {
-            categories: CategorySet::of_rules(data),
-            zero: CategoryNumbers::of(rules, PluralCategory::Zero),
-            one: CategoryNumbers::of(rules, PluralCategory::One),
-            two: CategoryNumbers::of(rules, PluralCategory::Two),
-            few: CategoryNumbers::of(rules, PluralCategory::Few),
-            many: CategoryNumbers::of(rules, PluralCategory::Many),
-            other: CategoryNumbers::of(rules, PluralCategory::Other),
+            categories,
+            zero: CategoryNumbers::if_there(rules, PluralCategory::Zero, categories.zero),
+            one: CategoryNumbers::if_there(rules, PluralCategory::One, categories.one),
+            two: CategoryNumbers::if_there(rules, PluralCategory::Two, categories.two),
+            few: CategoryNumbers::if_there(rules, PluralCategory::Few, categories.few),
+            many: CategoryNumbers::if_there(rules, PluralCategory::Many, categories.many),
+            other: CategoryNumbers::if_there(rules, PluralCategory::Other, true),
         }
     }
 
