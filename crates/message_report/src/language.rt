@@ -24,11 +24,11 @@ pub(crate) struct Language {
 
 impl Language {
     // Returns what is known of a language.
-    pub(crate) fn of(data: &PluralRulesData<'_>) -> Language
-        ensures { IsLanguageOf (rules_of data.now) (language_view result) }
+    pub(crate) fn of(given: &PluralRulesData<'_>) -> Language
+        ensures { IsLanguageOf (rules_of given.now) (language_view result) }
     {
-        let rules = &PluralRules::from_data(data.as_borrowed());
-        let categories = CategorySet::of_rules(data);
+        let rules = &PluralRules::from_data(given.as_borrowed());
+        let categories = CategorySet::of_rules(given);
         Language {
             categories,
             zero: CategoryNumbers::if_there(rules, PluralCategory::Zero, categories.zero),
