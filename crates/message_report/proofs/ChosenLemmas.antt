@@ -84,10 +84,10 @@ module _ (rules : FiveRules) (category : PluralCategory) (own_zero own_one : Boo
   at_start n m from below chosen = omega arith
 
   only_zero : ¬ (Chosen 0) → HoldsNowhere Chosen 0 1
-  only_zero no n from below chosen = let is : n ≡ 0 = omega arith in no (rw is at chosen)
+  only_zero free n from below chosen = let is : n ≡ 0 = omega arith in free (rw is at chosen)
 
   only_one : ¬ (Chosen 1) → HoldsNowhere Chosen 1 2
-  only_one no n from below chosen = let is : n ≡ 1 = omega arith in no (rw is at chosen)
+  only_one free n from below chosen = let is : n ≡ 1 = omega arith in free (rw is at chosen)
 
   both : ¬ (Chosen 0) → ¬ (Chosen 1) → HoldsNowhere Chosen 0 2
   both no_zero no_one n from below chosen = by (nat_lt n 1) refl

@@ -108,9 +108,9 @@ abbrev pub no_rules_text : PluralRuleType → List ℕ
 no_rules_text Cardinal = codes "no cardinal rules"
 no_rules_text Ordinal = codes "no ordinal rules"
 
-abbrev pub found_of_rules : PluralRuleType → List ℕ → Option FiveRules → Found
-found_of_rules type locale None = one_fault (place_line locale (no_rules_text type))
-found_of_rules type locale (Some rules) = nothing
+abbrev pub found_of_language : PluralRuleType → List ℕ → Option Language → Found
+found_of_language type locale None = one_fault (place_line locale (no_rules_text type))
+found_of_language type locale (Some language) = nothing
 
 -- the language of the rules, if there are any
 abbrev pub IsLanguageIf : Option FiveRules → Option Language → Type 0
@@ -118,19 +118,23 @@ IsLanguageIf None None = Unit {0}
 IsLanguageIf (Some rules) (Some language) = IsLanguageOf rules language
 IsLanguageIf _ _ = ⊥
 
+-- that of the locale
+abbrev pub HasLanguage : RulesSource → PluralRuleType → List ℕ → Option Language → Type 0
+HasLanguage source type locale language =
+    (rules : Option FiveRules) × HasRules source type locale rules × IsLanguageIf rules language
+
 -- first that there are no rules
-abbrev pub IsFoundUnder : Option FiveRules → PluralRuleType → List ℕ → Members → Found → Type 0
-IsFoundUnder rules type locale members found =
-    (language : Option Language) × (messages : Found) × IsLanguageIf rules language
-    × IsFoundIn (IsFoundInMessage language type locale) members messages
-    × (found ≡ together (found_of_rules type locale rules) messages)
+abbrev pub IsFoundUnder : Option Language → PluralRuleType → List ℕ → Members → Found → Type 0
+IsFoundUnder language type locale members found =
+    (messages : Found) × IsFoundIn (IsFoundInMessage language type locale) members messages
+    × (found ≡ together (found_of_language type locale language) messages)
 
 -- under the rules of the locale; without messages none are needed
 abbrev pub IsFoundInMessages : RulesSource → PluralRuleType → List ℕ → Members → Found → Type 0
 IsFoundInMessages source type locale no_members found = found ≡ nothing
 IsFoundInMessages source type locale (member key value members) found =
-    (rules : Option FiveRules) × HasRules source type locale rules
-    × IsFoundUnder rules type (name_text locale) (member key value members) found
+    (language : Option Language) × HasLanguage source type locale language
+    × IsFoundUnder language type (name_text locale) (member key value members) found
 
 -- a part that isn't there has no messages, and one that is there should be an object
 abbrev pub IsFoundInObject : RulesSource → PluralRuleType → List ℕ → Option Members → Found → Type 0

@@ -1,10 +1,10 @@
 //! What is found in a document of messages.
 
-ghost use Rattle.std.specs.Prelude.{◌≡◌, IfOk, OnOk};
+ghost use Rattle.std.specs.Prelude.{◌≡◌, codes, IfOk, OnOk, Some, string_bytes};
 ghost use Rattle.message_report.specs.FoundInMessages.{together, IsFoundIn};
 ghost use Rattle.message_report.specs.Inner.Added.{Adds};
-ghost use Rattle.message_report.specs.MessagesReport.{found_of_part_key, is_type_name};
-ghost use Rattle.message_report.specs.MessagesReport.{IsFoundInBoth, IsFoundInDocument, IsFoundInLocale, IsFoundInPartKey};
+ghost use Rattle.message_report.specs.MessagesReport.{found_of_part_key, is_type_name, place_line};
+ghost use Rattle.message_report.specs.MessagesReport.{IsFoundInBoth, IsFoundInDocument, IsFoundInLocale, IsFoundInPartKey, IsFoundInParts};
 ghost use Rattle.message_report.specs.PrintedKeys.{name_text};
 ghost use Rattle.serde_json.specs.Find.{as_object};
 ghost use Rattle.serde_json.specs.View.{members_view, view};
@@ -62,15 +62,36 @@ impl<'a, S: RulesOfLocales> MemberCheck for LocaleCheck<'a, S> {
         value: &Value,
         found: &mut Found,
     ) -> Result<(), AllocError> {
-        let name = name_text(alloc, locale)?;
         match value.as_object() {
-            Some(members) => {
-                add_part_keys(alloc, name.as_str(), members, found)?;
-                add_parts(alloc, self.source, locale, value, found)
-            }
-            None => found.add_fault(place_line(alloc, name.as_str(), "no object")?),
+            Some(members) => add_locale(alloc, self.source, locale, value, members, found),
+            None => found.add_fault(locale_line(alloc, locale)?),
         }
     }
+}
+
+// Returns the line for a locale that is no object.
+fn locale_line(alloc: Global, locale: &str) -> Result<String, AllocError>
+    ensures { IfOk result (λ line. string_bytes line ≡ place_line (name_text locale.now) (codes "no object")) }
+{
+    let name = name_text(alloc, locale)?;
+    place_line(alloc, name.as_str(), "no object")
+}
+
+// Adds what is found in a locale with these members.
+fn add_locale<S: RulesOfLocales>(
+    alloc: Global,
+    source: &S,
+    locale: &str,
+    value: &Value,
+    members: &Map<String, Value>,
+    found: &mut Found,
+) -> Result<(), AllocError>
+    ensures { OnOk result (Adds (IsFoundInParts (S.source source.now) locale.now (view value.now)
+        (Some (members_view members.now.entries))) found.old found.new) }
+{
+    let name = name_text(alloc, locale)?;
+    add_part_keys(alloc, name.as_str(), members, found)?;
+    add_parts(alloc, source, locale, value, found)
 }
 
 // Adds what is found in both parts of a locale.

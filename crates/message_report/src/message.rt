@@ -1,6 +1,6 @@
 //! What is found in a message.
 
-ghost use Rattle.std.specs.Prelude.{◌≡◌, IfOk, OnOk, option_map, string_bytes};
+ghost use Rattle.std.specs.Prelude.{◌≡◌, IfOk, OnOk, Some, option_map, string_bytes};
 ghost use Rattle.message_report.specs.FoundInMessages.{together, IsFoundInEach};
 ghost use Rattle.message_report.specs.Inner.Added.{Adds};
 ghost use Rattle.message_report.specs.Inner.LanguageViews.{language_view};
@@ -10,7 +10,7 @@ ghost use Rattle.message_report.specs.MessagesReport.{form_count, found_of_fault
 ghost use Rattle.message_report.specs.MessagesReport.{IsFoundInForm, IsFoundInForms, IsFoundInMessage};
 ghost use Rattle.message_report.specs.PrintedKeys.{message_text};
 ghost use Rattle.serde_json.specs.Find.{as_object};
-ghost use Rattle.serde_json.specs.View.{view};
+ghost use Rattle.serde_json.specs.View.{members_view, view};
 
 use crate::fault::{FormFault, form_fault};
 use crate::form::Form;
@@ -19,7 +19,7 @@ use crate::keys::{add_keys, place_line};
 use crate::language::Language;
 use crate::printed_key::message_text;
 use icu_plurals::{PluralCategory, PluralRuleType};
-use serde_json::Value;
+use serde_json::{Map, Value};
 use std::alloc::{AllocError, Global};
 
 // The forms in the order in which they are looked at.
@@ -97,9 +97,24 @@ fn add_forms(
     ensures { OnOk result (Adds (IsFoundInForms (option_map language_view language) place.now (view message.now)
         (as_object (view message.now))) found.old found.new) }
 {
-    let Some(members) = message.as_object() else {
-        return found.add_fault(place_line(alloc, place, "no object")?);
-    };
+    match message.as_object() {
+        Some(members) => add_all(alloc, language, place, message, members, found),
+        None => found.add_fault(place_line(alloc, place, "no object")?),
+    }
+}
+
+// Adds what is found in each form of a message with these members, and in its other keys.
+fn add_all(
+    alloc: Global,
+    language: Option<Language>,
+    place: &str,
+    message: &Value,
+    members: &Map<String, Value>,
+    found: &mut Found,
+) -> Result<(), AllocError>
+    ensures { OnOk result (Adds (IsFoundInForms (option_map language_view language) place.now (view message.now)
+        (Some (members_view members.now.entries))) found.old found.new) }
+{
     add_each_form(alloc, language, place, message, found)?;
     add_keys(alloc, place, members, found)
 }

@@ -1,12 +1,11 @@
 //! What is found in the messages of a type.
 
 ghost use Rattle.std.specs.Prelude.{◌≡◌, codes, IfOk, OnOk, option_map, string_bytes};
-ghost use Rattle.icu_plurals.specs.FiveRules.{rules_of};
 ghost use Rattle.message_report.specs.FoundInMessages.{together};
 ghost use Rattle.message_report.specs.Inner.Added.{Adds};
 ghost use Rattle.message_report.specs.Inner.LanguageViews.{language_view};
-ghost use Rattle.message_report.specs.MessagesReport.{found_of_rules, no_rules_text, part_place, place_line, type_name};
-ghost use Rattle.message_report.specs.MessagesReport.{IsFoundInMessages, IsFoundInObject, IsFoundInPart, IsFoundUnder, IsLanguageIf};
+ghost use Rattle.message_report.specs.MessagesReport.{found_of_language, no_rules_text, part_place, place_line, type_name};
+ghost use Rattle.message_report.specs.MessagesReport.{IsFoundInMessages, IsFoundInObject, IsFoundInPart, IsFoundUnder, HasLanguage};
 ghost use Rattle.message_report.specs.PrintedKeys.{name_text};
 ghost use Rattle.serde_json.specs.Find.{as_object, get};
 ghost use Rattle.serde_json.specs.View.{members_view, view};
@@ -18,7 +17,6 @@ use crate::message::MessageCheck;
 use crate::printed_key::name_text;
 use crate::source::RulesOfLocales;
 use icu_plurals::PluralRuleType;
-use icu_plurals::provider::PluralRulesData;
 use serde_json::{Map, Value};
 use std::alloc::{AllocError, Global};
 
@@ -101,49 +99,57 @@ fn add_messages<S: RulesOfLocales>(
         return Ok(());
     }
     let name = name_text(alloc, locale)?;
-    let rules = source.rules_of(rule_type, locale);
-    add_under(
-        alloc,
-        rules.as_ref(),
-        rule_type,
-        name.as_str(),
-        members,
-        found,
-    )
+    let language = language_at(source, rule_type, locale);
+    add_under(alloc, language, rule_type, name.as_str(), members, found)
 }
 
-// Adds what is found in messages under these rules, given the printed name of the locale.
+// Returns the language of a locale's rules, if there are any.
+fn language_at<S: RulesOfLocales>(
+    source: &S,
+    rule_type: PluralRuleType,
+    locale: &str,
+) -> Option<Language>
+    ensures { HasLanguage (S.source source.now) rule_type locale.now (option_map language_view result) }
+{
+    match source.rules_of(rule_type, locale) {
+        Some(rules) => Some(Language::of(&rules)),
+        None => None,
+    }
+}
+
+// Adds what is found in messages of a language, if it is known, given the printed name of the locale.
 fn add_under(
     alloc: Global,
-    rules: Option<&PluralRulesData<'_>>,
+    language: Option<Language>,
     rule_type: PluralRuleType,
     locale: &str,
     members: &Map<String, Value>,
     found: &mut Found,
 ) -> Result<(), AllocError>
-    ensures { OnOk result (Adds (IsFoundUnder (option_map (λ r. rules_of r.now) rules.entry) rule_type locale.now
+    ensures { OnOk result (Adds (IsFoundUnder (option_map language_view language) rule_type locale.now
         (members_view members.now.entries)) found.old found.new) }
 {
-    add_no_rules(alloc, rules, rule_type, locale, found)?;
+    add_no_rules(alloc, language, rule_type, locale, found)?;
     let check = MessageCheck {
-        language: language_of(rules),
+        language,
         rule_type,
         locale,
     };
     add_members(alloc, &check, members, found)
 }
 
-// Adds a line if there are no rules.
+// Adds a line if there is no language, since there are no rules.
 fn add_no_rules(
     alloc: Global,
-    rules: Option<&PluralRulesData<'_>>,
+    language: Option<Language>,
     rule_type: PluralRuleType,
     locale: &str,
     found: &mut Found,
 ) -> Result<(), AllocError>
-    ensures { OnOk result (found.new ≡ together found.old (found_of_rules rule_type locale.now (option_map (λ r. rules_of r.now) rules.entry))) }
+    ensures { OnOk result (found.new
+        ≡ together found.old (found_of_language rule_type locale.now (option_map language_view language))) }
 {
-    if rules.is_some() {
+    if language.is_some() {
         return Ok(());
     }
     found.add_fault(place_line(alloc, locale, no_rules_text(rule_type))?)
@@ -156,15 +162,5 @@ fn no_rules_text(rule_type: PluralRuleType) -> &'static str
     match rule_type {
         PluralRuleType::Cardinal => "no cardinal rules",
         PluralRuleType::Ordinal => "no ordinal rules",
-    }
-}
-
-// Returns the language of rules, if there are any.
-fn language_of(rules: Option<&PluralRulesData<'_>>) -> Option<Language>
-    ensures { IsLanguageIf (option_map (λ r. rules_of r.now) rules.entry) (option_map language_view result) }
-{
-    match rules {
-        Some(rules) => Some(Language::of(rules)),
-        None => None,
     }
 }

@@ -18,7 +18,7 @@ loop-key-init c =
 pub loop-key-preserved : goal.loop-key-preserved
 loop-key-preserved c =
     let key = string_bytes c.in-Some.key.now in
-    let value = view c.in-Some.value.now in
+    let value = view c.in-Some.field-0-1.now in
     let left = members_view c.next.new.self in
     let now = c.loop-key.found in
     let count = c.loop-key.count in
