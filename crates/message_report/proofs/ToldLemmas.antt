@@ -42,12 +42,13 @@ told_first place before key keys = by (nat_lt before most_told) refl
         rw (many, none, none_after, count) refl
 
 -- of one member more, which is told by its key
-pub next_key : (place : List ℕ) (count : ℕ) (key : List ℕ) (value : Data) (left : Members) (now next whole : Found)
-    → next ≡ together now (told_at place count key)
+pub next_key : (place : List ℕ) (count after : ℕ) (key : List ℕ) (value : Data) (left : Members) (now next whole : Found)
+    → after ≡ count_at count key → next ≡ together now (told_at place count key)
     → together now (told_from place count (other_keys (member key value left))) ≡ whole
-    → together next (told_from place (count_at count key) (other_keys left)) ≡ whole
-next_key place count key value left now next whole step so_far =
-    ap (λ (f : Found). together f (told_from place (count_at count key) (other_keys left))) step
+    → together next (told_from place after (other_keys left)) ≡ whole
+next_key place count after key value left now next whole counted step so_far =
+    ap (λ (n : ℕ). together next (told_from place n (other_keys left))) counted
+    ∙ ap (λ (f : Found). together f (told_from place (count_at count key) (other_keys left))) step
     ∙ together_assoc now (told_at place count key) (told_from place (count_at count key) (other_keys left))
     ∙ ap (λ (f : Found). together now f) (sym (by (is_form_name key) refl))
     ∙ so_far

@@ -22,11 +22,11 @@ loop-key-preserved c =
     let left = members_view c.next.new.self in
     let now = c.loop-key.found in
     let count = c.loop-key.count in
+    let counted = c.in_ok-count.ensures.count ∙ ap (λ (k : List ℕ). count_at count k) c.as_str.ensures.value in
     let step = ap members_view c.in-Some.ensures.steps in (
-      next_key c.args.place.now count key value left now c.add_key.new.found _
-          (c.in_ok-add_key.ensures.found ∙ ap (λ (k : List ℕ). together now (told_at c.args.place.now count k)) c.as_str.ensures.value)
+      next_key c.args.place.now count c.in_ok-count.count key value left now c.add_key.new.found _ counted
+          (c.in_ok-count.ensures.found ∙ ap (λ (k : List ℕ). together now (told_at c.args.place.now count k)) c.as_str.ensures.value)
           (ap (λ (ms : Members). together now (told_from c.args.place.now count (other_keys ms))) (sym step) ∙ c.loop-key.invariant.0),
-      next_count count key value left c.in_ok-add_key.count _
-          (c.in_ok-add_key.ensures.count ∙ ap (λ (k : List ℕ). count_at count k) c.as_str.ensures.value)
+      next_count count key value left c.in_ok-count.count _ counted
           (ap (λ (ms : Members). count + length (other_keys ms)) (sym step) ∙ c.loop-key.invariant.1),
     )

@@ -18,7 +18,7 @@ returns c =
       many = c.if_there-5.result;
       other = c.if_there-6.result;
     } in
-    let same : c.from_data.result ≡ rules_of c.args.given.now = c.from_data.ensures ∙ c.as_borrowed.ensures in
+    let same : c.from_data.result ≡ rules_of c.args.given.now = c.from_data.ensures ∙ ap rules_of c.as_borrowed.ensures in
     subst (λ (rules : FiveRules). IsLanguageOf rules (language_view language)) same
     (language_is c.from_data.result language (c.of_rules-categories.ensures ∙ ap categories_with_rule (sym same))
     c.if_there.ensures c.if_there-2.ensures c.if_there-3.ensures c.if_there-4.ensures c.if_there-5.ensures c.if_there-6.ensures)
