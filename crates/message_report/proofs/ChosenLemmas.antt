@@ -1,5 +1,5 @@
 -- The two least numbers that choose a form, of what is known of the numbers of its category.
-use Rattle.std.proofs.Common.{◌≡◌, ◌≢◌, ◌↔◌, ℕ, ◌+◌, ◌<◌, ◌≤◌, Bool, true, false, Option, Some, None, refl, arith}
+use Rattle.std.proofs.Common.{◌≡◌, ◌↔◌, ℕ, ◌+◌, ◌<◌, ◌≤◌, Bool, true, false, Option, Some, None, refl, arith}
 use Rattle.std.specs.Prelude.{IsTrue, not, ◌&&◌, nat_lt}
 use Rattle.std.proofs.lemmas.Bool.{ltb-true, ltb-false}
 use Rattle.icu_plurals.specs.declared.PluralCategory.{PluralCategory}
@@ -8,7 +8,6 @@ use Rattle.plural_checker.specs.WholeNumbers.{HasWhole, IsLeastFrom, whole_limit
 use Rattle.message_report.specs.ChosenNumbers.{AreTwoLeast, Chooses, HoldsNowhere, IsLeast}
 use Rattle.message_report.specs.Inner.KnownNumbers.{AreNumbersOf, AreTwoFrom, chosen_by, chosen_of}
 use Rattle.message_report.specs.declared.category_numbers.CategoryNumbers.{CategoryNumbers}
-use Rattle.message_report.specs.declared.category_numbers.TwoNumbers.{TwoNumbers}
 
 -- ---- Numbers from 2
 

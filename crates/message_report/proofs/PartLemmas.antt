@@ -2,7 +2,7 @@
 use Rattle.std.proofs.Common.{◌≡◌, ℕ, List, [], ◌∷◌, length, refl, arith, String, Global}
 use Rattle.std.specs.Prelude.{Option}
 use Rattle.icu_plurals.specs.declared.PluralRuleType.{PluralRuleType}
-use Rattle.serde_json.specs.Data.{Members, no_members}
+use Rattle.serde_json.specs.Data.{no_members}
 use Rattle.serde_json.specs.View.{members_view}
 use Rattle.serde_json.specs.declared.Value.{Value}
 use Rattle.message_report.specs.FormFaults.{Language}

@@ -1,17 +1,16 @@
 -- The keys of a message that name no form, key by key.
-use Rattle.std.proofs.Common.{◌≡◌, ℕ, suc, ◌+◌, ◌-◌, ◌<◌, ◌≤◌, Bool, true, false, List, [], ◌∷◌, ◌++◌, length, take, map}
-use Rattle.std.proofs.Common.{refl, sym, ap, ◌∙◌, arith, append_assoc}
-use Rattle.std.specs.Prelude.{nat_lt, if◌then◌else◌}
+use Rattle.std.proofs.Common.{◌≡◌, ℕ, suc, ◌+◌, ◌-◌, ◌<◌, ◌≤◌, Bool, true, false, List, ◌∷◌, length, take, map}
+use Rattle.std.proofs.Common.{refl, sym, ap, ◌∙◌, arith}
+use Rattle.std.specs.Prelude.{nat_lt}
 use Rattle.std.proofs.lemmas.Bool.{ltb-true, ltb-false}
-use Rattle.std.proofs.lemmas.List.{append-nil}
-use Rattle.std.proofs.Math.Nat.{add-zero, zero-add}
-use Rattle.serde_json.specs.Data.{Data, Members, no_members, member}
-use Rattle.message_report.specs.FoundInMessages.{Found, nothing, together}
+use Rattle.std.proofs.Math.Nat.{add-zero}
+use Rattle.serde_json.specs.Data.{Data, Members, member}
+use Rattle.message_report.specs.FoundInMessages.{Found, together}
 use Rattle.message_report.specs.MessageForms.{is_form_name}
 use Rattle.message_report.specs.MessagesReport.{found_of_keys, key_line, most_told, other_keys, rest_lines}
 use Rattle.message_report.specs.Inner.Added.{lines_alone}
 use Rattle.message_report.specs.Inner.ToldKeys.{count_at, told_at, told_key}
-use Rattle.message_report.proofs.FoundLemmas.{nothing-together, together-nothing, together_assoc}
+use Rattle.message_report.proofs.FoundLemmas.{nothing-together, together_assoc}
 
 -- what is told of these keys, if so many come before them
 abbrev pub told_from : List ℕ → ℕ → List (List ℕ) → Found

@@ -20,3 +20,4 @@ mod source;
 pub use counts::Counts;
 pub use error::ReportError;
 pub use fault::FormFault;
+pub use source::RulesOfLocales;

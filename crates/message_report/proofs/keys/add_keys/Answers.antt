@@ -1,11 +1,10 @@
-use Rattle.std.proofs.Common.{◌≡◌, ℕ, ◌+◌, List, string_bytes, length, refl, ap, sym, subst, ◌∙◌, arith}
+use Rattle.std.proofs.Common.{ℕ, ◌+◌, List, string_bytes, length, ap, sym, ◌∙◌, arith}
 use Rattle.serde_json.specs.Data.{Members}
 use Rattle.serde_json.specs.View.{view, members_view}
 use Rattle.message_report.specs.FoundInMessages.{together}
 use Rattle.message_report.specs.MessagesReport.{other_keys}
 use Rattle.message_report.specs.Inner.ToldKeys.{count_at, told_at}
-use Rattle.message_report.proofs.FoundLemmas.{on_ok, together-nothing}
-use Rattle.message_report.proofs.ToldLemmas.{all_told, next_count, next_key, told_from}
+use Rattle.message_report.proofs.ToldLemmas.{next_count, next_key, told_from}
 use Rattle.message_report.proofs.keys.add_keys.Goals as goal
 
 pub loop-key-init : goal.loop-key-init

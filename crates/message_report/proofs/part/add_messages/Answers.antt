@@ -1,4 +1,4 @@
-use Rattle.std.proofs.Common.{◌≡◌, ℕ, List, false, ap, refl, subst, sym, ◌∙◌, true}
+use Rattle.std.proofs.Common.{◌≡◌, ℕ, List, refl, subst, sym, ◌∙◌, true}
 use Rattle.std.specs.Prelude.{option_map}
 use Rattle.serde_json.specs.Data.{Members}
 use Rattle.serde_json.specs.View.{members_view}

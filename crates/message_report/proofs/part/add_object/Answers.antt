@@ -1,4 +1,4 @@
-use Rattle.std.proofs.Common.{◌≡◌, ℕ, List, codes, ap, refl, subst, ◌∙◌}
+use Rattle.std.proofs.Common.{ℕ, List, codes, ap, refl, subst, ◌∙◌}
 use Rattle.std.specs.Prelude.{Option}
 use Rattle.serde_json.specs.Data.{Members}
 use Rattle.message_report.specs.FoundInMessages.{one_fault, together}

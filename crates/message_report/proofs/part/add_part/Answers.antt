@@ -1,4 +1,4 @@
-use Rattle.std.proofs.Common.{◌≡◌, ℕ, List, ap, refl, subst, ◌∙◌}
+use Rattle.std.proofs.Common.{ℕ, List, ap, refl, subst, ◌∙◌}
 use Rattle.std.specs.Prelude.{Option}
 use Rattle.serde_json.specs.Data.{Data}
 use Rattle.serde_json.specs.Find.{get}

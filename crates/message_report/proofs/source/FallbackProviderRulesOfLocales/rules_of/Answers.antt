@@ -1,4 +1,3 @@
-use Rattle.std.proofs.Common.{ap, ◌∙◌}
 use Rattle.message_report.proofs.source.FallbackProviderRulesOfLocales.rules_of.Goals as goal
 
 pub returns-in-Ok : goal.returns-in-Ok
