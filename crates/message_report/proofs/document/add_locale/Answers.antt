@@ -1,0 +1,25 @@
+use Rattle.std.proofs.Common.{◌≡◌, ℕ, List, refl, subst, ◌∙◌}
+use Rattle.serde_json.specs.View.{members_view}
+use Rattle.message_report.specs.FoundInMessages.{together, IsFoundIn}
+use Rattle.message_report.specs.MessagesReport.{IsFoundInPartKey}
+use Rattle.message_report.specs.PrintedKeys.{name_text}
+use Rattle.message_report.proofs.FoundLemmas.{on_ok, two_added}
+use Rattle.message_report.proofs.document.add_locale.Goals as goal
+
+pub returns : goal.returns
+returns g c =
+    let keys = c.in_ok-add_part_keys.ensures in
+    let named : c.as_str.result.now ≡ name_text c.args.locale.now = c.as_str.ensures.value ∙ c.in_ok-name.ensures in
+    on_ok c.add_parts.result
+    (λ added. (
+      together keys.0 added.0,
+      (
+        keys.0,
+        added.0,
+        subst (λ (name : List ℕ). IsFoundIn (IsFoundInPartKey name) (members_view c.args.members.now.entries) keys.0) named keys.1,
+        added.1,
+        refl,
+      ),
+      two_added c.args.found.now keys.0 added.0 c.add_part_keys.new.found c.add_parts.new.found keys.2 added.2,
+    ))
+    c.add_parts.ensures

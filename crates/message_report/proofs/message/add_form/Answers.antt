@@ -1,0 +1,18 @@
+use Rattle.std.proofs.Common.{refl}
+use Rattle.serde_json.specs.View.{view}
+use Rattle.message_report.specs.FoundInMessages.{together}
+use Rattle.message_report.specs.MessagesReport.{form_count, found_of_fault}
+use Rattle.message_report.proofs.FoundLemmas.{on_ok, two_added}
+use Rattle.message_report.proofs.message.add_form.Goals as goal
+
+pub returns : goal.returns
+returns c =
+    let counted = form_count c.args.form (view c.args.message.now) in
+    let told = found_of_fault c.args.place.now c.args.form c.form_fault-fault.result in
+    on_ok c.add_fault.result
+    (λ added. (
+      together counted told,
+      (c.form_fault-fault.result, c.form_fault-fault.ensures, refl),
+      two_added c.args.found.now counted told c.count_form.new.found c.add_fault.new.found c.in_ok-count_form.ensures added,
+    ))
+    c.add_fault.ensures

@@ -1,0 +1,18 @@
+use Rattle.std.specs.Prelude.{option_map}
+use Rattle.std.proofs.Common.{refl}
+use Rattle.message_report.specs.FoundInMessages.{together}
+use Rattle.message_report.specs.Inner.LanguageViews.{language_view}
+use Rattle.message_report.specs.MessagesReport.{found_of_language}
+use Rattle.message_report.proofs.FoundLemmas.{on_ok, two_added}
+use Rattle.message_report.proofs.part.add_under.Goals as goal
+
+pub returns : goal.returns
+returns c =
+    let rules = found_of_language c.args.rule_type c.args.locale.now (option_map language_view c.args.language) in
+    on_ok c.add_members.result
+    (λ added. (
+      together rules added.0,
+      (added.0, added.1, refl),
+      two_added c.args.found.now rules added.0 c.add_no_rules.new.found c.add_members.new.found c.in_ok-add_no_rules.ensures added.2,
+    ))
+    c.add_members.ensures

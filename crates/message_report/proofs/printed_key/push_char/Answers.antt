@@ -1,0 +1,10 @@
+use Rattle.std.proofs.Common.{◌++◌, string_bytes, ap, sym, ◌∙◌}
+use Rattle.message_report.proofs.FoundLemmas.{if_ok, on_ok}
+use Rattle.message_report.proofs.PrintedChars.{plain_printed}
+use Rattle.message_report.proofs.printed_key.push_char.Goals as goal
+
+pub returns-then-is_plain : goal.returns-then-is_plain
+returns-then-is_plain c =
+    on_ok c.push.result
+    (λ wrote. wrote ∙ ap (λ shown. string_bytes c.args.text.now ++ shown) (sym (plain_printed c.args.c (sym c.if-is_plain.ensures))))
+    (if_ok c.push.result _ _ _ c.push.ensures.bytes)

@@ -1,0 +1,109 @@
+-- What is wrong with a form of a message, under the rules of its language.
+--     IsLanguageOf rules language      what the rules say of categories and of the numbers that choose their forms
+--     HasFormFault language form message fault      the fault of a form in a message, if it has one; without a language only
+--         that it has no text
+use Rattle.std.specs.Prelude.{◌≡◌, ◌⊎◌, ℕ, Bool, true, IsTrue, IsFalse, List, ◌++◌, codes, Option, Some, None, is_some, if◌then◌else◌}
+use Rattle.std.specs.Fmt.{decimal}
+use Rattle.std.specs.Str.Iter.{HasSubslice}
+use Rattle.serde_json.specs.Data.{Data}
+use Rattle.serde_json.specs.Find.{as_str}
+use Rattle.icu_plurals.specs.declared.PluralCategory.{PluralCategory}
+use Rattle.icu_plurals.specs.declared.PluralCategory.TheVariants.{Zero, One, Two, Few, Many, Other}
+use Rattle.icu_plurals.specs.Categories.{name_of}
+use Rattle.icu_plurals.specs.FiveRules.{FiveRules}
+use Rattle.plural_message.specs.Messages.{placeholder}
+use Rattle.message_report.specs.ChosenNumbers.{Chooses, AreTwoLeast}
+use Rattle.message_report.specs.MessageForms.{form_under, has_form}
+use Rattle.message_report.specs.declared.category_numbers.TwoNumbers.{TwoNumbers}
+use Rattle.message_report.specs.declared.fault.FormFault.{FormFault}
+use Rattle.message_report.specs.declared.fault.FormFault.TheVariants.{NoText, Unused, NoNumber, Missing}
+use Rattle.message_report.specs.declared.form.Form.{Form}
+use Rattle.message_report.specs.declared.form.Form.TheVariants.{ExplicitZero, ExplicitOne, Category}
+
+-- ---- A language
+
+-- a language has the categories that have a rule, and other
+abbrev pub has_category : FiveRules → PluralCategory → Bool
+has_category rules Zero = is_some rules.zero
+has_category rules One = is_some rules.one
+has_category rules Two = is_some rules.two
+has_category rules Few = is_some rules.few
+has_category rules Many = is_some rules.many
+has_category rules Other = true
+
+-- the categories that it has; and the two least whole numbers that choose the form of one of these, where 0 and 1 may have forms of
+-- their own
+pub record Language : Type 0 where
+  pub has : PluralCategory → Bool
+  pub numbers : PluralCategory → Bool → Bool → TwoNumbers
+
+pub record IsLanguageOf (rules : FiveRules) (language : Language) : Type 0 where
+  pub has : (category : PluralCategory) → language.has category ≡ has_category rules category
+  pub numbers : (category : PluralCategory) → IsTrue (language.has category) → (own_zero own_one : Bool)
+      → AreTwoLeast (Chooses rules category own_zero own_one)
+      (language.numbers category own_zero own_one).first (language.numbers category own_zero own_one).second
+
+-- those that choose it in a message
+abbrev pub numbers_in : Language → PluralCategory → Data → TwoNumbers
+numbers_in language category message = language.numbers category (has_form ExplicitZero message) (has_form ExplicitOne message)
+
+-- ---- The fault of a form
+
+-- a text needs the number if two numbers choose it
+abbrev pub no_number : PluralCategory → Option ℕ → Option ℕ → Option FormFault
+no_number category None second = None
+no_number category (Some first) None = None
+no_number category (Some first) (Some second) = Some (NoNumber category first second)
+
+abbrev pub HasTextFault : PluralCategory → TwoNumbers → List ℕ → Option FormFault → Type 0
+HasTextFault category numbers text fault =
+    (HasSubslice text placeholder × (fault ≡ None))
+    ⊎ ((¬ (HasSubslice text placeholder)) × (fault ≡ no_number category numbers.first numbers.second))
+
+abbrev pub HasTextFaultIfText : PluralCategory → TwoNumbers → Option (List ℕ) → Option FormFault → Type 0
+HasTextFaultIfText category numbers None fault = fault ≡ Some NoText
+HasTextFaultIfText category numbers (Some text) fault = HasTextFault category numbers text fault
+
+-- of a value that numbers choose
+abbrev pub HasPresentFault : PluralCategory → TwoNumbers → Data → Option FormFault → Type 0
+HasPresentFault category numbers value fault = HasTextFaultIfText category numbers (as_str value) fault
+
+-- a form that is there should be chosen by a number, and one that numbers choose should be there
+abbrev pub HasFaultUnder : Language → PluralCategory → TwoNumbers → Option Data → Option FormFault → Type 0
+HasFaultUnder language category numbers None fault =
+    fault ≡ (if language.has category then Some (Missing category numbers.first numbers.second) else None)
+HasFaultUnder language category numbers (Some value) fault =
+    (IsTrue (language.has category) × HasPresentFault category numbers value fault)
+    ⊎ (IsFalse (language.has category) × (fault ≡ Some (Unused category)))
+
+abbrev pub HasCategoryFault : Language → PluralCategory → Data → Option FormFault → Type 0
+HasCategoryFault language category message fault =
+    HasFaultUnder language category (numbers_in language category message) (form_under (Category category) message) fault
+
+-- a value that is there should be a text
+abbrev pub value_fault : Option Data → Option FormFault
+value_fault None = None
+value_fault (Some value) = if is_some (as_str value) then None else Some NoText
+
+abbrev pub HasFormFault : Option Language → Form → Data → Option FormFault → Type 0
+HasFormFault language ExplicitZero message fault = fault ≡ value_fault (form_under ExplicitZero message)
+HasFormFault language ExplicitOne message fault = fault ≡ value_fault (form_under ExplicitOne message)
+HasFormFault None (Category category) message fault = fault ≡ value_fault (form_under (Category category) message)
+HasFormFault (Some language) (Category category) message fault = HasCategoryFault language category message fault
+
+-- ---- The texts of faults
+
+-- `1 and 21 are one`
+abbrev pub are_text : ℕ → ℕ → PluralCategory → List ℕ
+are_text first second category = decimal first ++ (codes " and " ++ (decimal second ++ (codes " are " ++ name_of category)))
+
+abbrev pub missing_text : PluralCategory → Option ℕ → Option ℕ → List ℕ
+missing_text category None second = codes "missing"
+missing_text category (Some first) None = codes "missing, but " ++ (decimal first ++ (codes " is " ++ name_of category))
+missing_text category (Some first) (Some second) = codes "missing, but " ++ are_text first second category
+
+abbrev pub form_fault_text : FormFault → List ℕ
+form_fault_text NoText = codes "no text"
+form_fault_text (Unused category) = codes "no number is " ++ name_of category
+form_fault_text (NoNumber category first second) = codes "no {}, but " ++ are_text first second category
+form_fault_text (Missing category first second) = missing_text category first second

@@ -1,0 +1,6 @@
+-- No definitions of the subject: words of private contracts.
+pub mod Added
+pub mod KnownNumbers
+pub mod LanguageViews
+pub mod Reports
+pub mod ToldKeys

@@ -1,0 +1,28 @@
+-- Not a definition of the subject: what is known of the numbers of a category, and the two that choose its form.
+use Rattle.std.specs.Prelude.{◌≡◌, ◌↔◌, ◌+◌, ◌&&◌, not, ℕ, Bool, true, false, IsTrue, Option, Some, None}
+use Rattle.icu_plurals.specs.declared.PluralCategory.{PluralCategory}
+use Rattle.icu_plurals.specs.FiveRules.{FiveRules}
+use Rattle.plural_checker.specs.WholeNumbers.{HasWhole, IsLeastFrom}
+use Rattle.message_report.specs.declared.category_numbers.CategoryNumbers.{CategoryNumbers}
+use Rattle.message_report.specs.declared.category_numbers.TwoNumbers.{TwoNumbers}
+
+-- the two least from 2
+abbrev pub AreTwoFrom : FiveRules → PluralCategory → Option ℕ → Option ℕ → Type 0
+AreTwoFrom rules category None second = IsLeastFrom rules category 2 None × (second ≡ None)
+AreTwoFrom rules category (Some first) second =
+    IsLeastFrom rules category 2 (Some first) × IsLeastFrom rules category (first + 1) second
+
+pub record AreNumbersOf (rules : FiveRules) (category : PluralCategory) (numbers : CategoryNumbers) : Type 0 where
+  pub zero : IsTrue numbers.zero ↔ HasWhole rules category 0
+  pub one : IsTrue numbers.one ↔ HasWhole rules category 1
+  pub from_two : AreTwoFrom rules category numbers.from_two.first numbers.from_two.second
+
+-- by whether 0 and 1 choose the form
+abbrev pub chosen_by : Bool → Bool → TwoNumbers → TwoNumbers
+chosen_by true true from_two = record { first = Some 0; second = Some 1 }
+chosen_by true false from_two = record { first = Some 0; second = from_two.first }
+chosen_by false true from_two = record { first = Some 1; second = from_two.first }
+chosen_by false false from_two = from_two
+
+abbrev pub chosen_of : CategoryNumbers → Bool → Bool → TwoNumbers
+chosen_of numbers own_zero own_one = chosen_by (numbers.zero && not own_zero) (numbers.one && not own_one) numbers.from_two

@@ -1,0 +1,31 @@
+-- Not a definition of the subject: a language of the code, in the words of the definitions.
+use Rattle.std.specs.Prelude.{Bool, true}
+use Rattle.icu_plurals.specs.declared.PluralCategory.{PluralCategory}
+use Rattle.icu_plurals.specs.declared.PluralCategory.TheVariants.{Zero, One, Two, Few, Many, Other}
+use Rattle.plural_checker.specs.declared.coverage.CategorySet.{CategorySet}
+use Rattle.message_report.specs.FormFaults.{Language}
+use Rattle.message_report.specs.Inner.KnownNumbers.{chosen_of}
+use Rattle.message_report.specs.declared.category_numbers.CategoryNumbers.{CategoryNumbers}
+use Rattle.message_report.specs.declared.language.Language.{Language as CodeLanguage}
+
+abbrev pub numbers_at : CodeLanguage → PluralCategory → CategoryNumbers
+numbers_at language Zero = language.zero
+numbers_at language One = language.one
+numbers_at language Two = language.two
+numbers_at language Few = language.few
+numbers_at language Many = language.many
+numbers_at language Other = language.other
+
+abbrev pub is_in_set : CategorySet → PluralCategory → Bool
+is_in_set set Zero = set.zero
+is_in_set set One = set.one
+is_in_set set Two = set.two
+is_in_set set Few = set.few
+is_in_set set Many = set.many
+is_in_set set Other = true
+
+abbrev pub language_view : CodeLanguage → Language
+language_view language = record {
+  has = is_in_set language.categories;
+  numbers = λ category own_zero own_one. chosen_of (numbers_at language category) own_zero own_one;
+}

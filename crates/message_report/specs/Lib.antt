@@ -1,0 +1,14 @@
+-- keys, forms, and the numbers that choose them
+pub mod PrintedKeys
+pub mod MessageForms
+pub mod ChosenNumbers
+pub mod FormFaults
+-- the rules of locales
+pub mod RulesSource
+-- the report
+pub mod FoundInMessages
+pub mod MessagesReport
+pub mod MessagesReportText
+pub mod MessagesRun
+-- not definitions of the subject
+pub mod Inner

@@ -1,0 +1,32 @@
+-- The forms of a message, each under its key (docs/TRANSLATORS.md): of exactly 0 and 1, and of the plural categories.
+--     form_under form message      what a message has under the key of a form
+use Rattle.std.specs.Prelude.{ℕ, Bool, ◌||◌, bytes_eq, List, [], ◌∷◌, Option, is_some, codes}
+use Rattle.serde_json.specs.Data.{Data}
+use Rattle.serde_json.specs.Find.{get}
+use Rattle.icu_plurals.specs.Categories.{name_of}
+use Rattle.icu_plurals.specs.declared.PluralCategory.TheVariants.{Zero, One, Two, Few, Many, Other}
+use Rattle.message_report.specs.declared.form.Form.{Form}
+use Rattle.message_report.specs.declared.form.Form.TheVariants.{ExplicitZero, ExplicitOne, Category}
+
+abbrev pub form_name : Form → List ℕ
+form_name ExplicitZero = codes "explicit_zero"
+form_name ExplicitOne = codes "explicit_one"
+form_name (Category category) = name_of category
+
+-- the order in which forms are looked at
+abbrev pub form_order : List Form
+form_order =
+    ExplicitZero ∷ ExplicitOne ∷ Category Zero ∷ Category One ∷ Category Two ∷ Category Few ∷ Category Many ∷ Category Other ∷ []
+
+-- the key of a form
+abbrev pub is_form_name : List ℕ → Bool
+is_form_name key =
+    bytes_eq key (codes "explicit_zero") || bytes_eq key (codes "explicit_one") || bytes_eq key (name_of Zero)
+    || bytes_eq key (name_of One) || bytes_eq key (name_of Two) || bytes_eq key (name_of Few) || bytes_eq key (name_of Many)
+    || bytes_eq key (name_of Other)
+
+abbrev pub form_under : Form → Data → Option Data
+form_under form message = get (form_name form) message
+
+abbrev pub has_form : Form → Data → Bool
+has_form form message = is_some (form_under form message)

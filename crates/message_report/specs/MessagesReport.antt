@@ -1,0 +1,185 @@
+-- The report of a document of messages (docs/TRANSLATORS.md): what is found in each locale, in the order of their bytes; in a locale
+-- first in its keys, then in its messages for cardinal numbers, then in those for ordinal numbers; in a message form by form, and
+-- then in its other keys.
+--     IsFoundInDocument source document found      what is found in a document under the rules of a source
+use Rattle.std.specs.Prelude.{◌≡◌, ℕ, ◌-◌, nat_lt, ◌||◌, bytes_eq, Bool, List, [], ◌∷◌, ◌++◌, codes, length, map, take}
+use Rattle.std.specs.Prelude.{Option, Some, None, if◌then◌else◌}
+use Rattle.std.specs.Fmt.{decimal}
+use Rattle.serde_json.specs.Data.{Data, Members, no_members, member}
+use Rattle.serde_json.specs.Find.{get, as_object}
+use Rattle.icu_plurals.specs.FiveRules.{FiveRules}
+use Rattle.icu_plurals.specs.declared.PluralRuleType.{PluralRuleType}
+use Rattle.icu_plurals.specs.declared.PluralRuleType.TheVariants.{Cardinal, Ordinal}
+use Rattle.message_report.specs.FormFaults.{Language, HasFormFault, IsLanguageOf, form_fault_text}
+use Rattle.message_report.specs.FoundInMessages.{Found, IsFoundIn, IsFoundInEach, nothing, one_fault, one_form, one_message, together}
+use Rattle.message_report.specs.MessageForms.{form_name, form_order, has_form, is_form_name}
+use Rattle.message_report.specs.PrintedKeys.{message_text, name_text}
+use Rattle.message_report.specs.RulesSource.{RulesSource, HasRules}
+use Rattle.message_report.specs.declared.fault.FormFault.{FormFault}
+use Rattle.message_report.specs.declared.form.Form.{Form}
+
+-- ---- Places and lines
+
+-- the key of a type in a locale
+abbrev pub type_name : PluralRuleType → List ℕ
+type_name Cardinal = codes "cardinal"
+type_name Ordinal = codes "ordinal"
+
+-- `ru cardinal`
+abbrev pub part_place : PluralRuleType → List ℕ → List ℕ
+part_place type locale = locale ++ (codes " " ++ type_name type)
+
+-- `ru files`, `ru ordinal files`
+abbrev pub message_place : PluralRuleType → List ℕ → List ℕ → List ℕ
+message_place Cardinal locale key = locale ++ (codes " " ++ key)
+message_place Ordinal locale key = locale ++ (codes " ordinal " ++ key)
+
+-- a fault of a place
+abbrev pub place_line : List ℕ → List ℕ → List ℕ
+place_line place fault = place ++ (codes ": " ++ fault)
+
+-- a fault of what has a name at a place
+abbrev pub named_line : List ℕ → List ℕ → List ℕ → List ℕ
+named_line place name fault = place ++ (codes " " ++ (name ++ (codes ": " ++ fault)))
+
+-- ---- A message
+
+-- a form that is there is counted
+abbrev pub form_count : Form → Data → Found
+form_count form message = if has_form form message then one_form else nothing
+
+-- its fault has a line: `ru files one: no {}, but 1 and 21 are one`
+abbrev pub found_of_fault : List ℕ → Form → Option FormFault → Found
+found_of_fault place form None = nothing
+found_of_fault place form (Some fault) = one_fault (named_line place (form_name form) (form_fault_text fault))
+
+abbrev pub IsFoundInForm : Option Language → List ℕ → Data → Form → Found → Type 0
+IsFoundInForm language place message form found =
+    (fault : Option FormFault) × HasFormFault language form message fault
+    × (found ≡ together (form_count form message) (found_of_fault place form fault))
+
+-- the keys that name no form
+abbrev pub other_keys : Members → List (List ℕ)
+other_keys no_members = []
+other_keys (member key value members) = if is_form_name key then other_keys members else key ∷ other_keys members
+
+-- `ru files feew: not a form`
+abbrev pub key_line : List ℕ → List ℕ → List ℕ
+key_line place key = named_line place (name_text key) (codes "not a form")
+
+-- the most such keys of a message that are told
+abbrev pub most_told : ℕ
+most_told = 10
+
+-- how many more there are: `ru files: and 5 more`
+abbrev pub rest_line : List ℕ → ℕ → List ℕ
+rest_line place rest = place_line place (codes "and " ++ (decimal rest ++ codes " more"))
+
+-- that line, if there are more than are told
+abbrev pub rest_lines : List ℕ → ℕ → List (List ℕ)
+rest_lines place count = if nat_lt most_told count then rest_line place (count - most_told) ∷ [] else []
+
+-- the first keys have a line each, and the others are counted in one
+abbrev pub found_of_keys : List ℕ → List (List ℕ) → Found
+found_of_keys place keys = record {
+  lines = map (key_line place) (take most_told keys) ++ rest_lines place (length keys);
+  messages = 0;
+  forms = 0;
+  faults = length keys;
+}
+
+-- first in the forms, then in the other keys
+abbrev pub IsFoundInForms : Option Language → List ℕ → Data → Option Members → Found → Type 0
+IsFoundInForms language place message None found = found ≡ one_fault (place_line place (codes "no object"))
+IsFoundInForms language place message (Some members) found =
+    (forms : Found) × IsFoundInEach (IsFoundInForm language place message) form_order forms
+    × (found ≡ together forms (found_of_keys place (other_keys members)))
+
+-- a message is counted
+abbrev pub IsFoundInMessage : Option Language → PluralRuleType → List ℕ → List ℕ → Data → Found → Type 0
+IsFoundInMessage language type locale key message found =
+    (more : Found) × IsFoundInForms language (message_place type locale (message_text key)) message (as_object message) more
+    × (found ≡ together one_message more)
+
+-- ---- The messages of a type
+
+-- `ru: no cardinal rules`
+abbrev pub no_rules_text : PluralRuleType → List ℕ
+no_rules_text Cardinal = codes "no cardinal rules"
+no_rules_text Ordinal = codes "no ordinal rules"
+
+abbrev pub found_of_language : PluralRuleType → List ℕ → Option Language → Found
+found_of_language type locale None = one_fault (place_line locale (no_rules_text type))
+found_of_language type locale (Some language) = nothing
+
+-- the language of the rules, if there are any
+abbrev pub IsLanguageIf : Option FiveRules → Option Language → Type 0
+IsLanguageIf None None = Unit {0}
+IsLanguageIf (Some rules) (Some language) = IsLanguageOf rules language
+IsLanguageIf _ _ = ⊥
+
+-- that of the locale
+abbrev pub HasLanguage : RulesSource → PluralRuleType → List ℕ → Option Language → Type 0
+HasLanguage source type locale language =
+    (rules : Option FiveRules) × HasRules source type locale rules × IsLanguageIf rules language
+
+-- first that there are no rules
+abbrev pub IsFoundUnder : Option Language → PluralRuleType → List ℕ → Members → Found → Type 0
+IsFoundUnder language type locale members found =
+    (messages : Found) × IsFoundIn (IsFoundInMessage language type locale) members messages
+    × (found ≡ together (found_of_language type locale language) messages)
+
+-- under the rules of the locale; without messages none are needed
+abbrev pub IsFoundInMessages : RulesSource → PluralRuleType → List ℕ → Members → Found → Type 0
+IsFoundInMessages source type locale no_members found = found ≡ nothing
+IsFoundInMessages source type locale (member key value members) found =
+    (language : Option Language) × HasLanguage source type locale language
+    × IsFoundUnder language type (name_text locale) (member key value members) found
+
+-- a part that isn't there has no messages, and one that is there should be an object
+abbrev pub IsFoundInObject : RulesSource → PluralRuleType → List ℕ → Option Members → Found → Type 0
+IsFoundInObject source type locale None found =
+    found ≡ one_fault (place_line (part_place type (name_text locale)) (codes "no object"))
+IsFoundInObject source type locale (Some members) found = IsFoundInMessages source type locale members found
+
+abbrev pub IsFoundInPart : RulesSource → PluralRuleType → List ℕ → Option Data → Found → Type 0
+IsFoundInPart source type locale None found = found ≡ nothing
+IsFoundInPart source type locale (Some part) found = IsFoundInObject source type locale (as_object part) found
+
+-- ---- The document
+
+abbrev pub is_type_name : List ℕ → Bool
+is_type_name key = bytes_eq key (type_name Cardinal) || bytes_eq key (type_name Ordinal)
+
+-- `ru cardinals: not a part`
+abbrev pub found_of_part_key : List ℕ → List ℕ → Found
+found_of_part_key locale key =
+    if is_type_name key then nothing else one_fault (named_line locale (name_text key) (codes "not a part"))
+
+abbrev pub IsFoundInPartKey : List ℕ → List ℕ → Data → Found → Type 0
+IsFoundInPartKey locale key value found = found ≡ found_of_part_key locale key
+
+-- first cardinal numbers
+abbrev pub IsFoundInBoth : RulesSource → List ℕ → Data → Found → Type 0
+IsFoundInBoth source locale value found =
+    (cardinal ordinal : Found)
+    × IsFoundInPart source Cardinal locale (get (type_name Cardinal) value) cardinal
+    × IsFoundInPart source Ordinal locale (get (type_name Ordinal) value) ordinal
+    × (found ≡ together cardinal ordinal)
+
+-- in a locale: in its keys, and in both parts
+abbrev pub IsFoundInParts : RulesSource → List ℕ → Data → Option Members → Found → Type 0
+IsFoundInParts source locale value None found = found ≡ one_fault (place_line (name_text locale) (codes "no object"))
+IsFoundInParts source locale value (Some members) found =
+    (keys parts : Found) × IsFoundIn (IsFoundInPartKey (name_text locale)) members keys × IsFoundInBoth source locale value parts
+    × (found ≡ together keys parts)
+
+abbrev pub IsFoundInLocale : RulesSource → List ℕ → Data → Found → Type 0
+IsFoundInLocale source locale value found = IsFoundInParts source locale value (as_object value) found
+
+abbrev pub IsFoundInLocales : RulesSource → Option Members → Found → Type 0
+IsFoundInLocales source None found = found ≡ one_fault (codes "document: no object")
+IsFoundInLocales source (Some members) found = IsFoundIn (IsFoundInLocale source) members found
+
+abbrev pub IsFoundInDocument : RulesSource → Data → Found → Type 0
+IsFoundInDocument source document found = IsFoundInLocales source (as_object document) found

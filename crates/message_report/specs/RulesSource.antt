@@ -1,0 +1,53 @@
+-- Where the rules of a locale come from: a provider over keys, and the parents of locales.
+--     HasRules source type locale rules      the rules of the first key of the locale's chain, if there are some
+use Rattle.std.specs.Prelude.{◌≡◌, ℕ, List, Option, Some, None}
+use Rattle.icu_plurals.specs.FiveRules.{FiveRules}
+use Rattle.icu_plurals.specs.declared.PluralRuleType.{PluralRuleType}
+use Rattle.icu_plurals.specs.declared.PluralRuleType.TheVariants.{Cardinal, Ordinal}
+use Rattle.plural_fallback.specs.Chain.{next_of}
+use Rattle.plural_fallback.specs.FirstKeys.{key_at, locale_at, IsFirstKey, Misses}
+use Rattle.plural_fallback.specs.declared.error.FallbackError.{FallbackError}
+use Rattle.plural_fallback.specs.declared.locales.Part.{Part}
+use Rattle.plural_fallback.specs.declared.locales.Part.TheVariants as part
+
+-- the rules of a type under a key, the keys that have some, and the parents of locales
+pub record RulesSource : Type 0 where
+  pub under : PluralRuleType → List ℕ → Option FiveRules
+  pub keys : PluralRuleType → List (List ℕ)
+  pub parent : List ℕ → Option (List ℕ)
+
+-- the part of a type
+abbrev pub part_of : PluralRuleType → Part
+part_of Cardinal = part.Cardinal
+part_of Ordinal = part.Ordinal
+
+-- one of two by the type
+abbrev pub of_type : {A : Type 0} → A → A → PluralRuleType → A
+of_type cardinal ordinal Cardinal = cardinal
+of_type cardinal ordinal Ordinal = ordinal
+
+-- the source of a provider's two maps, with keys and parents
+abbrev pub source_of : (List ℕ → Option FiveRules) → (List ℕ → Option FiveRules) → (Part → List (List ℕ))
+    → (List ℕ → Option (List ℕ)) → RulesSource
+source_of cardinal ordinal keys parent = record {
+  under = of_type cardinal ordinal;
+  keys = λ type. keys (part_of type);
+  parent = parent;
+}
+
+-- the most locales of a chain that are looked up
+abbrev pub most_locales : ℕ
+most_locales = 32
+
+-- the key after so many steps of the chain
+abbrev pub chain_key : RulesSource → PluralRuleType → List ℕ → ℕ → Option (List ℕ)
+chain_key source type locale = key_at (source.keys type) (next_of source.parent) locale
+
+-- the rules under the first key of the chain; or there is no key among the first locales, or no rules under it
+abbrev pub HasRules : RulesSource → PluralRuleType → List ℕ → Option FiveRules → Type 0
+HasRules source type locale (Some rules) =
+    (key : List ℕ) × IsFirstKey most_locales (chain_key source type locale) key × (source.under type key ≡ Some rules)
+HasRules source type locale None =
+    (error : FallbackError)
+    × Misses most_locales (locale_at (next_of source.parent) locale) (chain_key source type locale)
+    (λ key. source.under type key ≡ None) error

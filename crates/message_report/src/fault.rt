@@ -1,0 +1,187 @@
+//! What is wrong with a form of a message.
+
+ghost use Rattle.std.specs.Prelude.{◌≡◌, Some, None, option_map};
+ghost use Rattle.message_report.specs.FormFaults.{form_fault_text, no_number, numbers_in, value_fault};
+ghost use Rattle.message_report.specs.FormFaults.{HasCategoryFault, HasFaultUnder, HasFormFault, HasPresentFault, HasTextFault};
+ghost use Rattle.message_report.specs.Inner.LanguageViews.{language_view};
+ghost use Rattle.message_report.specs.declared.form.Form.TheVariants.{Category};
+ghost use Rattle.serde_json.specs.View.{view};
+
+use crate::category_numbers::TwoNumbers;
+use crate::form::{Form, name_of};
+use crate::language::Language;
+use icu_plurals::PluralCategory;
+use serde_json::Value;
+use std::fmt;
+
+/// What is wrong with a form of a message.
+#[derive(Clone, Copy, Debug, PartialEq, Eq)]
+pub enum FormFault {
+    /// It has no text.
+    NoText,
+    /// The language hasn't its category: no number chooses it.
+    Unused(PluralCategory),
+    /// Its text has no `{}`, though these two numbers choose it.
+    NoNumber(PluralCategory, u16, u16),
+    /// The message hasn't the form, though the language has its category. These are the two least
+    /// numbers that would choose it, as far as there are two.
+    Missing(PluralCategory, Option<u16>, Option<u16>),
+}
+
+impl fmt::Display for FormFault {
+    ghost output = { λ fault. Some (form_fault_text fault) };
+
+    fn fmt<W: fmt::Write>(&self, f: &mut fmt::Formatter<W>) -> fmt::Result {
+        match *self {
+            FormFault::NoText => f.write_str("no text"),
+            FormFault::Unused(category) => write!(f, "no number is {}", name_of(category)),
+            FormFault::NoNumber(category, first, second) => {
+                write!(
+                    f,
+                    "no {{}}, but {} and {} are {}",
+                    first,
+                    second,
+                    name_of(category)
+                )
+            }
+            FormFault::Missing(category, Some(first), Some(second)) => {
+                write!(
+                    f,
+                    "missing, but {} and {} are {}",
+                    first,
+                    second,
+                    name_of(category)
+                )
+            }
+            FormFault::Missing(category, Some(first), None) => {
+                write!(f, "missing, but {} is {}", first, name_of(category))
+            }
+            FormFault::Missing(_, None, _) => f.write_str("missing"),
+        }
+    }
+}
+
+// Returns the fault of a form in a message, if it has one; without a language only that it has no text.
+pub(crate) fn form_fault(
+    language: Option<Language>,
+    form: Form,
+    message: &Value,
+) -> Option<FormFault>
+    ensures { HasFormFault (option_map language_view language) form (view message.now) result }
+{
+    match form {
+        Form::ExplicitZero => value_fault(form.in_message(message)),
+        Form::ExplicitOne => value_fault(form.in_message(message)),
+        Form::Category(category) => category_fault_if(language, category, message),
+    }
+}
+
+// Returns the fault of a category's form in a message; without a language only that it has no text.
+fn category_fault_if(
+    language: Option<Language>,
+    category: PluralCategory,
+    message: &Value,
+) -> Option<FormFault>
+    ensures { HasFormFault (option_map language_view language) (Category category) (view message.now) result }
+{
+    match language {
+        Some(language) => category_fault(&language, category, message),
+        None => value_fault(Form::Category(category).in_message(message)),
+    }
+}
+
+// Returns that a value is no text, if there is one.
+fn value_fault(value: Option<&Value>) -> Option<FormFault>
+    ensures { result ≡ value_fault (option_map (λ v. view v.now) value.entry) }
+{
+    if value?.is_string() {
+        None
+    } else {
+        Some(FormFault::NoText)
+    }
+}
+
+// Returns the fault of a category's form in a message, if it has one.
+fn category_fault(
+    language: &Language,
+    category: PluralCategory,
+    message: &Value,
+) -> Option<FormFault>
+    ensures { HasCategoryFault (language_view language.now) category (view message.now) result }
+{
+    let numbers = numbers_in(language, category, message);
+    match Form::Category(category).in_message(message) {
+        Some(value) => fault_of_value(language, category, numbers, value),
+        None => fault_of_none(language, category, numbers),
+    }
+}
+
+// Returns the two least numbers that choose a category's form in a message.
+fn numbers_in(language: &Language, category: PluralCategory, message: &Value) -> TwoNumbers
+    ensures { result ≡ numbers_in (language_view language.now) category (view message.now) }
+{
+    let own_zero = Form::ExplicitZero.is_in(message);
+    let own_one = Form::ExplicitOne.is_in(message);
+    language.numbers(category, own_zero, own_one)
+}
+
+// Returns the fault of a form that isn't there, if it has one.
+fn fault_of_none(
+    language: &Language,
+    category: PluralCategory,
+    numbers: TwoNumbers,
+) -> Option<FormFault>
+    ensures { HasFaultUnder (language_view language.now) category numbers None result }
+{
+    if language.has(category) {
+        Some(FormFault::Missing(category, numbers.first, numbers.second))
+    } else {
+        None
+    }
+}
+
+// Returns the fault of a form, given its value.
+fn fault_of_value(
+    language: &Language,
+    category: PluralCategory,
+    numbers: TwoNumbers,
+    value: &Value,
+) -> Option<FormFault>
+    ensures { HasFaultUnder (language_view language.now) category numbers (Some (view value.now)) result }
+{
+    if language.has(category) {
+        present_fault(category, numbers, value)
+    } else {
+        Some(FormFault::Unused(category))
+    }
+}
+
+// Returns the fault of a form that numbers choose, given its value.
+fn present_fault(category: PluralCategory, numbers: TwoNumbers, value: &Value) -> Option<FormFault>
+    ensures { HasPresentFault category numbers (view value.now) result }
+{
+    match value.as_str() {
+        Some(text) => text_fault(category, numbers, text),
+        None => Some(FormFault::NoText),
+    }
+}
+
+// Returns the fault of a form's text, if it has one.
+fn text_fault(category: PluralCategory, numbers: TwoNumbers, text: &str) -> Option<FormFault>
+    ensures { HasTextFault category numbers text.now result }
+{
+    if text.contains("{}") {
+        None
+    } else {
+        no_number(category, numbers)
+    }
+}
+
+// Returns the fault of a text without the number, if two numbers choose it.
+fn no_number(category: PluralCategory, numbers: TwoNumbers) -> Option<FormFault>
+    ensures { result ≡ no_number category numbers.first numbers.second }
+{
+    let first = numbers.first?;
+    let second = numbers.second?;
+    Some(FormFault::NoNumber(category, first, second))
+}

@@ -1,0 +1,69 @@
+//! The forms of a message, by their keys.
+
+ghost use Rattle.std.specs.Prelude.{◌≡◌, option_map};
+ghost use Rattle.icu_plurals.specs.Categories.{name_of};
+ghost use Rattle.message_report.specs.MessageForms.{form_name, form_under, has_form, is_form_name};
+ghost use Rattle.serde_json.specs.View.{view};
+
+use icu_plurals::PluralCategory;
+use icu_plurals::provider::RawPluralCategory;
+use serde_json::Value;
+
+// A form of a message.
+#[derive(Clone, Copy, Debug, PartialEq, Eq)]
+pub(crate) enum Form {
+    // Of exactly 0.
+    ExplicitZero,
+    // Of exactly 1.
+    ExplicitOne,
+    // Of a category.
+    Category(PluralCategory),
+}
+
+impl Form {
+    // Returns the form's key in a message.
+    pub(crate) fn as_str(self) -> &'static str
+        ensures { result.now ≡ form_name self }
+    {
+        match self {
+            Form::ExplicitZero => "explicit_zero",
+            Form::ExplicitOne => "explicit_one",
+            Form::Category(category) => name_of(category),
+        }
+    }
+
+    // Returns what a message has under the form's key.
+    pub(crate) fn in_message(self, message: &Value) -> Option<&Value>
+        ensures { option_map (λ v. view v.now) result ≡ form_under self (view message.now) }
+    {
+        message.get(self.as_str())
+    }
+
+    // Returns whether a message has the form.
+    pub(crate) fn is_in(self, message: &Value) -> bool
+        ensures { result ≡ has_form self (view message.now) }
+    {
+        self.in_message(message).is_some()
+    }
+}
+
+// Returns the name of a category.
+pub(crate) fn name_of(category: PluralCategory) -> &'static str
+    ensures { result.now ≡ name_of category }
+{
+    RawPluralCategory::from(category).as_str()
+}
+
+// Returns whether a key names a form.
+pub(crate) fn is_form_name(key: &str) -> bool
+    ensures { result ≡ is_form_name key.now }
+{
+    key == "explicit_zero"
+        || key == "explicit_one"
+        || key == "zero"
+        || key == "one"
+        || key == "two"
+        || key == "few"
+        || key == "many"
+        || key == "other"
+}

@@ -1,0 +1,114 @@
+//! The keys of a message that name no form.
+
+ghost use Rattle.std.specs.Prelude.{◌≡◌, IfOk, OnOk, string_bytes};
+ghost use Rattle.message_report.specs.FoundInMessages.{together};
+ghost use Rattle.message_report.specs.Inner.Added.{lines_alone};
+ghost use Rattle.message_report.specs.Inner.ToldKeys.{count_at, told_at, told_key};
+ghost use Rattle.message_report.specs.MessagesReport.{found_of_keys, key_line, named_line, other_keys, place_line, rest_line, rest_lines};
+ghost use Rattle.serde_json.specs.View.{members_view};
+
+use crate::form::is_form_name;
+use crate::found::{Found, sum};
+use crate::printed_key::name_text;
+use serde_json::{Map, Value};
+use std::alloc::{AllocError, Global};
+
+// The most such keys of a message that have a line each.
+const MOST_TOLD: u64 = 10;
+
+// Adds what is found in the keys that name no form: the first ones have a line each, and the others one.
+pub(crate) fn add_keys(
+    alloc: Global,
+    place: &str,
+    members: &Map<String, Value>,
+    found: &mut Found,
+) -> Result<(), AllocError>
+    ensures { OnOk result (found.new
+        ≡ together found.old (found_of_keys place.now (other_keys (members_view members.now.entries)))) }
+{
+    let mut count = 0;
+    for (key, _) in members.iter() {
+        count = add_key(alloc, place, key.as_str(), count, found)?;
+    }
+    add_rest(alloc, place, count, found)
+}
+
+// Adds what is found in a key, and returns how many keys name no form so far.
+fn add_key(
+    alloc: Global,
+    place: &str,
+    key: &str,
+    before: u64,
+    found: &mut Found,
+) -> Result<u64, AllocError>
+    ensures found { OnOk result (found.new ≡ together found.old (told_at place.now before key.now)) }
+    ensures count { IfOk result (λ count. count ≡ count_at before key.now) }
+{
+    if is_form_name(key) {
+        return Ok(before);
+    }
+    tell(alloc, place, key, before, found)?;
+    sum(before, 1)
+}
+
+// Adds the fault of a key, with its line if at most nine come before it.
+fn tell(
+    alloc: Global,
+    place: &str,
+    key: &str,
+    before: u64,
+    found: &mut Found,
+) -> Result<(), AllocError>
+    ensures { OnOk result (found.new ≡ together found.old (told_key place.now before key.now)) }
+{
+    if before >= MOST_TOLD {
+        return found.count_fault();
+    }
+    let line = key_line(alloc, place, key)?;
+    found.add_fault(line)
+}
+
+// Adds a line for the keys that aren't told, if there are any.
+fn add_rest(alloc: Global, place: &str, count: u64, found: &mut Found) -> Result<(), AllocError>
+    ensures { OnOk result (found.new ≡ together found.old (lines_alone (rest_lines place.now count))) }
+{
+    if count <= MOST_TOLD {
+        return Ok(());
+    }
+    let line = rest_line(alloc, place, count - MOST_TOLD)?;
+    found.add_line(line)
+}
+
+// Returns the line for this many keys.
+fn rest_line(alloc: Global, place: &str, rest: u64) -> Result<String, AllocError>
+    ensures { IfOk result (λ line. string_bytes line ≡ rest_line place.now rest) }
+{
+    format!(in alloc; "{place}: and {rest} more")
+}
+
+// Returns the line for a key that names no form.
+fn key_line(alloc: Global, place: &str, key: &str) -> Result<String, AllocError>
+    ensures { IfOk result (λ line. string_bytes line ≡ key_line place.now key.now) }
+{
+    let name = name_text(alloc, key)?;
+    named_line(alloc, place, name.as_str(), "not a form")
+}
+
+// Returns the line for a fault of what has a name at a place.
+pub(crate) fn named_line(
+    alloc: Global,
+    place: &str,
+    name: &str,
+    fault: &str,
+) -> Result<String, AllocError>
+    ensures { IfOk result (λ line. string_bytes line ≡ named_line place.now name.now fault.now) }
+{
+    format!(in alloc; "{place} {name}: {fault}")
+}
+
+// Returns the line for a fault of a place.
+pub(crate) fn place_line(alloc: Global, place: &str, fault: &str) -> Result<String, AllocError>
+    ensures { IfOk result (λ line. string_bytes line ≡ place_line place.now fault.now) }
+{
+    format!(in alloc; "{place}: {fault}")
+}

@@ -1,0 +1,23 @@
+//! The report of a document of messages under plural rules: which forms are missing, unused or without the number.
+#![tactic(auto)]
+
+mod category_numbers;
+mod counts;
+mod document;
+mod error;
+mod fault;
+mod form;
+mod found;
+mod keys;
+mod language;
+mod message;
+mod part;
+mod printed_key;
+mod report;
+pub mod run;
+mod source;
+
+pub use counts::Counts;
+pub use error::ReportError;
+pub use fault::FormFault;
+pub use source::RulesOfLocales;

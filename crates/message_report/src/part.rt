@@ -1,0 +1,166 @@
+//! What is found in the messages of a type.
+
+ghost use Rattle.std.specs.Prelude.{◌≡◌, codes, IfOk, OnOk, option_map, string_bytes};
+ghost use Rattle.message_report.specs.FoundInMessages.{together};
+ghost use Rattle.message_report.specs.Inner.Added.{Adds};
+ghost use Rattle.message_report.specs.Inner.LanguageViews.{language_view};
+ghost use Rattle.message_report.specs.MessagesReport.{found_of_language, no_rules_text, part_place, place_line, type_name};
+ghost use Rattle.message_report.specs.MessagesReport.{IsFoundInMessages, IsFoundInObject, IsFoundInPart, IsFoundUnder, HasLanguage};
+ghost use Rattle.message_report.specs.PrintedKeys.{name_text};
+ghost use Rattle.serde_json.specs.Find.{as_object, get};
+ghost use Rattle.serde_json.specs.View.{members_view, view};
+
+use crate::found::{Found, add_members};
+use crate::keys::place_line;
+use crate::language::Language;
+use crate::message::MessageCheck;
+use crate::printed_key::name_text;
+use crate::source::RulesOfLocales;
+use icu_plurals::PluralRuleType;
+use serde_json::{Map, Value};
+use std::alloc::{AllocError, Global};
+
+// Returns the key of a type in a locale.
+pub(crate) fn type_name(rule_type: PluralRuleType) -> &'static str
+    ensures { result.now ≡ type_name rule_type }
+{
+    match rule_type {
+        PluralRuleType::Cardinal => "cardinal",
+        PluralRuleType::Ordinal => "ordinal",
+    }
+}
+
+// Adds what is found in the messages of a type, given a locale's value.
+pub(crate) fn add_part<S: RulesOfLocales>(
+    alloc: Global,
+    source: &S,
+    rule_type: PluralRuleType,
+    locale: &str,
+    value: &Value,
+    found: &mut Found,
+) -> Result<(), AllocError>
+    ensures { OnOk result (Adds (IsFoundInPart (S.source source.now) rule_type locale.now
+        (get (type_name rule_type) (view value.now))) found.old found.new) }
+{
+    match value.get(type_name(rule_type)) {
+        Some(part) => add_object(alloc, source, rule_type, locale, part, found),
+        None => Ok(()),
+    }
+}
+
+// Adds what is found in the messages of a type, which should be an object.
+fn add_object<S: RulesOfLocales>(
+    alloc: Global,
+    source: &S,
+    rule_type: PluralRuleType,
+    locale: &str,
+    part: &Value,
+    found: &mut Found,
+) -> Result<(), AllocError>
+    ensures { OnOk result (Adds (IsFoundInObject (S.source source.now) rule_type locale.now
+        (as_object (view part.now))) found.old found.new) }
+{
+    match part.as_object() {
+        Some(members) => add_messages(alloc, source, rule_type, locale, members, found),
+        None => found.add_fault(part_line(alloc, rule_type, locale)?),
+    }
+}
+
+// Returns the line for a part that is no object.
+fn part_line(alloc: Global, rule_type: PluralRuleType, locale: &str) -> Result<String, AllocError>
+    ensures { IfOk result (λ line. string_bytes line ≡ place_line (part_place rule_type (name_text locale.now)) (codes "no object")) }
+{
+    let name = name_text(alloc, locale)?;
+    let place = part_place(alloc, rule_type, name.as_str())?;
+    place_line(alloc, place.as_str(), "no object")
+}
+
+// Returns the place of a part, given the printed name of the locale.
+fn part_place(alloc: Global, rule_type: PluralRuleType, locale: &str) -> Result<String, AllocError>
+    ensures { IfOk result (λ place. string_bytes place ≡ part_place rule_type locale.now) }
+{
+    let part = type_name(rule_type);
+    format!(in alloc; "{locale} {part}")
+}
+
+// Adds what is found in the messages of a type. Without messages no rules are looked for.
+fn add_messages<S: RulesOfLocales>(
+    alloc: Global,
+    source: &S,
+    rule_type: PluralRuleType,
+    locale: &str,
+    members: &Map<String, Value>,
+    found: &mut Found,
+) -> Result<(), AllocError>
+    ensures { OnOk result (Adds (IsFoundInMessages (S.source source.now) rule_type locale.now
+        (members_view members.now.entries)) found.old found.new) }
+{
+    if members.is_empty() {
+        return Ok(());
+    }
+    let name = name_text(alloc, locale)?;
+    let language = language_at(source, rule_type, locale);
+    add_under(alloc, language, rule_type, name.as_str(), members, found)
+}
+
+// Returns the language of a locale's rules, if there are any.
+fn language_at<S: RulesOfLocales>(
+    source: &S,
+    rule_type: PluralRuleType,
+    locale: &str,
+) -> Option<Language>
+    ensures { HasLanguage (S.source source.now) rule_type locale.now (option_map language_view result) }
+{
+    match source.rules_of(rule_type, locale) {
+        Some(rules) => Some(Language::of(&rules)),
+        None => None,
+    }
+}
+
+// Adds what is found in messages of a language, if it is known, given the printed name of the locale.
+fn add_under(
+    alloc: Global,
+    language: Option<Language>,
+    rule_type: PluralRuleType,
+    locale: &str,
+    members: &Map<String, Value>,
+    found: &mut Found,
+) -> Result<(), AllocError>
+    ensures { OnOk result (Adds (IsFoundUnder (option_map language_view language) rule_type locale.now
+        (members_view members.now.entries)) found.old found.new) }
+{
+    add_no_rules(alloc, language, rule_type, locale, found)?;
+    let check = MessageCheck {
+        language,
+        rule_type,
+        locale,
+    };
+    add_members(alloc, &check, members, found)
+}
+
+// Adds a line if there is no language, since there are no rules.
+fn add_no_rules(
+    alloc: Global,
+    language: Option<Language>,
+    rule_type: PluralRuleType,
+    locale: &str,
+    found: &mut Found,
+) -> Result<(), AllocError>
+    ensures { OnOk result (found.new
+        ≡ together found.old (found_of_language rule_type locale.now (option_map language_view language))) }
+{
+    if language.is_some() {
+        return Ok(());
+    }
+    found.add_fault(place_line(alloc, locale, no_rules_text(rule_type))?)
+}
+
+// Returns what is told of missing rules.
+fn no_rules_text(rule_type: PluralRuleType) -> &'static str
+    ensures { result.now ≡ no_rules_text rule_type }
+{
+    match rule_type {
+        PluralRuleType::Cardinal => "no cardinal rules",
+        PluralRuleType::Ordinal => "no ordinal rules",
+    }
+}
