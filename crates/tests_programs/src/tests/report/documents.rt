@@ -206,30 +206,6 @@ locales: 1, rules: 1, numbers: 0, faults: 5
     Ok(())
 }
 
-// Returns a document with 4000 keys that are no category, and its report, which has more than 100,000 bytes.
-fn document_of_keys(alloc: Global) -> Result<(String, String), AllocError> {
-    let mut document = String::new(alloc);
-    let mut report = String::new(alloc);
-    document.push_str(r#"{"ordinal":{"a":{"other":"""#)?;
-    for key in 1000u32..5000 {
-        let member = format!(in alloc; ",\"{key}\":0")?;
-        let line = format!(in alloc; "ordinal a {key}: not a category\n")?;
-        document.push_str(member.as_str())?;
-        report.push_str(line.as_str())?;
-    }
-    document.push_str("}}}")?;
-    report.push_str("locales: 1, rules: 1, numbers: 0, faults: 4000\n")?;
-    Ok((document, report))
-}
-
-#[test]
-fn a_long_report_is_written(rt: HostRuntime) -> Result<(), Fail> {
-    let (document, report) = document_of_keys(rt.alloc())?;
-    let mut reader = document.as_str().as_bytes();
-    holds!(rt; gives(rt.alloc(), false, &mut reader, report.as_str()) == Some(true));
-    Ok(())
-}
-
 #[test]
 fn what_is_no_document_is_told_with_its_place(rt: HostRuntime) {
     let table = r#"< 
