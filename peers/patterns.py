@@ -1,0 +1,308 @@
+"""Patterns of messages as docs/PATTERNS.md has them: a reader that shares nothing with the library's, and what ICU4C reads otherwise.
+
+A pattern is read into parts, pairs of a depth and a piece. A piece is a text; HASH; or a tuple: ("argument", name),
+("begin", type, name, offset or None), ("exactly", number), ("keyword", word) or ("end",)."""
+import re
+
+DEPTH_LIMIT = 32
+HASH = ("hash",)
+END = ("end",)
+TYPES = {"plural": "plural", "selectordinal": "ordinal", "select": "select"}
+WHOLE, COUNTED, SELECTED = "whole", "counted", "selected"
+CONTEXTS = {"plural": COUNTED, "ordinal": COUNTED, "select": SELECTED}
+
+# ---- where ICU4C differs: each is a change of the reader
+
+SIMPLE = "simple formats and choice"
+BLANK = "white space above ASCII ends a name"
+MARKS = "marks above ASCII end a name"
+CONTROLS = "control characters in a name"
+NUMBERS = "other forms of numbers"
+SIZES = "sizes that ICU4C limits"
+DEEP = "more than 32 branches deep"
+CHANGES = (SIMPLE, BLANK, MARKS, CONTROLS, NUMBERS, SIZES, DEEP)
+
+# Unicode's Pattern_White_Space, and its Pattern_Syntax (Unicode Standard Annex 31: neither is changed ever).
+WHITE_ABOVE_ASCII = "\x85\u200e\u200f\u2028\u2029"
+WHITE = "\t-\r " + WHITE_ABOVE_ASCII
+MARKS_ABOVE_ASCII = (
+    "\xa1-\xa7\xa9\xab\xac\xae\xb0\xb1\xb6\xbb\xbf\xd7\xf7\u2010-\u203e\u2041-\u2053\u2055-\u205e\u2190-\u245f\u2500-\u2775"
+    "\u2794-\u2bff\u2e00-\u2e7f\u3001-\u3003\u3008-\u3020\u3030\ufd3e\ufd3f\ufe45\ufe46"
+)
+BLANKS = re.compile(f"[{WHITE}]*")
+LETTERS = re.compile("[A-Za-z]*")
+DIGITS = re.compile("[0-9]*")
+NUMBER_RUN = re.compile(r"[-.0-9]*")
+NUMBER = re.compile(r"-?[0-9]+(\.[0-9]+)?")
+DOUBLE_RUN = re.compile("[-+.0-9eE\u221e]*")
+DOUBLE = re.compile(r"[-+]?([0-9]+\.?[0-9]*|\.[0-9]+)([eE][-+]?[0-9]+)?")
+PLAIN = re.compile("[^'{}#]+")
+UNQUOTED = re.compile("[^']+")
+LARGEST_ARGUMENT = 32767
+LONGEST_WORD = 65535
+LONGEST_DOUBLE = 127
+
+
+def name_form(changes):
+    """Returns the form of names, with these changes."""
+    left_out = (WHITE_ABOVE_ASCII if BLANK in changes else "") + (MARKS_ABOVE_ASCII if MARKS in changes else "")
+    controls = "\0-\x08\x0e-\x1f\x7f" if CONTROLS in changes else ""
+    front = f"(?![{left_out}])" if left_out else ""
+    return re.compile(f"(?:{front}[0-9A-Za-z_{controls}\x80-\U0010ffff])*")
+
+
+class Fault(Exception):
+    """The first fault of a pattern: its kind, and the character where it is."""
+
+    def __init__(self, kind, at):
+        super().__init__(kind)
+        self.kind, self.at = kind, at
+
+
+def units(text):
+    return len(text.encode("utf-16-le")) // 2
+
+
+class Reader:
+    """Reads a pattern, with changes of what it reads as ICU4C does."""
+
+    def __init__(self, text, changes=()):
+        self.text, self.at, self.parts = text, 0, []
+        self.changes = changes
+        self.name_form = name_form(changes)
+
+    def take(self, form):
+        found = form.match(self.text, self.at)
+        self.at = found.end()
+        return found.group()
+
+    def skip_blanks(self):
+        self.at = BLANKS.match(self.text, self.at).end()
+
+    def add(self, depth, piece):
+        self.parts.append((depth, piece))
+
+    def fail(self, kind, at=None):
+        """Fails here or there; at the end of the text a brace is missing."""
+        at = self.at if at is None else at
+        raise Fault(kind, at) if at < len(self.text) else Fault("Unclosed", len(self.text))
+
+    def next(self):
+        """Returns the next character, which has to be there."""
+        if self.at == len(self.text):
+            self.fail("Unclosed")
+        return self.text[self.at]
+
+    # ---- text
+
+    def message(self, context, depth):
+        """Reads a message: up to the end, or a branch up to behind its brace."""
+        while self.at < len(self.text):
+            mark = self.text[self.at]
+            if mark == "}" and context != WHOLE:
+                self.at += 1
+                return
+            self.piece(mark, context, depth)
+        if context != WHOLE:
+            self.fail("Unclosed")
+
+    def piece(self, mark, context, depth):
+        if mark not in "'{}#":
+            self.add(depth, self.take(PLAIN))
+            return
+        self.at += 1
+        if mark == "{":
+            self.argument(depth)
+        elif mark == "'":
+            self.apostrophe("{}#" if context == COUNTED else "{}", depth)
+        else:
+            self.add(depth, HASH if mark == "#" and context == COUNTED else mark)
+
+    def apostrophe(self, quotable, depth):
+        following = self.text[self.at : self.at + 1]
+        if following and following in quotable:
+            self.quoted(depth)
+            return
+        self.add(depth, "'")
+        self.at += following == "'"
+
+    def quoted(self, depth):
+        """Reads quoted text, up to behind the apostrophe that ends it or to the end."""
+        while self.at < len(self.text):
+            if self.text.startswith("''", self.at):
+                self.add(depth, "'")
+                self.at += 2
+            elif self.text[self.at] == "'":
+                self.at += 1
+                return
+            else:
+                self.add(depth, self.take(UNQUOTED))
+
+    # ---- arguments
+
+    def argument(self, depth):
+        """Reads an argument from behind its brace."""
+        self.skip_blanks()
+        name = self.name()
+        self.skip_blanks()
+        mark = self.next()
+        if mark == "}":
+            self.at += 1
+            self.add(depth, ("argument", name))
+        elif mark == ",":
+            self.at += 1
+            self.choice(name, depth)
+        else:
+            self.fail("ExpectedEnd")
+
+    def name(self):
+        at, name = self.at, self.take(self.name_form)
+        if not name:
+            self.fail("ExpectedName")
+        is_number = name.isascii() and name.isdigit()
+        if is_number and name[0] == "0" and len(name) > 1:
+            self.fail("BadNumber", at)
+        if SIZES in self.changes and (is_number and int(name[:6]) > LARGEST_ARGUMENT or units(name) > LONGEST_WORD):
+            self.fail("BadNumber", at)
+        return name
+
+    def choice(self, name, depth):
+        """Reads an argument that chooses, from its type on."""
+        self.skip_blanks()
+        at, word = self.at, self.take(LETTERS)
+        if not word:
+            self.fail("ExpectedType")
+        if word.lower() not in TYPES:
+            self.fail("UnsupportedType", at)
+        kind = TYPES[word.lower()]
+        self.skip_blanks()
+        if self.next() != ",":
+            self.fail("ExpectedStyle")
+        self.at += 1
+        self.add(depth, ("begin", kind, name, self.offset(kind)))
+        self.branches(kind, depth)
+
+    def offset(self, kind):
+        if kind == "select":
+            return None
+        self.skip_blanks()
+        if not self.text.startswith("offset:", self.at):
+            return None
+        self.at += len("offset:")
+        self.skip_blanks()
+        if NUMBERS in self.changes:
+            return self.double("ExpectedOffset")
+        at, number = self.at, self.take(DIGITS)
+        if not number:
+            self.fail("ExpectedOffset")
+        self.check_length(number, at)
+        return number
+
+    # ---- branches
+
+    def branches(self, kind, depth):
+        has_other = False
+        while True:
+            self.skip_blanks()
+            if self.next() == "}":
+                break
+            has_other = self.branch(kind, depth) or has_other
+        if not has_other:
+            self.fail("MissingOther")
+        self.at += 1
+        self.add(depth, END)
+
+    def branch(self, kind, depth):
+        """Reads a branch, and returns whether it is that of other."""
+        selector = self.selector(kind)
+        self.skip_blanks()
+        if self.next() != "{":
+            self.fail("ExpectedBranch")
+        self.at += 1
+        if depth >= DEPTH_LIMIT and DEEP not in self.changes:
+            raise Fault("TooDeep", self.at)
+        self.add(depth, selector)
+        self.message(CONTEXTS[kind], depth + 1)
+        return selector == ("keyword", "other")
+
+    def selector(self, kind):
+        if self.text[self.at] != "=" or kind == "select":
+            return "keyword", self.keyword()
+        self.at += 1
+        if NUMBERS in self.changes:
+            return "exactly", self.double("ExpectedValue")
+        at, number = self.at, self.take(NUMBER_RUN)
+        if not NUMBER.fullmatch(number):
+            self.fail("ExpectedValue", at)
+        self.check_length(number, at)
+        return "exactly", number
+
+    def keyword(self):
+        at, word = self.at, self.take(self.name_form)
+        if not word:
+            self.fail("ExpectedSelector")
+        if SIZES in self.changes and units(word) > LONGEST_WORD:
+            self.fail("ExpectedSelector", at)
+        return word
+
+    def double(self, kind):
+        """Reads a number in any form that C's strtod takes."""
+        at, number = self.at, self.take(DOUBLE_RUN)
+        if not DOUBLE.fullmatch(number):
+            self.fail(kind, at)
+        self.check_length(number, at)
+        return number
+
+    def check_length(self, number, at):
+        """Fails if ICU4C's room for a number is too small, but for one that it reads as an integer of 16 bits."""
+        if SIZES in self.changes and len(number) > LONGEST_DOUBLE:
+            is_small = re.fullmatch(r"[-+]?0*[0-9]{1,5}", number) and abs(int(number)) <= LARGEST_ARGUMENT
+            if not is_small:
+                self.fail("ExpectedValue", at)
+
+
+def read(text, changes=()):
+    """Returns the parts of a pattern and None, or the parts before its first fault and this fault."""
+    reader = Reader(text, changes)
+    try:
+        reader.message(WHOLE, 0)
+    except Fault as fault:
+        return reader.parts, fault
+    return reader.parts, None
+
+
+def joined(parts):
+    """Returns parts in which no text follows another."""
+    found = []
+    for depth, piece in parts:
+        if isinstance(piece, str) and found and isinstance(found[-1][1], str):
+            found[-1] = (depth, found[-1][1] + piece)
+        else:
+            found.append((depth, piece))
+    return found
+
+
+# ---- as the rows of crates/cases/data/patterns.rows have it
+
+
+def quoted(text):
+    escaped = text.replace("\\", "\\\\").replace('"', '\\"').replace("\n", "\\n")
+    return f'"{escaped}"'
+
+
+def piece_text(piece):
+    if isinstance(piece, str):
+        return quoted(piece)
+    word = piece[0]
+    if word == "begin":
+        _, kind, name, offset = piece
+        return f"{kind}({name})" + ("" if offset is None else f"-{offset}")
+    return {"hash": "#", "end": "/", "argument": "{%s}", "exactly": "=%s", "keyword": "%s"}[word].replace("%s", "".join(piece[1:]))
+
+
+def row_result(text):
+    """Returns what the row of a pattern wants."""
+    parts, fault = read(text)
+    if fault:
+        return f"error Fault({fault.kind}, {len(text[: fault.at].encode())})"
+    return " ".join(f"{depth}:{piece_text(piece)}" for depth, piece in parts) or "none"
