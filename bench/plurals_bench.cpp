@@ -1,15 +1,21 @@
-// The library's exports beside ICU4C's plural rules: the same rules, the same numbers, in one program. bench/run calls it.
+// The library's exports beside ICU4C's plural rules, gettext's ngettext and C by hand: the same rules, the same numbers, in one program.
+// bench/run calls it.
 //
-//   plurals_bench check RULES    each category by both sides; the status is 1 if one differs
-//   plurals_bench time RULES     lines `ROW<tab>SIDE<tab>NANOSECONDS`: the least of some samples, the sides in turn
-//   plurals_bench count RULES    for callgrind: of each row and side a dump of some rounds and one of twice as many, each with a
+//   plurals_bench check RULES CATALOGUES    each category by all sides; the status is 1 if one differs
+//   plurals_bench time RULES CATALOGUES     lines `ROW<tab>SIDE<tab>NANOSECONDS`: the least of some samples, the sides in turn
+//   plurals_bench count RULES CATALOGUES    for callgrind: of each row and side a dump of some rounds and one of twice as many, each with a
 //                                mark `ROW<tab>SIDE<tab>OPERATIONS`, with the operations of the first of them
 //
-// RULES is a file with a line `LOCALE<tab>CATEGORY<tab>TEXT` for each rule.
+// RULES is a file with a line `LOCALE<tab>CATEGORY<tab>TEXT` for each rule. CATALOGUES is a folder with gettext's catalogue
+// en/LC_MESSAGES/LOCALE.mo for each locale, in which the forms of `item` are the names of the categories.
+#include <libintl.h>
+#include <locale.h>
 #include <plurals.h>
 #include <unicode/numberformatter.h>
 #include <unicode/plurrule.h>
 #include <valgrind/callgrind.h>
+
+#include "by_hand.h"
 
 #include <algorithm>
 #include <chrono>
@@ -158,6 +164,15 @@ int category_number(const icu::UnicodeString& keyword) {
     return int(std::find(kCategories.begin(), kCategories.end(), name) - kCategories.begin());
 }
 
+const char* by_gettext(const std::string& language, int32_t number) {
+    return dngettext(language.c_str(), "item", "items", static_cast<unsigned long>(number));
+}
+
+// The function that is written by hand for a language, or null.
+int (*by_hand(const std::string& language))(uint64_t) {
+    return language == "en" ? by_hand_en : language == "ru" ? by_hand_ru : language == "ar" ? by_hand_ar : nullptr;
+}
+
 struct Agreement {
     int compared = 0, different = 0;
 
@@ -165,7 +180,7 @@ struct Agreement {
         compared++;
         if (ours == theirs) return;
         different++;
-        std::cerr << language << " " << number << ": " << ours << " by the library, " << theirs << " by ICU4C\n";
+        std::cerr << language << " " << number << ": " << ours << " by the library, " << theirs << " by another side\n";
     }
 };
 
@@ -173,9 +188,12 @@ int check(const std::vector<Language>& all) {
     Agreement found;
     for (const auto& it : all) {
         const uint8_t* block = it.block.data();
-        for (int32_t number : integers())
-            found.compare(it.name, std::to_string(number), plurals_category_of_integer(block, it.block.size(), uint64_t(number)),
-                          category_number(it.rules->select(number)));
+        for (int32_t number : integers()) {
+            int ours = plurals_category_of_integer(block, it.block.size(), uint64_t(number));
+            found.compare(it.name, std::to_string(number), ours, category_number(it.rules->select(number)));
+            found.compare(it.name, std::to_string(number), ours, category_number(by_gettext(it.name, number)));
+            if (by_hand(it.name)) found.compare(it.name, std::to_string(number), ours, by_hand(it.name)(uint64_t(number)));
+        }
         for (const auto& text : decimals())
             found.compare(it.name, text, plurals_category(block, it.block.size(), text.data(), text.size()),
                           category_number(select_text(*it.rules, formatter(fraction_places(text)), text)));
@@ -187,11 +205,11 @@ int check(const std::vector<Language>& all) {
 // ---- rows
 
 // One row: what a round of each side does, and how many operations that is. A round returns a sum, so that none of it is left out.
-// A row may be the library's alone.
+// A row need not have each side.
 struct Row {
     std::string name;
     size_t operations;
-    std::function<long()> library, icu4c;
+    std::vector<std::pair<std::string, std::function<long()>>> sides;
 };
 
 struct Decimal {
@@ -215,11 +233,22 @@ std::vector<Row> rows(const std::vector<Language>& all) {
             for (int32_t number : whole) sum += it.rules->select(number).length();
             return sum;
         };
-        found.push_back({"category of an integer, " + it.name, whole.size(), library, icu4c});
+        auto gettext = [&it] {
+            long sum = 0;
+            for (int32_t number : whole) sum += by_gettext(it.name, number)[0];
+            return sum;
+        };
+        auto written = [function = by_hand(it.name)] {
+            long sum = 0;
+            for (int32_t number : whole) sum += function(uint64_t(number));
+            return sum;
+        };
+        found.push_back({"category of an integer, " + it.name, whole.size(), {{"library", library}, {"icu4c", icu4c}, {"gettext", gettext}}});
+        if (by_hand(it.name)) found.back().sides.push_back({"hand", written});
     }
     for (const auto& it : all) {
         auto library = [&it] { return long(plurals_check_rules(it.block.data(), it.block.size())); };
-        found.push_back({"of that: the block checked, " + it.name, 1, library, nullptr});
+        found.push_back({"of that: the block checked, " + it.name, 1, {{"library", library}}});
     }
     for (const auto& it : all) {
         auto library = [&it] {
@@ -233,7 +262,7 @@ std::vector<Row> rows(const std::vector<Language>& all) {
             for (const auto& number : written) sum += select_text(*it.rules, *number.writer, number.text).length();
             return sum;
         };
-        found.push_back({"category of a decimal's text, " + it.name, written.size(), library, icu4c});
+        found.push_back({"category of a decimal's text, " + it.name, written.size(), {{"library", library}, {"icu4c", icu4c}}});
     }
     for (bool is_whole : {true, false}) {
         for (const auto& it : all) {
@@ -249,7 +278,8 @@ std::vector<Row> rows(const std::vector<Language>& all) {
                 std::unique_ptr<icu::PluralRules> rules(icu::PluralRules::createRules(*description, status));
                 return long(rules != nullptr);
             };
-            found.push_back({std::string("rules read, ") + (is_whole ? "with samples, " : "conditions alone, ") + it.name, 1, library, icu4c});
+            std::string what = is_whole ? "with samples, " : "conditions alone, ";
+            found.push_back({"rules read, " + what + it.name, 1, {{"library", library}, {"icu4c", icu4c}}});
         }
     }
     return found;
@@ -273,7 +303,7 @@ long rounds_of(const std::function<long()>& round) {
 }
 
 struct Side {
-    const char* name;
+    std::string name;
     std::function<long()> round;
     long rounds = 0;
     double least = 1e9;
@@ -283,18 +313,17 @@ int time_rows(const std::vector<Row>& all) {
     constexpr int kSamples = 100;
     for (const auto& it : all) {
         std::vector<Side> sides;
-        sides.push_back({"library", it.library});
-        if (it.icu4c) sides.push_back({"icu4c", it.icu4c});
+        for (const auto& [name, round] : it.sides) sides.push_back({name, round});
         for (auto& side : sides) side.rounds = rounds_of(side.round);
         for (int sample = 0; sample < kSamples; sample++)
             for (auto& side : sides) side.least = std::min(side.least, seconds(side.round, side.rounds) / double(side.rounds));
         for (const auto& side : sides)
-            std::printf("%s\t%s\t%.2f\n", it.name.c_str(), side.name, side.least * 1e9 / double(it.operations));
+            std::printf("%s\t%s\t%.2f\n", it.name.c_str(), side.name.c_str(), side.least * 1e9 / double(it.operations));
     }
     return 0;
 }
 
-void count_side(const Row& row, const char* side, const std::function<long()>& round) {
+void count_side(const Row& row, const std::string& side, const std::function<long()>& round) {
     constexpr int kRounds = 20;
     for (int warm = 0; warm < 5; warm++) sink = round();
     std::string mark = row.name + "\t" + side + "\t" + std::to_string(row.operations * kRounds);
@@ -307,8 +336,7 @@ void count_side(const Row& row, const char* side, const std::function<long()>& r
 
 int count_rows(const std::vector<Row>& all) {
     for (const auto& it : all) {
-        count_side(it, "library", it.library);
-        if (it.icu4c) count_side(it, "icu4c", it.icu4c);
+        for (const auto& [name, round] : it.sides) count_side(it, name, round);
     }
     return 0;
 }
@@ -316,9 +344,14 @@ int count_rows(const std::vector<Row>& all) {
 }  // namespace
 
 int main(int count, char** words) {
-    if (count != 3) fail("two words are needed: check, time or count, and a file of rules");
+    if (count != 4) fail("three words are needed: check, time or count, a file of rules, a folder of catalogues");
     std::string word = words[1];
     std::vector<Language> all = languages(words[2]);
+    // gettext looks for the catalogues of this language alone, whatever the domain is called.
+    setenv("LANGUAGE", "en", 1);
+    if (!setlocale(LC_ALL, "C.UTF-8")) fail("there is no locale C.UTF-8");
+    for (const auto& it : all)
+        if (!bindtextdomain(it.name.c_str(), words[3])) fail("gettext takes no folder of catalogues");
     if (word == "check") return check(all);
     if (word == "time") return time_rows(rows(all));
     if (word == "count") return count_rows(rows(all));

@@ -19,7 +19,11 @@ DOUBLE_DIGITS = 17
 
 
 class Refused(Exception):
-    """The pattern says nothing with these arguments."""
+    """The pattern says nothing with these arguments: what is wrong with one, and its name."""
+
+    def __init__(self, fault, name):
+        super().__init__(fault)
+        self.fault, self.name = fault, name
 
 
 @dataclass(frozen=True)
@@ -117,7 +121,7 @@ class Speaker:
     def missing(self, name):
         if MISSING in self.changes:
             return f"{{{name}}}"
-        raise Refused
+        raise Refused("Missing", name)
 
     def end(self, at):
         depth = self.parts[at][0]
@@ -134,7 +138,7 @@ class Speaker:
         if found is None:
             return self.missing(name)
         if isinstance(found, Number) == (kind == "select"):
-            raise Refused
+            raise Refused("WrongKind", name)
         branches, depth = self.branches(at), self.parts[at][0] + 1
         if kind == "select":
             return self.message(first(branches, found), depth, "#")
@@ -164,15 +168,28 @@ def first(branches, word):
     raise AssertionError("a branch other is required")
 
 
-def said(text, arguments, language, changes=()):
-    """Returns what a pattern says, or None if it says nothing."""
+def spoken(text, arguments, language, changes=()):
+    """Returns what a pattern says; fails by Refused."""
     parts, fault = patterns.read(text)
     if fault:
-        return None
+        raise Refused("Pattern", "")
+    return Speaker(parts, arguments, language, changes).message(0, 0, "#")
+
+
+def said(text, arguments, language, changes=()):
+    """Returns what a pattern says, or None if it says nothing."""
     try:
-        return Speaker(parts, arguments, language, changes).message(0, 0, "#")
+        return spoken(text, arguments, language, changes)
     except Refused:
         return None
+
+
+def row_result(text, arguments, language):
+    """Returns what the row of a pattern and its arguments wants (crates/cases/data/formatted.rows)."""
+    try:
+        return patterns.quoted(spoken(text, arguments, language))
+    except Refused as refused:
+        return f"error {refused.fault} {refused.name}"
 
 
 # ---- rules of CLDR

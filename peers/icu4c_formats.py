@@ -4,6 +4,7 @@ import json
 from collections import Counter
 from random import Random
 
+import cases_program
 import formats
 import icu4c_patterns as icu4c
 import pattern_texts
@@ -17,14 +18,21 @@ LOCALES = {"en": ("en", "."), "ru": ("ru", ","), "ar": ("ar@numbers=latn", "."),
 LEFT_OUT = "\xa0\u202f\u200e\u061c"
 MARKS = ".," + LEFT_OUT
 UNEXPLAINED = "unexplained"
+OFFSET = "library: no offset"
 SEVERAL = "several of these"
 WORDS = tuple(it for it in pattern_texts.WORDS if not set(it) & set(MARKS))
 TEXTS = ("", "a", "b", "male", "female", "other", "1", "one", "Ann", "да", "{n}", "it''s", "#", "'", "x y")
 
 
-def languages():
+def rule_texts():
+    """Returns the texts of the rules of each language, cardinal and ordinal, without samples."""
     document = json.loads(DOCUMENT.read_text(encoding="utf-8"))
-    return {it: Language(*(formats.conditions(document[part].get(it, {})) for part in ("cardinal", "ordinal"))) for it in LOCALES}
+    types = [document[part] for part in ("cardinal", "ordinal")]
+    return {it: [{name: text.partition("@")[0].strip() for name, text in part.get(it, {}).items() if name != "other"} for part in types] for it in LOCALES}
+
+
+def languages():
+    return {it: Language(*map(formats.conditions, texts)) for it, texts in rule_texts().items()}
 
 
 # ---- random arguments
@@ -129,6 +137,7 @@ class Comparison:
     def __init__(self):
         self.counts = Counter()
         self.shortest = {}
+        self.texts = rule_texts()
         self.languages = languages()
 
     def add(self, name, example):
@@ -146,14 +155,24 @@ class Comparison:
         if name:
             self.add(name, shown(text, values, language, theirs))
 
+    def row(self, text, values, language):
+        """Returns the row that wants of the library what docs/PATTERNS.md says of a message."""
+        numbers = [word for name, it in values.items() if isinstance(it, Number) for word in (name, it.text)]
+        texts = [word for name, it in values.items() if not isinstance(it, Number) for word in (name, it)]
+        given = ", ".join(map(json.dumps, (text, numbers, texts, *self.texts[language])))
+        return cases_program.row("formatted", given, formats.row_result(text, values, self.languages[language]))
+
 
 def compare(cases, seed, count, say):
-    """Returns the counts of random messages: what docs/PATTERNS.md says is compared with ICU4C."""
-    path, random, comparison = icu4c.program(), Random(seed), Comparison()
+    """Returns the counts of random messages: what docs/PATTERNS.md says is compared with ICU4C, and the library with what it says."""
+    path, random, comparison, run = icu4c.program(), Random(seed), Comparison(), cases_program.Run(cases)
     for first in range(0, count, icu4c.TOGETHER):
         messages = [drawn(random) for _ in range(min(icu4c.TOGETHER, count - first))]
         for message, line in zip(messages, icu4c.asked(path, [question(*it) for it in messages])):
             comparison.compare(*message, line)
+        run.add([comparison.row(*it) for it in messages])
+    for said in run.wrong_rows().values():
+        comparison.add(OFFSET if "found error OffsetUnsupported" in said else UNEXPLAINED, said)
     for name, example in comparison.shortest.items():
         say(f"shortest, {name}: {example[:icu4c.LONGEST_EXAMPLE]}")
     return comparison.counts
