@@ -191,11 +191,11 @@ class Reader:
         self.at += len("offset:")
         self.skip_blanks()
         if NUMBERS in self.changes:
-            return self.double("ExpectedOffset")
+            return self.double("ExpectedOffset", LONGEST_WORD)
         at, number = self.at, self.take(DIGITS)
         if not number:
             self.fail("ExpectedOffset")
-        self.check_length(number, at)
+        self.check_length(number, at, LONGEST_WORD)
         return number
 
     # ---- branches
@@ -230,11 +230,11 @@ class Reader:
             return "keyword", self.keyword()
         self.at += 1
         if NUMBERS in self.changes:
-            return "exactly", self.double("ExpectedValue")
+            return "exactly", self.double("ExpectedValue", LONGEST_WORD - 1)
         at, number = self.at, self.take(NUMBER_RUN)
         if not NUMBER.fullmatch(number):
             self.fail("ExpectedValue", at)
-        self.check_length(number, at)
+        self.check_length(number, at, LONGEST_WORD - 1)
         return "exactly", number
 
     def keyword(self):
@@ -245,19 +245,20 @@ class Reader:
             self.fail("ExpectedSelector", at)
         return word
 
-    def double(self, kind):
+    def double(self, kind, most):
         """Reads a number in any form that C's strtod takes."""
         at, number = self.at, self.take(DOUBLE_RUN)
         if not DOUBLE.fullmatch(number):
             self.fail(kind, at)
-        self.check_length(number, at)
+        self.check_length(number, at, most)
         return number
 
-    def check_length(self, number, at):
-        """Fails if ICU4C's room for a number is too small, but for one that it reads as an integer of 16 bits."""
+    def check_length(self, number, at, most):
+        """Fails if ICU4C's room for a number is too small: for one that it reads as an integer of 16 bits there is more."""
         if SIZES in self.changes and len(number) > LONGEST_DOUBLE:
-            is_small = re.fullmatch(r"[-+]?0*[0-9]{1,5}", number) and abs(int(number)) <= LARGEST_ARGUMENT
-            if not is_small:
+            digits = number.lstrip("-+").lstrip("0")
+            is_small = re.fullmatch("[0-9]{0,5}", digits) and int(digits or 0) <= LARGEST_ARGUMENT
+            if len(number) > most or not is_small:
                 self.fail("ExpectedValue", at)
 
 
