@@ -1,150 +1,87 @@
 """What calls of the installed library cost by sizes that double: bench/run --growth."""
-import ctypes
 import json
-import time
 
 GREATEST_RATIO = 2.3
 DOUBLINGS = 5
-SAMPLES = 7
-LEAST_SECONDS = 0.004  # of a sample
-FLOOR = 200e-9  # seconds that are no growth: what a call costs by itself
-CARDINAL = 0
-EN = {"one": "i = 1 and v = 0"}
-RULES = ("zero", "one", "two", "few", "many")
+FLOOR = 3000  # instructions that are no growth: what a call costs by itself
+
+# ---- inputs: for each row the greatest size, the call of bench/growth.cpp, and the input of a size
 
 
-class Library:
-    """The exports that are measured."""
-
-    def __init__(self, path):
-        self.exports = ctypes.CDLL(str(path))
-        for name in ("rules_from_texts", "rules_from_document", "ranges_from_document", "elements_from_texts", "elements_from_json", "message"):
-            getattr(self.exports, f"plurals_{name}").restype = ctypes.c_int64
-
-    def call(self, name, *given, room=None):
-        """Returns a function without arguments that makes a call: of slices of bytes, integers, and room for what is written."""
-        words = []
-        for it in given:
-            words += [ctypes.c_char_p(it), ctypes.c_size_t(len(it))] if isinstance(it, bytes) else [ctypes.c_uint8(it)]
-        if room is not None:
-            out = ctypes.create_string_buffer(max(room, 1))
-            words += [out, ctypes.c_size_t(room)]
-        export = getattr(self.exports, f"plurals_{name}")
-        found = lambda: export(*words)
-        found.kept = (given, words)
-        return found
-
-    def rules(self, texts, room=65536):
-        return self.call("rules_from_texts", *(texts.get(it, "").encode() for it in RULES), room=room)
-
-    def block(self, texts):
-        made = self.rules(texts)
-        length = made()
-        return made.kept[1][-2].raw[:length]
-
-    def elements(self, other, room):
-        return self.call("elements_from_texts", other, *[b""] * 7, room=room)
+def joined(piece, separator):
+    return lambda size: separator.join([piece] * size)
 
 
-# ---- what is measured: each returns a call of a size
+def locales(part, texts):
+    return lambda size: json.dumps({part: {f"a{it}": texts for it in range(size)}})
 
 
-def attacks(library):
-    block = library.block(EN)
-
-    def number(write):
-        return lambda size: library.call("category", block, write(size).encode())
-
-    def rule(write):
-        return lambda size: library.rules({"one": write(size)})
-
-    def document(part, texts):
-        def made(size):
-            locales = {f"a{it:05}": texts for it in range(size)}
-            return library.call("rules_from_document", json.dumps({part: locales}).encode(), b"a00000", CARDINAL, room=65536)
-        return made
-
-    def message(piece):
-        def made(size):
-            text = (piece * (size // len(piece) + 1))[:size].encode()
-            elements = library.elements(text, 2 * size + 64)
-            length = elements()
-            return library.call("message", block, elements.kept[1][-2].raw[:length], b"12345", room=4 * size + 64)
-        return made
-
-    ranges = {"ranges": {"one-other": "other", "other-one": "one"}}
-    return {
-        "digits before the point": (32767, number(lambda size: "9" * size)),
-        "digits behind the point": (32767, number(lambda size: "0." + "9" * size)),
-        "zeros behind the point": (32767, number(lambda size: "1." + "0" * size)),
-        "digits on both sides": (32767, number(lambda size: "9" * size + "." + "9" * size)),
-        "relations": (100000, rule(lambda size: " and ".join(["n != 9"] * size))),
-        "groups": (100000, rule(lambda size: " or ".join(["n = 9"] * size))),
-        "values": (100000, rule(lambda size: "n = " + ",".join(["9"] * size))),
-        "ranges of values": (100000, rule(lambda size: "n = " + ",".join(["7..9"] * size))),
-        "samples": (100000, rule(lambda size: "n = 1 @integer " + ", ".join(["1~9"] * size))),
-        "text that isn't read": (100000, rule(lambda size: "n = 1 " + "x = 1 " * size)),
-        "a text asked whether it is read whole": (100000, lambda size: library.call("is_read_whole", " and ".join(["n != 9"] * size).encode())),
-        "locales": (10000, document("cardinal", {"one": "i = 1 and v = 0 @integer 1", "other": " @integer 0, 2~16"})),
-        "locales of another type": (10000, document("ordinal", {"one": "i = 1 and v = 0 @integer 1"})),
-        "locales of ranges": (10000, document("ranges", ranges)),
-        "elements of a long text": (4194304, lambda size: library.elements(b"x" * size, 2 * size + 64)),
-        "elements of long JSON": (4194304, lambda size: library.call("elements_from_json", b'{"other":[0,"' + b"x" * size + b'"]}', room=2 * size + 64)),
-        "a message of text": (4194304, message("text, ")),
-        "a message of numbers": (4194304, message("{} ")),
-        "a message of braces": (4194304, message("{")),
-    }
+def repeated(piece):
+    return lambda size: (piece * (size // len(piece) + 1))[:size]
 
 
-# ---- how long
+ONE = {"one": "i = 1 and v = 0 @integer 1"}
+RANGES = {"ranges": {"one-other": "other", "other-one": "one"}}
+PLACES, RELATIONS, LOCALES, BYTES = 32767, 100000, 10000, 4194304
+ROWS = {
+    "digits before the point": (PLACES, "category", lambda size: "9" * size),
+    "digits behind the point": (PLACES, "category", lambda size: "0." + "9" * size),
+    "zeros behind the point": (PLACES, "category", lambda size: "1." + "0" * size),
+    "digits on both sides": (PLACES, "category", lambda size: "9" * size + "." + "9" * size),
+    "relations": (RELATIONS, "rules", joined("n != 9", " and ")),
+    "groups": (RELATIONS, "rules", joined("n = 9", " or ")),
+    "values": (RELATIONS, "rules", lambda size: "n = " + joined("9", ",")(size)),
+    "ranges of values": (RELATIONS, "rules", lambda size: "n = " + joined("7..9", ",")(size)),
+    "samples": (RELATIONS, "rules", lambda size: "n = 1 @integer " + joined("1~9", ", ")(size)),
+    "text that isn't read": (RELATIONS, "rules", lambda size: "n = 1 " + "x = 1 " * size),
+    "relations, asked whether they are read whole": (RELATIONS, "is_read_whole", joined("n != 9", " and ")),
+    "locales": (LOCALES, "document", locales("cardinal", ONE)),
+    "locales of the other type": (LOCALES, "document", locales("ordinal", ONE)),
+    "locales of ranges": (LOCALES, "ranges", locales("ranges", RANGES)),
+    "elements of a text": (BYTES, "elements", repeated("x")),
+    "elements of JSON": (BYTES, "json", lambda size: '{"other":[0,"' + "x" * size + '"]}'),
+    "elements of JSON with escapes": (BYTES, "json", lambda size: '{"other":[0,"' + "\\u00e9" * (size // 6) + '"]}'),
+    "a message of text": (BYTES, "message", repeated("text, ")),
+    "a message of numbers": (BYTES, "message", repeated("{} ")),
+    "a message of opening braces": (BYTES, "message", repeated("{")),
+}
 
 
-def seconds(call, rounds):
-    start = time.process_time_ns()
-    for _ in range(rounds):
-        call()
-    return (time.process_time_ns() - start) / 1e9
+def sizes(most):
+    return [most >> it for it in reversed(range(DOUBLINGS))]
 
 
-def rounds_of(call):
-    rounds = 1
-    while seconds(call, rounds) < LEAST_SECONDS:
-        rounds *= 2
-    return rounds
+def write_inputs(folder):
+    """Writes the inputs and the file that names them, and returns its path."""
+    lines = []
+    for row, (most, call, text) in ROWS.items():
+        for size in sizes(most):
+            path = folder / f"input{len(lines)}"
+            path.write_text(text(size), encoding="utf-8")
+            lines.append(f"{row}\t{size}\t{call}\t{path}\n")
+    found = folder / "inputs"
+    found.write_text("".join(lines), encoding="utf-8")
+    return found
 
 
-def least(call, samples):
-    rounds = rounds_of(call)
-    return min(seconds(call, rounds) for _ in range(samples)) / rounds
+# ---- what they cost
 
 
-def ratio(now, before):
-    return (now - FLOOR) / max(before, FLOOR)
-
-
-def grows_too_fast(name, most, made, say):
-    """Says what a call costs by doubling sizes; returns whether one costs too much."""
-    before = None
-    for size in (most >> it for it in reversed(range(DOUBLINGS))):
-        call = made(size)
-        cost = least(call, SAMPLES)
-        if before and ratio(cost, before) > GREATEST_RATIO:
-            # other programs may have been in the way
-            cost, before = least(call, 4 * SAMPLES), least(made(size // 2), 4 * SAMPLES)
-        is_wrong = before is not None and ratio(cost, before) > GREATEST_RATIO
-        shown = f"{ratio(cost, before):.2f}" if before else "-"
-        say(f"{name}: {size}: {cost * 1e6:,.1f} us {shown}{' TOO MUCH' if is_wrong else ''}")
-        if is_wrong:
-            return True
+def is_too_fast(row, costs, say):
+    """Says what a call costs by sizes; returns whether a doubling costs too much."""
+    before, is_wrong = None, False
+    for size, cost in costs:
+        ratio = max(cost - FLOOR, 0) / max(before, FLOOR) if before else 0
+        is_wrong = is_wrong or ratio > GREATEST_RATIO
+        say(f"{row}: {size}: {cost:,}" + (f" {ratio:.2f}" if before else "") + (" TOO MUCH" if ratio > GREATEST_RATIO else ""))
         before = cost
-    return False
+    return is_wrong
 
 
-def run(path, say):
-    """Returns how many calls grow too fast."""
-    all_calls = attacks(Library(path))
-    wrong = [name for name, (most, made) in all_calls.items() if grows_too_fast(name, most, made, say)]
-    for name in wrong:
-        say(f"too fast: {name}")
-    say(f"{len(all_calls)} calls, {len(wrong)} grow too fast")
+def judge(found, say):
+    """Says the instructions of all calls, by row and size; returns how many grow too fast."""
+    wrong = [row for row, (most, _, _) in ROWS.items() if is_too_fast(row, [(it, found[row, str(it)]) for it in sizes(most)], say)]
+    for row in wrong:
+        say(f"too fast: {row}")
+    say(f"{len(ROWS)} calls, {len(wrong)} grow too fast")
     return len(wrong)
