@@ -164,15 +164,6 @@ int category_number(const icu::UnicodeString& keyword) {
     return int(std::find(kCategories.begin(), kCategories.end(), name) - kCategories.begin());
 }
 
-const char* by_gettext(const std::string& language, int32_t number) {
-    return dngettext(language.c_str(), "item", "items", static_cast<unsigned long>(number));
-}
-
-// The function that is written by hand for a language, or null.
-int (*by_hand(const std::string& language))(uint64_t) {
-    return language == "en" ? by_hand_en : language == "ru" ? by_hand_ru : language == "ar" ? by_hand_ar : nullptr;
-}
-
 struct Agreement {
     int compared = 0, different = 0;
 
@@ -184,20 +175,36 @@ struct Agreement {
     }
 };
 
+const char* by_gettext(const std::string& language, int32_t number) {
+    return dngettext(language.c_str(), "item", "items", static_cast<unsigned long>(number));
+}
+
+// The function that is written by hand for a language, or null.
+int (*by_hand(const std::string& language))(uint64_t) {
+    return language == "en" ? by_hand_en : language == "ru" ? by_hand_ru : language == "ar" ? by_hand_ar : nullptr;
+}
+
+// Compares the sides that take no rules.
+void check_others(const Language& it, Agreement& found) {
+    for (int32_t number : integers()) {
+        int ours = plurals_category_of_integer(it.block.data(), it.block.size(), uint64_t(number));
+        found.compare(it.name, std::to_string(number), ours, category_number(by_gettext(it.name, number)));
+        if (by_hand(it.name)) found.compare(it.name, std::to_string(number), ours, by_hand(it.name)(uint64_t(number)));
+    }
+}
+
 int check(const std::vector<Language>& all) {
     Agreement found;
     for (const auto& it : all) {
         const uint8_t* block = it.block.data();
-        for (int32_t number : integers()) {
-            int ours = plurals_category_of_integer(block, it.block.size(), uint64_t(number));
-            found.compare(it.name, std::to_string(number), ours, category_number(it.rules->select(number)));
-            found.compare(it.name, std::to_string(number), ours, category_number(by_gettext(it.name, number)));
-            if (by_hand(it.name)) found.compare(it.name, std::to_string(number), ours, by_hand(it.name)(uint64_t(number)));
-        }
+        for (int32_t number : integers())
+            found.compare(it.name, std::to_string(number), plurals_category_of_integer(block, it.block.size(), uint64_t(number)),
+                          category_number(it.rules->select(number)));
         for (const auto& text : decimals())
             found.compare(it.name, text, plurals_category(block, it.block.size(), text.data(), text.size()),
                           category_number(select_text(*it.rules, formatter(fraction_places(text)), text)));
     }
+    for (const auto& it : all) check_others(it, found);
     std::cout << "ICU4C " U_ICU_VERSION ": " << found.compared << " categories, " << found.different << " differ\n";
     return found.different ? 1 : 0;
 }
@@ -205,11 +212,11 @@ int check(const std::vector<Language>& all) {
 // ---- rows
 
 // One row: what a round of each side does, and how many operations that is. A round returns a sum, so that none of it is left out.
-// A row need not have each side.
+// A row need not have the other sides.
 struct Row {
     std::string name;
     size_t operations;
-    std::vector<std::pair<std::string, std::function<long()>>> sides;
+    std::function<long()> library, icu4c, gettext = nullptr, hand = nullptr;
 };
 
 struct Decimal {
@@ -233,22 +240,11 @@ std::vector<Row> rows(const std::vector<Language>& all) {
             for (int32_t number : whole) sum += it.rules->select(number).length();
             return sum;
         };
-        auto gettext = [&it] {
-            long sum = 0;
-            for (int32_t number : whole) sum += by_gettext(it.name, number)[0];
-            return sum;
-        };
-        auto written = [function = by_hand(it.name)] {
-            long sum = 0;
-            for (int32_t number : whole) sum += function(uint64_t(number));
-            return sum;
-        };
-        found.push_back({"category of an integer, " + it.name, whole.size(), {{"library", library}, {"icu4c", icu4c}, {"gettext", gettext}}});
-        if (by_hand(it.name)) found.back().sides.push_back({"hand", written});
+        found.push_back({"category of an integer, " + it.name, whole.size(), library, icu4c});
     }
     for (const auto& it : all) {
         auto library = [&it] { return long(plurals_check_rules(it.block.data(), it.block.size())); };
-        found.push_back({"of that: the block checked, " + it.name, 1, {{"library", library}}});
+        found.push_back({"of that: the block checked, " + it.name, 1, library, nullptr});
     }
     for (const auto& it : all) {
         auto library = [&it] {
@@ -262,7 +258,7 @@ std::vector<Row> rows(const std::vector<Language>& all) {
             for (const auto& number : written) sum += select_text(*it.rules, *number.writer, number.text).length();
             return sum;
         };
-        found.push_back({"category of a decimal's text, " + it.name, written.size(), {{"library", library}, {"icu4c", icu4c}}});
+        found.push_back({"category of a decimal's text, " + it.name, written.size(), library, icu4c});
     }
     for (bool is_whole : {true, false}) {
         for (const auto& it : all) {
@@ -278,11 +274,31 @@ std::vector<Row> rows(const std::vector<Language>& all) {
                 std::unique_ptr<icu::PluralRules> rules(icu::PluralRules::createRules(*description, status));
                 return long(rules != nullptr);
             };
-            std::string what = is_whole ? "with samples, " : "conditions alone, ";
-            found.push_back({"rules read, " + what + it.name, 1, {{"library", library}, {"icu4c", icu4c}}});
+            found.push_back({std::string("rules read, ") + (is_whole ? "with samples, " : "conditions alone, ") + it.name, 1, library, icu4c});
         }
     }
     return found;
+}
+
+// Adds the sides that take no rules to the rows of integers.
+std::vector<Row> with_others(std::vector<Row> all, const std::vector<Language>& languages) {
+    static const std::vector<int32_t> whole = integers();
+    for (const auto& it : languages) {
+        auto row = std::find_if(all.begin(), all.end(), [&it](const Row& one) { return one.name == "category of an integer, " + it.name; });
+        if (row == all.end()) fail("there is no row of integers");
+        row->gettext = [&it] {
+            long sum = 0;
+            for (int32_t number : whole) sum += by_gettext(it.name, number)[0];
+            return sum;
+        };
+        if (!by_hand(it.name)) continue;
+        row->hand = [function = by_hand(it.name)] {
+            long sum = 0;
+            for (int32_t number : whole) sum += function(uint64_t(number));
+            return sum;
+        };
+    }
+    return all;
 }
 
 // ---- measures
@@ -303,7 +319,7 @@ long rounds_of(const std::function<long()>& round) {
 }
 
 struct Side {
-    std::string name;
+    const char* name;
     std::function<long()> round;
     long rounds = 0;
     double least = 1e9;
@@ -313,17 +329,20 @@ int time_rows(const std::vector<Row>& all) {
     constexpr int kSamples = 100;
     for (const auto& it : all) {
         std::vector<Side> sides;
-        for (const auto& [name, round] : it.sides) sides.push_back({name, round});
+        sides.push_back({"library", it.library});
+        if (it.icu4c) sides.push_back({"icu4c", it.icu4c});
+        if (it.gettext) sides.push_back({"gettext", it.gettext});
+        if (it.hand) sides.push_back({"hand", it.hand});
         for (auto& side : sides) side.rounds = rounds_of(side.round);
         for (int sample = 0; sample < kSamples; sample++)
             for (auto& side : sides) side.least = std::min(side.least, seconds(side.round, side.rounds) / double(side.rounds));
         for (const auto& side : sides)
-            std::printf("%s\t%s\t%.2f\n", it.name.c_str(), side.name.c_str(), side.least * 1e9 / double(it.operations));
+            std::printf("%s\t%s\t%.2f\n", it.name.c_str(), side.name, side.least * 1e9 / double(it.operations));
     }
     return 0;
 }
 
-void count_side(const Row& row, const std::string& side, const std::function<long()>& round) {
+void count_side(const Row& row, const char* side, const std::function<long()>& round) {
     constexpr int kRounds = 20;
     for (int warm = 0; warm < 5; warm++) sink = round();
     std::string mark = row.name + "\t" + side + "\t" + std::to_string(row.operations * kRounds);
@@ -336,7 +355,10 @@ void count_side(const Row& row, const std::string& side, const std::function<lon
 
 int count_rows(const std::vector<Row>& all) {
     for (const auto& it : all) {
-        for (const auto& [name, round] : it.sides) count_side(it, name, round);
+        count_side(it, "library", it.library);
+        if (it.icu4c) count_side(it, "icu4c", it.icu4c);
+        if (it.gettext) count_side(it, "gettext", it.gettext);
+        if (it.hand) count_side(it, "hand", it.hand);
     }
     return 0;
 }
@@ -353,7 +375,7 @@ int main(int count, char** words) {
     for (const auto& it : all)
         if (!bindtextdomain(it.name.c_str(), words[3])) fail("gettext takes no folder of catalogues");
     if (word == "check") return check(all);
-    if (word == "time") return time_rows(rows(all));
-    if (word == "count") return count_rows(rows(all));
+    if (word == "time") return time_rows(with_others(rows(all), all));
+    if (word == "count") return count_rows(with_others(rows(all), all));
     fail("the first word is check, time or count");
 }

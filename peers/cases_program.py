@@ -16,6 +16,11 @@ LAST = re.compile(r"^rows: ([0-9]+), wrong: ([0-9]+)$", re.M)
 LINES = re.compile(r"\n(?=\S+:[0-9]+: |\w+: [0-9]+\n|rows: )")
 
 
+def has_kind(kind):
+    """Returns whether the program has rows of a kind."""
+    return any(f'"{kind}"' in it.read_text(encoding="utf-8") for it in (CRATE / "src/kinds").rglob("*.rt"))
+
+
 def row(kind, arguments, wanted):
     """Returns the line of a row; the arguments are a text of JSON."""
     return " ".join((kind, arguments.replace(" => ", " =\\u003e "), "=>", wanted)) + "\n"
@@ -27,6 +32,9 @@ def wrong_lines(count, printed):
     if not end or int(end[1]) != count:
         raise Missing(f"the program `cases` hasn't read all {count} rows: {printed[-200:]!r}")
     found = {int(it[2]): it[3] for it in map(WRONG.fullmatch, LINES.split("\n" + printed[: end.start()])) if it}
+    for said in found.values():
+        if said.startswith("fault: "):
+            raise Missing(f"the program `cases` takes no such row: {said}")
     if len(found) != int(end[2]):
         raise Missing(f"the program `cases` says that {end[2]} rows are wrong, and shows {len(found)}")
     return found

@@ -18,6 +18,7 @@ LOCALES = {"en": ("en", "."), "ru": ("ru", ","), "ar": ("ar@numbers=latn", "."),
 LEFT_OUT = "\xa0\u202f\u200e\u061c"
 MARKS = ".," + LEFT_OUT
 UNEXPLAINED = "unexplained"
+KIND = "formatted"  # of rows
 OFFSET = "library: no offset"
 SEVERAL = "several of these"
 WORDS = tuple(it for it in pattern_texts.WORDS if not set(it) & set(MARKS))
@@ -160,19 +161,23 @@ class Comparison:
         numbers = [word for name, it in values.items() if isinstance(it, Number) for word in (name, it.text)]
         texts = [word for name, it in values.items() if not isinstance(it, Number) for word in (name, it)]
         given = ", ".join(map(json.dumps, (text, numbers, texts, *self.texts[language])))
-        return cases_program.row("formatted", given, formats.row_result(text, values, self.languages[language]))
+        return cases_program.row(KIND, given, formats.row_result(text, values, self.languages[language]))
 
 
 def compare(cases, seed, count, say):
     """Returns the counts of random messages: what docs/PATTERNS.md says is compared with ICU4C, and the library with what it says."""
-    path, random, comparison, run = icu4c.program(), Random(seed), Comparison(), cases_program.Run(cases)
+    path, random, comparison = icu4c.program(), Random(seed), Comparison()
+    run = cases_program.Run(cases) if cases_program.has_kind(KIND) else None
     for first in range(0, count, icu4c.TOGETHER):
         messages = [drawn(random) for _ in range(min(icu4c.TOGETHER, count - first))]
         for message, line in zip(messages, icu4c.asked(path, [question(*it) for it in messages])):
             comparison.compare(*message, line)
-        run.add([comparison.row(*it) for it in messages])
-    for said in run.wrong_rows().values():
+        if run:
+            run.add([comparison.row(*it) for it in messages])
+    for said in run.wrong_rows().values() if run else ():
         comparison.add(OFFSET if "found error OffsetUnsupported" in said else UNEXPLAINED, said)
+    if not run:
+        say(f"the library isn't compared: crates/cases has no rows of the kind {KIND}")
     for name, example in comparison.shortest.items():
         say(f"shortest, {name}: {example[:icu4c.LONGEST_EXAMPLE]}")
     return comparison.counts
