@@ -10,6 +10,7 @@ pub(crate) mod bytes;
 pub(crate) mod categories;
 pub(crate) mod data;
 pub(crate) mod prepared;
+pub(crate) mod prepared_text;
 pub(crate) mod residue_class;
 pub(crate) mod text;
 

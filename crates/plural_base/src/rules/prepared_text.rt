@@ -1,0 +1,56 @@
+//! The categories of operands and of texts by prepared rules.
+
+ghost use Rattle.std.specs.Prelude.{◌≡◌, ◌≢◌, ◌≤◌, ◌↔◌, length, Err, IfOk, Contains};
+ghost use Rattle.fixed_decimal.specs.Written.{CompactNumber, WritesCompact, IsCompactOverLimit};
+ghost use Rattle.plural_base.specs.DecimalChoice.{IsExactTextChoice, IsKeptTextChoice};
+ghost use Rattle.plural_base.specs.FiveRules.{first_category, categories_of};
+ghost use Rattle.plural_runtime.specs.PackedTruth.{packed_truth};
+
+use crate::category::PluralCategory;
+use crate::rules::prepared::PreparedRules;
+use fixed_decimal::DecimalError;
+use plural_reference::PluralOperands;
+use plural_reference::laws::exactness::kept_operands_agree;
+use plural_runtime::laws::texts_give_one_answer;
+use std::alloc::Global;
+
+impl<'data> PreparedRules<'data> {
+    /// Returns the category of a number by its operands, as
+    /// [`PluralRules::category_for`](crate::PluralRules::category_for) does. It allocates nothing.
+    #[inline]
+    pub fn category_for(&self, operands: PluralOperands) -> PluralCategory
+        ensures first { result ≡ first_category (packed_truth operands) self.now }
+        ensures member { Contains (categories_of self.now) result }
+    {
+        match operands.as_integer() {
+            Some(number) => self.category_for_integer(number),
+            None => self.rules().category_for(operands),
+        }
+    }
+
+    /// Returns the category of the number that a text writes, as
+    /// [`PluralRules::category_for_text`](crate::PluralRules::category_for_text) does, and its
+    /// errors. A whole number of at most 18 digits is looked up in the tables.
+    #[inline]
+    pub fn category_for_text(
+        &self,
+        alloc: Global,
+        number: &str,
+    ) -> Result<PluralCategory, DecimalError>
+        ensures kept { IfOk result (λ category. IsKeptTextChoice self.now number.now category) }
+        ensures exact { IfOk result (λ category. IsExactTextChoice self.now number.now category) }
+        ensures member { IfOk result (λ category. Contains (categories_of self.now) category) }
+        ensures syntax { (result ≡ Err DecimalError.Syntax)
+            ↔ ((x : CompactNumber) → ¬ (WritesCompact number.now x)) }
+        ensures limit { (result ≡ Err DecimalError.Limit)
+            ↔ ((x : CompactNumber) × WritesCompact number.now x × IsCompactOverLimit x) }
+        ensures inline { length number.now ≤ 16 → result ≢ Err DecimalError.Memory }
+    {
+        kept_operands_agree();
+        texts_give_one_answer();
+        match PluralOperands::from_compact_text(alloc, number) {
+            Ok(operands) => Ok(self.category_for(operands)),
+            Err(error) => Err(error),
+        }
+    }
+}

@@ -1,0 +1,46 @@
+//! The categories of texts.
+
+ghost use Rattle.std.specs.Prelude.{◌≡◌, ◌≢◌, ◌≤◌, ◌↔◌, length, Err, IfOk, Contains};
+ghost use Rattle.fixed_decimal.specs.Written.{CompactNumber, WritesCompact, IsCompactOverLimit};
+ghost use Rattle.plural_base.specs.DecimalChoice.{IsExactTextChoice, IsKeptTextChoice};
+ghost use Rattle.plural_base.specs.FiveRules.{categories_of};
+
+use crate::category::PluralCategory;
+use crate::rules::PluralRules;
+use fixed_decimal::DecimalError;
+use plural_reference::PluralOperands;
+use plural_reference::laws::exactness::kept_operands_agree;
+use plural_runtime::laws::texts_give_one_answer;
+use std::alloc::Global;
+
+impl<'data> PluralRules<'data> {
+    /// Returns the category of the number that a text writes, as
+    /// [`PluralRules::category_for_compact`] does for the number that
+    /// [`CompactDecimal::from_str`](fixed_decimal::CompactDecimal::from_str) reads, whose errors
+    /// these are: `Syntax` if the text isn't of this form, `Limit` if it has more than 32767 places
+    /// on a side or an exponent above 255, and `Memory` if the digits can't be allocated, never of a
+    /// text of at most 16 bytes. A text of at most 18 digits on each side of the point and without
+    /// an exponent is read in one walk, and allocates nothing.
+    #[inline]
+    pub fn category_for_text(
+        &self,
+        alloc: Global,
+        number: &str,
+    ) -> Result<PluralCategory, DecimalError>
+        ensures kept { IfOk result (λ category. IsKeptTextChoice self.now number.now category) }
+        ensures exact { IfOk result (λ category. IsExactTextChoice self.now number.now category) }
+        ensures member { IfOk result (λ category. Contains (categories_of self.now) category) }
+        ensures syntax { (result ≡ Err DecimalError.Syntax)
+            ↔ ((x : CompactNumber) → ¬ (WritesCompact number.now x)) }
+        ensures limit { (result ≡ Err DecimalError.Limit)
+            ↔ ((x : CompactNumber) × WritesCompact number.now x × IsCompactOverLimit x) }
+        ensures inline { length number.now ≤ 16 → result ≢ Err DecimalError.Memory }
+    {
+        kept_operands_agree();
+        texts_give_one_answer();
+        match PluralOperands::from_compact_text(alloc, number) {
+            Ok(operands) => Ok(self.category_for(operands)),
+            Err(error) => Err(error),
+        }
+    }
+}
