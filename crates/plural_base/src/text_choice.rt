@@ -6,11 +6,10 @@ ghost use Rattle.plural_base.specs.DecimalChoice.{IsExactTextChoice, IsKeptTextC
 ghost use Rattle.plural_base.specs.FiveRules.{categories_of};
 
 use crate::category::PluralCategory;
+use crate::laws::kept_choice_is_exact;
 use crate::rules::PluralRules;
 use fixed_decimal::DecimalError;
 use plural_reference::PluralOperands;
-use plural_reference::laws::exactness::kept_operands_agree;
-use plural_runtime::laws::texts_give_one_answer;
 use std::alloc::Global;
 
 impl<'data> PluralRules<'data> {
@@ -36,8 +35,7 @@ impl<'data> PluralRules<'data> {
             ↔ ((x : CompactNumber) × WritesCompact number.now x × IsCompactOverLimit x) }
         ensures inline { length number.now ≤ 16 → result ≢ Err DecimalError.Memory }
     {
-        kept_operands_agree();
-        texts_give_one_answer();
+        kept_choice_is_exact();
         match PluralOperands::from_compact_text(alloc, number) {
             Ok(operands) => Ok(self.category_for(operands)),
             Err(error) => Err(error),

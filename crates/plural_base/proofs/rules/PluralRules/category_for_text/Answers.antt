@@ -1,0 +1,27 @@
+use Rattle.plural_base.proofs.rules.PluralRules.category_for_text.Goals as goal
+
+pub returns-in-Ok-clause-kept : goal.returns-in-Ok-clause-kept
+returns-in-Ok-clause-kept c =
+    let number = c.in-Ok.ensures.kept in
+    (number.0, number.1, (c.in-Ok.operands, number.2, c.category_for.ensures.first))
+
+pub returns-in-Ok-clause-exact : goal.returns-in-Ok-clause-exact
+returns-in-Ok-clause-exact c =
+    let number = c.in-Ok.ensures.kept in (
+      number.0,
+      number.1,
+      c.kept_choice_is_exact.ensures c.args.self.now number.0.significand.absolute number.0.exponent c.category_for.result
+          number.1.2.1.digits (c.in-Ok.operands, number.2, c.category_for.ensures.first),
+    )
+
+pub returns-in-Ok-clause-syntax : goal.returns-in-Ok-clause-syntax
+returns-in-Ok-clause-syntax c = (λ e. absurd (cc e), λ none. absurd (cc (c.in-Ok.ensures.syntax.1 none)))
+
+pub returns-in-Ok-clause-limit : goal.returns-in-Ok-clause-limit
+returns-in-Ok-clause-limit c = (λ e. absurd (cc e), λ over. absurd (cc (c.in-Ok.ensures.limit.1 over)))
+
+pub returns-in-Err-clause-syntax : goal.returns-in-Err-clause-syntax
+returns-in-Err-clause-syntax c = (λ e. c.in-Err.ensures.syntax.0 (cc e), λ none. cc (c.in-Err.ensures.syntax.1 none))
+
+pub returns-in-Err-clause-limit : goal.returns-in-Err-clause-limit
+returns-in-Err-clause-limit c = (λ e. c.in-Err.ensures.limit.0 (cc e), λ over. cc (c.in-Err.ensures.limit.1 over))
