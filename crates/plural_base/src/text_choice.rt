@@ -2,7 +2,7 @@
 
 ghost use Rattle.std.specs.Prelude.{◌≡◌, ◌≢◌, ◌≤◌, ◌↔◌, length, Err, IfOk, Contains};
 ghost use Rattle.fixed_decimal.specs.Written.{CompactNumber, WritesCompact, IsCompactOverLimit};
-ghost use Rattle.plural_base.specs.DecimalChoice.{IsExactTextChoice, IsKeptTextChoice};
+ghost use Rattle.plural_base.specs.DecimalChoice.{IsTextChoice};
 ghost use Rattle.plural_base.specs.FiveRules.{categories_of};
 
 use crate::category::PluralCategory;
@@ -26,8 +26,7 @@ impl<'data> PluralRules<'data> {
         alloc: Global,
         number: &str,
     ) -> Result<PluralCategory, DecimalError>
-        ensures kept { IfOk result (λ category. IsKeptTextChoice self.now number.now category) }
-        ensures exact { IfOk result (λ category. IsExactTextChoice self.now number.now category) }
+        ensures chosen { IfOk result (λ category. IsTextChoice self.now number.now category) }
         ensures member { IfOk result (λ category. Contains (categories_of self.now) category) }
         ensures syntax { (result ≡ Err DecimalError.Syntax)
             ↔ ((x : CompactNumber) → ¬ (WritesCompact number.now x)) }

@@ -7,7 +7,7 @@ use Rattle.std.proofs.Math.Nat.{pow-suc, dvd-mul_left, pow-le-pow_right}
 use Rattle.std.specs.Int.{◌∣◌}
 use Rattle.std.specs.Char.{IsAsciiDigit}
 use Rattle.fixed_decimal.specs.Digits.{AreDigits, value_of, text_of}
-use Rattle.fixed_decimal.specs.Places.{Places}
+use Rattle.fixed_decimal.specs.Places.{Places, IsWithinLimit}
 use Rattle.fixed_decimal.specs.Written.{CompactNumber, WritesCompact, IsCompactOverLimit, OneCompact, sign_text}
 use Rattle.fixed_decimal.specs.declared.sign.Sign.{Sign}
 use Rattle.plural_reference.specs.Operands.{Operands, HasFraction, IsKeptAt, AreKept, of_whole}
@@ -207,13 +207,26 @@ pub short_writes : (text : List ℕ) (o : Operands) (h : WritesShortSigned text 
 unfolding short_number
 short_writes text o h = (text, [], (h.unsigned, h.short.written, h.spelled), inl (refl, refl), sym (append-nil text))
 
+-- within the limits
+pub short_limit : (text : List ℕ) (o : Operands) (h : WritesShortSigned text o)
+    → IsWithinLimit (short_number text o h).significand.absolute
+unfolding short_number
+short_limit text o h =
+    let whole : length h.short.x.whole ≤ 18 = h.short.whole in
+    let fraction : length h.short.x.fraction ≤ 18 = h.short.fraction in
+    record { whole = omega arith; fraction = omega arith }
+
+pub short_exponent : (text : List ℕ) (o : Operands) (h : WritesShortSigned text o) → (short_number text o h).exponent ≤ 255
+unfolding short_number
+short_exponent text o h = omega arith
+
 -- of which the operands are
 pub short_kept : (text : List ℕ) (o : Operands) (h : WritesShortSigned text o)
     → AreKept (short_number text o h).significand.absolute (short_number text o h).exponent o
 unfolding short_number
 short_kept text o h = h.short.kept
 
--- and which is within the limits
+-- so it isn't over them
 pub short_within : (text : List ℕ) (o : Operands) → OneCompact → WritesShortSigned text o
     → ¬ ((y : CompactNumber) × WritesCompact text y × IsCompactOverLimit y)
 unfolding short_number

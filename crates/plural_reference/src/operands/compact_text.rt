@@ -1,6 +1,7 @@
 //! The operands of the number that a text writes.
 
 ghost use Rattle.std.specs.Prelude.{◌≡◌, ◌≢◌, ◌≤◌, ◌↔◌, length, Err, IfOk};
+ghost use Rattle.fixed_decimal.specs.Places.{IsWithinLimit};
 ghost use Rattle.fixed_decimal.specs.Written.{CompactNumber, WritesCompact, IsCompactOverLimit};
 ghost use Rattle.plural_reference.specs.Operands.{AreKept};
 
@@ -20,6 +21,7 @@ impl PluralOperands {
     #[inline]
     pub fn from_compact_text(alloc: Global, text: &str) -> Result<PluralOperands, DecimalError>
         ensures kept { IfOk result (λ o. (x : CompactNumber) × WritesCompact text.now x
+            × IsWithinLimit x.significand.absolute × (x.exponent ≤ 255)
             × AreKept x.significand.absolute x.exponent o) }
         ensures syntax { (result ≡ Err DecimalError.Syntax)
             ↔ ((x : CompactNumber) → ¬ (WritesCompact text.now x)) }
@@ -39,6 +41,7 @@ impl PluralOperands {
 #[inline(never)]
 fn long_operands(alloc: Global, text: &str) -> Result<PluralOperands, DecimalError>
     ensures kept { IfOk result (λ o. (x : CompactNumber) × WritesCompact text.now x
+        × IsWithinLimit x.significand.absolute × (x.exponent ≤ 255)
         × AreKept x.significand.absolute x.exponent o) }
     ensures syntax { (result ≡ Err DecimalError.Syntax)
         ↔ ((x : CompactNumber) → ¬ (WritesCompact text.now x)) }

@@ -1,17 +1,19 @@
+use Rattle.plural_base.specs.DecimalChoice.{IsKeptChoice}
 use Rattle.plural_base.proofs.rules.PluralRules.category_for_text.Goals as goal
 
-pub returns-in-Ok-clause-kept : goal.returns-in-Ok-clause-kept
-returns-in-Ok-clause-kept c =
+pub returns-in-Ok-clause-chosen : goal.returns-in-Ok-clause-chosen
+returns-in-Ok-clause-chosen c =
     let number = c.in-Ok.ensures.kept in
-    (number.0, number.1, (c.in-Ok.operands, number.2, c.category_for.ensures.first))
-
-pub returns-in-Ok-clause-exact : goal.returns-in-Ok-clause-exact
-returns-in-Ok-clause-exact c =
-    let number = c.in-Ok.ensures.kept in (
-      number.0,
+    let x = number.0 in
+    let digits = x.significand.absolute in
+    let kept : IsKeptChoice c.args.self.now digits x.exponent c.category_for.result
+    = (c.in-Ok.operands, number.4, c.category_for.ensures.first) in (
+      x,
       number.1,
-      c.kept_choice_is_exact.ensures c.args.self.now number.0.significand.absolute number.0.exponent c.category_for.result
-          number.1.2.1.digits (c.in-Ok.operands, number.2, c.category_for.ensures.first),
+      number.2,
+      number.3,
+      kept,
+      c.kept_choice_is_exact.ensures c.args.self.now digits x.exponent c.category_for.result number.1.2.1.digits kept,
     )
 
 pub returns-in-Ok-clause-syntax : goal.returns-in-Ok-clause-syntax
