@@ -18,6 +18,7 @@ mod rules_bytes;
 mod rules_json;
 mod runs;
 mod samples;
+mod text_categories;
 mod tokens;
 mod trees;
 mod upper;
@@ -57,6 +58,7 @@ fn of_languages(kind: &str, call: &mut Call) -> bool {
         || five_rules::make(kind, call)
         || integer_categories::make(kind, call)
         || prepared_categories::make(kind, call)
+        || text_categories::make(kind, call)
         || rules_bytes::make(kind, call)
 }
 

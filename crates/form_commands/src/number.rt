@@ -6,7 +6,7 @@ ghost use Rattle.form_commands.specs.Inner.QuestionViews.{words_view};
 ghost use Rattle.form_commands.specs.NumberAnswers.{AreNumberAnswers, IsAnswerAt, IsCategoryOf, IsShortCategoryOf, next_place};
 
 use crate::printed::{NumberFault, Place, Printed};
-use icu_plurals::{CompactDecimal, DecimalError, PluralCategory, PluralRules};
+use icu_plurals::{DecimalError, PluralCategory, PluralRules};
 use std::alloc::{AllocError, Global};
 use std::str;
 
@@ -86,8 +86,8 @@ fn category_of_text(
 ) -> Result<Result<PluralCategory, NumberFault>, AllocError>
     ensures { IfOk result (λ answer. IsShortCategoryOf rules.now text.now answer) }
 {
-    match CompactDecimal::from_str(alloc, text) {
-        Ok(number) => Ok(Ok(rules.category_for_compact(&number))),
+    match rules.category_for_text(alloc, text) {
+        Ok(category) => Ok(Ok(category)),
         Err(DecimalError::Syntax) => Ok(Err(NumberFault::Syntax)),
         Err(DecimalError::Limit) => Ok(Err(NumberFault::Limit)),
         Err(DecimalError::Memory) => Err(AllocError),

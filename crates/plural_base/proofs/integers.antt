@@ -2,3 +2,4 @@
 pub mod Residues
 pub mod Walk
 pub mod Lists
+pub mod Fractions

@@ -1,8 +1,10 @@
 -- Which category a written number has under five rules (UTS 35 Part 3, Language Plural Rules).
 --     IsExactChoice      within the bound: the one that the number itself has, whatever its length
 --     IsKeptChoice      within the bound or not: the one that its kept operands choose
-use Rattle.std.specs.Prelude.{◌≡◌, ℕ, List, Option}
-use Rattle.fixed_decimal.specs.Places.{Places}
+--     IsTextChoice      that of the number that a text writes
+use Rattle.std.specs.Prelude.{◌≡◌, ◌≤◌, ℕ, List, Option}
+use Rattle.fixed_decimal.specs.Places.{Places, IsWithinLimit}
+use Rattle.fixed_decimal.specs.Written.{CompactNumber, WritesCompact}
 use Rattle.plural_reference.specs.declared.ast.Condition.{Condition}
 use Rattle.plural_reference.specs.Operands.{AreKept, AreExact, Operands}
 use Rattle.plural_reference.specs.Exactness.{IsWithinBound, exact_truth}
@@ -27,3 +29,11 @@ IsExactChoice rules number exponent category =
 abbrev pub IsKeptChoice : FiveRules → Places → ℕ → PluralCategory → Type 0
 IsKeptChoice rules number exponent category =
     (kept : Operands) × AreKept number exponent kept × (category ≡ first_category (packed_truth kept) rules)
+
+-- The text writes a compact decimal within the limits: at most 32767 places on each side, and an
+-- exponent of at most 255. The category is both choices for its digits and its exponent.
+abbrev pub IsTextChoice : FiveRules → List ℕ → PluralCategory → Type 0
+IsTextChoice rules text category =
+    (x : CompactNumber) × WritesCompact text x × IsWithinLimit x.significand.absolute × (x.exponent ≤ 255)
+    × IsKeptChoice rules x.significand.absolute x.exponent category
+    × IsExactChoice rules x.significand.absolute x.exponent category

@@ -22,6 +22,7 @@ mod provider;
 mod ranges;
 mod rules;
 mod sure_choice;
+mod text_choice;
 
 pub use category::raw::RawPluralCategory;
 pub use category::{AllCategories, PluralCategory};

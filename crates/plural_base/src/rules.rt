@@ -9,7 +9,9 @@ pub(crate) mod as_plural_rules;
 pub(crate) mod bytes;
 pub(crate) mod categories;
 pub(crate) mod data;
+pub(crate) mod fractions;
 pub(crate) mod prepared;
+pub(crate) mod prepared_text;
 pub(crate) mod residue_class;
 pub(crate) mod text;
 

@@ -5,4 +5,5 @@ pub mod Fractions
 pub mod Conversion
 pub mod OperandLawsProved
 pub mod OperandTexts
+pub mod ShortReading
 pub mod NamedOnce

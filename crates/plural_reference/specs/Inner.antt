@@ -4,3 +4,4 @@ pub mod Reader
 pub mod SampleReader
 pub mod RuleReader
 pub mod OperandReader
+pub mod ShortTexts

@@ -1,13 +1,15 @@
 //! The operands of a number.
 
-ghost use Rattle.std.specs.Prelude.{◌≡◌, ◌↔◌, IsTrue};
+ghost use Rattle.std.specs.Prelude.{◌≡◌, ◌≢◌, ◌↔◌, ℕ, IsTrue, IfSome, IfNone};
 ghost use Rattle.plural_reference.specs.Operands.{of_whole};
 
+mod compact_text;
 mod decimals;
 mod error;
 mod fraction;
 mod integers;
 mod kept;
+mod short_text;
 mod text;
 
 pub use error::OperandsError;
@@ -67,5 +69,19 @@ impl PluralOperands {
         ensures { IsTrue result ↔ (self ≡ of_whole 1) }
     {
         self == PluralOperands::from(1u64)
+    }
+
+    /// Returns the whole number whose operands they are: no fraction digit is shown, and there is no
+    /// exponent; and `None` if they aren't those of a whole number.
+    #[inline]
+    pub fn as_integer(self) -> Option<u64>
+        ensures whole { IfSome result (λ n. self ≡ of_whole n) }
+        ensures none { IfNone result ((n : ℕ) → self ≢ of_whole n) }
+    {
+        if self == PluralOperands::from(self.i) {
+            Some(self.i)
+        } else {
+            None
+        }
     }
 }

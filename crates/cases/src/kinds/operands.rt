@@ -11,6 +11,7 @@ use std::fmt::Write;
 pub fn make(kind: &str, call: &mut Call) -> bool {
     match kind {
         "operands" => operands(call),
+        "compact_text_operands" => compact_text_operands(call),
         "decimal_operands" => decimal_operands(call),
         "unsigned_operands" => unsigned_operands(call),
         "significand_operands" => significand_operands(call),
@@ -46,6 +47,15 @@ fn operands(call: &mut Call) {
     let text = call.text();
     match CompactDecimal::from_str(call.alloc, text.as_str()) {
         Ok(number) => print_operands(call, &PluralOperands::from(&number)),
+        Err(error) => call.print_error(&error),
+    }
+}
+
+// The operands of the compact decimal that a text writes.
+fn compact_text_operands(call: &mut Call) {
+    let text = call.text();
+    match PluralOperands::from_compact_text(call.alloc, text.as_str()) {
+        Ok(operands) => print_operands(call, &operands),
         Err(error) => call.print_error(&error),
     }
 }

@@ -4,12 +4,14 @@ ghost use Rattle.std.specs.Prelude.{◌≡◌, ℕ, ◌<◌, Contains};
 ghost use Rattle.plural_reference.specs.Operands.{of_whole};
 ghost use Rattle.plural_runtime.specs.PackedTruth.{packed_truth};
 ghost use Rattle.plural_base.specs.FiveRules.{first_category, categories_of, rules_of};
-ghost use Rattle.plural_base.specs.Inner.WholeNumbers.{AreLow, AreTold};
+ghost use Rattle.plural_base.specs.Inner.FractionClasses.{IsFractionCategory};
+ghost use Rattle.plural_base.specs.Inner.WholeNumbers.{AreLow, AreTold, IsTold};
 
 use crate::category::PluralCategory;
 use crate::rules::PluralRules;
 use crate::rules::as_plural_rules::AsPluralRules;
 use crate::rules::data::PluralRulesData;
+use crate::rules::fractions::{Fractions, fraction_category, fractions_of};
 use crate::rules::residue_class::{CYCLE, ResidueClass, bound_of, told_category};
 use plural_reference::PluralOperands;
 use std::marker::Model;
@@ -19,13 +21,16 @@ const LOW: u64 = 128;
 
 /// Rules with the categories of integers in two tables, which are made once: one of the numbers
 /// below 128, and one of the remainders by 100, for all numbers above the ends of the rules.
-/// Where the remainder doesn't tell, as under a modulus 1000000, the rules are asked.
+/// Where the remainder doesn't tell, as under a modulus 1000000, the rules are asked. Beside them
+/// is the category of all numbers that show a fraction, if the rules have one for all.
 #[derive(Debug, Drop)]
 pub struct PreparedRules<'data> {
     rules: PluralRules<'data>,
     bound: u64,
     low: [PluralCategory; 128],
     cycle: [Option<PluralCategory>; 100],
+    shown: Option<PluralCategory>,
+    not_zero: Option<PluralCategory>,
 }
 
 impl<'data> Model for PreparedRules<'data> {
@@ -33,12 +38,14 @@ impl<'data> Model for PreparedRules<'data> {
 
     ghost Value = { FiveRules };
 
+    ghost use Rattle.plural_base.specs.Inner.FractionClasses.{AreFractionCategories};
     ghost use Rattle.plural_base.specs.Inner.WholeNumbers.{AreLow, AreTold};
 
     ghost view = { λ prepared. prepared.rules };
 
     ghost invariant = { λ prepared.
-        AreLow prepared.rules prepared.low × AreTold prepared.rules prepared.bound prepared.cycle };
+        AreLow prepared.rules prepared.low × AreTold prepared.rules prepared.bound prepared.cycle
+        × AreFractionCategories prepared.rules prepared.shown prepared.not_zero };
 }
 
 impl<'data> PreparedRules<'data> {
@@ -49,11 +56,15 @@ impl<'data> PreparedRules<'data> {
         let bound = bound_of(&rules.data);
         let low = low_categories(&rules);
         let cycle = cycle_categories(&rules.data, bound);
+        let shown = fraction_category(&rules.data, Fractions::Shown);
+        let not_zero = fraction_category(&rules.data, Fractions::NotZero);
         PreparedRules {
             rules,
             bound,
             low,
             cycle,
+            shown,
+            not_zero,
         }
     }
 
@@ -76,7 +87,7 @@ impl<'data> PreparedRules<'data> {
 
     // The category by the tables where they have it, else by the rules.
     #[inline]
-    fn by_tables(&self, number: u64) -> PluralCategory
+    pub(crate) fn by_tables(&self, number: u64) -> PluralCategory
         ensures { result ≡ first_category (packed_truth (of_whole number)) self.now }
     {
         if number < LOW {
@@ -89,6 +100,28 @@ impl<'data> PreparedRules<'data> {
             }
         }
         asked(&self.rules, number)
+    }
+
+    // The category of all numbers that show a fraction as these operands do, if it is told.
+    #[inline]
+    pub(crate) fn told_of_fraction(&self, operands: PluralOperands) -> Option<PluralCategory>
+        ensures { IsTold (first_category (packed_truth operands) self.now) result }
+    {
+        match fractions_of(operands) {
+            Some(fractions) => self.told_of_fractions(fractions),
+            None => None,
+        }
+    }
+
+    // The category of all numbers that show such a fraction, if it is told.
+    #[inline]
+    fn told_of_fractions(&self, fractions: Fractions) -> Option<PluralCategory>
+        ensures { IsFractionCategory self.now fractions result }
+    {
+        match fractions {
+            Fractions::Shown => self.shown,
+            Fractions::NotZero => self.not_zero,
+        }
     }
 }
 

@@ -25,7 +25,7 @@ pub(crate) struct ResidueClass {
 
 // What is known of a value at all numbers of a class.
 #[derive(Clone, Copy)]
-enum Known {
+pub(crate) enum Known {
     // It is this one.
     Is(u64),
     // It is this one or a greater one.
@@ -39,9 +39,9 @@ enum Known {
 // How far a rule is read: whether a group before the open one is true, and whether the open one is
 // so far, each if it can be told.
 #[derive(Clone, Copy)]
-struct Walk {
-    earlier: Option<bool>,
-    group: Option<bool>,
+pub(crate) struct Walk {
+    pub(crate) earlier: Option<bool>,
+    pub(crate) group: Option<bool>,
 }
 
 // The category that five rules give all numbers of a class, if it can be told.
@@ -137,7 +137,7 @@ fn told_relation(relation: &Relation<'_>, class: ResidueClass) -> Option<bool>
 }
 
 // Whether a relation is true by a polarity, if it is told whether its list holds the value.
-fn under_polarity(is_in: Option<bool>, polarity: Polarity) -> Option<bool>
+pub(crate) fn under_polarity(is_in: Option<bool>, polarity: Polarity) -> Option<bool>
     ensures { (b : Bool) → IsTold b is_in → IsTold (under (operator_of polarity) b) result }
 {
     match polarity {
@@ -175,7 +175,7 @@ fn known_remainder(modulus: u32, class: ResidueClass) -> Known
 }
 
 // Whether the list of a relation holds a value, as far as what is known tells.
-fn told_list(relation: &Relation<'_>, known: Known) -> Option<bool>
+pub(crate) fn told_list(relation: &Relation<'_>, known: Known) -> Option<bool>
     ensures { (value : ℕ) → Fits known value
         → IsTold (is_in_ranges (lent_relation relation.now).meaning.ranges value) result }
 {
@@ -236,7 +236,7 @@ fn refused_if(is_refused: bool) -> Option<bool>
 }
 
 // Whether one of two holds.
-fn either(first: Option<bool>, second: Option<bool>) -> Option<bool>
+pub(crate) fn either(first: Option<bool>, second: Option<bool>) -> Option<bool>
     ensures { (b c : Bool) → IsTold b first → IsTold c second → IsTold (b || c) result }
 {
     match (first, second) {

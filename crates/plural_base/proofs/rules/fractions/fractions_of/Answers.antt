@@ -1,0 +1,15 @@
+use Rattle.std.proofs.Common.{◌≡◌, ap, arith}
+use Rattle.plural_reference.specs.declared.raw_operands.RawPluralOperands.{RawPluralOperands}
+use Rattle.plural_base.proofs.integers.Fractions.{is_shown, is_not_zero}
+use Rattle.plural_base.proofs.rules.fractions.fractions_of.Goals as goal
+
+pub returns-then-w-eq0 : goal.returns-then-w-eq0
+returns-then-w-eq0 c =
+    let v : c.from-raw.result.v ≡ c.args.operands.v = ap (λ (r : RawPluralOperands). r.v) c.from-raw.ensures in
+    is_shown c.args.operands (omega arith)
+
+pub returns : goal.returns
+returns c =
+    let v : c.from-raw.result.v ≡ c.args.operands.v = ap (λ (r : RawPluralOperands). r.v) c.from-raw.ensures in
+    let w : c.from-raw.result.w ≡ c.args.operands.w = ap (λ (r : RawPluralOperands). r.w) c.from-raw.ensures in
+    is_not_zero c.args.operands (omega arith) (omega arith)

@@ -1,0 +1,21 @@
+use Rattle.std.proofs.Common.{subst}
+use Rattle.std.specs.Prelude.{option_map}
+use Rattle.plural_reference.specs.declared.ast.Operand.{Operand}
+use Rattle.plural_reference.specs.Truth.{holds_value, operand_value, remainder}
+use Rattle.plural_runtime.specs.Inner.RuleViews.{lent_relation}
+use Rattle.plural_base.specs.Inner.WholeNumbers.{IsTold}
+use Rattle.plural_base.proofs.rules.fractions.told_in.Goals as goal
+
+pub returns-in-V : goal.returns-in-V
+returns-in-V c = λ o h.
+    let meaning = (lent_relation c.args.relation.now).meaning in
+    let P : Operand → Type 0 = λ operand.
+    IsTold (holds_value meaning.ranges (option_map (remainder meaning.modulus) (operand_value operand o))) c.told_places.result in
+    subst P c.in-V.ensures (c.told_places.ensures o.v h.shown)
+
+pub returns-in-N : goal.returns-in-N
+returns-in-N c = λ o h.
+    let meaning = (lent_relation c.args.relation.now).meaning in
+    let P : Operand → Type 0 = λ operand.
+    IsTold (holds_value meaning.ranges (option_map (remainder meaning.modulus) (operand_value operand o))) c.told_whole.result in
+    subst P c.in-N.ensures (c.told_whole.ensures o meaning.ranges meaning.modulus h)

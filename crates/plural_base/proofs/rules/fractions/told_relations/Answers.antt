@@ -1,0 +1,30 @@
+use Rattle.std.proofs.Common.{◌∷◌, ◌∙◌, refl, sym, ap, subst, Bool, true, false}
+use Rattle.plural_runtime.specs.PackedTruth.{is_true_at}
+use Rattle.plural_runtime.specs.Inner.RuleViews.{lent_relation}
+use Rattle.plural_base.specs.Inner.WholeNumbers.{earlier_after, group_after, IsTold}
+use Rattle.plural_base.proofs.integers.Walk.{truth_from, truth_from-is}
+use Rattle.plural_base.proofs.rules.fractions.told_relations.Goals as goal
+
+pub loop-item-init : goal.loop-item-init
+loop-item-init c = λ o h.
+    let all = c.into_iter-item-iterator.ensures.into_iter_gives ∙ c.iter-item-items.ensures in
+    (false, true, refl, refl, ap (truth_from o false true) all ∙ truth_from-is o c.args.rule.now)
+
+pub loop-item-preserved : goal.loop-item-preserved
+loop-item-preserved c = λ o h.
+    let before = c.loop-item.invariant o h in
+    let relation = lent_relation c.as_relation.result in
+    let left = c.in-Some.ensures.steps ∙ ap (λ r. r ∷ c.next.new.self) (sym c.as_relation.ensures) in (
+      earlier_after relation.and_or before.0 before.1,
+      group_after relation.and_or before.1 (is_true_at o relation),
+      c.walk_on-walk.ensures.earlier before.0 before.1 before.2 before.3,
+      c.walk_on-walk.ensures.group o before.1 h before.3,
+      sym (ap (truth_from o before.0 before.1) left) ∙ before.4,
+    )
+
+pub returns : goal.returns
+returns c = λ o h.
+    let before = c.loop-item.invariant o h in
+    let whole = sym (ap (truth_from o before.0 before.1) c.in-None.ensures.steps.0) ∙ before.4 in
+    let P : Bool → Type 0 = λ b. IsTold b c.either.result in
+    subst P whole (c.either.ensures before.0 before.1 before.2 before.3)

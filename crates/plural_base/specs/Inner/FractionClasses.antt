@@ -1,0 +1,24 @@
+-- Not a definition of the subject: what rules tell of all numbers that show a fraction, for private
+-- contracts.
+use Rattle.std.specs.Prelude.{◌≡◌, ◌<◌, Option}
+use Rattle.plural_reference.specs.Operands.{Operands}
+use Rattle.plural_runtime.specs.PackedTruth.{packed_truth}
+use Rattle.plural_base.specs.declared.category.PluralCategory.{PluralCategory}
+use Rattle.plural_base.specs.declared.rules.fractions.Fractions.{Fractions}
+use Rattle.plural_base.specs.declared.rules.fractions.Fractions.TheVariants.{Shown, NotZero}
+use Rattle.plural_base.specs.FiveRules.{FiveRules, first_category}
+use Rattle.plural_base.specs.Inner.WholeNumbers.{IsTold}
+
+-- a fraction digit is shown, and if the class is of fractions that aren't 0, this one isn't
+pub record IsOfFractions (fractions : Fractions) (o : Operands) : Type 0 where
+  pub shown : 0 < o.v
+  pub not_zero : fractions ≡ NotZero → 0 < o.w
+
+-- what is told is the category of each number of the class
+abbrev pub IsFractionCategory : FiveRules → Fractions → Option PluralCategory → Type 0
+IsFractionCategory rules fractions told = (o : Operands) → IsOfFractions fractions o → IsTold (first_category (packed_truth o) rules) told
+
+-- ... of both classes
+pub record AreFractionCategories (rules : FiveRules) (shown not_zero : Option PluralCategory) : Type 0 where
+  pub shown : IsFractionCategory rules Shown shown
+  pub not_zero : IsFractionCategory rules NotZero not_zero
