@@ -4,3 +4,4 @@ pub mod ModulusTests
 pub mod JsonSteps
 pub mod KeyedItems
 pub mod WholeNumbers
+pub mod TableEntries

@@ -4,6 +4,7 @@ ghost use Rattle.std.specs.Prelude.{◌≡◌, ℕ, ◌<◌, Contains};
 ghost use Rattle.plural_reference.specs.Operands.{of_whole};
 ghost use Rattle.plural_runtime.specs.PackedTruth.{packed_truth};
 ghost use Rattle.plural_base.specs.FiveRules.{first_category, categories_of, rules_of};
+ghost use Rattle.plural_base.specs.CategoryTables.{IsTableOf};
 ghost use Rattle.plural_base.specs.Inner.WholeNumbers.{AreLow, AreTold};
 
 use crate::category::PluralCategory;
@@ -11,11 +12,9 @@ use crate::rules::PluralRules;
 use crate::rules::as_plural_rules::AsPluralRules;
 use crate::rules::data::PluralRulesData;
 use crate::rules::residue_class::{CYCLE, ResidueClass, bound_of, told_category};
-use plural_reference::PluralOperands;
+use crate::rules::table_bytes::{LOW, TABLE_LENGTH, table_bytes};
+use plural_reference::{PluralOperands, RawPluralOperands};
 use std::marker::Model;
-
-// How many numbers have an entry of their own.
-const LOW: u64 = 128;
 
 /// Rules with the categories of integers in two tables, which are made once: one of the numbers
 /// below 128, and one of the remainders by 100, for all numbers above the ends of the rules.
@@ -72,6 +71,38 @@ impl<'data> PreparedRules<'data> {
         ensures member { Contains (categories_of self.now) result }
     {
         self.by_tables(number)
+    }
+
+    /// Returns the category of a number by its operands, as [`PluralRules::category_for`] does: by the
+    /// tables if they are those of an integer. It allocates nothing.
+    #[inline]
+    pub fn category_for(&self, operands: PluralOperands) -> PluralCategory
+        ensures first { result ≡ first_category (packed_truth operands) self.now }
+        ensures member { Contains (categories_of self.now) result }
+    {
+        self.of_operands(operands)
+    }
+
+    /// Returns the tables as bytes, which [`CategoryTable`] reads. It allocates nothing.
+    ///
+    /// [`CategoryTable`]: crate::CategoryTable
+    pub fn to_table(&self) -> [u8; TABLE_LENGTH]
+        ensures { IsTableOf self.now result }
+    {
+        table_bytes(self.bound, &self.low, &self.cycle)
+    }
+
+    // The category by operands: those of an integer are sought in the tables.
+    #[inline]
+    fn of_operands(&self, operands: PluralOperands) -> PluralCategory
+        ensures { result ≡ first_category (packed_truth operands) self.now }
+    {
+        let whole = RawPluralOperands::from(operands).i;
+        if operands == PluralOperands::from(whole) {
+            self.by_tables(whole)
+        } else {
+            self.rules.category_for(operands)
+        }
     }
 
     // The category by the tables where they have it, else by the rules.
