@@ -39,6 +39,7 @@ pub use Rattle.plural_base.specs.Categories
 pub use Rattle.plural_base.specs.FiveRules
 pub use Rattle.plural_base.specs.RuleTexts
 pub use Rattle.plural_base.specs.RulesBytes
+pub use Rattle.plural_base.specs.CategoryTables
 pub use Rattle.plural_base.specs.DecimalChoice
 pub use Rattle.plural_base.specs.SureChoice
 -- ranges

@@ -16,7 +16,7 @@ use error::ElementsBytesError;
 use metadata::FourBitMetadata;
 use packed_list::laws::read_again;
 use parts::{check_parts, parts_of};
-use plural_base::PluralRules;
+use plural_base::{PluralRules, PreparedRules};
 use plural_reference::PluralOperands;
 
 /// Elements as checked bytes: a default, and either nothing else or a packed list of items after
@@ -134,6 +134,22 @@ impl<'a> PluralElementsPackedULE<'a> {
         match values.explicit_at(op) {
             Some(value) => value,
             None => values.of_category(rules.category_for(op)),
+        }
+    }
+
+    /// Returns the value for a number as [`PluralElementsPackedULE::get`] does, under prepared rules:
+    /// for an integer's operands no rule is tested, where the tables have its category.
+    pub fn get_prepared(
+        &self,
+        op: PluralOperands,
+        rules: &PreparedRules<'_>,
+    ) -> (FourBitMetadata, &'a str)
+        ensures { lent_value result ≡ element_at (elements_of (lent_elements self.now)) op rules.now }
+    {
+        let all = Values::of_checked(self.bytes);
+        match all.explicit_at(op) {
+            Some(value) => value,
+            None => all.of_category(rules.category_for(op)),
         }
     }
 

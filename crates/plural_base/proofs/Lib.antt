@@ -4,3 +4,4 @@ pub mod reading
 pub mod pairs
 pub mod encoding
 pub mod integers
+pub mod tables

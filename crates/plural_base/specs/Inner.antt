@@ -5,3 +5,4 @@ pub mod JsonSteps
 pub mod KeyedItems
 pub mod WholeNumbers
 pub mod FractionClasses
+pub mod TableEntries

@@ -22,6 +22,7 @@ pub mod FiveRules
 pub mod Ranges
 pub mod RuleTexts
 pub mod RulesBytes
+pub mod CategoryTables
 pub mod PluralBaseErrors
 pub mod Json
 pub mod RulesJson

@@ -40,6 +40,7 @@ pub use rules::PluralRules;
 pub use rules::as_plural_rules::AsPluralRules;
 pub use rules::bytes::error::{RulesBytesError, RulesPackError};
 pub use rules::categories::Categories;
+pub use rules::category_table::CategoryTable;
 pub use rules::data::PluralRulesData;
 pub use rules::prepared::PreparedRules;
 pub use rules::text::RulesTextError;

@@ -8,11 +8,13 @@ ghost use Rattle.plural_base.specs.declared.category.PluralCategory.TheVariants.
 pub(crate) mod as_plural_rules;
 pub(crate) mod bytes;
 pub(crate) mod categories;
+pub(crate) mod category_table;
 pub(crate) mod data;
 pub(crate) mod fractions;
 pub(crate) mod prepared;
 pub(crate) mod prepared_text;
 pub(crate) mod residue_class;
+pub(crate) mod table_bytes;
 pub(crate) mod text;
 
 use crate::category::PluralCategory;

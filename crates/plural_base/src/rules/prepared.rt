@@ -4,6 +4,7 @@ ghost use Rattle.std.specs.Prelude.{◌≡◌, ℕ, ◌<◌, Contains};
 ghost use Rattle.plural_reference.specs.Operands.{of_whole};
 ghost use Rattle.plural_runtime.specs.PackedTruth.{packed_truth};
 ghost use Rattle.plural_base.specs.FiveRules.{first_category, categories_of, rules_of};
+ghost use Rattle.plural_base.specs.CategoryTables.{IsTableOf};
 ghost use Rattle.plural_base.specs.Inner.FractionClasses.{IsFractionCategory};
 ghost use Rattle.plural_base.specs.Inner.WholeNumbers.{AreLow, AreTold, IsTold};
 
@@ -13,11 +14,9 @@ use crate::rules::as_plural_rules::AsPluralRules;
 use crate::rules::data::PluralRulesData;
 use crate::rules::fractions::{Fractions, fraction_category, fractions_of};
 use crate::rules::residue_class::{CYCLE, ResidueClass, bound_of, told_category};
+use crate::rules::table_bytes::{LOW, TABLE_LENGTH, table_bytes};
 use plural_reference::PluralOperands;
 use std::marker::Model;
-
-// How many numbers have an entry of their own.
-const LOW: u64 = 128;
 
 /// Rules with the categories of integers in two tables, which are made once: one of the numbers
 /// below 128, and one of the remainders by 100, for all numbers above the ends of the rules.
@@ -83,6 +82,15 @@ impl<'data> PreparedRules<'data> {
         ensures member { Contains (categories_of self.now) result }
     {
         self.by_tables(number)
+    }
+
+    /// Returns the tables as bytes, which [`CategoryTable`] reads. It allocates nothing.
+    ///
+    /// [`CategoryTable`]: crate::CategoryTable
+    pub fn to_table(&self) -> [u8; TABLE_LENGTH]
+        ensures { IsTableOf self.now result }
+    {
+        table_bytes(self.bound, &self.low, &self.cycle)
     }
 
     // The category by the tables where they have it, else by the rules.

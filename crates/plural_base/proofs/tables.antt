@@ -1,0 +1,2 @@
+-- The bytes of tables of categories.
+pub mod Entries
