@@ -1,9 +1,7 @@
 //! Growth that is refused, writers that fail, traits and paths at concrete types, texts of errors, and the examples of the pages: a
-//! file for each crate and subject. `commands` and `report` have what `plural_commands` and `document_report` do with worked
-//! words, documents and texts, failing readers and writers.
+//! file for each crate and subject.
 
 mod assertion;
-mod commands;
 mod fixed_decimal_examples;
 mod fixed_decimal_growth;
 mod icu_plurals_closures;
@@ -26,4 +24,3 @@ mod plural_reference_rules;
 mod plural_reference_trees;
 mod plural_runtime_examples;
 mod plural_runtime_rules;
-mod report;
