@@ -19,6 +19,5 @@ abbrev pub IsFractionCategory : FiveRules → Fractions → Option PluralCategor
 IsFractionCategory rules fractions told = (o : Operands) → IsOfFractions fractions o → IsTold (first_category (packed_truth o) rules) told
 
 -- ... of both classes
-pub record AreFractionCategories (rules : FiveRules) (shown not_zero : Option PluralCategory) : Type 0 where
-  pub shown : IsFractionCategory rules Shown shown
-  pub not_zero : IsFractionCategory rules NotZero not_zero
+abbrev pub AreFractionCategories : FiveRules → Option PluralCategory → Option PluralCategory → Type 0
+AreFractionCategories rules shown not_zero = IsFractionCategory rules Shown shown × IsFractionCategory rules NotZero not_zero

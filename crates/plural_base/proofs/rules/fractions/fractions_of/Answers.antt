@@ -3,8 +3,8 @@ use Rattle.plural_reference.specs.declared.raw_operands.RawPluralOperands.{RawPl
 use Rattle.plural_base.proofs.integers.Fractions.{is_shown, is_not_zero}
 use Rattle.plural_base.proofs.rules.fractions.fractions_of.Goals as goal
 
-pub returns-then-w-eq0 : goal.returns-then-w-eq0
-returns-then-w-eq0 c =
+pub returns-then-raw-eq0-2 : goal.returns-then-raw-eq0-2
+returns-then-raw-eq0-2 c =
     let v : c.from-raw.result.v ≡ c.args.operands.v = ap (λ (r : RawPluralOperands). r.v) c.from-raw.ensures in
     is_shown c.args.operands (omega arith)
 

@@ -1,4 +1,3 @@
-use Rattle.std.proofs.Common.{refl}
 use Rattle.plural_base.proofs.integers.Fractions.{no_whole_number}
 use Rattle.plural_base.proofs.rules.fractions.told_whole.Goals as goal
 
