@@ -45,6 +45,8 @@ class Run:
 
     def __init__(self, program=None):
         self.program = program or (BUILT if BUILT.is_file() else None)
+        if self.program and not self.program.is_file():
+            raise Missing(f"there is no program {self.program}")
         self.folder = tempfile.TemporaryDirectory()
         self.room = Path(self.folder.name) / "rows"
         self.room.mkdir()
