@@ -13,7 +13,7 @@ use crate::fill_into::fill_into;
 use fixed_decimal::{CompactDecimal, DecimalError};
 use icu_plurals::laws::kept_element_is_exact;
 use icu_plurals::provider::PluralElementsPackedULE;
-use icu_plurals::{PluralOperands, PluralRules};
+use icu_plurals::{PluralOperands, PluralRules, PreparedRules};
 use std::alloc::{AllocError, Global};
 use std::marker::Model;
 
@@ -111,6 +111,47 @@ impl<'a> Message<'a> {
     {
         let compact = CompactDecimal::from_str(alloc, number)?;
         Ok(self.format_number(alloc, &compact, number, rules)?)
+    }
+
+    /// Returns the message for a number as [`Message::format`] does, with the same errors, under
+    /// prepared rules: for an integer no rule is tested, where the tables have its category. It
+    /// allocates the message.
+    pub fn format_prepared(
+        &self,
+        alloc: Global,
+        number: &str,
+        rules: &PreparedRules<'_>,
+    ) -> Result<String, MessageError>
+        ensures kept { IfOk result (λ text. IsMessageOf (IsKeptElement self.now rules.now) number.now (string_bytes text)) }
+        ensures exact { IfOk result (λ text. IsMessageOf (IsExactElement self.now rules.now) number.now (string_bytes text)) }
+        ensures syntax { (result ≡ Err (MessageError.Number DecimalError.Syntax))
+            ↔ ((x : CompactNumber) → ¬ (WritesCompact number.now x)) }
+        ensures limit { (result ≡ Err (MessageError.Number DecimalError.Limit))
+            ↔ ((x : CompactNumber) × WritesCompact number.now x × IsCompactOverLimit x) }
+        ensures memory { ¬ (result ≡ Err (MessageError.Number DecimalError.Memory)) }
+    {
+        let value = CompactDecimal::from_str(alloc, number)?;
+        Ok(self.format_by_tables(alloc, &value, number, rules)?)
+    }
+
+    // The message for a number that was read already, under prepared rules.
+    fn format_by_tables(
+        &self,
+        alloc: Global,
+        number: &CompactDecimal,
+        text: &str,
+        rules: &PreparedRules<'_>,
+    ) -> Result<String, AllocError>
+        ensures kept { IfOk result (λ filled.
+            IsMessageWith (IsKeptElement self.now rules.now) number.now text.now (string_bytes filled)) }
+        ensures exact { IfOk result (λ filled.
+            IsMessageWith (IsExactElement self.now rules.now) number.now text.now (string_bytes filled)) }
+    {
+        // Within the exactness bound the element is that of the number itself.
+        kept_element_is_exact();
+        let op = PluralOperands::from(number);
+        let (_, found) = self.elements.get_prepared(op, rules);
+        fill(alloc, found, text)
     }
 
     /// Returns the message for a number that was read already, with a text to show for it: as it
