@@ -2,7 +2,7 @@
 use Rattle.std.specs.Prelude.{ℕ, List, ◌++◌, codes, Bool, true, false}
 use Rattle.icu_plurals.specs.PluralBaseErrors.{json_error_text}
 use Rattle.plural_fallback.specs.LocalesJson.{part_name}
-use Rattle.plural_fallback.specs.PluralFallbackErrors.{fallback_error_text}
+use Rattle.plural_fallback.specs.FirstKeys.{fallback_error_text}
 use Rattle.plural_fallback.specs.declared.error.FallbackError.TheVariants as chain
 use Rattle.form_commands.specs.declared.error.FormsError.{FormsError}
 use Rattle.form_commands.specs.declared.error.FormsError.TheVariants as forms

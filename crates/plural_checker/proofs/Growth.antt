@@ -2,7 +2,7 @@
 use Rattle.std.proofs.Common.{◌≡◌, ◌⊎◌, ℕ, ◌+◌, ◌<◌, ◌≤◌, List, [], ◌∷◌, ◌++◌, length, take, get_or, refl, ap, sym, ◌∙◌}
 use Rattle.std.proofs.Common.{subst, inl, inr, arith, append_assoc}
 use Rattle.std.proofs.lemmas.List.{append-nil, take_more}
-use Rattle.plural_checker.specs.Findings.{Findings, nothing, one_fault, both, Then, EachFinds, most_counted, IsCountOf, Grows, Adds}
+use Rattle.plural_checker.specs.Findings.{Findings, no_findings, fault_alone, both, FindsBoth, EachFinds, most_counted, IsCountOf, GrowsBy, AddsFindings}
 use Rattle.plural_checker.specs.Findings.{IsReportOf}
 use Rattle.plural_checker.specs.declared.fault.Fault.{Fault}
 use Rattle.plural_checker.specs.declared.report.Report.{Report}
@@ -16,11 +16,11 @@ same_findings a b faults numbers =
     ∙ ap (λ (n : ℕ). let f : Findings = record { faults = b.faults; numbers = n } in f) numbers
 
 -- adding nothing changes nothing
-both-nothing : (a : Findings) → both a nothing ≡ a
-both-nothing a = same_findings (both a nothing) a (append-nil a.faults) (omega arith)
+both-nothing : (a : Findings) → both a no_findings ≡ a
+both-nothing a = same_findings (both a no_findings) a (append-nil a.faults) (omega arith)
 
-nothing-both : (a : Findings) → both nothing a ≡ a
-nothing-both a = same_findings (both nothing a) a refl (omega arith)
+nothing-both : (a : Findings) → both no_findings a ≡ a
+nothing-both a = same_findings (both no_findings a) a refl (omega arith)
 
 both_assoc : (a b c : Findings) → both (both a b) c ≡ both a (both b c)
 both_assoc a b c =
@@ -30,7 +30,7 @@ both_assoc a b c =
 each-snoc : {A : Type 0} (Finds : A → Findings → Type 0) (xs : List A) (x : A) (a b : Findings)
     → EachFinds Finds xs a → Finds x b → EachFinds Finds (xs ++ x ∷ []) (both a b)
 each-snoc Finds [] x a b none here =
-    (b, nothing, here, refl, ap (λ f. both f b) none ∙ nothing-both b ∙ sym (both-nothing b))
+    (b, no_findings, here, refl, ap (λ f. both f b) none ∙ nothing-both b ∙ sym (both-nothing b))
 each-snoc Finds (y ∷ ys) x a b (first, rest, finds, each, is) here =
     (first, both rest b, finds, each-snoc Finds ys x rest b each here, ap (λ f. both f b) is ∙ both_assoc first rest b)
 
@@ -48,28 +48,28 @@ counted_twice most a b c f g (inr e) (inr d) = inr (omega arith, omega arith)
 -- ---- Reports
 
 -- a report grows by nothing
-pub grows_by_nothing : (a : Report) → Grows a nothing a
+pub grows_by_nothing : (a : Report) → GrowsBy a no_findings a
 grows_by_nothing a = (sym (append-nil a.faults), inl (omega arith))
 
-pub adds_nothing : (a : Report) → Adds (λ found. found ≡ nothing) a a
-adds_nothing a = (nothing, refl, grows_by_nothing a)
+pub adds_nothing : (a : Report) → AddsFindings (λ found. found ≡ no_findings) a a
+adds_nothing a = (no_findings, refl, grows_by_nothing a)
 
 -- a report that grows twice grows by both findings
-grows_twice : (a b c : Report) (f g : Findings) → Grows a f b → Grows b g c → Grows a (both f g) c
+grows_twice : (a b c : Report) (f g : Findings) → GrowsBy a f b → GrowsBy b g c → GrowsBy a (both f g) c
 grows_twice a b c f g (first, count) (second, more) = (
   second ∙ ap (λ l. l ++ g.faults) first ∙ append_assoc a.faults f.faults g.faults,
   counted_twice most_counted a.numbers b.numbers c.numbers f.numbers g.numbers count more,
 )
 
 -- two checks, one after the other
-pub adds_both : (First Second : Findings → Type 0) (a b c : Report) → Adds First a b → Adds Second b c → Adds (Then First Second) a c
+pub adds_both : (First Second : Findings → Type 0) (a b c : Report) → AddsFindings First a b → AddsFindings Second b c → AddsFindings (FindsBoth First Second) a c
 adds_both First Second a b c (f, finds, grows) (g, more, grows_more) =
     (both f g, (f, g, finds, more, refl), grows_twice a b c f g grows grows_more)
 
 -- one thing more
 pub adds_one_more : {A : Type 0} (Finds : A → Findings → Type 0) (xs : List A) (i : ℕ) (x : A) (a b c : Report) (found : Findings)
-    → i < length xs → x ≡ get_or xs i x → Adds (EachFinds Finds (take i xs)) a b → Finds x found → Grows b found c
-    → Adds (EachFinds Finds (take (i + 1) xs)) a c
+    → i < length xs → x ≡ get_or xs i x → AddsFindings (EachFinds Finds (take i xs)) a b → Finds x found → GrowsBy b found c
+    → AddsFindings (EachFinds Finds (take (i + 1) xs)) a c
 adds_one_more Finds xs i x a b c found within is (f, each, grows) finds grows_more =
     let more : take (i + 1) xs ≡ take i xs ++ x ∷ [] = take_more xs i x within ∙ ap (λ y. take i xs ++ y ∷ []) (sym is) in (
       both f found,
@@ -78,13 +78,13 @@ adds_one_more Finds xs i x a b c found within is (f, each, grows) finds grows_mo
     )
 
 -- one fault more, and the same count of numbers
-pub grows_by_fault : (a c : Report) (fault : Fault) → c ≡ record a { faults = a.faults ++ fault ∷ [] } → Grows a (one_fault fault) c
+pub grows_by_fault : (a c : Report) (fault : Fault) → c ≡ record a { faults = a.faults ++ fault ∷ [] } → GrowsBy a (fault_alone fault) c
 grows_by_fault a c fault is =
     let counted : c.numbers ≡ a.numbers = ap (λ (r : Report). r.numbers) is in
     (ap (λ (r : Report). r.faults) is, inl (omega arith))
 
 -- an empty report that grows is the report of what was found
-pub reported : (a c : Report) (found : Findings) → a.faults ≡ [] → a.numbers ≡ 0 → Grows a found c → IsReportOf found c
+pub reported : (a c : Report) (found : Findings) → a.faults ≡ [] → a.numbers ≡ 0 → GrowsBy a found c → IsReportOf found c
 reported a c found empty zero_counted (faults, counted) = (
   faults ∙ ap (λ l. l ++ found.faults) empty,
   subst (λ n. IsCountOf c.numbers n) (let e : a.numbers + found.numbers ≡ found.numbers = omega arith in e) counted,

@@ -13,8 +13,7 @@ use Rattle.icu_plurals.specs.Reading.{AnswersExactly}
 use Rattle.icu_plurals.specs.PackedRelations.{PackedRelation}
 use Rattle.icu_plurals.specs.RuleOfText.{TextGives}
 use Rattle.icu_plurals.specs.Samples.{ReadsRule, FaultyRule}
-use Rattle.plural_checker.specs.Inner.TextAnswers.{IsTreeOf}
-use Rattle.plural_checker.specs.TextChecks.{IsRead}
+use Rattle.plural_checker.specs.TextChecks.{IsReadAsRule, IsTreeOf}
 
 -- every text has exactly one list of tokens
 abbrev pub HaveOneList : Type 0
@@ -42,25 +41,25 @@ Gave text gave = TextGives text gave ⊎ (gave ≡ Err Memory)
 
 -- a tree that can be packed
 read_tree : (text : List ℕ) (packed : List PackedRelation) (answer : Result Rule RuleError)
-    → TextGives text (Ok packed) → IsTreeOf text answer → IsRead text answer
+    → TextGives text (Ok packed) → IsTreeOf text answer → IsReadAsRule text answer
 read_tree text packed (Ok rule) gives tree = (tree, (packed, gives))
 read_tree text packed (Err error) gives tree = tree
 
 read_answer : (text : List ℕ) (packed : List PackedRelation) (r : Result (Result Rule RuleError) AllocError)
-    → TextGives text (Ok packed) → IfOk r (λ answer. IsTreeOf text answer) → IfOk r (λ answer. IsRead text answer)
+    → TextGives text (Ok packed) → IfOk r (λ answer. IsTreeOf text answer) → IfOk r (λ answer. IsReadAsRule text answer)
 read_answer text packed (Ok answer) gives tree = read_tree text packed answer gives tree
 read_answer text packed (Err error) gives tree = tt
 
 -- a text that can be packed is read as its tree
 pub reads_tree : (text : List ℕ) (gave : Result (List PackedRelation) RuleError) (r : Result (Result Rule RuleError) AllocError)
-    → result_err gave ≡ None → Gave text gave → IfOk r (λ answer. IsTreeOf text answer) → IfOk r (λ answer. IsRead text answer)
+    → result_err gave ≡ None → Gave text gave → IfOk r (λ answer. IsTreeOf text answer) → IfOk r (λ answer. IsReadAsRule text answer)
 reads_tree text (Ok packed) r kept (inl gives) tree = read_answer text packed r gives tree
 reads_tree text (Ok packed) r kept (inr none) tree = absurd cc
 reads_tree text (Err error) r kept gives tree = absurd cc
 
 -- a text that packing refuses for a reason other than out of memory
 pub reads_refused : (text : List ℕ) (gave : Result (List PackedRelation) RuleError) (error : RuleError)
-    → result_err gave ≡ Some error → error ≢ Memory → Gave text gave → IsRead text (Err error)
+    → result_err gave ≡ Some error → error ≢ Memory → Gave text gave → IsReadAsRule text (Err error)
 reads_refused text (Ok packed) error refused other gives = absurd cc
 reads_refused text (Err e) error refused other (inl gives) =
     let same : e ≡ error = cc in subst (λ (f : RuleError). TextGives text (Err f)) same gives

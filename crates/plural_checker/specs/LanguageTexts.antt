@@ -3,12 +3,15 @@
 --     six_texts texts      the texts that the references refer to
 --     has_rule texts category      the category is other, or its text is present
 --     is_long text      the text is longer than those that are checked
-use Rattle.std.specs.Prelude.{ℕ, Bool, true, List, length, nat_lt, ◌||◌, Option, is_some}
+--     categories_with_rule rules      the categories that have a rule
+--     without set others      the categories of one set that are not in another
+use Rattle.std.specs.Prelude.{ℕ, Bool, true, not, ◌&&◌, List, length, nat_lt, ◌||◌, Option, is_some}
 use Rattle.std.specs.Option.{option_copied}
 use Rattle.icu_plurals.specs.declared.PluralCategory.{PluralCategory}
 use Rattle.icu_plurals.specs.declared.PluralCategory.TheVariants.{Zero, One, Two, Few, Many, Other}
-use Rattle.icu_plurals.specs.FiveRules.{Five, passes}
+use Rattle.icu_plurals.specs.FiveRules.{Five, FiveRules, passes}
 use Rattle.icu_plurals.specs.RuleTexts.{texts_of}
+use Rattle.plural_checker.specs.declared.coverage.CategorySet.{CategorySet}
 use Rattle.plural_checker.specs.declared.texts.LanguageTexts.{LanguageTexts}
 
 pub record SixTexts : Type 0 where
@@ -41,3 +44,23 @@ abbrev pub has_long : Five (Option (List ℕ)) → Bool
 has_long texts =
     passes is_long texts.zero || passes is_long texts.one || passes is_long texts.two || passes is_long texts.few
     || passes is_long texts.many
+
+-- ---- Sets of categories. Other is left out: a message always has it, and it needs no rule.
+
+abbrev pub categories_with_rule : FiveRules → CategorySet
+categories_with_rule rules = record {
+  zero = is_some rules.zero;
+  one = is_some rules.one;
+  two = is_some rules.two;
+  few = is_some rules.few;
+  many = is_some rules.many;
+}
+
+abbrev pub without : CategorySet → CategorySet → CategorySet
+without set others = record {
+  zero = set.zero && not others.zero;
+  one = set.one && not others.one;
+  two = set.two && not others.two;
+  few = set.few && not others.few;
+  many = set.many && not others.many;
+}

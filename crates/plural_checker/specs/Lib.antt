@@ -5,11 +5,7 @@ pub mod NumberChecks
 pub mod LanguageTexts
 pub mod Findings
 pub mod TextChecks
--- for translators: the categories that a message lacks, and those without a rule
-pub mod Coverage
 -- the whole numbers that have a category
 pub mod WholeNumbers
 -- the texts of faults
 pub mod PluralCheckerErrors
--- not definitions of the subject
-pub mod Inner

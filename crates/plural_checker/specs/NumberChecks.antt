@@ -11,20 +11,16 @@ use Rattle.icu_plurals.specs.declared.DecimalError.{DecimalError}
 use Rattle.icu_plurals.specs.declared.PluralCategory.{PluralCategory}
 use Rattle.icu_plurals.specs.declared.provider.rules.reference.ast.SampleRange.{SampleRange}
 use Rattle.icu_plurals.specs.DecimalChoice.{IsExactChoice, IsKeptChoice}
-use Rattle.icu_plurals.specs.Exactness.{IsWithinBound}
-use Rattle.icu_plurals.specs.FiveRules.{FiveRules, moduli_of}
+use Rattle.icu_plurals.specs.FiveRules.{FiveRules}
+use Rattle.icu_plurals.specs.SureChoice.{IsBounded}
 use Rattle.icu_plurals.specs.Written.{CompactNumber}
-use Rattle.plural_checker.specs.SampleNumbers.{GivesNumber, AreNumbersOf, count_of, text_at}
+use Rattle.plural_checker.specs.SampleNumbers.{GivesSampleNumber, AreNumbersOf, count_of, number_at}
 use Rattle.plural_checker.specs.declared.fault.NumberFault.{NumberFault}
 use Rattle.plural_checker.specs.declared.fault.NumberFault.TheVariants.{Text, Outside, Category}
 use Rattle.plural_checker.specs.declared.fault.RangeFault.{RangeFault}
 use Rattle.plural_checker.specs.declared.fault.SampleFault.{SampleFault}
 use Rattle.plural_checker.specs.declared.fault.SampleFault.TheVariants.{Range, Number}
 use Rattle.plural_checker.specs.declared.sample_range.SampleNumbers.{SampleNumbers}
-
--- the number is within the exactness bound of the rules
-abbrev pub IsBounded : FiveRules → CompactNumber → Type 0
-IsBounded rules x = IsWithinBound x.significand.absolute x.exponent (moduli_of rules)
 
 -- the rules choose this category for the number: for what is kept of it, and, within the bound, for
 -- the number itself
@@ -47,14 +43,14 @@ IsCheckedNumber (Some rules) category x fault = IsCheckedBy rules category x fau
 -- the text writes a number, or none
 abbrev pub IsCheckedText : Option FiveRules → PluralCategory → List ℕ → Option NumberFault → Type 0
 IsCheckedText rules category text fault =
-    ((x : CompactNumber) × GivesNumber text (Ok x) × IsCheckedNumber rules category x fault)
-    ⊎ ((error : DecimalError) × GivesNumber text (Err error) × (fault ≡ Some (Text error)))
+    ((x : CompactNumber) × GivesSampleNumber text (Ok x) × IsCheckedNumber rules category x fault)
+    ⊎ ((error : DecimalError) × GivesSampleNumber text (Err error) × (fault ≡ Some (Text error)))
 
 -- ---- Ranges of samples
 
 -- nothing is wrong with the numbers before an index
 abbrev pub AreRightBelow : Option FiveRules → PluralCategory → SampleNumbers → ℕ → Type 0
-AreRightBelow rules category numbers end = (k : ℕ) → k < end → IsCheckedText rules category (text_at numbers k) None
+AreRightBelow rules category numbers end = (k : ℕ) → k < end → IsCheckedText rules category (number_at numbers k) None
 
 -- this is wrong with the number at an index, and nothing with those before it
 pub record IsFirstWrong (rules : Option FiveRules) (category : PluralCategory) (numbers : SampleNumbers) (text : List ℕ)
@@ -62,7 +58,7 @@ pub record IsFirstWrong (rules : Option FiveRules) (category : PluralCategory) (
   pub place : ℕ
   pub within : place < count_of numbers
   pub before : AreRightBelow rules category numbers place
-  pub text_is : text ≡ text_at numbers place
+  pub text_is : text ≡ number_at numbers place
   pub wrong : IsCheckedText rules category text (Some fault)
 
 -- nothing is wrong with the numbers, or this is wrong with the first wrong one

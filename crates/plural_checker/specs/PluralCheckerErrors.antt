@@ -22,15 +22,15 @@ range_fault_text Long = codes " has more than 18 digits"
 range_fault_text Down = codes " goes down"
 range_fault_text Wide = codes " has more than 100 numbers"
 
-abbrev pub number_fault_text : NumberFault → List ℕ
-number_fault_text (Text error) = codes ": " ++ error_text error
-number_fault_text Outside = codes " is outside the exactness bound"
-number_fault_text (Category category) = codes " is " ++ name_of category
+abbrev pub wrong_number_text : NumberFault → List ℕ
+wrong_number_text (Text error) = codes ": " ++ error_text error
+wrong_number_text Outside = codes " is outside the exactness bound"
+wrong_number_text (Category category) = codes " is " ++ name_of category
 
 -- the range or the number, and its fault
 abbrev pub sample_fault_text : SampleFault → List ℕ
 sample_fault_text (Range range fault) = sample_range_text range ++ range_fault_text fault
-sample_fault_text (Number number fault) = number ++ number_fault_text fault
+sample_fault_text (Number number fault) = number ++ wrong_number_text fault
 
 abbrev pub text_fault_text : TextFault → List ℕ
 text_fault_text (TooLong bytes) = codes "text of " ++ decimal bytes ++ codes " bytes"

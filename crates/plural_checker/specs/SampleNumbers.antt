@@ -1,11 +1,11 @@
 -- The numbers of a sample, or of a range of samples (UTS 35 Part 3, Samples).
---     compact_text sample      the sample's text, with `c` in place of an `e`
---     GivesNumber text answer      the number that a text writes, or why it writes none
+--     text_with_c sample      the sample's text, with `c` in place of an `e`
+--     GivesSampleNumber text answer      the number that a text writes, or why it writes none
 --     number_text places parts exponent      the text of parts / 10 ^ places, with an exponent
 --     numbers_between a b      those from a to b in steps of the last visible digit, or why there
 --         are none
 --     AreNumbersOf range answer      the numbers of a range, or why it has none
---     count_of numbers, text_at numbers k      how many there are, and the text of each, counted
+--     count_of numbers, number_at numbers k      how many there are, and the text of each, counted
 --         from 0
 use Rattle.std.specs.Prelude.{◌≡◌, ◌⊎◌, ◌≤◌, ℕ, zero, suc, ◌+◌, ◌-◌, ◌/◌, ◌%◌, ◌==◌, nat_lt, Bool, not, if◌then◌else◌, ◌&&◌, ◌||◌}
 use Rattle.std.specs.Prelude.{List, [], ◌∷◌, ◌++◌, length, Option, Some, None, Result, Ok, Err, codes}
@@ -31,18 +31,18 @@ abbrev pub place_of_e : List ℕ → ℕ
 place_of_e text = position_or_len (λ b. b == letter_e) text
 
 -- `e` and `c` begin an exponent of the same meaning
-abbrev pub compact_text : DecimalValue → List ℕ
-compact_text text =
+abbrev pub text_with_c : DecimalValue → List ℕ
+text_with_c text =
     if nat_lt (place_of_e text) (length text)
     then before_first (λ b. b == letter_e) text ++ codes "c" ++ after_first (λ b. b == letter_e) text
     else text
 
 -- the text writes this number, which is within the limits, or no number, or one over a limit
-abbrev pub GivesNumber : List ℕ → Result CompactNumber DecimalError → Type 0
-GivesNumber text (Ok x) = WritesCompact text x × IsWithinLimit x.significand.absolute × (x.exponent ≤ 255)
-GivesNumber text (Err Syntax) = (x : CompactNumber) → ¬ (WritesCompact text x)
-GivesNumber text (Err Limit) = (x : CompactNumber) × WritesCompact text x × IsCompactOverLimit x
-GivesNumber text (Err Memory) = ⊥
+abbrev pub GivesSampleNumber : List ℕ → Result CompactNumber DecimalError → Type 0
+GivesSampleNumber text (Ok x) = WritesCompact text x × IsWithinLimit x.significand.absolute × (x.exponent ≤ 255)
+GivesSampleNumber text (Err Syntax) = (x : CompactNumber) → ¬ (WritesCompact text x)
+GivesSampleNumber text (Err Limit) = (x : CompactNumber) × WritesCompact text x × IsCompactOverLimit x
+GivesSampleNumber text (Err Memory) = ⊥
 
 -- ---- Texts of steps
 
@@ -62,11 +62,11 @@ parts_text zero parts = decimal parts
 parts_text (suc places) parts = parts_text places (parts / 10) ++ point_at places ++ digit_text (parts % 10)
 
 -- `c` and the exponent, if it isn't 0
-abbrev pub exponent_text : ℕ → List ℕ
-exponent_text exponent = if exponent == 0 then [] else codes "c" ++ decimal exponent
+abbrev pub c_and_exponent : ℕ → List ℕ
+c_and_exponent exponent = if exponent == 0 then [] else codes "c" ++ decimal exponent
 
 abbrev pub number_text : ℕ → ℕ → ℕ → List ℕ
-number_text places parts exponent = parts_text places parts ++ exponent_text exponent
+number_text places parts exponent = parts_text places parts ++ c_and_exponent exponent
 
 -- ---- The numbers of a range
 
@@ -79,26 +79,26 @@ abbrev pub parts_of : CompactNumber → ℕ
 parts_of x = all_digits_value x.significand.absolute
 
 -- how many fraction digits the number shows
-abbrev pub places_of : CompactNumber → ℕ
-places_of x = length x.significand.absolute.fraction
+abbrev pub fraction_places : CompactNumber → ℕ
+fraction_places x = length x.significand.absolute.fraction
 
 -- more than 18 digits are written, counting the 0 of an absent integer part
-abbrev pub is_long : CompactNumber → Bool
-is_long x = nat_lt kept_places (length x.significand.absolute.whole + places_of x)
+abbrev pub has_many_digits : CompactNumber → Bool
+has_many_digits x = nat_lt kept_places (length x.significand.absolute.whole + fraction_places x)
 
 -- both have the same count of fraction digits and the same exponent
 abbrev pub are_even : CompactNumber → CompactNumber → Bool
-are_even a b = (places_of a == places_of b) && (a.exponent == b.exponent)
+are_even a b = (fraction_places a == fraction_places b) && (a.exponent == b.exponent)
 
 -- the numbers from one to another, in steps of the last digit
 abbrev pub stepped : CompactNumber → CompactNumber → SampleNumbers
 stepped a b =
-    Stepped (record { places = places_of a; first = parts_of a; count = parts_of b - parts_of a + 1; exponent = a.exponent })
+    Stepped (record { places = fraction_places a; first = parts_of a; count = parts_of b - parts_of a + 1; exponent = a.exponent })
 
 abbrev pub numbers_between : CompactNumber → CompactNumber → Result SampleNumbers RangeFault
 numbers_between a b =
     if not (are_even a b) then Err Uneven
-    else (if is_long a || is_long b then Err Long
+    else (if has_many_digits a || has_many_digits b then Err Long
     else (if nat_lt (parts_of b) (parts_of a) then Err Down
     else (if nat_lt (parts_of b - parts_of a) most_numbers then Ok (stepped a b) else Err Wide)))
 
@@ -106,15 +106,15 @@ numbers_between a b =
 -- none
 abbrev pub AreNumbersBetween : DecimalValue → DecimalValue → Result SampleNumbers RangeFault → Type 0
 AreNumbersBetween lower upper answer =
-    ((e : DecimalError) × GivesNumber (compact_text lower) (Err e) × (answer ≡ Err (End e)))
+    ((e : DecimalError) × GivesSampleNumber (text_with_c lower) (Err e) × (answer ≡ Err (End e)))
     ⊎ ((a : CompactNumber) × (e : DecimalError)
-    × GivesNumber (compact_text lower) (Ok a) × GivesNumber (compact_text upper) (Err e) × (answer ≡ Err (End e)))
+    × GivesSampleNumber (text_with_c lower) (Ok a) × GivesSampleNumber (text_with_c upper) (Err e) × (answer ≡ Err (End e)))
     ⊎ ((a b : CompactNumber)
-    × GivesNumber (compact_text lower) (Ok a) × GivesNumber (compact_text upper) (Ok b) × (answer ≡ numbers_between a b))
+    × GivesSampleNumber (text_with_c lower) (Ok a) × GivesSampleNumber (text_with_c upper) (Ok b) × (answer ≡ numbers_between a b))
 
 -- a single sample has one number, written by its own text
 abbrev pub AreNumbersFrom : DecimalValue → Option DecimalValue → Result SampleNumbers RangeFault → Type 0
-AreNumbersFrom lower None answer = answer ≡ Ok (Single (compact_text lower))
+AreNumbersFrom lower None answer = answer ≡ Ok (Single (text_with_c lower))
 AreNumbersFrom lower (Some upper) answer = AreNumbersBetween lower upper answer
 
 abbrev pub AreNumbersOf : SampleRange → Result SampleNumbers RangeFault → Type 0
@@ -127,6 +127,6 @@ count_of (Single text) = 1
 count_of (Stepped steps) = steps.count
 
 -- the number that is this many steps after the first
-abbrev pub text_at : SampleNumbers → ℕ → List ℕ
-text_at (Single text) k = text
-text_at (Stepped steps) k = number_text steps.places (steps.first + k) steps.exponent
+abbrev pub number_at : SampleNumbers → ℕ → List ℕ
+number_at (Single text) k = text
+number_at (Stepped steps) k = number_text steps.places (steps.first + k) steps.exponent

@@ -23,7 +23,7 @@ use Rattle.icu_plurals.specs.RuleOfText.{TextGives}
 use Rattle.icu_plurals.specs.RuleTexts.{AreRulesOf, IsFirstRefused}
 use Rattle.icu_plurals.specs.Samples.{ReadsRule, TextIsRule}
 use Rattle.icu_plurals.specs.Serializer.{rule_text}
-use Rattle.plural_checker.specs.Findings.{Findings, nothing, one_fault, Then, EachFinds, IsReportOf}
+use Rattle.plural_checker.specs.Findings.{Findings, no_findings, fault_alone, FindsBoth, EachFinds, IsReportOf}
 use Rattle.plural_checker.specs.LanguageTexts.{SixTexts, has_long, is_long}
 use Rattle.plural_checker.specs.NumberChecks.{IsCheckedRange}
 use Rattle.plural_checker.specs.declared.fault.Fault.{Fault}
@@ -63,14 +63,14 @@ IsFoundInRange rules category type range found =
 
 -- in a list, from left to right
 abbrev pub IsFoundInList : Option FiveRules → PluralCategory → SampleType → Option SampleList → Findings → Type 0
-IsFoundInList rules category type None found = found ≡ nothing
+IsFoundInList rules category type None found = found ≡ no_findings
 IsFoundInList rules category type (Some list) found = EachFinds (IsFoundInRange rules category type) list.sample_ranges found
 
 -- in the integers, then in the decimals
 abbrev pub IsFoundInSamples : Option FiveRules → PluralCategory → Option samples.Samples → Findings → Type 0
-IsFoundInSamples rules category None found = found ≡ nothing
+IsFoundInSamples rules category None found = found ≡ no_findings
 IsFoundInSamples rules category (Some lists) found =
-    Then (IsFoundInList rules category Integer lists.integer) (IsFoundInList rules category Decimal lists.decimal) found
+    FindsBoth (IsFoundInList rules category Integer lists.integer) (IsFoundInList rules category Decimal lists.decimal) found
 
 -- ---- One text
 
@@ -83,10 +83,15 @@ abbrev pub HaveOtherTokens : List ℕ → List ℕ → Type 0
 HaveOtherTokens text other =
     (tokens others : List Token) × AreTokensOf text tokens × AreTokensOf other others × (tokens ≢ others)
 
+-- the tree that a text is read as, or why it has none
+abbrev pub IsTreeOf : List ℕ → Result Rule RuleError → Type 0
+IsTreeOf text (Ok rule) = TextReads ReadsRule text rule
+IsTreeOf text (Err error) = TextGives text (Err error)
+
 -- the rule that a text is read as and that can be packed, or why it gives none
-abbrev pub IsRead : List ℕ → Result Rule RuleError → Type 0
-IsRead text (Ok rule) = TextReads ReadsRule text rule × ((packed : List PackedRelation) × TextGives text (Ok packed))
-IsRead text (Err error) = TextGives text (Err error)
+abbrev pub IsReadAsRule : List ℕ → Result Rule RuleError → Type 0
+IsReadAsRule text (Ok rule) = TextReads ReadsRule text rule × ((packed : List PackedRelation) × TextGives text (Ok packed))
+IsReadAsRule text (Err error) = TextGives text (Err error)
 
 -- `integer` and `decimal` name the types of lists
 abbrev pub is_list_type : Token → Bool
@@ -112,16 +117,16 @@ IsOutOfOrder text = TextIsRule text × HasOrder text false
 -- the text has the tokens of the printed rule; if not, its lists are out of order, or part of the text isn't read
 abbrev pub IsFoundInReading : PluralCategory → List ℕ → Rule → Findings → Type 0
 IsFoundInReading category text rule found =
-    (HaveSameTokens text (rule_text rule) × (found ≡ nothing))
+    (HaveSameTokens text (rule_text rule) × (found ≡ no_findings))
     ⊎ ((HaveOtherTokens text (rule_text rule) × IsOutOfOrder text
-    × (found ≡ one_fault (record { category = category; kind = Order })))
+    × (found ≡ fault_alone (record { category = category; kind = Order })))
     ⊎ (HaveOtherTokens text (rule_text rule) × (¬ (IsOutOfOrder text))
-    × (found ≡ one_fault (record { category = category; kind = Partly (rule_text rule) }))))
+    × (found ≡ fault_alone (record { category = category; kind = Partly (rule_text rule) }))))
 
 -- the text of other has only samples
 abbrev pub condition_findings : PluralCategory → List AndCondition → Findings
-condition_findings Other (group ∷ groups) = one_fault (record { category = Other; kind = Condition })
-condition_findings category groups = nothing
+condition_findings Other (group ∷ groups) = fault_alone (record { category = Other; kind = Condition })
+condition_findings category groups = no_findings
 
 abbrev pub IsFoundInCondition : PluralCategory → Rule → Findings → Type 0
 IsFoundInCondition category rule found = found ≡ condition_findings category rule.condition.0
@@ -129,29 +134,29 @@ IsFoundInCondition category rule found = found ≡ condition_findings category r
 -- the text gives no rule; or it gives one, which is checked
 abbrev pub IsFoundInRule : Option FiveRules → PluralCategory → List ℕ → Findings → Type 0
 IsFoundInRule rules category text found =
-    ((error : RuleError) × IsRead text (Err error) × (found ≡ one_fault (record { category = category; kind = Unread error })))
-    ⊎ ((rule : Rule) × IsRead text (Ok rule)
-    × Then (IsFoundInReading category text rule)
-    (Then (IsFoundInCondition category rule) (IsFoundInSamples rules category rule.samples)) found)
+    ((error : RuleError) × IsReadAsRule text (Err error) × (found ≡ fault_alone (record { category = category; kind = Unread error })))
+    ⊎ ((rule : Rule) × IsReadAsRule text (Ok rule)
+    × FindsBoth (IsFoundInReading category text rule)
+    (FindsBoth (IsFoundInCondition category rule) (IsFoundInSamples rules category rule.samples)) found)
 
 -- a long text isn't read
 abbrev pub IsFoundInText : Option FiveRules → PluralCategory → List ℕ → Findings → Type 0
 IsFoundInText rules category text found =
-    (IsTrue (is_long text) × (found ≡ one_fault (record { category = category; kind = TooLong (length text) })))
+    (IsTrue (is_long text) × (found ≡ fault_alone (record { category = category; kind = TooLong (length text) })))
     ⊎ (IsFalse (is_long text) × IsFoundInRule rules category text found)
 
 -- in a text, if it is present
 abbrev pub IsFoundIn : Option FiveRules → PluralCategory → Option (List ℕ) → Findings → Type 0
-IsFoundIn rules category None found = found ≡ nothing
+IsFoundIn rules category None found = found ≡ no_findings
 IsFoundIn rules category (Some text) found = IsFoundInText rules category text found
 
 -- ---- All six
 
 abbrev pub IsFoundInSix : Option FiveRules → SixTexts → Findings → Type 0
 IsFoundInSix rules texts =
-    Then (IsFoundIn rules Zero texts.five.zero) (Then (IsFoundIn rules One texts.five.one)
-    (Then (IsFoundIn rules Two texts.five.two) (Then (IsFoundIn rules Few texts.five.few)
-    (Then (IsFoundIn rules Many texts.five.many) (IsFoundIn rules Other texts.other)))))
+    FindsBoth (IsFoundIn rules Zero texts.five.zero) (FindsBoth (IsFoundIn rules One texts.five.one)
+    (FindsBoth (IsFoundIn rules Two texts.five.two) (FindsBoth (IsFoundIn rules Few texts.five.few)
+    (FindsBoth (IsFoundIn rules Many texts.five.many) (IsFoundIn rules Other texts.other)))))
 
 -- under the rules, if there are any
 abbrev pub AreFindingsUnder : Option FiveRules → SixTexts → Report → Type 0

@@ -18,15 +18,15 @@ use std::alloc::{AllocError, Global};
 ///
 /// The faults are in the order of the texts: zero, one, two, few, many, other. A text of more than
 /// [`MOST_TEXT_BYTES`](crate::MOST_TEXT_BYTES) bytes has one fault, [`TextFault::TooLong`], and so
-/// has one that gives no rule, [`TextFault::Unread`]. Otherwise, [`TextFault::Partly`] comes first if part
-/// of the text isn't read, or [`TextFault::Order`] if all of it is read but its lists of samples are out
-/// of order; then [`TextFault::Condition`] if it is the text of other and has a condition; then the
-/// faults of its samples ([`TextFault::Sample`]), the list of integers before that of decimals, each
-/// from left to right: for a range of samples, that it has no numbers, or the first of its numbers
-/// that is wrong. A number is wrong if its text writes no
-/// number, if it is outside the exactness bound, or if the five rules choose another category for
-/// it than the one whose text lists it. If one of the five texts is too long or gives no rule,
-/// categories aren't checked.
+/// has one that gives no rule, [`TextFault::Unread`]. Otherwise, [`TextFault::Partly`] comes first
+/// if part of the text isn't read, or [`TextFault::Order`] if all of it is read but its lists of
+/// samples are out of order; then [`TextFault::Condition`] if it is the text of other and has a
+/// condition; then the faults of its samples ([`TextFault::Sample`]), the list of integers before
+/// that of decimals, each from left to right: for a range of samples, that it has no numbers, or
+/// the first of its numbers that is wrong. A number is wrong if its text writes no number, if it is
+/// outside the exactness bound, or if the five rules choose another category for it than the one
+/// whose text lists it. If one of the five texts is too long or gives no rule, categories aren't
+/// checked.
 ///
 /// So the time that it takes is at most in proportion to the bytes of the six texts.
 ///

@@ -2,7 +2,7 @@
 
 ghost use Rattle.std.specs.Prelude.{◌≡◌};
 ghost use Rattle.icu_plurals.specs.FiveRules.{rules_of};
-ghost use Rattle.plural_checker.specs.Coverage.{categories_with_rule, without};
+ghost use Rattle.plural_checker.specs.LanguageTexts.{categories_with_rule, without};
 
 use icu_plurals::provider::PluralRulesData;
 

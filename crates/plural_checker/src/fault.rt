@@ -3,7 +3,7 @@
 ghost use Rattle.std.specs.Prelude.{Some, ◌++◌, codes};
 ghost use Rattle.std.specs.Fmt.{DisplaysOnOk};
 ghost use Rattle.icu_plurals.specs.Serializer.{sample_range_text, sample_text};
-ghost use Rattle.plural_checker.specs.PluralCheckerErrors.{fault_text, number_fault_text, range_fault_text};
+ghost use Rattle.plural_checker.specs.PluralCheckerErrors.{fault_text, wrong_number_text, range_fault_text};
 ghost use Rattle.plural_checker.specs.PluralCheckerErrors.{sample_fault_text, text_fault_text};
 
 use crate::printed_rule::PrintedRule;
@@ -165,7 +165,7 @@ impl fmt::Display for RangeFault {
 }
 
 impl fmt::Display for NumberFault {
-    ghost output = { λ fault. Some (number_fault_text fault) };
+    ghost output = { λ fault. Some (wrong_number_text fault) };
 
     fn fmt<W: fmt::Write>(&self, f: &mut fmt::Formatter<W>) -> fmt::Result {
         match self {

@@ -3,7 +3,7 @@
 ghost use Rattle.std.specs.Prelude.{◌≡◌, ◌<◌, IfOk};
 ghost use Rattle.std.specs.Option.{option_copied};
 ghost use Rattle.plural_checker.specs.NumberChecks.{AreCheckedNumbers, IsCheckedBy, IsCheckedNumber, IsCheckedText};
-ghost use Rattle.plural_checker.specs.SampleNumbers.{count_of, text_at};
+ghost use Rattle.plural_checker.specs.SampleNumbers.{count_of, number_at};
 
 use crate::fault::{NumberFault, SampleFault};
 use crate::reading::read_number;

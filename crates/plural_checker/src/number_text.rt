@@ -1,7 +1,7 @@
 //! The texts of numbers that are given as an integer and a count of fraction digits.
 
 ghost use Rattle.std.specs.Prelude.{◌≡◌, ◌<◌, ◌++◌, IfOk, OnOk, string_bytes};
-ghost use Rattle.plural_checker.specs.SampleNumbers.{digit_text, exponent_text, number_text, parts_text, point_at};
+ghost use Rattle.plural_checker.specs.SampleNumbers.{digit_text, c_and_exponent, number_text, parts_text, point_at};
 
 use icu_plurals::provider::rules::reference::ast::DecimalValue;
 use std::alloc::{AllocError, Global};
@@ -62,7 +62,7 @@ fn digit_text(digit: u8) -> &'static str
 
 // Appends `c` and an exponent that isn't 0.
 fn push_exponent(alloc: Global, text: &mut String, exponent: u8) -> Result<(), AllocError>
-    ensures { OnOk result (string_bytes text.new ≡ string_bytes text.old ++ exponent_text exponent) }
+    ensures { OnOk result (string_bytes text.new ≡ string_bytes text.old ++ c_and_exponent exponent) }
 {
     if exponent == 0 {
         return Ok(());

@@ -2,7 +2,7 @@
 
 ghost use Rattle.std.specs.Prelude.{◌≡◌, List, ℕ, IfOk, OnOk};
 ghost use Rattle.std.specs.Option.{option_copied};
-ghost use Rattle.plural_checker.specs.Findings.{Adds, EachFinds, Grows};
+ghost use Rattle.plural_checker.specs.Findings.{AddsFindings, EachFinds, GrowsBy};
 ghost use Rattle.plural_checker.specs.NumberChecks.{IsCheckedRange};
 ghost use Rattle.plural_checker.specs.TextChecks.{IsFoundInList, IsFoundInRange, IsFoundInSamples, sample_findings};
 
@@ -22,7 +22,7 @@ pub(crate) fn check_samples(
     samples: &Option<Samples>,
     report: &mut Report,
 ) -> Result<(), AllocError>
-    ensures { OnOk result (Adds (IsFoundInSamples (option_copied rules.entry) category samples.now) report.old report.new) }
+    ensures { OnOk result (AddsFindings (IsFoundInSamples (option_copied rules.entry) category samples.now) report.old report.new) }
 {
     let Some(lists) = samples else {
         return Ok(());
@@ -54,7 +54,7 @@ fn check_list(
     list: &Option<SampleList>,
     report: &mut Report,
 ) -> Result<(), AllocError>
-    ensures { OnOk result (Adds (IsFoundInList (option_copied rules.entry) category sample_type list.now) report.old report.new) }
+    ensures { OnOk result (AddsFindings (IsFoundInList (option_copied rules.entry) category sample_type list.now) report.old report.new) }
 {
     let Some(list) = list else {
         return Ok(());
@@ -78,7 +78,7 @@ fn check_ranges(
     ranges: &[SampleRange],
     report: &mut Report,
 ) -> Result<(), AllocError>
-    ensures { OnOk result (Adds
+    ensures { OnOk result (AddsFindings
         (EachFinds (IsFoundInRange (option_copied rules.entry) category sample_type) ranges.now) report.old report.new) }
 {
     for range in ranges {
@@ -118,7 +118,7 @@ fn add_sample(
     count: u64,
     report: &mut Report,
 ) -> Result<(), AllocError>
-    ensures { OnOk result (Grows report.old (sample_findings category sample_type fault count) report.new) }
+    ensures { OnOk result (GrowsBy report.old (sample_findings category sample_type fault count) report.new) }
 {
     if let Some(fault) = fault {
         let kind = TextFault::Sample(sample_type, fault);

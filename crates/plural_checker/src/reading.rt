@@ -2,7 +2,7 @@
 
 ghost use Rattle.std.specs.Prelude.{◌≡◌, ◌+◌, ◌≤◌, length, None, Some, if◌then◌else◌, IfOk};
 ghost use Rattle.icu_plurals.specs.Operands.{all_digits_value};
-ghost use Rattle.plural_checker.specs.SampleNumbers.{GivesNumber, compact_text, is_long, parts_of, places_of};
+ghost use Rattle.plural_checker.specs.SampleNumbers.{GivesSampleNumber, text_with_c, has_many_digits, parts_of, fraction_places};
 
 use icu_plurals::provider::rules::reference::ast::DecimalValue;
 use icu_plurals::{CompactDecimal, DecimalError, UnsignedDecimal};
@@ -16,7 +16,7 @@ pub(crate) fn read_sample(
     alloc: Global,
     sample: &DecimalValue,
 ) -> Result<Result<CompactDecimal, DecimalError>, AllocError>
-    ensures { IfOk result (λ answer. GivesNumber (compact_text sample.now) answer) }
+    ensures { IfOk result (λ answer. GivesSampleNumber (text_with_c sample.now) answer) }
 {
     let text = compact_text(alloc, sample)?;
     read_number(alloc, text.0.as_str())
@@ -24,7 +24,7 @@ pub(crate) fn read_sample(
 
 // Returns the sample's text, with `c` in place of an `e`.
 pub(crate) fn compact_text(alloc: Global, sample: &DecimalValue) -> Result<DecimalValue, AllocError>
-    ensures { IfOk result (λ text. text ≡ compact_text sample.now) }
+    ensures { IfOk result (λ text. text ≡ text_with_c sample.now) }
 {
     let text = sample.0.as_str();
     let Some((before, after)) = text.split_once('e') else {
@@ -42,7 +42,7 @@ pub(crate) fn read_number(
     alloc: Global,
     text: &str,
 ) -> Result<Result<CompactDecimal, DecimalError>, AllocError>
-    ensures { IfOk result (λ answer. GivesNumber text.now answer) }
+    ensures { IfOk result (λ answer. GivesSampleNumber text.now answer) }
 {
     match CompactDecimal::from_str(alloc, text) {
         Ok(number) => Ok(Ok(number)),
@@ -54,14 +54,14 @@ pub(crate) fn read_number(
 
 // Returns how many fraction digits a number shows.
 pub(crate) fn places_of(number: &CompactDecimal) -> usize
-    ensures { result ≡ places_of number.now }
+    ensures { result ≡ fraction_places number.now }
 {
     number.significand().absolute.places_after(0).1
 }
 
 // Returns the number that all digits write, if there are at most 18.
 pub(crate) fn parts_of(number: &CompactDecimal) -> Option<u64>
-    ensures { result ≡ (if is_long number.now then None else Some (parts_of number.now)) }
+    ensures { result ≡ (if has_many_digits number.now then None else Some (parts_of number.now)) }
 {
     let digits = &number.significand().absolute;
     let (whole, fraction) = digits.places_after(0);

@@ -1,7 +1,7 @@
 //! The numbers of a sample, or of a range of samples.
 
 ghost use Rattle.std.specs.Prelude.{◌≡◌, IfOk};
-ghost use Rattle.plural_checker.specs.SampleNumbers.{AreNumbersBetween, AreNumbersOf, count_of, numbers_between, text_at};
+ghost use Rattle.plural_checker.specs.SampleNumbers.{AreNumbersBetween, AreNumbersOf, count_of, numbers_between, number_at};
 
 use crate::fault::RangeFault;
 use crate::number_text::number_text;
@@ -74,7 +74,7 @@ impl SampleNumbers {
 
     /// Returns the text of a number, counted from 0. It allocates; the only error is out of memory.
     pub fn text(&self, alloc: Global, index: u64) -> Result<DecimalValue, AllocError>
-        ensures { IfOk result (λ text. text ≡ text_at self.now index) }
+        ensures { IfOk result (λ text. text ≡ number_at self.now index) }
     {
         match self {
             SampleNumbers::Single(text) => text.try_clone(),

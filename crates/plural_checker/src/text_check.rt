@@ -2,10 +2,9 @@
 
 ghost use Rattle.std.specs.Prelude.{◌≡◌, ◌≢◌, IfOk, OnOk, MatchBool};
 ghost use Rattle.std.specs.Option.{option_copied};
-ghost use Rattle.plural_checker.specs.Findings.{Adds, Grows};
-ghost use Rattle.plural_checker.specs.TextChecks.{HaveOtherTokens, HaveSameTokens, IsRead};
+ghost use Rattle.plural_checker.specs.Findings.{AddsFindings, GrowsBy};
+ghost use Rattle.plural_checker.specs.TextChecks.{HaveOtherTokens, HaveSameTokens, IsReadAsRule, IsTreeOf};
 ghost use Rattle.plural_checker.specs.TextChecks.{condition_findings, IsFoundIn, IsFoundInReading, IsFoundInRule, IsFoundInText};
-ghost use Rattle.plural_checker.specs.Inner.TextAnswers.{IsTreeOf};
 
 use crate::fault::{Fault, TextFault};
 use crate::list_order::is_out_of_order;
@@ -28,7 +27,7 @@ pub(crate) fn check_if_there(
     text: Option<&str>,
     report: &mut Report,
 ) -> Result<(), AllocError>
-    ensures { OnOk result (Adds
+    ensures { OnOk result (AddsFindings
         (IsFoundIn (option_copied rules.entry) category (option_copied text.entry)) report.old report.new) }
 {
     match text {
@@ -45,7 +44,7 @@ fn check_text(
     text: &str,
     report: &mut Report,
 ) -> Result<(), AllocError>
-    ensures { OnOk result (Adds (IsFoundInText (option_copied rules.entry) category text.now) report.old report.new) }
+    ensures { OnOk result (AddsFindings (IsFoundInText (option_copied rules.entry) category text.now) report.old report.new) }
 {
     if is_long(text) {
         let kind = TextFault::TooLong(text.len());
@@ -62,7 +61,7 @@ fn check_rule(
     text: &str,
     report: &mut Report,
 ) -> Result<(), AllocError>
-    ensures { OnOk result (Adds (IsFoundInRule (option_copied rules.entry) category text.now) report.old report.new) }
+    ensures { OnOk result (AddsFindings (IsFoundInRule (option_copied rules.entry) category text.now) report.old report.new) }
 {
     match rule_of(alloc, text)? {
         Ok(rule) => {
@@ -85,7 +84,7 @@ fn check_reading(
     rule: &Rule,
     report: &mut Report,
 ) -> Result<(), AllocError>
-    ensures { OnOk result (Adds (IsFoundInReading category text.now rule.now) report.old report.new) }
+    ensures { OnOk result (AddsFindings (IsFoundInReading category text.now rule.now) report.old report.new) }
 {
     let printed = PrintedRule::of(alloc, rule)?;
     if has_tokens_of(text, printed.0.as_str()) {
@@ -105,7 +104,7 @@ fn check_condition(
     condition: &Condition,
     report: &mut Report,
 ) -> Result<(), AllocError>
-    ensures { OnOk result (Grows report.old (condition_findings category condition.now.0) report.new) }
+    ensures { OnOk result (GrowsBy report.old (condition_findings category condition.now.0) report.new) }
 {
     if category != PluralCategory::Other || condition.0.is_empty() {
         return Ok(());
@@ -116,7 +115,7 @@ fn check_condition(
 
 // Returns the rule that a text is read as, or why it gives none.
 fn rule_of(alloc: Global, text: &str) -> Result<Result<Rule, RuleError>, AllocError>
-    ensures { IfOk result (λ answer. IsRead text.now answer) }
+    ensures { IfOk result (λ answer. IsReadAsRule text.now answer) }
 {
     match PackedRule::from_str(alloc, text).err() {
         None => tree_of(alloc, text),

@@ -3,7 +3,7 @@
 --     key_at keys next locale n      its key
 --     IsFirstKey most key found      the first key, among those after fewer than `most` steps
 --     Misses most locale key absent error      why there is none, or nothing is loaded for it
-use Rattle.std.specs.Prelude.{◌≡◌, ℕ, zero, suc, ◌<◌, ◌≤◌, List, Option, Some, None, option_and_then}
+use Rattle.std.specs.Prelude.{◌≡◌, ℕ, zero, suc, ◌<◌, ◌≤◌, List, codes, Option, Some, None, option_and_then}
 use Rattle.std.specs.Option.{IsSome}
 use Rattle.plural_fallback.specs.LocaleNames.{key_of}
 use Rattle.plural_fallback.specs.declared.error.FallbackError.{FallbackError}
@@ -28,3 +28,9 @@ abbrev pub Misses : ℕ → (ℕ → Option (List ℕ)) → (ℕ → Option (Lis
 Misses most locale key absent NotFound = (n : ℕ) × (n ≤ most) × (locale n ≡ None) × NoneBefore n key
 Misses most locale key absent LongChain = IsSome (locale most) × NoneBefore most key
 Misses most locale key absent NotLoaded = (found : List ℕ) × IsFirstKey most key found × absent found
+
+-- the text of an error
+abbrev pub fallback_error_text : FallbackError → List ℕ
+fallback_error_text NotFound = codes "no locale of the chain is found"
+fallback_error_text LongChain = codes "the chain of parents doesn't end"
+fallback_error_text NotLoaded = codes "nothing is loaded for the key"

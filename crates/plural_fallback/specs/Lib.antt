@@ -4,5 +4,3 @@ pub mod Chain
 pub mod FirstKeys
 -- the keys and the parents in a document
 pub mod LocalesJson
--- the texts of errors
-pub mod PluralFallbackErrors

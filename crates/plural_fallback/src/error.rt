@@ -17,7 +17,7 @@ pub enum FallbackError {
 
 impl fmt::Display for FallbackError {
     ghost use Rattle.std.specs.Prelude.{Some};
-    ghost use Rattle.plural_fallback.specs.PluralFallbackErrors.{fallback_error_text};
+    ghost use Rattle.plural_fallback.specs.FirstKeys.{fallback_error_text};
 
     ghost output = { λ error. Some (fallback_error_text error) };
 

@@ -3,15 +3,16 @@ use Rattle.std.proofs.Common.{◌≡◌, ◌∙◌, ℕ, List, Option, Some, Non
 use Rattle.std.proofs.Math.Seq.{take-length}
 use Rattle.std.proofs.lemmas.Str.Pattern.{IsSplitOnceResult, split_once_first}
 use Rattle.std.specs.Borrow.{Bor}
-use Rattle.uses.specs.CompactUnits.{before_exponent, exponent_letter}
+use Rattle.uses.specs.CompactUnits.{before_exponent}
+use Rattle.icu_plurals.specs.Samples.{letter_c}
 
 -- what `split_once` returns before the letter, or the whole text if there is no letter
 pub cut_before : (number : List ℕ) (cut : Option (Bor (List ℕ) × Bor (List ℕ))) (whole parts : Bor (List ℕ) × Bor (List ℕ))
-    → IsSplitOnceResult exponent_letter number cut → whole.0.now ≡ number → parts ≡ unwrap_or cut whole
+    → IsSplitOnceResult letter_c number cut → whole.0.now ≡ number → parts ≡ unwrap_or cut whole
     → parts.0.now ≡ before_exponent number
 cut_before number None whole parts is_cut is_whole are =
     ap (λ (p : Bor (List ℕ) × Bor (List ℕ)). p.0.now) are ∙ is_whole
-    ∙ sym (ap (λ (n : ℕ). take n number) (split_once_first exponent_letter number None is_cut (omega arith)) ∙ take-length number)
+    ∙ sym (ap (λ (n : ℕ). take n number) (split_once_first letter_c number None is_cut (omega arith)) ∙ take-length number)
 cut_before number (Some x) whole parts is_cut is_whole are =
     ap (λ (p : Bor (List ℕ) × Bor (List ℕ)). p.0.now) are
-    ∙ (split_once_first exponent_letter number (Some x) is_cut (omega arith)).1
+    ∙ (split_once_first letter_c number (Some x) is_cut (omega arith)).1

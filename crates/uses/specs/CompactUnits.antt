@@ -8,6 +8,7 @@ use Rattle.std.specs.List.{before_first}
 use Rattle.icu_plurals.specs.Elements.{Elements}
 use Rattle.icu_plurals.specs.FiveRules.{FiveRules}
 use Rattle.icu_plurals.specs.PackedElements.{PackedValue}
+use Rattle.icu_plurals.specs.Samples.{letter_c}
 use Rattle.icu_plurals.specs.Written.{CompactNumber, WritesCompact}
 use Rattle.plural_message.specs.Messages.{IsMessageWith}
 use Rattle.uses.specs.PackedTexts.{TextChoice}
@@ -18,13 +19,9 @@ use Rattle.uses.specs.declared.compact_units.CompactUnits.{CompactUnits}
 abbrev pub unit_of : CompactUnits → ℕ → Elements PackedValue
 unit_of units exponent = if exponent == 3 then units.thousand else (if exponent == 6 then units.million else units.plain)
 
--- the letter `c`, which precedes the exponent
-abbrev pub exponent_letter : ℕ
-exponent_letter = 99
-
 -- what is written before the exponent
 abbrev pub before_exponent : List ℕ → List ℕ
-before_exponent number = before_first (λ byte. byte == exponent_letter) number
+before_exponent number = before_first (λ byte. byte == letter_c) number
 
 -- with a unit, the exponent isn't shown
 abbrev pub shown_of : ℕ → List ℕ → List ℕ

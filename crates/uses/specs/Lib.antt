@@ -1,5 +1,4 @@
 pub mod PackedTexts
-pub mod Formatter
 pub mod RelativeTime
 pub mod CompactUnits
 pub mod Store

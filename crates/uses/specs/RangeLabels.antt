@@ -15,8 +15,8 @@ abbrev pub CategoryChoice : Type 1
 CategoryChoice = FiveRules → Places → ℕ → PluralCategory → Type 0
 
 -- the number has the category
-abbrev pub IsCategoryOf : CategoryChoice → FiveRules → ShownNumber → PluralCategory → Type 0
-IsCategoryOf IsChosen rules shown category =
+abbrev pub IsCategoryBy : CategoryChoice → FiveRules → ShownNumber → PluralCategory → Type 0
+IsCategoryBy IsChosen rules shown category =
     IsChosen rules shown.number.now.significand.absolute shown.number.now.exponent category
 
 -- the noun of the category that the ranges have for the categories of start and end, or of the
@@ -28,5 +28,5 @@ noun_for labels first last = (of_category labels.nouns (resolved labels.rules.ra
 abbrev pub IsRangeLabel : CategoryChoice → RangeLabels → ShownNumber → ShownNumber → List ℕ → Type 0
 IsRangeLabel IsChosen labels start end label =
     (first : PluralCategory) × (last : PluralCategory)
-    × IsCategoryOf IsChosen labels.rules.rules start first × IsCategoryOf IsChosen labels.rules.rules end last
+    × IsCategoryBy IsChosen labels.rules.rules start first × IsCategoryBy IsChosen labels.rules.rules end last
     × (label ≡ start.text.now ++ codes " to " ++ end.text.now ++ codes " " ++ noun_for labels first last)

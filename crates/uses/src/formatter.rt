@@ -19,7 +19,7 @@ pub struct Formatter {
 }
 
 impl Formatter {
-    ghost use Rattle.uses.specs.Formatter.{IsFormatted};
+    ghost use Rattle.uses.specs.PackedTexts.{IsFormatted};
 
     /// Returns the message for a number: the text for its category, with the number as it was
     /// written in place of each `{}`. The errors are as for [`Message::format`].

@@ -1,7 +1,7 @@
 use Rattle.std.proofs.Common.{ap}
 use Rattle.std.specs.Option.{option_copied}
 use Rattle.icu_plurals.specs.declared.PluralCategory.TheVariants.{Zero, One, Two, Few, Many, Other}
-use Rattle.plural_checker.specs.Findings.{Then}
+use Rattle.plural_checker.specs.Findings.{FindsBoth}
 use Rattle.plural_checker.specs.LanguageTexts.{six_texts}
 use Rattle.plural_checker.specs.TextChecks.{IsFoundIn}
 use Rattle.plural_checker.specs.declared.report.Report.{Report}
@@ -18,10 +18,10 @@ returns c =
     let in_few = IsFoundIn rules Few texts.five.few in
     let in_many = IsFoundIn rules Many texts.five.many in
     let in_other = IsFoundIn rules Other texts.other in
-    let from_many = Then in_many in_other in
-    let from_few = Then in_few from_many in
-    let from_two = Then in_two from_few in
-    let from_one = Then in_one from_two in
+    let from_many = FindsBoth in_many in_other in
+    let from_few = FindsBoth in_few from_many in
+    let from_two = FindsBoth in_two from_few in
+    let from_one = FindsBoth in_one from_two in
     let end = c.check_if_there-6.new.report in
     let adds_many = adds_both in_many in_other c.check_if_there-4.new.report c.check_if_there-5.new.report end
     c.in_ok-check_if_there-5.ensures c.in_ok-check_if_there-6.ensures in

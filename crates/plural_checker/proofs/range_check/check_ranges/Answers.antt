@@ -2,7 +2,7 @@ use Rattle.std.proofs.Common.{List, refl, subst}
 use Rattle.std.proofs.lemmas.List.{take_all}
 use Rattle.std.specs.Option.{option_copied}
 use Rattle.icu_plurals.specs.declared.provider.rules.reference.ast.SampleRange.{SampleRange}
-use Rattle.plural_checker.specs.Findings.{Adds, EachFinds}
+use Rattle.plural_checker.specs.Findings.{AddsFindings, EachFinds}
 use Rattle.plural_checker.specs.TextChecks.{IsFoundInRange, sample_findings}
 use Rattle.plural_checker.proofs.Growth.{adds_nothing, adds_one_more}
 use Rattle.plural_checker.proofs.range_check.check_ranges.Goals as goal
@@ -21,5 +21,5 @@ loop-range-preserved c =
 pub returns : goal.returns
 returns c =
     let Finds = IsFoundInRange (option_copied c.args.rules) c.args.category c.args.sample_type in
-    subst (λ (ranges : List SampleRange). Adds (EachFinds Finds ranges) c.args.report.now c.loop-range.report)
+    subst (λ (ranges : List SampleRange). AddsFindings (EachFinds Finds ranges) c.args.report.now c.loop-range.report)
     (take_all c.loop-range.range-index c.args.ranges.now c.loop-range-test.false) c.loop-range.invariant

@@ -2,7 +2,7 @@ use Rattle.std.proofs.Common.{◌≡◌, ℕ, Bool, true, false, List, ap, inl, 
 use Rattle.std.proofs.lemmas.Result.{on_ok_weaker}
 use Rattle.std.specs.Prelude.{MatchBool}
 use Rattle.icu_plurals.specs.Serializer.{rule_text}
-use Rattle.plural_checker.specs.Findings.{nothing, one_fault}
+use Rattle.plural_checker.specs.Findings.{no_findings, fault_alone}
 use Rattle.plural_checker.specs.TextChecks.{HaveOtherTokens, HaveSameTokens, IsOutOfOrder}
 use Rattle.plural_checker.specs.declared.fault.Fault.{Fault}
 use Rattle.plural_checker.specs.declared.fault.TextFault.TheVariants.{Order, Partly}
@@ -23,7 +23,7 @@ pub returns-then-has_tokens_of : goal.returns-then-has_tokens_of
 returns-then-has_tokens_of c =
     let shown : c.as_str.result.now ≡ rule_text c.args.rule.now = c.as_str.ensures.value ∙ c.printed.view_is ∙ c.in_ok-printed.ensures in
     let same : HaveSameTokens c.args.text.now c.as_str.result.now = c.if-has_tokens_of.ensures in
-    (nothing, inl (subst (λ other. HaveSameTokens c.args.text.now other) shown same, refl), grows_by_nothing c.args.report.now)
+    (no_findings, inl (subst (λ other. HaveSameTokens c.args.text.now other) shown same, refl), grows_by_nothing c.args.report.now)
 
 pub returns-then-branch : goal.returns-then-branch
 returns-then-branch c =
@@ -32,7 +32,7 @@ returns-then-branch c =
     let fault : Fault = record { category = c.args.category; kind = Order } in
     on_ok_weaker c.add.result
     (λ is. (
-      one_fault fault,
+      fault_alone fault,
       inr (inl (subst (λ printed. HaveOtherTokens c.args.text.now printed) shown other, met c.args.text.now _ c.if-branch.true c.in_ok-is_out_of_order.ensures, refl)),
       grows_by_fault c.args.report.now c.add.new.self fault is,
     ))
@@ -45,11 +45,11 @@ returns c =
     let fault : Fault = record { category = c.args.category; kind = Partly c.in_ok-printed.printed } in
     on_ok_weaker c.add-2.result
     (λ is. (
-      one_fault fault,
+      fault_alone fault,
       inr (inr (
         subst (λ printed. HaveOtherTokens c.args.text.now printed) shown other,
         unmet c.args.text.now _ c.if-branch.false c.in_ok-is_out_of_order.ensures,
-        ap (λ (printed : List ℕ). let f : Fault = record { category = c.args.category; kind = Partly printed } in one_fault f)
+        ap (λ (printed : List ℕ). let f : Fault = record { category = c.args.category; kind = Partly printed } in fault_alone f)
             c.in_ok-printed.ensures,
       )),
       grows_by_fault c.args.report.now c.add-2.new.self fault is,

@@ -1,6 +1,6 @@
 use Rattle.std.proofs.Common.{◌≡◌, ap, subst, sym, ◌∙◌}
 use Rattle.icu_plurals.specs.FiveRules.{FiveRules, rules_of}
-use Rattle.plural_checker.specs.Coverage.{categories_with_rule}
+use Rattle.plural_checker.specs.LanguageTexts.{categories_with_rule}
 use Rattle.message_report.specs.FormFaults.{IsLanguageOf}
 use Rattle.message_report.specs.Inner.LanguageViews.{language_view}
 use Rattle.message_report.specs.declared.language.Language.{Language}

@@ -5,7 +5,7 @@ use Rattle.icu_plurals.specs.declared.PluralCategory.{PluralCategory}
 use Rattle.icu_plurals.specs.DecimalChoice.{IsExactChoice, IsKeptChoice}
 use Rattle.icu_plurals.specs.Elements.{of_category}
 use Rattle.icu_plurals.specs.FiveRules.{FiveRules}
-use Rattle.uses.specs.RangeLabels.{IsCategoryOf, noun_for}
+use Rattle.uses.specs.RangeLabels.{IsCategoryBy, noun_for}
 use Rattle.uses.proofs.range_labels.RangeLabels.label.Goals as goal
 
 -- the pieces of a label, grouped from the left or from the right
@@ -32,8 +32,8 @@ returns-clause-kept c =
     (λ label is. (
       first.result,
       last.result,
-      subst (λ (rules : FiveRules). IsCategoryOf IsKeptChoice rules start first.result) c.rules-rules.ensures first.ensures.kept,
-      subst (λ (rules : FiveRules). IsCategoryOf IsKeptChoice rules end last.result) c.rules-rules.ensures last.ensures.kept,
+      subst (λ (rules : FiveRules). IsCategoryBy IsKeptChoice rules start first.result) c.rules-rules.ensures first.ensures.kept,
+      subst (λ (rules : FiveRules). IsCategoryBy IsKeptChoice rules end last.result) c.rules-rules.ensures last.ensures.kept,
       with_noun start.text.now (codes " to ") end.text.now (codes " ") c.noun-noun.result.now
           (noun_for labels first.result last.result) (string_bytes label) is noun,
     ))
@@ -53,8 +53,8 @@ returns-clause-exact c =
     (λ label is. (
       first.result,
       last.result,
-      subst (λ (rules : FiveRules). IsCategoryOf IsExactChoice rules start first.result) c.rules-rules.ensures first.ensures.exact,
-      subst (λ (rules : FiveRules). IsCategoryOf IsExactChoice rules end last.result) c.rules-rules.ensures last.ensures.exact,
+      subst (λ (rules : FiveRules). IsCategoryBy IsExactChoice rules start first.result) c.rules-rules.ensures first.ensures.exact,
+      subst (λ (rules : FiveRules). IsCategoryBy IsExactChoice rules end last.result) c.rules-rules.ensures last.ensures.exact,
       with_noun start.text.now (codes " to ") end.text.now (codes " ") c.noun-noun.result.now
           (noun_for labels first.result last.result) (string_bytes label) is noun,
     ))

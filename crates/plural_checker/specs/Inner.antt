@@ -1,2 +1,0 @@
--- No definitions of the subject: results of private calls.
-pub mod TextAnswers
