@@ -21,7 +21,7 @@ returns c =
     let entry = written.cycle (n % 100) residue in
     ⊎_elim (λ is. inl (entry ∙ is)) (λ six. inr (entry ∙ six))
     (told_entry (whole_category made n) (get_or c.self.inside.cycle (n % 100) None)
-    (c.self.invariant.1.0 n (subst P written.bound from))) in
+    (c.self.invariant.1 n (subst P written.bound from))) in
     subst (λ (five : FiveRules). IsTableOf five bytes) c.self.view_is (record {
       size = size;
       low = λ n h. written.low n h ∙ ap place_of (c.self.invariant.0 n h);
