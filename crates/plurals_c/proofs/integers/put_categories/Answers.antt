@@ -16,4 +16,4 @@ returns-clause-written c =
     let new = c.write_categories.new.out in
     filled_all (integer_entry c.args.rules) numbers old new (omega (arith, c.if-room-count.false))
     (subst (λ (five : FiveRules). new ≡ map (integer_entry five) numbers ++ drop (length numbers) old)
-        c.chooser_of-chooser.ensures c.write_categories.ensures)
+    c.chooser_of-chooser.ensures c.write_categories.ensures)
