@@ -186,7 +186,7 @@ int64_t plurals_categories_of_integers(const uint8_t *rules, size_t rules_len, c
                                        uint8_t *out, size_t out_len);
 
 /* Writes the table of the categories of integers under these rules, PLURALS_TABLE_BYTES bytes (docs/FORMATS.md), to be asked
- * with plurals_category_by_table as often as wanted. Fault: that of the rules. Takes as long as 500 categories, or so.
+ * with plurals_category_by_table as often as wanted. Fault: that of the rules. Takes as long as some 200 categories.
  * Allocates nothing. */
 int64_t plurals_table_of_rules(const uint8_t *rules, size_t rules_len, uint8_t *out, size_t out_len);
 
