@@ -77,7 +77,7 @@ struct Language {
     std::string name;
     std::string texts[kRules];
 
-    std::vector<uint8_t> block;
+    std::vector<uint8_t> block, table;
     std::unique_ptr<icu::PluralRules> rules;
 
     // Reads the rules into a block, as a caller does with a buffer that is large enough, and returns its length.
@@ -100,6 +100,9 @@ struct Language {
         int64_t length = read_block(block.data(), block.size());
         if (length < 0 || length > int64_t(block.size())) fail("the library doesn't read the rules of " + name);
         block.resize(size_t(length));
+        table.resize(PLURALS_TABLE_BYTES);
+        if (plurals_table_of_rules(block.data(), block.size(), table.data(), table.size()) != PLURALS_TABLE_BYTES)
+            fail("the library makes no table of the rules of " + name);
         UErrorCode status = U_ZERO_ERROR;
         rules.reset(icu::PluralRules::createRules(description(), status));
         if (U_FAILURE(status)) fail("ICU4C doesn't read the rules of " + name);
@@ -197,9 +200,12 @@ int check(const std::vector<Language>& all) {
     Agreement found;
     for (const auto& it : all) {
         const uint8_t* block = it.block.data();
-        for (int32_t number : integers())
-            found.compare(it.name, std::to_string(number), plurals_category_of_integer(block, it.block.size(), uint64_t(number)),
-                          category_number(it.rules->select(number)));
+        for (int32_t number : integers()) {
+            int theirs = category_number(it.rules->select(number));
+            found.compare(it.name, std::to_string(number), plurals_category_of_integer(block, it.block.size(), uint64_t(number)), theirs);
+            found.compare(it.name, std::to_string(number), plurals_category_by_table(it.table.data(), it.table.size(), uint64_t(number)),
+                          theirs);
+        }
         for (const auto& text : decimals())
             found.compare(it.name, text, plurals_category(block, it.block.size(), text.data(), text.size()),
                           category_number(select_text(*it.rules, formatter(fraction_places(text)), text)));
@@ -241,6 +247,36 @@ std::vector<Row> rows(const std::vector<Language>& all) {
             return sum;
         };
         found.push_back({"category of an integer, " + it.name, whole.size(), library, icu4c});
+    }
+    for (const auto& it : all) {
+        auto icu4c = [&it] {
+            long sum = 0;
+            for (int32_t number : whole) sum += it.rules->select(number).length();
+            return sum;
+        };
+        auto by_table = [&it] {
+            long sum = 0;
+            for (int32_t number : whole) sum += plurals_category_by_table(it.table.data(), it.table.size(), uint64_t(number));
+            return sum;
+        };
+        auto compiled = [&it] {
+            long sum = 0;
+            for (int32_t number : whole) sum += plurals_category_by_table_inline(it.table.data(), it.table.size(), uint64_t(number));
+            return sum;
+        };
+        auto at_once = [&it] {
+            static const std::vector<uint64_t> numbers(whole.begin(), whole.end());
+            static std::vector<uint8_t> out(whole.size());
+            return long(plurals_categories_of_integers(it.block.data(), it.block.size(), numbers.data(), numbers.size(), out.data(), out.size()));
+        };
+        auto made = [&it] {
+            uint8_t out[PLURALS_TABLE_BYTES];
+            return long(plurals_table_of_rules(it.block.data(), it.block.size(), out, sizeof out));
+        };
+        found.push_back({"category of an integer by a table, " + it.name, whole.size(), by_table, icu4c});
+        found.push_back({"the same, compiled with the caller, " + it.name, whole.size(), compiled, icu4c});
+        found.push_back({"one of 512 integers at once, " + it.name, whole.size(), at_once, icu4c});
+        found.push_back({"a table made, " + it.name, 1, made, nullptr});
     }
     for (const auto& it : all) {
         auto library = [&it] { return long(plurals_check_rules(it.block.data(), it.block.size())); };

@@ -49,7 +49,7 @@
  *
  * What is proved
  *     Each export of crates/plurals_c, which is the first part of the declarations. The second part, and what lets a null
- *     pointer go with length 0, is C of the folder install, which no proof covers.
+ *     pointer go with length 0, is C of the folder install, which no proof covers; nor does one cover the function at the end.
  *
  * tools/header compares this file with the exports of crates/plurals_c and their faults, and with the folder install.
  */
@@ -139,8 +139,15 @@ enum plurals_fault {
     PLURALS_DOCUMENT_SHAPE = -72,       /* a value is of another kind than its place asks for */
     PLURALS_DOCUMENT_RANGE_KEY = -73,   /* a key names no range */
     PLURALS_DOCUMENT_RANGE_VALUE = -74, /* a range's value names no category */
-    PLURALS_LOCALE = -75                /* the locale isn't present among the rules of this type, or the ranges */
+    PLURALS_LOCALE = -75,               /* the locale isn't present among the rules of this type, or the ranges */
+
+    PLURALS_TABLE_LENGTH = -80 /* a table of categories isn't of PLURALS_TABLE_BYTES bytes */
 };
+
+/* How many bytes a table of categories has, and what a call that is given one returns of a number whose category it doesn't
+ * have: then plurals_category_of_integer is asked with the rules. */
+#define PLURALS_TABLE_BYTES 236
+#define PLURALS_ASK_RULES 6
 
 /* Writes the block of the rules that a document has for a locale (docs/JSON.md; tools/cldr-document makes a document of
  * CLDR's files). rule_type is PLURALS_CARDINAL or PLURALS_ORDINAL. The locale is compared byte by byte, without fallback.
@@ -172,6 +179,22 @@ int32_t plurals_category_of_integer(const uint8_t *rules, size_t rules_len, uint
 
 /* Returns the category of an integer, which is that of its absolute value, or the fault of the rules. Allocates nothing. */
 int32_t plurals_category_of_signed_integer(const uint8_t *rules, size_t rules_len, int64_t number);
+
+/* Writes the categories of as many integers as numbers has to out, a byte each, in their order. The result is numbers_len; if
+ * out_len is less, nothing is written. Fault: that of the rules. The block is checked once. Allocates nothing. */
+int64_t plurals_categories_of_integers(const uint8_t *rules, size_t rules_len, const uint64_t *numbers, size_t numbers_len,
+                                       uint8_t *out, size_t out_len);
+
+/* Writes the table of the categories of integers under these rules, PLURALS_TABLE_BYTES bytes (docs/FORMATS.md), to be asked
+ * with plurals_category_by_table as often as wanted. Fault: that of the rules. Takes as long as some 200 categories.
+ * Allocates nothing. */
+int64_t plurals_table_of_rules(const uint8_t *rules, size_t rules_len, uint8_t *out, size_t out_len);
+
+/* Returns the category that a table has for an integer, or PLURALS_ASK_RULES: of the table that was written for some rules it
+ * is the one that plurals_category_of_integer returns with them, and each number below 128 has one. Any bytes may be given;
+ * what they hold isn't checked. The fault is PLURALS_TABLE_LENGTH. plurals_category_by_table_inline does the same without a
+ * call, and isn't proved. Allocates nothing. */
+int32_t plurals_category_by_table(const uint8_t *table, size_t table_len, uint64_t number);
 
 /* Returns the category of six operands (docs/NUMBERS.md), or the fault of the rules: for callers that format numbers
  * themselves and know the digits that are shown. i is the integer part, v and w how many fraction digits are shown, with
@@ -240,6 +263,25 @@ const char *plurals_category_name(int32_t category);
 /* Returns in a few English words what a fault is, as "out of memory", or null if no fault has the number. The text is the
  * library's, and ends with a byte 0. A later version may word it otherwise. */
 const char *plurals_fault_text(int64_t fault);
+
+/* ---- What follows is compiled with the caller, and isn't proved. tools/header --inline writes it from the constants of the
+ * proved call, and examples/c/checks.c compares the two. */
+
+/* Returns what plurals_category_by_table returns, without a call. */
+static inline int32_t plurals_category_by_table_inline(const uint8_t *table, size_t table_len, uint64_t number) {
+    uint64_t bound;
+    uint8_t entry;
+    if (table_len != PLURALS_TABLE_BYTES) return PLURALS_TABLE_LENGTH;
+    bound = table[0] | (uint64_t)table[1] << 8 | (uint64_t)table[2] << 16 | (uint64_t)table[3] << 24
+            | (uint64_t)table[4] << 32 | (uint64_t)table[5] << 40 | (uint64_t)table[6] << 48 | (uint64_t)table[7] << 56;
+    if (number < 128) {
+        entry = table[8 + number];
+    } else {
+        if (number < bound) return PLURALS_ASK_RULES;
+        entry = table[136 + number % 100];
+    }
+    return entry < PLURALS_ASK_RULES ? (int32_t)entry : PLURALS_ASK_RULES;
+}
 
 #ifdef __cplusplus
 }

@@ -65,6 +65,7 @@ const char *plurals_fault_text(int64_t fault) {
     case PLURALS_DOCUMENT_RANGE_KEY: return "the document has a key that names no range";
     case PLURALS_DOCUMENT_RANGE_VALUE: return "the document has a range whose value names no category";
     case PLURALS_LOCALE: return "the document has no rules of the type, or no ranges, for the locale";
+    case PLURALS_TABLE_LENGTH: return "the table of categories isn't of 236 bytes";
     default: return NULL;
     }
 }

@@ -20,6 +20,9 @@ static void null_with_length_0(void) {
     CHECK(plurals_category_of_signed_integer(NULL, 0, -1) == PLURALS_OTHER);
     CHECK(plurals_category_of_operands(NULL, 0, 1, 0, 0, 0, 0, 0) == PLURALS_OTHER);
     CHECK(plurals_categories(NULL, 0) == 1 << PLURALS_OTHER);
+    CHECK(plurals_categories_of_integers(NULL, 0, NULL, 0, NULL, 0) == 0);
+    CHECK(plurals_table_of_rules(NULL, 0, NULL, 0) == PLURALS_TABLE_BYTES);
+    CHECK(plurals_category_by_table(NULL, 0, 1) == PLURALS_TABLE_LENGTH);
     CHECK(plurals_category(NULL, 0, "1", 1) == PLURALS_OTHER);
     CHECK(plurals_category(rules, (size_t)length, NULL, 0) == PLURALS_NUMBER_SYNTAX);
     CHECK(plurals_is_exact(NULL, 0, "1", 1) == 1);
@@ -45,6 +48,73 @@ static void operands(void) {
     CHECK(plurals_category_of_operands(rules, (size_t)length, 0, 0, 0, 0, 0, 0) == PLURALS_OTHER);
     CHECK(plurals_categories(rules, (size_t)length) == 0x3e);
     CHECK(plurals_category_of_signed_integer(rules, (size_t)length, -11) == PLURALS_ONE);
+}
+
+static uint64_t state = 1;
+static uint64_t random_number(void) {
+    state ^= state << 13, state ^= state >> 7, state ^= state << 17;
+    return state;
+}
+
+/* The function that is compiled with the caller returns what the proved export does. */
+static int is_told_alike(const uint8_t *table, size_t table_len, uint64_t number) {
+    return plurals_category_by_table_inline(table, table_len, number) == plurals_category_by_table(table, table_len, number);
+}
+
+/* So does a table of rules what the rules choose, or that they are asked. */
+static int is_told_right(const uint8_t *rules, size_t length, const uint8_t *table, uint64_t number) {
+    int32_t told = plurals_category_by_table(table, PLURALS_TABLE_BYTES, number), category = plurals_category_of_integer(rules, length, number);
+    return (told == category || (told == PLURALS_ASK_RULES && number >= 128)) && is_told_alike(table, PLURALS_TABLE_BYTES, number);
+}
+
+static void table_of(const char *zero, const char *one, const char *two, const char *few, const char *many) {
+    uint8_t rules[512], table[PLURALS_TABLE_BYTES + 1] = {0}, other[PLURALS_TABLE_BYTES] = {0};
+    int64_t length = plurals_rules_from_texts(zero, strlen(zero), one, strlen(one), two, strlen(two), few, strlen(few), many, strlen(many),
+                                              rules, sizeof rules);
+    int wrong = 0;
+    CHECK(length > 0 && (size_t)length <= sizeof rules);
+    table[PLURALS_TABLE_BYTES] = 77;
+    CHECK(plurals_table_of_rules(rules, (size_t)length, table, sizeof table) == PLURALS_TABLE_BYTES && table[PLURALS_TABLE_BYTES] == 77);
+    CHECK(plurals_table_of_rules(rules, (size_t)length, other, sizeof other - 1) == PLURALS_TABLE_BYTES && other[8] == 0 && other[235] == 0);
+    for (uint64_t number = 0; number < 1 << 20; number++) wrong += !is_told_right(rules, (size_t)length, table, number);
+    for (int k = 0; k < 250000; k++) {
+        uint64_t number = random_number();
+        wrong += !is_told_right(rules, (size_t)length, table, number >> random_number() % 64);
+        wrong += !is_told_right(rules, (size_t)length, table, number);
+    }
+    CHECK(wrong == 0);
+}
+
+/* Tables of rules, and any bytes as a table. */
+static void tables(void) {
+    uint8_t table[PLURALS_TABLE_BYTES + 1];
+    int wrong = 0;
+    table_of("", "i = 1 and v = 0", "", "", "");
+    table_of("", "v = 0 and i % 10 = 1 and i % 100 != 11", "", "v = 0 and i % 10 = 2..4 and i % 100 != 12..14",
+             "v = 0 and i % 10 = 0 or v = 0 and i % 10 = 5..9 or v = 0 and i % 100 = 11..14");
+    table_of("n = 0", "n = 1", "n = 2", "n % 100 = 3..10", "n % 100 = 11..99");
+    table_of("", "i = 0,1", "n = 200", "n % 7 = 3", "e = 0 and i != 0 and i % 1000000 = 0 and v = 0 or e != 0..5");
+    for (int k = 0; k < 1000; k++) {
+        for (size_t at = 0; at < sizeof table; at++) table[at] = (uint8_t)(at < 8 && k % 2 ? 0 : random_number() >> 40);
+        for (int n = 0; n < 1000; n++) wrong += !is_told_alike(table, PLURALS_TABLE_BYTES, random_number() >> random_number() % 64);
+        wrong += !is_told_alike(table, random_number() % sizeof table, random_number()) + !is_told_alike(table, sizeof table, 1);
+    }
+    CHECK(wrong == 0);
+}
+
+static void many(void) {
+    const char *one = "n % 10 = 1";
+    static uint64_t numbers[1000];
+    static uint8_t rules[64], out[1001];
+    int64_t length = plurals_rules_from_texts(NULL, 0, one, strlen(one), NULL, 0, NULL, 0, NULL, 0, rules, sizeof rules);
+    for (size_t k = 0; k < 1000; k++) numbers[k] = random_number() >> random_number() % 64;
+    for (size_t count = 0; count <= 1000; count += 250) {
+        memset(out, 77, sizeof out);
+        CHECK(plurals_categories_of_integers(rules, (size_t)length, numbers, count, out, count ? count - 1 : 0) == (int64_t)count && out[0] == 77);
+        CHECK(plurals_categories_of_integers(rules, (size_t)length, numbers, count, out, sizeof out) == (int64_t)count && out[count] == 77);
+        for (size_t k = 0; k < count; k++) CHECK(out[k] == plurals_category_of_integer(rules, (size_t)length, numbers[k]));
+    }
+    CHECK(plurals_categories_of_integers((const uint8_t *)"\1", 1, numbers, 1, out, 1) == PLURALS_RULES_LIST_HEADER);
 }
 
 static void ranges_and_texts(void) {
@@ -84,6 +154,8 @@ static void names_and_texts(void) {
 int main(void) {
     null_with_length_0();
     operands();
+    tables();
+    many();
     ranges_and_texts();
     names_and_texts();
     printf("%d failed\n", failed);

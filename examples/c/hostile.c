@@ -72,7 +72,7 @@ struct text {
     size_t length;
 };
 
-enum kind { RULES, ELEMENTS, NUMBER, RULE, DOCUMENT, ELEMENTS_JSON, LOCALE, TEXT_OF_ELEMENT, TEXT_OF_RULE, KINDS };
+enum kind { RULES, ELEMENTS, NUMBER, RULE, DOCUMENT, ELEMENTS_JSON, LOCALE, TEXT_OF_ELEMENT, TEXT_OF_RULE, TABLE, KINDS };
 
 /* Of each kind the good ones, which mistakes are made in. */
 static struct pool {
@@ -121,7 +121,15 @@ static void add_elements(const char *json) {
     add_text(ELEMENTS_JSON, json);
 }
 
+/* A table that most numbers have a category in, under a bound of one or two bytes. */
+static void good_table(struct text *text) {
+    text->length = PLURALS_TABLE_BYTES;
+    for (size_t k = 0; k < text->length; k++) text->bytes[k] = (uint8_t)(k < 8 ? (below(k + 1) || k > 1 ? 0 : next()) : below(7));
+}
+
 static void fill_pools(void) {
+    static struct text table;
+    for (int k = 0; k < 8; k++) good_table(&table), add(TABLE, table.bytes, table.length);
     add_rules("", "", "", "", "");
     add_rules("", "i = 1 and v = 0 @integer 1", "", "", "");
     add_rules("", "v = 0 and i % 10 = 1 and i % 100 != 11", "", "v = 0 and i % 10 = 2..4 and i % 100 != 12..14",
@@ -273,6 +281,7 @@ static void make_good(enum kind kind, struct text *text) {
     if (kind == NUMBER) good_number(text);
     if (kind == DOCUMENT) good_document(text);
     if (kind == ELEMENTS_JSON) good_elements(text);
+    if (kind == TABLE) good_table(text);
     if (kind == LOCALE) append(text, ONE_OF("en", "ru", "z", ""));
     if (kind == TEXT_OF_ELEMENT) append(text, ONE_OF("{} items", "{} item", "", "{}{}", "\xc3\xa9"));
     if (kind == RULES) {
@@ -330,6 +339,7 @@ static uint8_t *place(size_t room, size_t length) { return below(2) ? rooms[room
 
 /* What a call gets beside its slices. */
 static uint64_t number, operands[6];
+enum { MANY = 600 };
 static uint8_t type;
 
 /* A slice as a call's two arguments. */
@@ -357,6 +367,30 @@ static int64_t category_of_signed_integer(const struct slice *s, uint8_t *out, s
 static int64_t category_of_operands(const struct slice *s, uint8_t *out, size_t room) {
     (void)out, (void)room;
     return plurals_category_of_operands(BLOCK(0), operands[0], operands[1], operands[2], operands[3], operands[4], operands[5]);
+}
+/* The category by the table of the rules, or by the rules where it asks. */
+static int64_t table_of_rules(const struct slice *s, uint8_t *out, size_t room) {
+    static uint8_t table[PLURALS_TABLE_BYTES];
+    (void)out, (void)room;
+    int64_t length = plurals_table_of_rules(BLOCK(0), table, sizeof table);
+    if (length != PLURALS_TABLE_BYTES) return length;
+    int32_t told = plurals_category_by_table(table, sizeof table, number);
+    return told == PLURALS_ASK_RULES && number >= 128 ? plurals_category_of_integer(BLOCK(0), number) : told;
+}
+static int64_t category_by_table(const struct slice *s, uint8_t *out, size_t room) {
+    (void)out, (void)room;
+    return plurals_category_by_table(BLOCK(0), number);
+}
+/* Six integers, or more than the library makes a table for. */
+static size_t fill_many(uint64_t many[MANY]) {
+    size_t count = number % 8 ? 6 : MANY;
+    for (size_t k = 0; k < count; k++) many[k] = operands[k % 6] + k / 6;
+    return count;
+}
+static int64_t categories_of_integers(const struct slice *s, uint8_t *out, size_t room) {
+    static uint64_t many[MANY];
+    size_t count = fill_many(many);
+    return plurals_categories_of_integers(BLOCK(0), many, count, out, room);
 }
 static int64_t categories(const struct slice *s, uint8_t *out, size_t room) {
     (void)out, (void)room;
@@ -404,6 +438,12 @@ static int64_t model_of_signed_integer(const struct slice *s, uint8_t *out) {
     return (void)out, model_category_of_integer(s[0], number >> 63 ? 0 - number : number);
 }
 static int64_t model_of_operands(const struct slice *s, uint8_t *out) { return (void)out, model_category_of_operands(s[0], operands); }
+static int64_t model_of_table(const struct slice *s, uint8_t *out) { return (void)out, model_category_by_table(s[0], number); }
+static int64_t model_of_many(const struct slice *s, uint8_t *out) {
+    static uint64_t many[MANY];
+    size_t count = fill_many(many);
+    return model_categories_of_integers(s[0], many, count, out);
+}
 static int64_t model_of_categories(const struct slice *s, uint8_t *out) { return (void)out, model_categories(s[0]); }
 static int64_t model_of_ranges(const struct slice *s, uint8_t *out) { return model_ranges_from_document(s[0], s[1], out); }
 static int64_t model_of_element_texts(const struct slice *s, uint8_t *out) { return model_elements_from_texts(s, out); }
@@ -417,7 +457,7 @@ static int64_t model_of_message(const struct slice *s, uint8_t *out) { return mo
 
 /* Groups of faults, as bits. */
 enum { OF_MEMORY = 1, OF_UTF8 = 2, OF_TYPE = 4, OF_NUMBER = 8, OF_TEXT = 16, OF_RULES = 32, OF_PACKED_RULES = 64, OF_ELEMENTS = 128,
-       OF_PACKED_ELEMENTS = 256, OF_JSON = 512, OF_DOCUMENT = 1024, OF_BOUND = 2048 };
+       OF_PACKED_ELEMENTS = 256, OF_JSON = 512, OF_DOCUMENT = 1024, OF_BOUND = 2048, OF_TABLE = 4096 };
 
 static const struct export {
     const char *name;
@@ -437,6 +477,9 @@ static const struct export {
     {"plurals_category_of_integer", category_of_integer, model_of_integer, PLURALS_OTHER, OF_RULES, 1, {RULES}},
     {"plurals_category_of_signed_integer", category_of_signed_integer, model_of_signed_integer, PLURALS_OTHER, OF_RULES, 1, {RULES}},
     {"plurals_category_of_operands", category_of_operands, model_of_operands, PLURALS_OTHER, OF_RULES, 1, {RULES}},
+    {"plurals_categories_of_integers", categories_of_integers, model_of_many, -1, OF_RULES, 1, {RULES}},
+    {"plurals_table_of_rules", table_of_rules, model_of_integer, PLURALS_OTHER, OF_RULES, 1, {RULES}},
+    {"plurals_category_by_table", category_by_table, model_of_table, PLURALS_ASK_RULES, OF_TABLE, 1, {TABLE}},
     {"plurals_categories", categories, model_of_categories, 63, OF_RULES, 1, {RULES}},
     {"plurals_ranges_from_document", ranges_from_document, model_of_ranges, -1, OF_MEMORY | OF_UTF8 | OF_TEXT | OF_JSON | OF_DOCUMENT, 2,
      {DOCUMENT, LOCALE}},
@@ -509,6 +552,7 @@ static struct fault {
     FAULT(PLURALS_DOCUMENT_RANGE_KEY, OF_DOCUMENT),
     FAULT(PLURALS_DOCUMENT_RANGE_VALUE, OF_DOCUMENT),
     FAULT(PLURALS_LOCALE, OF_DOCUMENT),
+    FAULT(PLURALS_TABLE_LENGTH, OF_TABLE),
 };
 enum { FAULTS = sizeof faults / sizeof *faults };
 
@@ -648,6 +692,11 @@ static void run_by_hand(int64_t result, struct slice bytes) {
 #define BYTES(text) {(const uint8_t *)text, sizeof(text) - 1}
 static const struct slice NO_BYTES = {(const uint8_t *)"", 0};
 
+/* A table with the bound 128, whose other entries are all of one. */
+#define TEN_ONES "\1\1\1\1\1\1\1\1\1\1"
+#define FIFTY_ONES TEN_ONES TEN_ONES TEN_ONES TEN_ONES TEN_ONES
+#define ONES "\x80\0\0\0\0\0\0\0" FIFTY_ONES FIFTY_ONES FIFTY_ONES FIFTY_ONES TEN_ONES TEN_ONES
+
 /* A good one of each kind. */
 static const struct slice good[KINDS] = {
     [RULES] = BYTES("\1\0\1\2\0\15\0\xc1\0\0\0\0\1\0\0\0\1\0\0\0\xc2\0\0\0\0\0\0\0\0\0\0\0\0"),
@@ -659,6 +708,7 @@ static const struct slice good[KINDS] = {
     [LOCALE] = BYTES("en"),
     [TEXT_OF_ELEMENT] = BYTES("{} items"),
     [TEXT_OF_RULE] = BYTES("i = 1 and v = 0"),
+    [TABLE] = BYTES(ONES "\1\1\1\1\1\1\1\1"),
 };
 
 /* Inputs with their fault. */
@@ -695,7 +745,8 @@ static const struct bad {
     {DOCUMENT, BYTES("{\"ranges\":{\"a\":{\"ranges\":{\"one--two\":\"some\",\"two\":\"few\"}}}}"), -74},
     {DOCUMENT, BYTES("{}"), -75}, {DOCUMENT, BYTES("{\"cardinal\":null}"), -75}, {DOCUMENT, BYTES("{\"ranges\":{\"ru\":{\"ranges\":{}}}}"), -75},
     {LOCALE, BYTES("\xff"), -2}, {LOCALE, BYTES("e"), -75}, {LOCALE, BYTES("EN"), -75}, {LOCALE, BYTES(""), -75},
-    {TEXT_OF_ELEMENT, BYTES("\xff"), -2}, {TEXT_OF_ELEMENT, BYTES("x\xe2\x82"), -2},
+    {TABLE, BYTES(""), -80}, {TABLE, BYTES("\1"), -80}, {TABLE, BYTES(ONES "\1\1\1\1\1\1\1"), -80},
+    {TABLE, BYTES(ONES "\1\1\1\1\1\1\1\1\1"), -80}, {TEXT_OF_ELEMENT, BYTES("\xff"), -2}, {TEXT_OF_ELEMENT, BYTES("x\xe2\x82"), -2},
     {ELEMENTS_JSON, BYTES(""), -70}, {ELEMENTS_JSON, BYTES("{\"other\":[0,\"x\"],}"), -70}, {ELEMENTS_JSON, BYTES("{\"other\":[0.5,\"x\"]}"), -71},
     {ELEMENTS_JSON, BYTES("[]"), -72}, {ELEMENTS_JSON, BYTES("{\"one\":[0,\"x\"]}"), -72}, {ELEMENTS_JSON, BYTES("{\"other\":[16,\"x\"]}"), -72},
     {ELEMENTS_JSON, BYTES("{\"other\":[0,\"x\",0]}"), -72}, {ELEMENTS_JSON, BYTES("{\"other\":[0,\"x\"],\"few\":[-1,\"x\"]}"), -72},

@@ -497,6 +497,23 @@ int64_t model_category_of_integer(struct slice rules, uint64_t number) {
     return fault ? fault : category_of(rules, (struct operands){number, 0, 0, 0, 0, 0});
 }
 
+int64_t model_categories_of_integers(struct slice rules, const uint64_t *numbers, size_t count, uint8_t *out) {
+    int64_t fault = model_check_rules(rules);
+    if (fault) return fault;
+    for (size_t k = 0; k < count; k++) out[k] = (uint8_t)category_of(rules, (struct operands){numbers[k], 0, 0, 0, 0, 0});
+    return (int64_t)count;
+}
+
+int64_t model_category_by_table(struct slice table, uint64_t number) {
+    uint64_t bound = 0;
+    if (table.length != 8 + 128 + 100) return PLURALS_TABLE_LENGTH;
+    for (int k = 8; k-- > 0;) bound = 256 * bound + table.at[k];
+    bool is_low = number < 128;
+    if (!is_low && number < bound) return PLURALS_ASK_RULES;
+    int entry = table.at[is_low ? 8 + (int)number : 8 + 128 + (int)(number % 100)];
+    return entry > PLURALS_OTHER ? PLURALS_ASK_RULES : entry;
+}
+
 int64_t model_category_of_operands(struct slice rules, const uint64_t operands[6]) {
     int64_t fault = model_check_rules(rules);
     struct operands number = {operands[0], operands[1], operands[2], operands[3], operands[4], operands[5]};

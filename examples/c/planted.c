@@ -18,6 +18,9 @@ int32_t __real_plurals_category_of_integer(const uint8_t *, size_t, uint64_t);
 int32_t __real_plurals_category_of_signed_integer(const uint8_t *, size_t, int64_t);
 int32_t __real_plurals_category_of_operands(const uint8_t *, size_t, uint64_t, size_t, size_t, uint64_t, uint64_t, size_t);
 int32_t __real_plurals_categories(const uint8_t *, size_t);
+int32_t __real_plurals_category_by_table(const uint8_t *, size_t, uint64_t);
+int64_t __real_plurals_table_of_rules(const uint8_t *, size_t, uint8_t *, size_t);
+int64_t __real_plurals_categories_of_integers(const uint8_t *, size_t, const uint64_t *, size_t, uint8_t *, size_t);
 int64_t __real_plurals_ranges_from_document(const char *, size_t, const char *, size_t, uint8_t *, size_t);
 int64_t __real_plurals_elements_from_texts(const char *, size_t, const char *, size_t, const char *, size_t, const char *, size_t,
                                            const char *, size_t, const char *, size_t, const char *, size_t, const char *, size_t,
@@ -164,4 +167,27 @@ int64_t __wrap_plurals_elements_from_texts(const char *other, size_t other_len, 
     return __real_plurals_elements_from_texts(other, other_len, zero, zero_len, one, one_len, two, two_len, few, few_len, many, many_len,
                                               is_zero ? zero : explicit_zero, is_zero ? zero_len : explicit_zero_len, explicit_one,
                                               explicit_one_len, out, out_len);
+}
+
+int32_t __wrap_plurals_category_by_table(const uint8_t *table, size_t table_len, uint64_t number) {
+    int bug = planted();
+    if (bug == 29 && number >= 100 && number < 128) number -= 100; /* only numbers below 100 have an entry of their own */
+    int32_t result = __real_plurals_category_by_table(table, table_len, number);
+    if (bug == 30 && result == PLURALS_ASK_RULES) return PLURALS_OTHER; /* what isn't told is other */
+    return result;
+}
+
+int64_t __wrap_plurals_table_of_rules(const uint8_t *rules, size_t rules_len, uint8_t *out, size_t out_len) {
+    int bug = planted();
+    int64_t result = __real_plurals_table_of_rules(rules, rules_len, out, out_len);
+    if (bug == 31 && result > 0 && out[8 + 11] != out[8 + 21]) out[8 + 11] = out[8 + 21]; /* 11 is as 21 */
+    return result;
+}
+
+int64_t __wrap_plurals_categories_of_integers(const uint8_t *rules, size_t rules_len, const uint64_t *numbers, size_t numbers_len,
+                                              uint8_t *out, size_t out_len) {
+    int bug = planted();
+    int64_t result = __real_plurals_categories_of_integers(rules, rules_len, numbers, numbers_len, out, out_len);
+    if (bug == 32 && result > 512 && out_len >= 600) out[599] = out[0]; /* the last one isn't asked */
+    return result;
 }

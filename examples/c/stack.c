@@ -31,6 +31,12 @@ static void check_rules(void) { result = plurals_check_rules(rules, rules_len); 
 static void category_of_integer(void) { result = plurals_category_of_integer(rules, rules_len, UINT64_MAX); }
 static void category_of_signed_integer(void) { result = plurals_category_of_signed_integer(rules, rules_len, INT64_MIN); }
 static void category_of_operands(void) { result = plurals_category_of_operands(rules, rules_len, UINT64_MAX, 1, 1, 5, 5, 7); }
+static void categories_of_integers(void) {
+    static uint64_t many[1000];
+    result = plurals_categories_of_integers(rules, rules_len, many, number_len % 1000, out, LONG);
+}
+static void table_of_rules(void) { result = plurals_table_of_rules(rules, rules_len, out, LONG); }
+static void category_by_table(void) { result = plurals_category_by_table(out, 236, UINT64_MAX); }
 static void categories(void) { result = plurals_categories(rules, rules_len); }
 static void ranges(void) { result = plurals_ranges_from_document(text, text_len, "en", 2, out, LONG); }
 static void elements_from_texts(void) {
@@ -58,6 +64,8 @@ static const struct export {
     {"plurals_categories", categories, false},            {"plurals_category_of_operands", category_of_operands, false},
     {"plurals_ranges_from_document", ranges, true},       {"plurals_elements_from_texts", elements_from_texts, false},
     {"plurals_sure_category", sure_category, false},      {"plurals_is_read_whole", is_read_whole, false},
+    {"plurals_table_of_rules", table_of_rules, false},    {"plurals_category_by_table", category_by_table, false},
+    {"plurals_categories_of_integers", categories_of_integers, false},
 };
 enum { EXPORTS = sizeof exports / sizeof *exports };
 

@@ -4,3 +4,4 @@ pub mod Texts
 pub mod Documents
 pub mod RangeTables
 pub mod ElementTexts
+pub mod ManyIntegers

@@ -19,7 +19,7 @@ use Rattle.icu_plurals.specs.declared.provider.rules.runtime.ast.RuleError.{Rule
 use Rattle.icu_plurals.specs.declared.provider.rules.runtime.ast.RuleError.TheVariants as rule
 use Rattle.plurals_c.specs.declared.fault.Fault.{Fault}
 use Rattle.plurals_c.specs.declared.fault.Fault.TheVariants.{Memory, Utf8, RuleType, Number, OutsideBound, Text, Rules, RulesLimit, Elements, Json}
-use Rattle.plurals_c.specs.declared.fault.Fault.TheVariants.{Document, Locale}
+use Rattle.plurals_c.specs.declared.fault.Fault.TheVariants.{Document, Locale, TableLength}
 
 -- the negative of a number that isn't 0
 abbrev pub minus : ℕ → ℤ
@@ -112,3 +112,4 @@ fault_number (Elements fault) = elements_number fault
 fault_number Json = minus 70
 fault_number (Document fault) = json_number fault
 fault_number Locale = minus 75
+fault_number TableLength = minus 80

@@ -8,6 +8,8 @@ pub mod GivenElements
 pub mod NumberAnswers
 pub mod OperandAnswers
 pub mod RulesCategories
+pub mod TableAnswers
+pub mod IntegersAnswers
 pub mod WholeTexts
 -- not definitions of the subject
 pub mod Inner

@@ -39,6 +39,8 @@ pub(crate) enum Fault {
     Document(JsonError),
     // The document has no rules of the type for the locale.
     Locale,
+    // A table of categories has another length.
+    TableLength,
 }
 
 impl Fault {
@@ -59,6 +61,7 @@ impl Fault {
             Fault::Json => -70,
             Fault::Document(fault) => json_number(fault),
             Fault::Locale => -75,
+            Fault::TableLength => -80,
         }
     }
 }

@@ -9,12 +9,14 @@ mod element_texts;
 mod elements;
 mod fault;
 mod given;
+mod integers;
 mod message;
 mod operands;
 mod ranges;
 mod rules;
 mod signed;
 mod sure;
+mod table;
 #[cfg(test)]
 mod tests;
 mod whole;

@@ -108,7 +108,7 @@ fn number_of_range(ranges: &PluralRanges, start: PluralCategory, end: PluralCate
 }
 
 // The number of a category.
-fn number_of(category: PluralCategory) -> u8
+pub(crate) fn number_of(category: PluralCategory) -> u8
     ensures { result ≡ place_of category }
 {
     match category {
