@@ -36,10 +36,7 @@ pub(crate) enum Step<'p> {
 }
 
 // What `{name}` prints.
-fn shown_value<'p>(
-    name: &'p [u8],
-    value: Option<Value<'p>>,
-) -> Result<Step<'p>, FormatError<'p>>
+fn shown_value<'p>(name: &'p [u8], value: Option<Value<'p>>) -> Result<Step<'p>, FormatError<'p>>
     ensures step { GivesStep (λ step. step ≡ shown_value name.now (any_value value.entry)) result }
     ensures shorter { IsBehind 0 result }
 {
@@ -88,9 +85,7 @@ fn counted<'p>(
             let branch = branch_of_number(alloc, rules, &number, depth, rest)?;
             Ok(Step::Chooses(text.as_bytes(), branch))
         }
-        Err(DecimalError::Syntax) => {
-            Err(FormatError::Argument(ArgumentFault::NotANumber, name))
-        }
+        Err(DecimalError::Syntax) => { Err(FormatError::Argument(ArgumentFault::NotANumber, name)) }
         Err(DecimalError::Limit) => Err(FormatError::Argument(ArgumentFault::OverLimit, name)),
         Err(DecimalError::Memory) => Err(FormatError::Memory),
     }

@@ -33,6 +33,8 @@ loop-power-preserved c = record {
 }
 
 pub returns : goal.returns
-returns c =
-    (λ _. all_same c.args.number.now c.args.other.now _ _ _ _ _ c.powers_of-low.ensures.outside c.powers_of-other_low.ensures.outside
-    (omega (arith, ints, clamps)) (omega (arith, ints, clamps)) c.loop-power.invariant.same, λ _. search rules)
+returns c = (
+  λ _. all_same c.args.number.now c.args.other.now _ _ _ _ _ c.powers_of-low.ensures.outside c.powers_of-other_low.ensures.outside
+      (omega (arith, ints, clamps)) (omega (arith, ints, clamps)) c.loop-power.invariant.same,
+  λ _. search rules,
+)
