@@ -34,6 +34,6 @@ branches_from depth p rest s h is =
 pub passed : (x : CompactNumber) (depth : ℕ) (ps : List parts.Part) (p : parts.Part) (rest : List parts.Part) (s : selectors.Selector) (found : Option (List Part))
     → ps ≡ p ∷ rest → p.depth ≤ depth → p.piece ≡ pieces.Branch s → (Equals x (selector_view s) → ⊥)
     → IsBranchOfValue x (branches_of depth (parts_view rest)) found → IsBranchOfValue x (branches_of depth (parts_view ps)) found
-passed x depth ps p rest s found e h is no k =
+passed x depth ps p rest s found e h is other k =
     subst (λ (l : List parts.Part). IsBranchOfValue x (branches_of depth (parts_view l)) found) (sym e)
-    (subst (λ (l : List Branching). IsBranchOfValue x l found) (sym (branches_from depth p rest s h is)) (inr (no, k)))
+    (subst (λ (l : List Branching). IsBranchOfValue x l found) (sym (branches_from depth p rest s h is)) (inr (other, k)))

@@ -87,9 +87,9 @@ pub whole : (arguments : List Argument) (rules : TwoRules) (ps : List Part) (x o
 whole arguments rules ps x o h e = let f : x ≡ o = cc in subst (λ (y : Outcome). PatternSays arguments rules ps y) f h
 
 -- an error of a walk over the whole pattern
-pub whole_error : (arguments : List Argument) (rules : TwoRules) (ps : List Part) (old new : List ℕ) (f : FormatError) (o : Outcome) → old ≡ []
-    → GivesOutcome arguments rules [] ps old new (Err f) → outcome_of (Err f) ≡ Some o → PatternSays arguments rules ps o
-whole_error arguments rules ps old new (error.Argument fault name) o e h k =
-    whole arguments rules ps (Faulty fault name.now) o
-    (subst (λ (t : List ℕ). Says arguments rules [] t ps (Faulty fault name.now)) e h) k
-whole_error arguments rules ps old new error.Memory o e h k = cc
+pub whole_error : (arguments : List Argument) (rules : TwoRules) (qs ps : List Part) (old new : List ℕ) (f : FormatError) (o : Outcome) → qs ≡ ps → old ≡ []
+    → GivesOutcome arguments rules [] qs old new (Err f) → outcome_of (Err f) ≡ Some o → PatternSays arguments rules ps o
+whole_error arguments rules qs ps old new (error.Argument fault name) o same e h k =
+    let begun = subst (λ (t : List ℕ). Says arguments rules [] t qs (Faulty fault name.now)) e h in
+    whole arguments rules ps (Faulty fault name.now) o (subst (λ (l : List Part). Says arguments rules [] [] l (Faulty fault name.now)) same begun) k
+whole_error arguments rules qs ps old new error.Memory o same e h k = cc

@@ -8,7 +8,7 @@ ghost use Rattle.message_format.specs.FormatNumbers.{digit_of, HaveSameDigits, I
 ghost use Rattle.message_format.specs.Inner.FormatViews.{IsZeroOutside};
 
 use fixed_decimal::laws::texts_write_one_number;
-use fixed_decimal::{CompactDecimal, DecimalError, Sign};
+use fixed_decimal::{CompactDecimal, DecimalError, Sign, UnsignedDecimal};
 use message_pattern::Selector;
 use std::alloc::{AllocError, Global};
 
@@ -24,6 +24,20 @@ fn powers_of(number: &CompactDecimal) -> (i32, i32)
     (i32::from(low) + exponent, i32::from(high) + exponent)
 }
 
+// The digit at a power of ten, and 0 outside the written places.
+fn digit_at(digits: &UnsignedDecimal, power: i32) -> u8
+    ensures { result ≡ digit_at digits.now power }
+{
+    let (low, high) = digits.magnitude_range();
+    if power < i32::from(low) || i32::from(high) < power {
+        return 0;
+    }
+    match i16::try_from(power) {
+        Ok(power) => digits.digit_at(power),
+        Err(_) => 0,
+    }
+}
+
 // The digit at a power of ten, after the point has moved by the exponent.
 fn digit_of(number: &CompactDecimal, power: i32) -> u8
     requires low { neg_ℤ (pos 32767) ≤ℤ power }
@@ -31,12 +45,7 @@ fn digit_of(number: &CompactDecimal, power: i32) -> u8
     ensures { result ≡ digit_of number.now power }
 {
     let digits = &number.significand().absolute;
-    let (low, high) = digits.magnitude_range();
-    let place = power - i32::from(number.exponent());
-    if place < i32::from(low) || i32::from(high) < place {
-        return 0;
-    }
-    digits.digit_at(place as i16)
+    digit_at(digits, power - i32::from(number.exponent()))
 }
 
 // Whether the digits are the same at each power of ten.
