@@ -1,5 +1,5 @@
 -- A text that writes a number is in ASCII.
-use Rattle.std.proofs.Common.{◌≡◌, ◌⊎◌, ◌+◌, ◌<◌, ℕ, zero, suc, List, [], ◌∷◌, ◌++◌, codes, refl, sym, ap, subst, inl, inr, arith, get_or}
+use Rattle.std.proofs.Common.{◌<◌, ℕ, zero, suc, List, [], ◌∷◌, ◌++◌, codes, sym, subst, inl, inr, arith}
 use Rattle.std.specs.List.{AllByRecursion}
 use Rattle.std.specs.Str.{IsAscii, IsUtf8}
 use Rattle.std.proofs.lemmas.Str.{IsUtf8-from_ascii}
@@ -7,7 +7,7 @@ use Rattle.fixed_decimal.specs.Digits.{AreDigits, text_of}
 use Rattle.fixed_decimal.specs.Places.{Places}
 use Rattle.fixed_decimal.specs.declared.sign.Sign.{Sign}
 use Rattle.fixed_decimal.specs.declared.sign.Sign.TheVariants as sign
-use Rattle.fixed_decimal.specs.Written.{CompactNumber, StandsAs, WritesUnsigned, sign_text, WritesDecimal, HasExponent, WritesCompact}
+use Rattle.fixed_decimal.specs.Written.{CompactNumber, StandsAs, sign_text, HasExponent, WritesCompact}
 
 -- each byte is below 128
 abbrev pub Below : List ℕ → Type 0

@@ -1,8 +1,7 @@
 -- A pattern says one thing with its arguments.
 use Rattle.std.proofs.Common.{◌≡◌, ◌⊎◌, ◌≤◌, ◌++◌, ◌-◌, ◌/◌, ◌^◌, ℕ, List, [], ◌∷◌, Option, Some, None, refl, sym, ap, subst, ◌∙◌, inl, inr, arith}
-use Rattle.std.specs.Int.{◌∣◌}
 use Rattle.fixed_decimal.specs.Places.{Places}
-use Rattle.fixed_decimal.specs.Written.{CompactNumber, WritesCompact, IsCompactOverLimit, OneCompact}
+use Rattle.fixed_decimal.specs.Written.{CompactNumber, IsCompactOverLimit, OneCompact}
 use Rattle.plural_reference.specs.Operands.{Operands, HasFraction, AreKept}
 use Rattle.plural_base.specs.DecimalChoice.{IsKeptChoice}
 use Rattle.plural_base.specs.FiveRules.{FiveRules}
@@ -14,7 +13,7 @@ use Rattle.message_pattern.specs.declared.part.ArgumentKind.TheVariants.{Plural,
 use Rattle.message_format.specs.declared.error.ArgumentFault.{ArgumentFault}
 use Rattle.message_format.specs.FormatArguments.{Value}
 use Rattle.message_format.specs.FormatArguments as argument
-use Rattle.message_format.specs.FormatBranches.{Branching, branches_of, behind_end, branch_or_other, Equals, IsBranchOfValue, IsBranchOfNumber}
+use Rattle.message_format.specs.FormatBranches.{Branching, behind_end, branch_or_other, IsBranchOfValue, IsBranchOfNumber}
 use Rattle.message_format.specs.FormatSteps.{Step, Stops, Prints, Chooses, Fails, TwoRules, IsCounted, IsPlural, IsChoice, IsStep}
 use Rattle.message_format.specs.FormatMeaning.{Outcome, Said, Faulty, Says, ends, stops, prints, chooses, breaks, fails}
 

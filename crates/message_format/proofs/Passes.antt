@@ -1,5 +1,5 @@
 -- The first of the parts that are left, and a branch that isn't of the number.
-use Rattle.std.proofs.Common.{◌≡◌, ◌⊎◌, ◌≤◌, ◌<◌, ◌-◌, ℕ, List, [], ◌∷◌, Option, false, nat_lt, length, take, drop, get_or, refl, sym, ap, subst, inl, inr, arith}
+use Rattle.std.proofs.Common.{◌≡◌, ◌≤◌, ◌<◌, ◌-◌, ℕ, List, [], ◌∷◌, Option, false, nat_lt, length, take, drop, get_or, refl, sym, ap, subst, inr, arith}
 use Rattle.std.proofs.lemmas.List.{take_all}
 use Rattle.std.proofs.lemmas.Bool.Decides.{nat_tests}
 use Rattle.fixed_decimal.specs.Written.{CompactNumber}

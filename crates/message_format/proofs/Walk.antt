@@ -1,16 +1,13 @@
 -- A walk over the parts of a message.
-use Rattle.std.proofs.Common.{◌≡◌, ◌⊎◌, ◌++◌, ℕ, List, [], ◌∷◌, Option, Some, None, Result, Ok, Err, refl, sym, ap, subst, ◌∙◌, inl, inr}
-use Rattle.std.specs.Prelude.{Vec}
+use Rattle.std.proofs.Common.{◌≡◌, ◌++◌, ℕ, List, [], ◌∷◌, Option, Some, None, Err, refl, sym, ap, subst, inl, inr}
 use Rattle.fixed_decimal.specs.Written.{OneCompact}
 use Rattle.message_pattern.specs.declared.part.Part as parts
 use Rattle.message_pattern.specs.PatternParts.{Part, part_view, parts_view, piece_view}
-use Rattle.message_format.specs.declared.error.ArgumentFault.{ArgumentFault}
 use Rattle.message_format.specs.declared.error.FormatError.{FormatError}
 use Rattle.message_format.specs.declared.error.FormatError.TheVariants as error
-use Rattle.message_format.specs.declared.steps.Step as steps
 use Rattle.message_format.specs.FormatArguments.{Argument}
 use Rattle.message_format.specs.FormatBranches.{behind_end}
-use Rattle.message_format.specs.FormatSteps.{Step, Stops, Prints, Chooses, Fails, TwoRules, IsStep}
+use Rattle.message_format.specs.FormatSteps.{Step, Stops, Prints, Chooses, TwoRules, IsStep}
 use Rattle.message_format.specs.FormatMeaning.{Outcome, Said, Faulty, Says, ends, stops, prints, chooses, breaks, fails, PatternSays, SaysExactly}
 use Rattle.message_format.specs.Inner.FormatViews.{GivesStep, GivesOutcome, outcome_of}
 use Rattle.message_format.proofs.OneSaying.{one_outcome}

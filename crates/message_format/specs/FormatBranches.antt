@@ -5,7 +5,7 @@ use Rattle.plural_base.specs.Categories.{name_of}
 use Rattle.plural_base.specs.DecimalChoice.{IsExactChoice, IsKeptChoice}
 use Rattle.plural_base.specs.FiveRules.{FiveRules}
 use Rattle.plural_base.specs.declared.category.PluralCategory.{PluralCategory}
-use Rattle.message_pattern.specs.PatternParts.{Part, Piece, Selector, Exactly, Keyword, Branch, End}
+use Rattle.message_pattern.specs.PatternParts.{Part, Selector, Exactly, Keyword, Branch, End}
 use Rattle.message_format.specs.FormatNumbers.{HaveSameValue}
 
 -- a selector, and the parts from its branch on

@@ -1,4 +1,4 @@
-use Rattle.std.proofs.Common.{◌≡◌, ◌∷◌, ◌-◌, true, false, length, take, drop, get_or, refl, arith, length-drop}
+use Rattle.std.proofs.Common.{◌≡◌, ◌-◌, true, false, length, take, drop, get_or, refl, arith, length-drop}
 use Rattle.std.proofs.lemmas.List.{length-take}
 use Rattle.std.proofs.lemmas.Grind.{common_steps}
 use Rattle.message_pattern.specs.declared.part.Part as parts
@@ -11,9 +11,9 @@ pub loop-left-preserved-else-branch : goal.loop-left-preserved-else-branch
 loop-left-preserved-else-branch c =
     let ps = c.loop-left.left.now in
     let no : Equals c.args.number.now (selector_view c.in-Branch.selector) → ⊥ = λ e.
-        let yes : c.in_ok-equals.field-0 ≡ true = c.in_ok-equals.ensures.1 e in
-        let not : c.in_ok-equals.field-0 ≡ false = c.if-branch.false in
-        cc
+    let yes : c.in_ok-equals.field-0 ≡ true = c.in_ok-equals.ensures.1 e in
+    let not : c.in_ok-equals.field-0 ≡ false = c.if-branch.false in
+    cc
     in
     record {
       branch = λ found k.

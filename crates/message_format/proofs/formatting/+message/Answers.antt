@@ -3,7 +3,6 @@ use Rattle.std.proofs.lemmas.List.{length-take}
 use Rattle.std.proofs.lemmas.Result.{err_from_is_err_and}
 use Rattle.std.proofs.lemmas.Grind.{common_steps}
 use Rattle.message_pattern.specs.declared.part.Part as parts
-use Rattle.message_pattern.specs.PatternParts.{parts_view}
 use Rattle.message_format.specs.FormatArguments.{arguments_view}
 use Rattle.message_format.specs.FormatMeaning.{Said}
 use Rattle.message_format.specs.Inner.FormatViews.{two_rules}

@@ -1,4 +1,4 @@
-use Rattle.std.proofs.Common.{ℕ, ◌≤◌, length}
+use Rattle.std.proofs.Common.{◌≤◌, length}
 use Rattle.message_pattern.specs.PatternParts.{parts_view}
 use Rattle.message_format.specs.FormatArguments.{arguments_view}
 use Rattle.message_format.specs.FormatMeaning.{Outcome, Says}

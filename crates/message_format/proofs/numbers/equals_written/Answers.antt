@@ -1,4 +1,4 @@
-use Rattle.std.proofs.Common.{◌≡◌, ◌∙◌, ap, Err, Result}
+use Rattle.std.proofs.Common.{◌∙◌, ap, Err}
 use Rattle.message_format.proofs.Equal.{none_equal, not_text, not_number, over_limit, compared}
 use Rattle.message_format.proofs.numbers.equals_written.Goals as goal
 

@@ -1,4 +1,4 @@
-use Rattle.std.proofs.Common.{◌≡◌, ℤ, pos, ◌-ℤ◌, ◌<ℤ◌, ◌∙◌, sym, rules, arith}
+use Rattle.std.proofs.Common.{◌∙◌, sym, rules, arith}
 use Rattle.std.proofs.lemmas.Int.{ints, clamps}
 use Rattle.message_format.proofs.Outside.{all_same, none_below, one_more}
 use Rattle.message_format.proofs.numbers.has_same_digits.Goals as goal

@@ -1,4 +1,4 @@
-use Rattle.std.proofs.Common.{◌≡◌, ℤ, pos, ◌-ℤ◌, ◌<ℤ◌, ap, length, arith}
+use Rattle.std.proofs.Common.{pos, ◌-ℤ◌, ap, length, arith}
 use Rattle.std.proofs.lemmas.Int.{ints}
 use Rattle.fixed_decimal.specs.declared.decimal.Decimal.{Decimal}
 use Rattle.message_format.proofs.Outside.{above, below}

@@ -1,4 +1,4 @@
-use Rattle.std.proofs.Common.{◌≡◌, ◌∙◌, ap, inl, refl, Err}
+use Rattle.std.proofs.Common.{◌∙◌, ap, inl, refl, Err}
 use Rattle.message_format.proofs.Equal.{counted_by}
 use Rattle.message_format.proofs.steps.counted.Goals as goal
 
