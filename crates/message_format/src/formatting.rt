@@ -42,7 +42,17 @@ fn message<'p>(
     Ok(())
 }
 
-/// Returns what a pattern says with its arguments.
+/// Returns what a pattern says with its arguments (ICU MessageFormat), under the rules of a
+/// language, as bytes: UTF-8, if the pattern and the arguments are. It allocates the text, and the
+/// digits of long numbers.
+///
+/// A plural takes the first branch whose selector is `=` and a number of the same value, else the
+/// one of the number's category, else `other`; a select the one of the text, else `other`. `{name}`
+/// and `#` are said as the caller writes them.
+///
+/// The errors: [`FormatError::Argument`] with the first fault, in the order of the parts that are
+/// formatted, and the name of its argument: `Missing`, `WrongKind`, `NotANumber`, `OverLimit`, and
+/// `OffsetUnsupported` for a plural with an offset; [`FormatError::Memory`] if memory ran out.
 pub fn format<'p>(
     alloc: Global,
     pattern: &'p Pattern<'p>,
