@@ -1,5 +1,5 @@
 //! The kinds of the upper crates: `icu_plurals`, `plural_message`, `plural_checker`,
-//! `plural_fallback`, `message_report`, `uses` and `message_pattern`.
+//! `plural_fallback`, `message_report`, `uses`, `message_pattern` and `message_format`.
 
 mod callers;
 mod checker;
@@ -7,6 +7,7 @@ mod element_values;
 mod elements;
 mod elements_json;
 mod fallback;
+mod formatted;
 mod message_reports;
 mod messages;
 mod packed_texts;
@@ -27,4 +28,5 @@ pub fn make(kind: &str, call: &mut Call) -> bool {
         || message_reports::make(kind, call)
         || callers::make(kind, call)
         || patterns::make(kind, call)
+        || formatted::make(kind, call)
 }

@@ -1,0 +1,39 @@
+-- The first of the parts that are left, and a branch that isn't of the number.
+use Rattle.std.proofs.Common.{◌≡◌, ◌≤◌, ◌<◌, ◌-◌, ℕ, List, [], ◌∷◌, Option, false, nat_lt, length, take, drop, get_or, refl, sym, ap, subst, inr, arith}
+use Rattle.std.proofs.lemmas.List.{take_all}
+use Rattle.std.proofs.lemmas.Bool.Decides.{nat_tests}
+use Rattle.fixed_decimal.specs.Written.{CompactNumber}
+use Rattle.message_pattern.specs.declared.part.Part as parts
+use Rattle.message_pattern.specs.declared.part.Piece.TheVariants as pieces
+use Rattle.message_pattern.specs.declared.part.Selector as selectors
+use Rattle.message_pattern.specs.PatternParts.{Part, parts_view, selector_view}
+use Rattle.message_format.specs.FormatBranches.{Branching, branches_of, Equals, IsBranchOfValue}
+
+-- what stands for a part that isn't there
+abbrev pub no_part : parts.Part
+no_part = record { depth = 0; piece = pieces.Text record { ref_ptr = (0, 0); now = [] } }
+
+-- the parts are the first one and the rest
+pub headed : (ps : List parts.Part) (d : parts.Part) (n : ℕ) → 1 ≤ length ps → n ≡ length ps → ps ≡ get_or ps 0 d ∷ take (n - 1) (drop 1 ps)
+headed [] d n h e = absurd (omega arith)
+headed (p ∷ ps) d n h e = ap (λ (l : List parts.Part). p ∷ l) (sym (take_all (n - 1) ps (omega arith)))
+
+-- none is left
+pub none_left : (ps : List parts.Part) → length ps < 1 → ps ≡ []
+none_left [] h = refl
+none_left (p ∷ ps) h = absurd (omega arith)
+
+-- the first branch
+branches_from : (depth : ℕ) (p : parts.Part) (rest : List parts.Part) (s : selectors.Selector) → p.depth ≤ depth → p.piece ≡ pieces.Branch s
+    → branches_of depth (parts_view (p ∷ rest)) ≡ (selector_view s, parts_view rest) ∷ branches_of depth (parts_view rest)
+branches_from depth p rest s h is =
+    let f : nat_lt depth p.depth ≡ false = grind (arith, nat_tests) in
+    rw (f, is)
+
+-- a branch that isn't of the number is passed
+pub passed : (x : CompactNumber) (depth : ℕ) (ps : List parts.Part) (p : parts.Part) (rest : List parts.Part) (s : selectors.Selector) (found : Option (List Part))
+    → ps ≡ p ∷ rest → p.depth ≤ depth → p.piece ≡ pieces.Branch s → (Equals x (selector_view s) → ⊥)
+    → IsBranchOfValue x (branches_of depth (parts_view rest)) found → IsBranchOfValue x (branches_of depth (parts_view ps)) found
+passed x depth ps p rest s found e h is other k =
+    subst (λ (l : List parts.Part). IsBranchOfValue x (branches_of depth (parts_view l)) found) (sym e)
+    (subst (λ (l : List Branching). IsBranchOfValue x l found) (sym (branches_from depth p rest s h is)) (inr (other, k)))

@@ -1,0 +1,89 @@
+-- The branches of an argument, and which one is chosen.
+use Rattle.std.specs.Prelude.{◌≡◌, ◌⊎◌, ℕ, List, [], ◌∷◌, Bool, false, nat_lt, bytes_eq, Option, Some, None, if◌then◌else◌, codes}
+use Rattle.fixed_decimal.specs.Written.{CompactNumber, WritesCompact, IsCompactOverLimit}
+use Rattle.plural_base.specs.Categories.{name_of}
+use Rattle.plural_base.specs.DecimalChoice.{IsExactChoice, IsKeptChoice}
+use Rattle.plural_base.specs.FiveRules.{FiveRules}
+use Rattle.plural_base.specs.declared.category.PluralCategory.{PluralCategory}
+use Rattle.message_pattern.specs.PatternParts.{Part, Selector, Exactly, Keyword, Branch, End}
+use Rattle.message_format.specs.FormatNumbers.{HaveSameValue}
+
+-- a selector, and the parts from its branch on
+abbrev pub Branching : Type 0
+Branching = Selector × List Part
+
+-- The branches of an argument at a depth, of which these parts follow its beginning: their
+-- selectors have its depth, and what is deeper is in a branch.
+abbrev pub branches_of : ℕ → List Part → List Branching
+branches_of depth [] = []
+branches_of depth (p ∷ ps) =
+    if nat_lt depth p.depth then branches_of depth ps
+    else elim p.piece as (λ _. List Branching) [
+      | Branch selector ↦ (selector, ps) ∷ branches_of depth ps
+      | _ ↦ []
+    ]
+
+-- the parts that follow the end of an argument at a depth
+abbrev pub behind_end : ℕ → List Part → List Part
+behind_end depth [] = []
+behind_end depth (p ∷ ps) =
+    if nat_lt depth p.depth then behind_end depth ps
+    else elim p.piece as (λ _. List Part) [
+      | End ↦ ps
+      | _ ↦ behind_end depth ps
+    ]
+
+-- ---- by a keyword
+
+-- the selector is this keyword
+abbrev pub is_keyword : List ℕ → Selector → Bool
+is_keyword word (Exactly number) = false
+is_keyword word (Keyword other) = bytes_eq other word
+
+-- the first branch of a keyword
+abbrev pub branch_of_keyword : List ℕ → List Branching → Option (List Part)
+branch_of_keyword word [] = None
+branch_of_keyword word (b ∷ bs) = if is_keyword word b.0 then Some b.1 else branch_of_keyword word bs
+
+-- no parts, if there is no branch: the reader of patterns requires a branch `other`
+abbrev pub parts_or_none : Option (List Part) → List Part
+parts_or_none None = []
+parts_or_none (Some parts) = parts
+
+-- a branch, or else another one
+abbrev pub or_branch : Option (List Part) → Option (List Part) → Option (List Part)
+or_branch None other = other
+or_branch (Some parts) other = Some parts
+
+-- the branch of a keyword, or of `other` if there is none
+abbrev pub branch_or_other : List ℕ → List Branching → List Part
+branch_or_other word bs = parts_or_none (or_branch (branch_of_keyword word bs) (branch_of_keyword (codes "other") bs))
+
+-- ---- by a number
+
+-- the text writes a number, within the limits of numbers, of the same value
+abbrev pub EqualsWritten : CompactNumber → List ℕ → Type 0
+EqualsWritten x text = (y : CompactNumber) × WritesCompact text y × (IsCompactOverLimit y → ⊥) × HaveSameValue x y
+
+-- the selector is `=` and such a number
+abbrev pub Equals : CompactNumber → Selector → Type 0
+Equals x (Exactly number) = EqualsWritten x number
+Equals x (Keyword word) = ⊥
+
+-- the first branch whose selector is `=` and a number of the same value, or none
+abbrev pub IsBranchOfValue : CompactNumber → List Branching → Option (List Part) → Type 0
+IsBranchOfValue x [] parts = parts ≡ None
+IsBranchOfValue x (b ∷ bs) parts =
+    (Equals x b.0 × (parts ≡ Some b.1)) ⊎ ((Equals x b.0 → ⊥) × IsBranchOfValue x bs parts)
+
+-- The category that the rules choose for a number: by what is kept of its digits, and within the
+-- exactness bound that of the number itself.
+pub record IsCategory (rules : FiveRules) (x : CompactNumber) (category : PluralCategory) : Type 0 where
+  pub kept : IsKeptChoice rules x.significand.absolute x.exponent category
+  pub exact : IsExactChoice rules x.significand.absolute x.exponent category
+
+-- The branch for a number: the first of its value, else that of its category, else `other`.
+abbrev pub IsBranchOfNumber : FiveRules → CompactNumber → List Branching → List Part → Type 0
+IsBranchOfNumber rules x bs parts =
+    IsBranchOfValue x bs (Some parts)
+    ⊎ (IsBranchOfValue x bs None × ((category : PluralCategory) × IsCategory rules x category × (parts ≡ branch_or_other (name_of category) bs)))

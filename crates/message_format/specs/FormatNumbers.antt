@@ -1,0 +1,23 @@
+-- Numbers of the same value: `1.0` has that of `1`, and `1.2c3` that of `1200`.
+use Rattle.std.specs.Prelude.{◌≡◌, ◌↔◌, ◌<◌, ℤ, pos, ◌-ℤ◌}
+use Rattle.std.specs.Prelude.{ℕ}
+use Rattle.fixed_decimal.specs.Places.{digit_at}
+use Rattle.fixed_decimal.specs.Written.{CompactNumber}
+use Rattle.fixed_decimal.specs.declared.sign.Sign.TheVariants.{Negative}
+
+-- the digit at a power of ten, 0 outside the written places: the exponent moves the point
+abbrev pub digit_of : CompactNumber → ℤ → ℕ
+digit_of x k = digit_at x.significand.absolute (k -ℤ pos x.exponent)
+
+-- the digits are the same at each power of ten
+abbrev pub HaveSameDigits : CompactNumber → CompactNumber → Type 0
+HaveSameDigits x y = (k : ℤ) → digit_of x k ≡ digit_of y k
+
+-- the sign is a minus, and a digit isn't 0
+abbrev pub IsBelowZero : CompactNumber → Type 0
+IsBelowZero x = (x.significand.sign ≡ Negative) × (k : ℤ) × (0 < digit_at x.significand.absolute k)
+
+-- the numbers have the same value
+pub record HaveSameValue (x y : CompactNumber) : Type 0 where
+  pub digits : HaveSameDigits x y
+  pub signs : IsBelowZero x ↔ IsBelowZero y

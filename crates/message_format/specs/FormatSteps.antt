@@ -1,0 +1,71 @@
+-- What a part of a message does: it prints, or chooses a branch, or has a fault.
+use Rattle.std.specs.Prelude.{◌≡◌, ◌⊎◌, ℕ, List, Option, Some, None}
+use Rattle.fixed_decimal.specs.Written.{CompactNumber, WritesCompact, IsCompactOverLimit}
+use Rattle.plural_base.specs.FiveRules.{FiveRules}
+use Rattle.message_pattern.specs.PatternParts.{Part, Piece, Hash, Begin, Branch, End}
+use Rattle.message_pattern.specs.PatternParts as piece
+use Rattle.message_pattern.specs.declared.part.ArgumentKind.{ArgumentKind}
+use Rattle.message_pattern.specs.declared.part.ArgumentKind.TheVariants.{Plural, Ordinal, Select}
+use Rattle.message_format.specs.declared.error.ArgumentFault.{ArgumentFault}
+use Rattle.message_format.specs.declared.error.ArgumentFault.TheVariants.{Missing, WrongKind, NotANumber, OverLimit, OffsetUnsupported}
+use Rattle.message_format.specs.FormatArguments.{Argument, Value, Number, Text, value_named}
+use Rattle.message_format.specs.FormatBranches.{Branching, branches_of, branch_or_other, IsBranchOfNumber}
+
+-- what a part does
+pub data Step : Type 0 where
+  -- ends the message: a selector, or the end of an argument
+  Stops : Step
+  -- prints a text
+  Prints : List ℕ → Step
+  -- chooses a branch: the text of `#` in it, and the parts from it on
+  Chooses : List ℕ → List Part → Step
+  -- has a fault: the argument of this name
+  Fails : ArgumentFault → List ℕ → Step
+
+-- the rules of a language, for cardinal and for ordinal numbers
+pub record TwoRules : Type 0 where
+  pub cardinal : FiveRules
+  pub ordinal : FiveRules
+
+-- `{name}` prints the argument as it is given
+abbrev pub shown_value : List ℕ → Option Value → Step
+shown_value name None = Fails Missing name
+shown_value name (Some (Number number)) = Prints number
+shown_value name (Some (Text text)) = Prints text
+
+-- A select compares a text with its keywords. `#` in its branches is what it is around it.
+abbrev pub selected : List ℕ → List ℕ → List Branching → Option Value → Step
+selected hash name bs None = Fails Missing name
+selected hash name bs (Some (Number number)) = Fails WrongKind name
+selected hash name bs (Some (Text text)) = Chooses hash (branch_or_other text bs)
+
+-- The text of an argument writes a number, by which a plural chooses, and `#` is this text; or it
+-- writes none, or one over a limit.
+abbrev pub IsCounted : FiveRules → List ℕ → List Branching → List ℕ → Step → Type 0
+IsCounted rules name bs text step =
+    (((x : CompactNumber) → WritesCompact text x → ⊥) × (step ≡ Fails NotANumber name))
+    ⊎ (((x : CompactNumber) × WritesCompact text x × IsCompactOverLimit x) × (step ≡ Fails OverLimit name))
+    ⊎ ((x : CompactNumber) × (parts : List Part) × WritesCompact text x × (IsCompactOverLimit x → ⊥) × IsBranchOfNumber rules x bs parts × (step ≡ Chooses text parts))
+
+-- A plural or an ordinal with these branches.
+abbrev pub IsPlural : FiveRules → List ℕ → Option (List ℕ) → List Branching → Option Value → Step → Type 0
+IsPlural rules name offset bs None step = step ≡ Fails Missing name
+IsPlural rules name offset bs (Some (Text text)) step = step ≡ Fails WrongKind name
+IsPlural rules name (Some digits) bs (Some (Number text)) step = step ≡ Fails OffsetUnsupported name
+IsPlural rules name None bs (Some (Number text)) step = IsCounted rules name bs text step
+
+-- An argument that chooses, by its kind.
+abbrev pub IsChoice : TwoRules → List ℕ → ArgumentKind → List ℕ → Option (List ℕ) → List Branching → Option Value → Step → Type 0
+IsChoice rules hash Plural name offset bs value step = IsPlural rules.cardinal name offset bs value step
+IsChoice rules hash Ordinal name offset bs value step = IsPlural rules.ordinal name offset bs value step
+IsChoice rules hash Select name offset bs value step = step ≡ selected hash name bs value
+
+-- What a piece at a depth does, which these parts follow, where `#` is the first text.
+abbrev pub IsStep : List Argument → TwoRules → List ℕ → ℕ → Piece → List Part → Step → Type 0
+IsStep arguments rules hash depth (piece.Text text) rest step = step ≡ Prints text
+IsStep arguments rules hash depth Hash rest step = step ≡ Prints hash
+IsStep arguments rules hash depth (piece.Argument name) rest step = step ≡ shown_value name (value_named name arguments)
+IsStep arguments rules hash depth (Begin kind name offset) rest step =
+    IsChoice rules hash kind name offset (branches_of depth rest) (value_named name arguments) step
+IsStep arguments rules hash depth (Branch selector) rest step = step ≡ Stops
+IsStep arguments rules hash depth End rest step = step ≡ Stops

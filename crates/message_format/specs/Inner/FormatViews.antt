@@ -1,0 +1,62 @@
+-- What private functions return, without where it lies in memory.
+use Rattle.std.specs.Prelude.{◌≡◌, ◌≤◌, ◌<ℤ◌, ℤ, ℕ, List, Vec, length, Option, Some, None, Result, Ok, Err}
+use Rattle.std.specs.Borrow.{Bor}
+use Rattle.std.specs.declared.alloc.Global.{Global}
+use Rattle.fixed_decimal.specs.Written.{CompactNumber}
+use Rattle.message_pattern.specs.declared.part.Part as parts
+use Rattle.message_pattern.specs.PatternParts.{Part, parts_view}
+use Rattle.message_format.specs.declared.arguments.Value as values
+use Rattle.message_format.specs.declared.error.FormatError.{FormatError}
+use Rattle.message_format.specs.declared.error.FormatError.TheVariants as error
+use Rattle.message_format.specs.declared.steps.Rules as rules
+use Rattle.message_format.specs.declared.steps.Step as steps
+use Rattle.message_format.specs.declared.steps.Step.TheVariants as step
+use Rattle.message_format.specs.FormatArguments.{Argument, Value, value_view}
+use Rattle.message_format.specs.FormatNumbers.{digit_of}
+use Rattle.message_format.specs.FormatSteps.{Step, Stops, Prints, Chooses, Fails, TwoRules}
+use Rattle.message_format.specs.FormatMeaning.{Outcome, Said, Faulty, Says}
+
+abbrev pub any_value : Option values.Value → Option Value
+any_value None = None
+any_value (Some value) = Some (value_view value)
+
+abbrev pub any_parts : Option (Bor (List parts.Part)) → Option (List Part)
+any_parts None = None
+any_parts (Some ps) = Some (parts_view ps.now)
+
+abbrev pub step_view : steps.Step → Step
+step_view step.Stops = Stops
+step_view (step.Prints text) = Prints text.now
+step_view (step.Chooses number branch) = Chooses number.now (parts_view branch.now)
+
+-- what a private call returns meets the relation of steps, unless memory ran out
+abbrev pub GivesStep : (Step → Type 0) → Result steps.Step FormatError → Type 0
+GivesStep IsStep (Ok s) = IsStep (step_view s)
+GivesStep IsStep (Err (error.Argument fault name)) = IsStep (Fails fault name.now)
+GivesStep IsStep (Err error.Memory) = Unit {0}
+
+-- a branch that is chosen is no longer than the parts that it is chosen from
+abbrev pub IsBehind : ℕ → Result steps.Step FormatError → Type 0
+IsBehind n (Ok (step.Chooses number branch)) = length branch.now ≤ n
+IsBehind n _ = Unit {0}
+
+-- the rules, as contracts see them
+abbrev pub two_rules : rules.Rules → TwoRules
+two_rules r = record { cardinal = r.cardinal.now; ordinal = r.ordinal.now }
+
+-- what a private call returns, with the text before and after it: the outcome, or out of memory
+abbrev pub GivesOutcome : List Argument → TwoRules → List ℕ → List Part → List ℕ → List ℕ → Result (Unit {0}) FormatError → Type 0
+GivesOutcome arguments rules hash parts old new (Ok x) = Says arguments rules hash old parts (Said new)
+GivesOutcome arguments rules hash parts old new (Err (error.Argument fault name)) = Says arguments rules hash old parts (Faulty fault name.now)
+GivesOutcome arguments rules hash parts old new (Err error.Memory) = Unit {0}
+
+-- the outcome that a result has, or none if memory ran out
+abbrev pub outcome_of : Result (Vec ℕ Global) FormatError → Option Outcome
+outcome_of (Ok text) = Some (Said text.items)
+outcome_of (Err (error.Argument fault name)) = Some (Faulty fault name.now)
+outcome_of (Err error.Memory) = None
+
+-- outside these powers of ten all digits are 0
+pub record IsZeroOutside (x : CompactNumber) (low high : ℤ) : Type 0 where
+  pub below : (k : ℤ) → k <ℤ low → digit_of x k ≡ 0
+  pub above : (k : ℤ) → high <ℤ k → digit_of x k ≡ 0

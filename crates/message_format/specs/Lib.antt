@@ -1,0 +1,9 @@
+-- what a pattern says with its arguments
+pub mod FormatArguments
+pub mod FormatNumbers
+pub mod FormatBranches
+pub mod FormatSteps
+pub mod FormatMeaning
+pub mod FormatErrors
+-- not definitions of the subject
+pub mod Inner

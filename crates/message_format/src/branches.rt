@@ -1,0 +1,120 @@
+//! The branches of an argument.
+
+ghost use Rattle.std.specs.Prelude.{◌≡◌, ◌≤◌, length, IfOk, IfSome};
+ghost use Rattle.message_pattern.specs.PatternParts.{parts_view, selector_view};
+ghost use Rattle.message_format.specs.FormatBranches.{branches_of, behind_end, is_keyword, branch_of_keyword, branch_or_other, IsBranchOfValue, IsBranchOfNumber};
+ghost use Rattle.message_format.specs.Inner.FormatViews.{any_parts};
+
+use crate::numbers::equals;
+use fixed_decimal::CompactDecimal;
+use message_pattern::{Part, Piece, Selector};
+use plural_base::PluralRules;
+use std::alloc::{AllocError, Global};
+
+// The parts that follow the end of an argument at this depth.
+pub(crate) fn behind_end<'p>(depth: usize, parts: &'p [Part<'p>]) -> &'p [Part<'p>]
+    ensures rest { parts_view result.now ≡ behind_end depth (parts_view parts.now) }
+    ensures shorter { length result.now ≤ length parts.now }
+{
+    let mut left = parts;
+    while let [part, rest @ ..] = left {
+        if part.depth <= depth {
+            if let Piece::End = part.piece {
+                return rest;
+            }
+        }
+        left = rest;
+    }
+    left
+}
+
+// Whether a selector is this keyword.
+fn is_keyword(word: &[u8], selector: Selector<'_>) -> bool
+    ensures { result ≡ is_keyword word.now (selector_view selector.entry) }
+{
+    match selector {
+        Selector::Exactly(_) => false,
+        Selector::Keyword(other) => other == word,
+    }
+}
+
+// The first branch of a keyword.
+fn branch_of_keyword<'p>(word: &[u8], depth: usize, parts: &'p [Part<'p>]) -> Option<&'p [Part<'p>]>
+    ensures branch { any_parts result ≡ branch_of_keyword word.now (branches_of depth (parts_view parts.now)) }
+    ensures shorter { IfSome result (λ x. length x.now ≤ length parts.now) }
+{
+    let mut left = parts;
+    while let [part, rest @ ..] = left {
+        if part.depth <= depth {
+            let Piece::Branch(selector) = part.piece else {
+                return None;
+            };
+            if is_keyword(word, selector) {
+                return Some(rest);
+            }
+        }
+        left = rest;
+    }
+    None
+}
+
+// The branch of a keyword, or of `other` if there is none.
+pub(crate) fn branch_or_other<'p>(
+    word: &[u8],
+    depth: usize,
+    parts: &'p [Part<'p>],
+) -> &'p [Part<'p>]
+    ensures branch { parts_view result.now ≡ branch_or_other word.now (branches_of depth (parts_view parts.now)) }
+    ensures shorter { length result.now ≤ length parts.now }
+{
+    if let Some(branch) = branch_of_keyword(word, depth, parts) {
+        return branch;
+    }
+    if let Some(branch) = branch_of_keyword(b"other", depth, parts) {
+        return branch;
+    }
+    &parts[parts.len()..]
+}
+
+// The first branch whose selector is `=` and a number of the same value.
+fn branch_of_value<'p>(
+    alloc: Global,
+    number: &CompactDecimal,
+    depth: usize,
+    parts: &'p [Part<'p>],
+) -> Result<Option<&'p [Part<'p>]>, AllocError>
+    ensures branch { IfOk result (λ found. IsBranchOfValue number.now (branches_of depth (parts_view parts.now)) (any_parts found)) }
+    ensures shorter { IfOk result (λ found. IfSome found (λ x. length x.now ≤ length parts.now)) }
+{
+    let mut left = parts;
+    while let [part, rest @ ..] = left {
+        if part.depth <= depth {
+            let Piece::Branch(selector) = part.piece else {
+                return Ok(None);
+            };
+            if equals(alloc, number, selector)? {
+                return Ok(Some(rest));
+            }
+        }
+        left = rest;
+    }
+    Ok(None)
+}
+
+// The branch for a number: the first of its value, else that of its category, else `other`.
+pub(crate) fn branch_of_number<'p>(
+    alloc: Global,
+    rules: &PluralRules<'_>,
+    number: &CompactDecimal,
+    depth: usize,
+    parts: &'p [Part<'p>],
+) -> Result<&'p [Part<'p>], AllocError>
+    ensures branch { IfOk result (λ x. IsBranchOfNumber rules.now number.now (branches_of depth (parts_view parts.now)) (parts_view x.now)) }
+    ensures shorter { IfOk result (λ x. length x.now ≤ length parts.now) }
+{
+    if let Some(branch) = branch_of_value(alloc, number, depth, parts)? {
+        return Ok(branch);
+    }
+    let category = rules.category_for_compact(number);
+    Ok(branch_or_other(category.as_str().as_bytes(), depth, parts))
+}

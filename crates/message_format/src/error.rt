@@ -1,0 +1,58 @@
+//! Why a pattern says nothing.
+
+use std::alloc::{AllocError, AllocFailed};
+use std::error::Error;
+use std::fmt;
+
+/// What is wrong with an argument.
+#[derive(Clone, Copy, Debug, PartialEq, Eq)]
+pub enum ArgumentFault {
+    /// No argument has the name.
+    Missing,
+    /// A text where a number is counted, or a number where a text is compared.
+    WrongKind,
+    /// The text of a number doesn't write one.
+    NotANumber,
+    /// The text of a number writes one over a limit.
+    OverLimit,
+    /// The argument has an offset.
+    OffsetUnsupported,
+}
+
+impl fmt::Display for ArgumentFault {
+    ghost use Rattle.std.specs.Prelude.{Some};
+    ghost use Rattle.message_format.specs.FormatErrors.{argument_fault_text};
+
+    ghost output = { λ fault. Some (argument_fault_text fault) };
+
+    fn fmt<W: fmt::Write>(&self, f: &mut fmt::Formatter<W>) -> fmt::Result {
+        f.write_str(match self {
+            ArgumentFault::Missing => "no argument has the name",
+            ArgumentFault::WrongKind => "the argument is of the wrong kind",
+            ArgumentFault::NotANumber => "bad number",
+            ArgumentFault::OverLimit => "number out of limits",
+            ArgumentFault::OffsetUnsupported => "an offset isn't supported",
+        })
+    }
+}
+
+/// Why [`format`](crate::format) returns no text.
+#[derive(Clone, Copy, Debug)]
+pub enum FormatError<'p> {
+    /// What is wrong with an argument, and its name in the pattern: the first fault, in the order
+    /// of the parts that are formatted.
+    Argument(ArgumentFault, &'p [u8]),
+    /// Out of memory.
+    Memory,
+}
+
+impl<'p> From<AllocError> for FormatError<'p> {
+    ghost use Rattle.std.specs.Prelude.{◌≡◌};
+    ghost use Rattle.message_format.specs.declared.error.FormatError.TheVariants.{Memory};
+
+    ghost from_gives = { λ _ error. error ≡ Memory };
+
+    fn from(_error: AllocError) -> Self {
+        FormatError::Memory
+    }
+}

@@ -1,0 +1,69 @@
+//! What a pattern says.
+
+ghost use Rattle.std.specs.Prelude.{◌≡◌, ◌++◌, IfErr, OnOk};
+ghost use Rattle.message_pattern.specs.PatternParts.{parts_view};
+ghost use Rattle.message_format.specs.FormatArguments.{arguments_view};
+ghost use Rattle.message_format.specs.FormatMeaning.{SaysExactly};
+ghost use Rattle.message_format.specs.Inner.FormatViews.{GivesOutcome, outcome_of, two_rules};
+
+use crate::arguments::Argument;
+use crate::branches::behind_end;
+use crate::error::FormatError;
+use crate::steps::{Rules, Step, step_of};
+use fixed_decimal::laws::texts_write_one_number;
+use message_pattern::{Part, Pattern};
+use std::alloc::Global;
+
+// Formats the message at the front of the parts.
+fn message<'p>(
+    alloc: Global,
+    arguments: &'p [Argument<'p>],
+    rules: &Rules<'_, '_>,
+    hash: &'p [u8],
+    parts: &'p [Part<'p>],
+    said: &mut Vec<u8>,
+) -> Result<(), FormatError<'p>>
+    ensures { GivesOutcome (arguments_view arguments.now) (two_rules rules.now) hash.now (parts_view parts.now) said.old.items said.new.items result }
+{
+    let mut left = parts;
+    'parts: while let [part, rest @ ..] = left {
+        match step_of(alloc, arguments, rules, hash, *part, rest)? {
+            Step::Stops => return Ok(()),
+            Step::Prints(text) => {
+                said.extend_from_slice(text)?;
+                left = rest;
+            }
+            Step::Chooses(number, branch) => {
+                message(alloc, arguments, rules, number, branch, said)?;
+                left = behind_end(part.depth, rest);
+            }
+        }
+    }
+    Ok(())
+}
+
+/// Returns what a pattern says with its arguments (ICU MessageFormat), under the rules of a
+/// language, as bytes: UTF-8, if the pattern and the arguments are. It allocates the text, and the
+/// digits of long numbers.
+///
+/// A plural takes the first branch whose selector is `=` and a number of the same value, else the
+/// one of the number's category, else `other`; a select the one of the text, else `other`. `{name}`
+/// and `#` are said as the caller writes them.
+///
+/// The errors: [`FormatError::Argument`] with the first fault, in the order of the parts that are
+/// formatted, and the name of its argument: `Missing`, `WrongKind`, `NotANumber`, `OverLimit`, and
+/// `OffsetUnsupported` for a plural with an offset; [`FormatError::Memory`] if memory ran out.
+pub fn format<'p>(
+    alloc: Global,
+    pattern: &'p Pattern<'p>,
+    arguments: &'p [Argument<'p>],
+    rules: &Rules<'_, '_>,
+) -> Result<Vec<u8>, FormatError<'p>>
+    ensures { SaysExactly (arguments_view arguments.now) (two_rules rules.now) pattern.now (outcome_of result) }
+{
+    // A text writes one number at most, so it has one category.
+    texts_write_one_number();
+    let mut said = Vec::new(alloc);
+    message(alloc, arguments, rules, b"", pattern.parts(), &mut said)?;
+    Ok(said)
+}

@@ -1,0 +1,14 @@
+//! What a pattern of ICU's MessageFormat says with its arguments.
+#![tactic(auto)]
+
+mod arguments;
+mod branches;
+mod error;
+mod formatting;
+mod numbers;
+mod steps;
+
+pub use arguments::{Argument, Value};
+pub use error::{ArgumentFault, FormatError};
+pub use formatting::format;
+pub use steps::Rules;

@@ -1,0 +1,147 @@
+//! What a part of a message does.
+
+ghost use Rattle.std.specs.Prelude.{◌≡◌, ◌≤◌, length, IfOk, Some};
+ghost use Rattle.message_pattern.specs.PatternParts.{parts_view, piece_view, offset_view};
+ghost use Rattle.message_format.specs.FormatArguments.{arguments_view, value_view};
+ghost use Rattle.message_format.specs.FormatBranches.{branches_of};
+ghost use Rattle.message_format.specs.FormatSteps.{shown_value, selected, IsCounted, IsPlural, IsChoice, IsStep};
+ghost use Rattle.message_format.specs.Inner.FormatViews.{any_value, GivesStep, IsBehind, two_rules};
+
+use crate::arguments::{Argument, Value, value_named};
+use crate::branches::{branch_of_number, branch_or_other};
+use crate::error::{ArgumentFault, FormatError};
+use fixed_decimal::laws::texts_write_one_number;
+use fixed_decimal::{CompactDecimal, DecimalError};
+use message_pattern::{ArgumentKind, Part, Piece};
+use plural_base::PluralRules;
+use std::alloc::Global;
+
+/// The rules of a language, for cardinal and for ordinal numbers.
+#[derive(Clone, Copy, Debug)]
+pub struct Rules<'r, 'data> {
+    /// The rules of `plural`.
+    pub cardinal: &'r PluralRules<'data>,
+    /// The rules of `selectordinal`.
+    pub ordinal: &'r PluralRules<'data>,
+}
+
+// What a part does.
+pub(crate) enum Step<'p> {
+    // Ends the message.
+    Stops,
+    // Prints a text.
+    Prints(&'p [u8]),
+    // Chooses a branch: the text of `#` in it, and the parts from it on.
+    Chooses(&'p [u8], &'p [Part<'p>]),
+}
+
+// What `{name}` prints.
+fn shown_value<'p>(name: &'p [u8], value: Option<Value<'p>>) -> Result<Step<'p>, FormatError<'p>>
+    ensures step { GivesStep (λ step. step ≡ shown_value name.now (any_value value.entry)) result }
+    ensures shorter { IsBehind 0 result }
+{
+    match value {
+        Some(Value::Number(number)) => Ok(Step::Prints(number.as_bytes())),
+        Some(Value::Text(text)) => Ok(Step::Prints(text.as_bytes())),
+        None => Err(FormatError::Argument(ArgumentFault::Missing, name)),
+    }
+}
+
+// A select of a value.
+fn selected<'p>(
+    hash: &'p [u8],
+    name: &'p [u8],
+    depth: usize,
+    rest: &'p [Part<'p>],
+    value: Option<Value<'p>>,
+) -> Result<Step<'p>, FormatError<'p>>
+    ensures step { GivesStep (λ step. step ≡ selected hash.now name.now (branches_of depth (parts_view rest.now)) (any_value value.entry)) result }
+    ensures shorter { IsBehind (length rest.now) result }
+{
+    match value {
+        Some(Value::Text(text)) => {
+            let branch = branch_or_other(text.as_bytes(), depth, rest);
+            Ok(Step::Chooses(hash, branch))
+        }
+        Some(Value::Number(_)) => Err(FormatError::Argument(ArgumentFault::WrongKind, name)),
+        None => Err(FormatError::Argument(ArgumentFault::Missing, name)),
+    }
+}
+
+// A plural without an offset, of the text of a number.
+fn counted<'p>(
+    alloc: Global,
+    rules: &PluralRules<'_>,
+    name: &'p [u8],
+    depth: usize,
+    rest: &'p [Part<'p>],
+    text: &'p str,
+) -> Result<Step<'p>, FormatError<'p>>
+    ensures step { GivesStep (λ step. IsCounted rules.now name.now (branches_of depth (parts_view rest.now)) text.now step) result }
+    ensures shorter { IsBehind (length rest.now) result }
+{
+    match CompactDecimal::from_str(alloc, text) {
+        Ok(number) => {
+            let branch = branch_of_number(alloc, rules, &number, depth, rest)?;
+            Ok(Step::Chooses(text.as_bytes(), branch))
+        }
+        Err(DecimalError::Syntax) => { Err(FormatError::Argument(ArgumentFault::NotANumber, name)) }
+        Err(DecimalError::Limit) => Err(FormatError::Argument(ArgumentFault::OverLimit, name)),
+        Err(DecimalError::Memory) => Err(FormatError::Memory),
+    }
+}
+
+// A plural of a value.
+fn plural<'p>(
+    alloc: Global,
+    rules: &PluralRules<'_>,
+    name: &'p [u8],
+    offset: Option<&'p [u8]>,
+    depth: usize,
+    rest: &'p [Part<'p>],
+    value: Option<Value<'p>>,
+) -> Result<Step<'p>, FormatError<'p>>
+    ensures step { GivesStep (λ step. IsPlural rules.now name.now (offset_view offset.entry) (branches_of depth (parts_view rest.now)) (any_value value.entry) step) result }
+    ensures shorter { IsBehind (length rest.now) result }
+{
+    match value {
+        Some(Value::Number(text)) => match offset {
+            None => counted(alloc, rules, name, depth, rest, text),
+            Some(_) => Err(FormatError::Argument(ArgumentFault::OffsetUnsupported, name)),
+        },
+        Some(Value::Text(_)) => Err(FormatError::Argument(ArgumentFault::WrongKind, name)),
+        None => Err(FormatError::Argument(ArgumentFault::Missing, name)),
+    }
+}
+
+// What a part does, which these parts follow.
+pub(crate) fn step_of<'p>(
+    alloc: Global,
+    arguments: &[Argument<'p>],
+    rules: &Rules<'_, '_>,
+    hash: &'p [u8],
+    part: Part<'p>,
+    rest: &'p [Part<'p>],
+) -> Result<Step<'p>, FormatError<'p>>
+    ensures step { GivesStep (λ step. IsStep (arguments_view arguments.now) (two_rules rules.now) hash.now part.entry.depth (piece_view part.entry.piece) (parts_view rest.now) step) result }
+    ensures shorter { IsBehind (length rest.now) result }
+{
+    match part.piece {
+        Piece::Text(text) => Ok(Step::Prints(text)),
+        Piece::Hash => Ok(Step::Prints(hash)),
+        Piece::Argument(name) => shown_value(name, value_named(name, arguments)),
+        Piece::Begin(kind, name, offset) => {
+            let value = value_named(name, arguments);
+            match kind {
+                ArgumentKind::Plural => {
+                    plural(alloc, rules.cardinal, name, offset, part.depth, rest, value)
+                }
+                ArgumentKind::Ordinal => {
+                    plural(alloc, rules.ordinal, name, offset, part.depth, rest, value)
+                }
+                ArgumentKind::Select => selected(hash, name, part.depth, rest, value),
+            }
+        }
+        Piece::Branch(_) | Piece::End => Ok(Step::Stops),
+    }
+}
