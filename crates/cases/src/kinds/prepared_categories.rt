@@ -1,15 +1,16 @@
-//! The categories of integers by prepared rules in a row.
+//! The categories of integers by prepared rules, and by their table, in a row.
 
 use crate::call::Call;
 use icu_plurals::provider::RawPluralCategory;
-use icu_plurals::{PluralRules, PreparedRules};
+use icu_plurals::{CategoryTable, PluralRules, PreparedRules};
 
 /// Makes the call of a kind of this file. Returns whether there is such a kind.
 pub fn make(kind: &str, call: &mut Call) -> bool {
-    if kind != "prepared_categories" {
-        return false;
+    match kind {
+        "prepared_categories" => prepared_categories(call),
+        "table_categories" => table_categories(call),
+        _ => return false,
     }
-    prepared_categories(call);
     true
 }
 
@@ -20,5 +21,22 @@ fn prepared_categories(call: &mut Call) {
         let category = rules.category_for_integer(call.number_of(value));
         call.separate(" ");
         call.print(RawPluralCategory::from(category).as_str());
+    }
+}
+
+// What the table of the rules tells of a list of integers: `ask` where it is nothing.
+fn table_categories(call: &mut Call) {
+    let rules = PreparedRules::from_rules(PluralRules::from_data(call.rules()));
+    let bytes = rules.to_table();
+    let Some(table) = CategoryTable::from_bytes(&bytes) else {
+        return;
+    };
+    for value in &call.list() {
+        let told = table.category_for_integer(call.number_of(value));
+        call.separate(" ");
+        match told {
+            Some(category) => call.print(RawPluralCategory::from(category).as_str()),
+            None => call.print("ask"),
+        }
     }
 }
