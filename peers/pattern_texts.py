@@ -40,7 +40,7 @@ class Made:
         return self.pick(BLANKS)
 
     def wide_blank(self):
-        """Returns white space that no name stands before, so that both sides know it."""
+        """Returns white space, that above ASCII too: where no name stands before it."""
         return self.pick(BLANKS_ABOVE_ASCII) if self.random.random() < 0.1 else self.blank()
 
     def blank_after_name(self):

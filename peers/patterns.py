@@ -14,13 +14,12 @@ CONTEXTS = {"plural": COUNTED, "ordinal": COUNTED, "select": SELECTED}
 # ---- where ICU4C differs: each is a change of the reader
 
 SIMPLE = "simple formats and choice"
-BLANK = "white space above ASCII ends a name"
 MARKS = "marks above ASCII end a name"
 CONTROLS = "control characters in a name"
 NUMBERS = "other forms of numbers"
 SIZES = "sizes that ICU4C limits"
 DEEP = "more than 32 branches deep"
-CHANGES = (SIMPLE, BLANK, MARKS, CONTROLS, NUMBERS, SIZES, DEEP)
+CHANGES = (SIMPLE, MARKS, CONTROLS, NUMBERS, SIZES, DEEP)
 
 # Unicode's Pattern_White_Space, and its Pattern_Syntax (Unicode Standard Annex 31: neither is changed ever).
 WHITE_ABOVE_ASCII = "\x85\u200e\u200f\u2028\u2029"
@@ -45,10 +44,9 @@ LONGEST_DOUBLE = 127
 
 def name_form(changes):
     """Returns the form of names, with these changes."""
-    left_out = (WHITE_ABOVE_ASCII if BLANK in changes else "") + (MARKS_ABOVE_ASCII if MARKS in changes else "")
+    left_out = WHITE_ABOVE_ASCII + (MARKS_ABOVE_ASCII if MARKS in changes else "")
     controls = "\0-\x08\x0e-\x1f\x7f" if CONTROLS in changes else ""
-    front = f"(?![{left_out}])" if left_out else ""
-    return re.compile(f"(?:{front}[0-9A-Za-z_{controls}\x80-\U0010ffff])*")
+    return re.compile(f"(?:(?![{left_out}])[0-9A-Za-z_{controls}\x80-\U0010ffff])*")
 
 
 class Fault(Exception):

@@ -1,5 +1,5 @@
 -- What the reader returns is the only answer.
-use Rattle.std.proofs.Common.{◌≡◌, ◌⊎◌, ℕ, ◌-◌, false, List, [], length, Result, Ok, Err, refl, sym, ap, subst, ◌∙◌, inl, inr}
+use Rattle.std.proofs.Common.{◌≡◌, ℕ, ◌-◌, false, List, [], length, Result, Ok, Err, refl, sym, ap, subst, ◌∙◌, inl, inr}
 use Rattle.message_pattern.specs.declared.error.Fault.{Fault}
 use Rattle.message_pattern.specs.declared.error.FaultKind.{FaultKind}
 use Rattle.message_pattern.specs.declared.error.PatternError as error
@@ -8,7 +8,7 @@ use Rattle.message_pattern.specs.PatternParts.{Part}
 use Rattle.message_pattern.specs.PatternReading.{InMessage, Outcome, Read, Faulty, ReadsPattern}
 use Rattle.message_pattern.specs.PatternGrammar.{IsRead}
 use Rattle.message_pattern.specs.declared.text.Context.TheVariants.{Whole}
-use Rattle.message_pattern.specs.PatternAnswers.{IsPattern, HasFault, IsUnlessMemory, IsFaultOf, IsAnswer, AnswersExactly, IsPatternOrFaulty}
+use Rattle.message_pattern.specs.PatternAnswers.{IsPattern, HasFault, IsUnlessMemory, IsAnswer, AnswersExactly, IsPatternOrFaulty}
 use Rattle.message_pattern.proofs.Readings.{one_outcome}
 use Rattle.message_pattern.proofs.GrammarReads.{read_again, reading_in}
 use Rattle.message_pattern.proofs.Total.{found}

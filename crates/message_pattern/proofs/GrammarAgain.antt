@@ -6,12 +6,12 @@ use Rattle.message_pattern.specs.declared.error.Fault.{Fault}
 use Rattle.message_pattern.specs.declared.error.FaultKind.TheVariants.{ExpectedName, BadNumber, ExpectedType, ExpectedOffset, ExpectedSelector, ExpectedValue, MissingOther}
 use Rattle.message_pattern.specs.declared.part.ArgumentKind.{ArgumentKind}
 use Rattle.message_pattern.specs.declared.part.ArgumentKind.TheVariants.{Plural, Ordinal, Select}
-use Rattle.message_pattern.specs.PatternBytes.{comma, equals, opening, closing, is_empty, is_in, run, behind_run, after_white, after_word}
+use Rattle.message_pattern.specs.PatternBytes.{comma, equals, opening, closing, is_empty, begins, behind_run, after_white, after_word}
 use Rattle.message_pattern.specs.PatternParts.{Selector, Exactly, Keyword}
 use Rattle.message_pattern.specs.PatternHeads.{◌>>=◌, fault_at, missing, Head, Plain, Choice, is_bad_number, name_front, kind_named, kind_before, kind_front, offset_behind, offset_front, behind_name, head_front, counts, is_number, exact_front, keyword_front, selector_front, branch_opens, next_branch, branch_front, BranchFront}
 use Rattle.message_pattern.specs.PatternHeads as branch
 use Rattle.message_pattern.specs.PatternGrammar.{IsLongest, IsNameOrNumber, IsType, IsOffsetValue, IsOffset, IsSelector}
-use Rattle.message_pattern.proofs.Longest.{longest_run, longest_rest}
+use Rattle.message_pattern.proofs.Longest.{longest_run, longest_rest, longest_begins}
 use Rattle.message_pattern.proofs.GrammarHeads.{empty_false}
 
 abbrev after_name : List ℕ → List ℕ → List ℕ → Bool → Bool → Result (List ℕ × List ℕ) Fault
@@ -95,9 +95,9 @@ keyword_again s word rest l n =
     ∙ (ap (λ (r : List ℕ). after_keyword s (is_empty word) word r) (longest_rest Name s word rest l)
     ∙ ap (λ (a : Bool). after_keyword s a word rest) (empty_false word n))
 
-not_by : (b n : ℕ) (v : Bool) → (b == n) ≡ v → is_in Name b ≡ true → is_in Name n ≡ false → (b == n) ≡ false
-not_by b n true e h k = absurd (let t : true ≡ false = sym h ∙ (ap (λ (c : ℕ). is_in Name c) (eqb-true b n e) ∙ k) in cc)
-not_by b n false e h k = e
+not_by : (b n : ℕ) (s : List ℕ) (v : Bool) → (b == n) ≡ v → begins Name (b ∷ s) ≡ true → begins Name (n ∷ s) ≡ false → (b == n) ≡ false
+not_by b n s true e h k = absurd (let t : true ≡ false = sym h ∙ (ap (λ (c : ℕ). begins Name (c ∷ s)) (eqb-true b n e) ∙ k) in cc)
+not_by b n s false e h k = e
 
 -- a selector begins with a byte, and it is what is read there
 pub record Begins (kind : ArgumentKind) (s : List ℕ) (sel : Selector) (t : List ℕ) : Type 0 where
@@ -122,9 +122,9 @@ selector_again kind s (Keyword (b ∷ word)) t h = record {
   byte = b;
   more = word ++ t;
   whole = h.0.whole;
-  no_end = not_by b closing (b == closing) refl h.0.each.0 refl;
+  no_end = not_by b closing (word ++ t) (b == closing) refl (longest_begins Name s b word t h.0) refl;
   reads =
-      ap (λ (v : Bool). if v && counts kind then exact_front (word ++ t) else keyword_front (b ∷ (word ++ t))) (not_by b equals (b == equals) refl h.0.each.0 refl)
+      ap (λ (v : Bool). if v && counts kind then exact_front (word ++ t) else keyword_front (b ∷ (word ++ t))) (not_by b equals (word ++ t) (b == equals) refl (longest_begins Name s b word t h.0) refl)
       ∙ subst (λ (u : List ℕ). keyword_front u ≡ Ok (Keyword (b ∷ word), t)) h.0.whole (keyword_again s (b ∷ word) t h.0 h.1);
 }
 

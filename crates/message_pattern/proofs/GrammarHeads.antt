@@ -1,5 +1,5 @@
 -- The heads of arguments and branches are those of the grammar.
-use Rattle.std.proofs.Common.{◌≡◌, ◌≢◌, ◌==◌, ◌⊎◌, ℕ, List, [], ◌∷◌, ◌++◌, Bool, true, false, ◌&&◌, Option, Some, None, Result, Ok, Err, codes, refl, sym, ap, subst, ◌∙◌, inl, inr, if◌then◌else◌}
+use Rattle.std.proofs.Common.{◌≡◌, ◌≢◌, ◌==◌, ℕ, List, [], ◌∷◌, Bool, true, false, ◌&&◌, Option, Some, None, Result, Ok, Err, codes, refl, ap, subst, ◌∙◌, if◌then◌else◌}
 use Rattle.std.proofs.lemmas.Bool.{eqb-true}
 use Rattle.message_pattern.specs.declared.bytes.Class.TheVariants.{Name, Number, Digit, Letter}
 use Rattle.message_pattern.specs.declared.error.Fault.{Fault}
@@ -7,11 +7,11 @@ use Rattle.message_pattern.specs.declared.error.FaultKind.TheVariants.{ExpectedN
 use Rattle.message_pattern.specs.declared.part.ArgumentKind.{ArgumentKind}
 use Rattle.message_pattern.specs.declared.part.ArgumentKind.TheVariants.{Plural, Ordinal, Select}
 use Rattle.message_pattern.specs.PatternBytes.{comma, equals, opening, closing, is_empty, run, behind_run, after_white, after_word}
-use Rattle.message_pattern.specs.PatternParts.{Selector, Exactly, Keyword}
+use Rattle.message_pattern.specs.PatternParts.{Selector, Exactly}
 use Rattle.message_pattern.specs.PatternHeads.{◌>>=◌, fault_at, unclosed, missing, Head, Plain, Choice, is_bad_number, name_front, kind_named, style_front, kind_before, kind_front, digits_front, offset_behind, offset_front, choice_front, behind_name, head_front, counts, is_number, exact_front, keyword_front, selector_front, branch_opens, next_branch, branch_front, BranchFront}
 use Rattle.message_pattern.specs.PatternHeads as branch
-use Rattle.message_pattern.specs.PatternGrammar.{IsLongest, IsNameOrNumber, IsType, IsOffsetValue, IsOffset, IsSelector}
-use Rattle.message_pattern.proofs.Longest.{is_longest, longest_run, longest_rest}
+use Rattle.message_pattern.specs.PatternGrammar.{IsNameOrNumber, IsType, IsOffsetValue, IsOffset, IsSelector}
+use Rattle.message_pattern.proofs.Longest.{is_longest}
 
 -- ---- results
 

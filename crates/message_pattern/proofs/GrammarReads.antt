@@ -1,5 +1,5 @@
 -- What is read is in the grammar, and what is in the grammar is read.
-use Rattle.std.proofs.Common.{◌≡◌, ◌<◌, ◌+◌, ℕ, List, [], ◌∷◌, ◌++◌, Bool, true, false, ◌||◌, nat_lt, Option, Some, None, Result, Ok, Err, refl, sym, ap, subst, ◌∙◌, append_assoc, if◌then◌else◌}
+use Rattle.std.proofs.Common.{◌≡◌, ◌+◌, ℕ, List, [], ◌++◌, Bool, true, false, ◌||◌, nat_lt, Result, Ok, Err, refl, sym, ap, subst, ◌∙◌, append_assoc, if◌then◌else◌}
 use Rattle.std.proofs.lemmas.Bool.{ltb-true}
 use Rattle.std.proofs.lemmas.List.{append-nil}
 use Rattle.message_pattern.specs.declared.error.Fault.{Fault}
@@ -12,7 +12,7 @@ use Rattle.message_pattern.specs.PatternParts.{Part, Piece, Selector, Argument, 
 use Rattle.message_pattern.specs.PatternParts as piece
 use Rattle.message_pattern.specs.PatternHeads.{Head, Plain, Choice, BranchFront, head_front, branch_front, is_other, unclosed, fault_at}
 use Rattle.message_pattern.specs.PatternHeads as branch
-use Rattle.message_pattern.specs.PatternReading.{Place, InMessage, InArgument, InBranches, Step, Ends, Fails, Goes, Calls, Outcome, Read, Faulty, Reads, ends, fails, goes, calls, breaks, step, one, at_most_one, context_of, at_end, message_step, argument_step, opens_branch, branches_step}
+use Rattle.message_pattern.specs.PatternReading.{Place, InMessage, InArgument, InBranches, Step, Ends, Fails, Goes, Calls, Outcome, Read, Faulty, Reads, ends, fails, goes, calls, breaks, step, one, at_most_one, context_of, message_step, argument_step, branches_step}
 use Rattle.message_pattern.specs.PatternGrammar.{IsRead, message_ends, message_closes, message_text, message_argument, none_arg, complex_arg, style_branch, style_ends}
 use Rattle.message_pattern.proofs.Steps.{front_decides, may_open}
 use Rattle.message_pattern.proofs.GrammarHeads.{head_sound, branch_sound}

@@ -1,5 +1,5 @@
 -- The heads of arguments, step by step.
-use Rattle.std.proofs.Common.{◌≡◌, ◌==◌, ℕ, List, [], ◌∷◌, Bool, true, false, Option, Result, Ok, Err, length, refl, sym, ap, ◌∙◌, if◌then◌else◌}
+use Rattle.std.proofs.Common.{◌≡◌, ◌==◌, ℕ, List, [], ◌∷◌, Bool, true, false, Option, Err, length, refl, sym, ap, ◌∙◌, if◌then◌else◌}
 use Rattle.message_pattern.specs.declared.bytes.Class.TheVariants.{Letter}
 use Rattle.message_pattern.specs.declared.error.FaultKind.TheVariants.{ExpectedType}
 use Rattle.message_pattern.specs.declared.part.ArgumentKind.{ArgumentKind}

@@ -8,7 +8,7 @@ use Rattle.message_pattern.specs.declared.part.Part as parts
 use Rattle.message_pattern.specs.declared.text.Context.{Context}
 use Rattle.message_pattern.specs.declared.text.Context.TheVariants.{Whole}
 use Rattle.message_pattern.specs.PatternText.{End, is_nested}
-use Rattle.message_pattern.specs.PatternParts.{Part, parts_view}
+use Rattle.message_pattern.specs.PatternParts.{parts_view}
 use Rattle.message_pattern.specs.PatternHeads.{unclosed}
 use Rattle.message_pattern.specs.PatternReading.{InMessage, Step, Outcome, Read, Faulty, Reads, message_step, step}
 use Rattle.message_pattern.specs.PatternAnswers.{IsFaultOf}

@@ -1,15 +1,15 @@
 -- Runs of bytes, white space and words.
-use Rattle.std.proofs.Common.{◌≡◌, ◌-◌, ◌+◌, ◌<◌, ◌≤◌, ◌≢◌, ◌==◌, ℕ, zero, suc, List, [], ◌∷◌, ◌++◌, Bool, true, false, Option, Some, None, length, take, drop, refl, sym, ap, subst, ◌∙◌, arith, if◌then◌else◌}
+use Rattle.std.proofs.Common.{◌≡◌, ◌+◌, ◌<◌, ℕ, zero, suc, List, [], ◌∷◌, ◌++◌, Bool, true, false, None, length, take, drop, refl, sym, ap, ◌∙◌, arith, if◌then◌else◌}
 use Rattle.std.proofs.lemmas.List.{length-append}
 use Rattle.std.proofs.Math.Seq.{take-append_seam, drop-append_seam}
 use Rattle.message_pattern.specs.declared.bytes.Class.{Class}
-use Rattle.message_pattern.specs.PatternBytes.{is_in, run, behind_run, after_word}
+use Rattle.message_pattern.specs.PatternBytes.{begins, run, behind_run, after_word}
 
 -- a run and what follows it are the text
 pub run-whole : (class : Class) (s : List ℕ) → run class s ++ behind_run class s ≡ s
 run-whole class [] = refl
 run-whole class (b ∷ s) =
-    elim (is_in class b) as (λ (v : Bool). (if v then b ∷ run class s else []) ++ (if v then behind_run class s else b ∷ s) ≡ b ∷ s) [
+    elim (begins class (b ∷ s)) as (λ (v : Bool). (if v then b ∷ run class s else []) ++ (if v then behind_run class s else b ∷ s) ≡ b ∷ s) [
       | true ↦ ap (λ (t : List ℕ). b ∷ t) (run-whole class s)
       | false ↦ refl
     ]

@@ -1,5 +1,5 @@
 -- The steps of a reading, in the order of the reader's code.
-use Rattle.std.proofs.Common.{◌≡◌, ◌<◌, ◌≤◌, ℕ, ◌+◌, List, [], ◌++◌, Bool, true, false, ◌||◌, Option, Some, None, Result, Ok, Err, refl, sym, ap, subst, ◌∙◌, if◌then◌else◌}
+use Rattle.std.proofs.Common.{◌≡◌, ◌<◌, ◌≤◌, ℕ, ◌+◌, List, [], ◌++◌, Bool, true, false, ◌||◌, Option, Ok, Err, refl, sym, ap, subst, ◌∙◌, if◌then◌else◌}
 use Rattle.std.proofs.lemmas.Bool.{lt-ltb, le-ltb}
 use Rattle.std.proofs.lemmas.List.{append-nil}
 use Rattle.message_pattern.specs.declared.reader.TheConstants.{DEPTH_LIMIT}
@@ -12,7 +12,7 @@ use Rattle.message_pattern.specs.PatternParts.{Part, Piece, Selector, Argument, 
 use Rattle.message_pattern.specs.PatternParts as piece
 use Rattle.message_pattern.specs.PatternHeads.{Head, Plain, Choice, BranchFront, head_front, branch_front, is_other, unclosed, fault_at}
 use Rattle.message_pattern.specs.PatternHeads as branch
-use Rattle.message_pattern.specs.PatternReading.{Place, InMessage, InArgument, InBranches, Step, Ends, Fails, Goes, Calls, Outcome, Read, Faulty, Reads, ends, fails, goes, calls, breaks, step, one, at_most_one, context_of, at_end, message_step, argument_step, opens_branch, branches_step}
+use Rattle.message_pattern.specs.PatternReading.{InMessage, InArgument, InBranches, Ends, Fails, Calls, Outcome, Read, Faulty, Reads, ends, fails, goes, calls, breaks, step, one, at_most_one, context_of, message_step, argument_step, opens_branch, branches_step}
 
 -- ---- in a message
 

@@ -1,5 +1,5 @@
 -- Every text is read to an outcome.
-use Rattle.std.proofs.Common.{◌≡◌, ◌<◌, ◌≤◌, ◌+◌, ◌*◌, ℕ, zero, suc, List, [], ◌∷◌, ◌++◌, Bool, true, false, ◌||◌, nat_lt, Result, Ok, Err, length, refl, sym, ap, subst, arith, if◌then◌else◌}
+use Rattle.std.proofs.Common.{◌≡◌, ◌<◌, ◌≤◌, ◌+◌, ◌*◌, ℕ, zero, suc, List, [], ◌++◌, Bool, true, false, ◌||◌, nat_lt, Result, Ok, Err, length, refl, arith, if◌then◌else◌}
 use Rattle.message_pattern.specs.declared.error.Fault.{Fault}
 use Rattle.message_pattern.specs.declared.error.FaultKind.TheVariants.{TooDeep}
 use Rattle.message_pattern.specs.declared.part.ArgumentKind.{ArgumentKind}
@@ -12,7 +12,7 @@ use Rattle.message_pattern.specs.PatternHeads as branch
 use Rattle.message_pattern.specs.PatternReading.{Place, InMessage, InArgument, InBranches, Step, Ends, Fails, Goes, Calls, Outcome, Read, Faulty, Reads, ends, fails, goes, calls, breaks, step, one, context_of, message_step, argument_step, branches_step}
 use Rattle.message_pattern.specs.Inner.PatternViews.{IsShorter}
 use Rattle.message_pattern.proofs.GrammarHeads.{head_sound, branch_sound}
-use Rattle.message_pattern.proofs.Shorter.{front_shorter, head_le, IsLess, branch_less}
+use Rattle.message_pattern.proofs.Shorter.{front_shorter, head_le, branch_less}
 
 -- what is left to read at a place
 abbrev pub size : Place → List ℕ → ℕ

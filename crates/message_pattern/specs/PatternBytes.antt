@@ -30,42 +30,10 @@ opening = 123
 abbrev pub closing : ℕ
 closing = 125
 
--- ---- classes
+-- ---- white space
 
 abbrev pub is_between : ℕ → ℕ → ℕ → Bool
 is_between low high b = nat_le low b && nat_le b high
-
-abbrev pub is_digit : ℕ → Bool
-is_digit b = is_between 48 57 b
-
-abbrev pub is_letter : ℕ → Bool
-is_letter b = is_between 65 90 b || is_between 97 122 b
-
--- the byte is of the class: a name has letters, digits, `_` and all bytes above ASCII; a number's
--- text has digits, `-` and `.`; plain text is all but `'`, `{`, `}` and `#`
-abbrev pub is_in : Class → ℕ → Bool
-is_in Name b = is_letter b || is_digit b || b == 95 || nat_le 128 b
-is_in Number b = is_digit b || b == minus || b == point
-is_in Digit b = is_digit b
-is_in Letter b = is_letter b
-is_in Plain b = not (b == apostrophe || b == opening || b == closing || b == hash)
-is_in Unquoted b = not (b == apostrophe)
-
--- the longest front of bytes of the class
-abbrev pub run : Class → List ℕ → List ℕ
-run class [] = []
-run class (b ∷ s) = if is_in class b then b ∷ run class s else []
-
--- what follows it
-abbrev pub behind_run : Class → List ℕ → List ℕ
-behind_run class [] = []
-behind_run class (b ∷ s) = if is_in class b then behind_run class s else b ∷ s
-
-abbrev pub is_empty : List ℕ → Bool
-is_empty [] = true
-is_empty (b ∷ s) = false
-
--- ---- white space
 
 -- how many bytes the white space at the front has: U+0009 to U+000D, U+0020, U+0085, U+200E,
 -- U+200F, U+2028 and U+2029, in UTF-8; 0 if there is none
@@ -90,6 +58,45 @@ skip (suc n) (b ∷ s) = skip n s
 -- the bytes after the white space at the front
 abbrev pub after_white : List ℕ → List ℕ
 after_white s = skip 0 s
+
+-- ---- classes
+
+abbrev pub is_digit : ℕ → Bool
+is_digit b = is_between 48 57 b
+
+abbrev pub is_letter : ℕ → Bool
+is_letter b = is_between 65 90 b || is_between 97 122 b
+
+-- the byte is of the class: a name has letters, digits, `_` and all bytes above ASCII; a number's
+-- text has digits, `-` and `.`; plain text is all but `'`, `{`, `}` and `#`
+abbrev pub is_in : Class → ℕ → Bool
+is_in Name b = is_letter b || is_digit b || b == 95 || nat_le 128 b
+is_in Number b = is_digit b || b == minus || b == point
+is_in Digit b = is_digit b
+is_in Letter b = is_letter b
+is_in Plain b = not (b == apostrophe || b == opening || b == closing || b == hash)
+is_in Unquoted b = not (b == apostrophe)
+
+-- a byte of the class begins the text; in a name white space doesn't: a name has no
+-- Pattern_White_Space
+abbrev pub begins : Class → List ℕ → Bool
+begins class [] = false
+begins Name (b ∷ s) = is_in Name b && white_width (b ∷ s) == 0
+begins class (b ∷ s) = is_in class b
+
+-- the longest front of bytes of the class
+abbrev pub run : Class → List ℕ → List ℕ
+run class [] = []
+run class (b ∷ s) = if begins class (b ∷ s) then b ∷ run class s else []
+
+-- what follows it
+abbrev pub behind_run : Class → List ℕ → List ℕ
+behind_run class [] = []
+behind_run class (b ∷ s) = if begins class (b ∷ s) then behind_run class s else b ∷ s
+
+abbrev pub is_empty : List ℕ → Bool
+is_empty [] = true
+is_empty (b ∷ s) = false
 
 -- ---- words
 

@@ -1,31 +1,26 @@
 -- The grammar of patterns, line by line as ICU's pages on MessageFormat, PluralFormat and SelectFormat
 -- state it, with the parts. Each line says what is read from the front of a text, and the rest that
 -- follows it.
-use Rattle.std.specs.Prelude.{◌≡◌, ◌≢◌, ℕ, ◌+◌, ◌<◌, List, [], ◌∷◌, ◌++◌, Bool, true, false, ◌||◌, Option, Some, None, codes}
-use Rattle.std.specs.List.{AllByRecursion}
+use Rattle.std.specs.Prelude.{◌≡◌, ◌≢◌, ℕ, ◌+◌, ◌<◌, List, [], ◌∷◌, ◌++◌, Bool, true, false, ◌||◌, Option, Some, None, length, drop, codes}
 use Rattle.message_pattern.specs.declared.bytes.Class.{Class}
 use Rattle.message_pattern.specs.declared.bytes.Class.TheVariants.{Name, Number, Digit, Letter}
 use Rattle.message_pattern.specs.declared.part.ArgumentKind.{ArgumentKind}
 use Rattle.message_pattern.specs.declared.part.ArgumentKind.TheVariants.{Select}
 use Rattle.message_pattern.specs.declared.reader.TheConstants.{DEPTH_LIMIT}
 use Rattle.message_pattern.specs.declared.text.Context.{Context}
-use Rattle.message_pattern.specs.PatternBytes.{comma, equals, opening, closing, is_in, after_white, after_word}
+use Rattle.message_pattern.specs.PatternBytes.{comma, equals, opening, closing, begins, after_white, after_word}
 use Rattle.message_pattern.specs.PatternText.{front, is_nested, End, Closes, Opens, Takes}
 use Rattle.message_pattern.specs.PatternParts.{Part, Piece, Selector, Exactly, Keyword, Argument, Begin, Branch}
 use Rattle.message_pattern.specs.PatternParts as piece
 use Rattle.message_pattern.specs.PatternHeads.{is_bad_number, kind_named, counts, is_number, is_other}
 use Rattle.message_pattern.specs.PatternReading.{Place, InMessage, InArgument, InBranches, one, at_most_one, context_of}
 
--- the text begins with a byte that isn't of the class, or is empty
-abbrev pub Stops : Class → List ℕ → Type 0
-Stops class [] = Unit {0}
-Stops class (b ∷ s) = is_in class b ≡ false
-
--- the longest front of bytes of the class, and the rest
+-- the longest front of the class, and the rest: at each place of the front a byte of the class
+-- begins, which in a name is no white space, and at the rest none does
 pub record IsLongest (class : Class) (s taken rest : List ℕ) : Type 0 where
   pub whole : s ≡ taken ++ rest
-  pub each : AllByRecursion (λ b. is_in class b ≡ true) taken
-  pub longest : Stops class rest
+  pub each : (i : ℕ) → i < length taken → begins class (drop i s) ≡ true
+  pub longest : begins class rest ≡ false
 
 -- argNameOrNumber = argName | argNumber
 -- argName = [^[[:Pattern_Syntax:][:Pattern_White_Space:]]]+

@@ -1,7 +1,7 @@
 //! Runs of bytes of one class, white space and words.
 
 ghost use Rattle.std.specs.Prelude.{◌≡◌, ◌≢◌, ◌∷◌, ◌≤◌, ◌<◌, ◌+◌, length, take, drop, IfSome, IfNone, None, Some};
-ghost use Rattle.message_pattern.specs.PatternBytes.{is_digit, is_letter, is_in, run, behind_run, white_width, after_white, after_word};
+ghost use Rattle.message_pattern.specs.PatternBytes.{is_digit, is_letter, is_in, begins, run, behind_run, white_width, after_white, after_word};
 
 /// A class of bytes.
 #[derive(Clone, Copy)]
@@ -39,14 +39,42 @@ fn is_in(class: Class, byte: u8) -> bool
     }
 }
 
+// How many bytes the white space at the front has.
+fn white_width(text: &[u8]) -> usize
+    ensures width { result ≡ white_width text.now }
+    ensures within { result ≤ length text.now }
+{
+    match text {
+        [a, ..] if 9 <= *a && *a <= 13 || *a == b' ' => 1,
+        [a, b, ..] if *a == 0xc2 && *b == 0x85 => 2,
+        [a, b, c, ..]
+            if (*a == 0xe2 && *b == 0x80)
+                && (0x8e <= *c && *c <= 0x8f || 0xa8 <= *c && *c <= 0xa9) => 3,
+        _ => 0,
+    }
+}
+
+// A byte of the class begins the text; in a name white space doesn't.
+fn begins(class: Class, text: &[u8]) -> bool
+    ensures { result ≡ begins class text.now }
+{
+    let [first, ..] = text else {
+        return false;
+    };
+    match class {
+        Class::Name => is_in(class, *first) && white_width(text) == 0,
+        _ => is_in(class, *first),
+    }
+}
+
 // What follows the longest front of the class.
 fn behind_run(class: Class, text: &[u8]) -> &[u8]
     ensures rest { result.now ≡ behind_run class text.now }
     ensures shorter { length result.now ≤ length text.now }
 {
     let mut rest = text;
-    while let [first, after @ ..] = rest {
-        if !is_in(class, *first) {
+    while let [_, after @ ..] = rest {
+        if !begins(class, rest) {
             return rest;
         }
         rest = after;
@@ -61,21 +89,6 @@ pub(crate) fn split_run(class: Class, text: &[u8]) -> (&[u8], &[u8])
     ensures whole { length result.0.now + length result.1.now ≡ length text.now }
 {
     text.split_at(text.len() - behind_run(class, text).len())
-}
-
-// How many bytes the white space at the front has.
-fn white_width(text: &[u8]) -> usize
-    ensures width { result ≡ white_width text.now }
-    ensures within { result ≤ length text.now }
-{
-    match text {
-        [a, ..] if 9 <= *a && *a <= 13 || *a == b' ' => 1,
-        [a, b, ..] if *a == 0xc2 && *b == 0x85 => 2,
-        [a, b, c, ..]
-            if (*a == 0xe2 && *b == 0x80)
-                && (0x8e <= *c && *c <= 0x8f || 0xa8 <= *c && *c <= 0xa9) => 3,
-        _ => 0,
-    }
 }
 
 // The bytes after the white space at the front.

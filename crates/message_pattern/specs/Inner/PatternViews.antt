@@ -1,5 +1,5 @@
 -- What private functions return, without where it lies in memory.
-use Rattle.std.specs.Prelude.{◌≡◌, ◌<◌, ◌-◌, ℕ, List, length, Option, Some, None, Result, Ok, Err}
+use Rattle.std.specs.Prelude.{◌<◌, ◌-◌, ℕ, List, length, Option, Some, None, Result, Ok, Err}
 use Rattle.std.specs.Borrow.{Bor}
 use Rattle.message_pattern.specs.declared.error.Fault.{Fault}
 use Rattle.message_pattern.specs.declared.error.ReadError.{ReadError}

@@ -1,4 +1,4 @@
-use Rattle.std.proofs.Common.{ℕ, ◌+◌, ◌*◌, ◌≤◌, false, length}
+use Rattle.std.proofs.Common.{◌+◌, ◌*◌, ◌≤◌, false, length}
 use Rattle.message_pattern.specs.PatternParts.{parts_view}
 use Rattle.message_pattern.specs.PatternReading.{InMessage, InBranches, Outcome, Reads, step}
 use Rattle.message_pattern.proofs.reader.+read.Given as goal
