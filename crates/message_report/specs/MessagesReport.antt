@@ -1,12 +1,14 @@
--- The report of a document of messages (docs/TRANSLATORS.md): what is found in each locale, in the order of their bytes; in a locale
+-- The report of files of messages (docs/TRANSLATORS.md): what is found in each locale, in the order of their bytes; in a locale
 -- first in its keys, then in its messages for cardinal numbers, then in those for ordinal numbers; in a message form by form, and
 -- then in its other keys.
 --     IsFoundInDocument source document found      what is found in a document under the rules of a source
+--     IsFoundInFiles source files found      what is found in files, each line after the name of its file
 use Rattle.std.specs.Prelude.{◌≡◌, ℕ, ◌-◌, nat_lt, ◌||◌, bytes_eq, Bool, List, [], ◌∷◌, ◌++◌, codes, length, map, take}
 use Rattle.std.specs.Prelude.{Option, Some, None, if◌then◌else◌}
 use Rattle.std.specs.Fmt.{decimal}
 use Rattle.serde_json.specs.Data.{Data, Members, no_members, member}
 use Rattle.serde_json.specs.Find.{get, as_object}
+use Rattle.serde_json.specs.View.{view}
 use Rattle.icu_plurals.specs.FiveRules.{FiveRules}
 use Rattle.icu_plurals.specs.declared.PluralRuleType.{PluralRuleType}
 use Rattle.icu_plurals.specs.declared.PluralRuleType.TheVariants.{Cardinal, Ordinal}
@@ -16,6 +18,7 @@ use Rattle.message_report.specs.MessageForms.{form_name, form_order, has_form, i
 use Rattle.message_report.specs.PrintedKeys.{message_text, name_text}
 use Rattle.message_report.specs.RulesSource.{RulesSource, HasRules}
 use Rattle.message_report.specs.declared.fault.FormFault.{FormFault}
+use Rattle.message_report.specs.declared.file.MessageFile.{MessageFile}
 use Rattle.message_report.specs.declared.form.Form.{Form}
 
 -- ---- Places and lines
@@ -183,3 +186,26 @@ IsFoundInLocales source (Some members) found = IsFoundIn (IsFoundInLocale source
 
 abbrev pub IsFoundInDocument : RulesSource → Data → Found → Type 0
 IsFoundInDocument source document found = IsFoundInLocales source (as_object document) found
+
+-- ---- Files
+
+-- `ru.json: ru files two: no number is two`
+abbrev pub file_line : List ℕ → List ℕ → List ℕ
+file_line name line = name ++ (codes ": " ++ line)
+
+-- the same with the name of a file before each line
+abbrev pub named : List ℕ → Found → Found
+named name found = record {
+  lines = map (file_line name) found.lines;
+  messages = found.messages;
+  forms = found.forms;
+  faults = found.faults;
+}
+
+abbrev pub IsFoundInFile : RulesSource → MessageFile → Found → Type 0
+IsFoundInFile source file found =
+    (inside : Found) × IsFoundInDocument source (view file.document.now) inside × (found ≡ named file.name.now inside)
+
+-- file by file, in the order in which they are given
+abbrev pub IsFoundInFiles : RulesSource → List MessageFile → Found → Type 0
+IsFoundInFiles source files found = IsFoundInEach (IsFoundInFile source) files found

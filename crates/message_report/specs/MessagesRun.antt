@@ -1,24 +1,24 @@
--- What is written for a document of messages.
---     IsReported source document old new result      the report of the document was written, and nothing else
+-- What is written for files of messages.
+--     IsReported source files old new result      the report of the files was written, and nothing else
 use Rattle.std.specs.Prelude.{◌≡◌, ℕ, ◌==◌, List, Option, Result, Ok, Err, if◌then◌else◌}
 use Rattle.std.specs.Io.KnownBytes.{Appends, Keeps}
-use Rattle.serde_json.specs.Data.{Data}
 use Rattle.plural_documents.specs.Outputs.{IsPartWritten}
-use Rattle.message_report.specs.MessagesReport.{IsFoundInDocument}
+use Rattle.message_report.specs.MessagesReport.{IsFoundInFiles}
 use Rattle.message_report.specs.MessagesReportText.{counts_of, report_text}
 use Rattle.message_report.specs.FoundInMessages.{Found}
 use Rattle.message_report.specs.RulesSource.{RulesSource}
 use Rattle.message_report.specs.declared.counts.Counts.{Counts}
 use Rattle.message_report.specs.declared.error.ReportError.{ReportError}
 use Rattle.message_report.specs.declared.error.ReportError.TheVariants.{Write, Memory}
+use Rattle.message_report.specs.declared.file.MessageFile.{MessageFile}
 
 -- The report and its counts; or the writer failed, and took a beginning of the report, or memory ran out, and it took nothing.
-abbrev pub IsReported : RulesSource → Data → Option (List ℕ) → Option (List ℕ) → Result Counts ReportError → Type 0
-IsReported source document old new (Ok counts) =
-    (found : Found) × IsFoundInDocument source document found × (counts ≡ counts_of found) × Appends old new (report_text found)
-IsReported source document old new (Err Write) =
-    (found : Found) × IsFoundInDocument source document found × IsPartWritten old new (report_text found)
-IsReported source document old new (Err Memory) = Keeps old new
+abbrev pub IsReported : RulesSource → List MessageFile → Option (List ℕ) → Option (List ℕ) → Result Counts ReportError → Type 0
+IsReported source files old new (Ok counts) =
+    (found : Found) × IsFoundInFiles source files found × (counts ≡ counts_of found) × Appends old new (report_text found)
+IsReported source files old new (Err Write) =
+    (found : Found) × IsFoundInFiles source files found × IsPartWritten old new (report_text found)
+IsReported source files old new (Err Memory) = Keeps old new
 
 -- the exit status of a program
 abbrev pub counts_status : Counts → ℕ

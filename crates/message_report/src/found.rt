@@ -1,9 +1,10 @@
 //! What is found in messages.
 
-ghost use Rattle.std.specs.Prelude.{◌≡◌, ◌+◌, ◌∷◌, [], ℕ, List, IfOk, OnOk, map, string_bytes};
+ghost use Rattle.std.specs.Prelude.{◌≡◌, ◌+◌, ◌∷◌, ◌++◌, [], ℕ, List, IfOk, OnOk, map, string_bytes};
 ghost use Rattle.message_report.specs.FoundInMessages.{nothing, one_fault, one_form, one_message, together, IsFoundIn};
 ghost use Rattle.message_report.specs.FoundInMessages as seen;
 ghost use Rattle.message_report.specs.Inner.Added.{Adds, faults_alone, lines_alone};
+ghost use Rattle.message_report.specs.MessagesReport.{file_line, named};
 ghost use Rattle.serde_json.specs.Data.{Data};
 ghost use Rattle.serde_json.specs.View.{members_view, view};
 
@@ -100,6 +101,22 @@ impl Found {
         Ok(())
     }
 
+    // Adds what was found in a file, each line after the file's name. A count that is too large is reported as
+    // out of memory.
+    pub(crate) fn add_named(
+        &mut self,
+        alloc: Global,
+        name: &str,
+        inside: &Found,
+    ) -> Result<(), AllocError>
+        ensures { OnOk result (self.new ≡ together self.old (named name.now inside.now)) }
+    {
+        self.messages = sum(self.messages, inside.messages)?;
+        self.forms = sum(self.forms, inside.forms)?;
+        self.faults = sum(self.faults, inside.faults)?;
+        push_named(alloc, name, inside.lines(), &mut self.lines)
+    }
+
     // Counts a message. A count that is too large is reported as out of memory.
     pub(crate) fn add_message(&mut self) -> Result<(), AllocError>
         ensures { OnOk result (self.new ≡ together self.old one_message) }
@@ -115,6 +132,29 @@ impl Found {
         self.forms = sum(self.forms, 1)?;
         Ok(())
     }
+}
+
+// Appends lines, each after the name of a file.
+fn push_named(
+    alloc: Global,
+    name: &str,
+    more: &[String],
+    lines: &mut Vec<String>,
+) -> Result<(), AllocError>
+    ensures { OnOk result (map string_bytes lines.new.items
+        ≡ map string_bytes lines.old.items ++ map (file_line name.now) (map string_bytes more.now)) }
+{
+    for line in more {
+        lines.push(file_line(alloc, name, line.as_str())?)?;
+    }
+    Ok(())
+}
+
+// Returns a line after the name of a file.
+fn file_line(alloc: Global, name: &str, line: &str) -> Result<String, AllocError>
+    ensures { IfOk result (λ text. string_bytes text ≡ file_line name.now line.now) }
+{
+    format!(in alloc; "{name}: {line}")
 }
 
 // Returns the sum of two counts, or an error if it is too large.

@@ -1,4 +1,4 @@
-//! The report of a document of messages under plural rules: which forms are missing, unused or without the number.
+//! The report of files of messages under plural rules: which forms are missing, unused or without the number.
 #![tactic(auto)]
 
 mod category_numbers;
@@ -6,6 +6,7 @@ mod counts;
 mod document;
 mod error;
 mod fault;
+mod file;
 mod form;
 mod found;
 mod keys;
@@ -20,4 +21,5 @@ mod source;
 pub use counts::Counts;
 pub use error::ReportError;
 pub use fault::FormFault;
+pub use file::MessageFile;
 pub use source::RulesOfLocales;

@@ -2,6 +2,7 @@
 
 use crate::call::Call;
 use icu_plurals::JsonProvider;
+use message_report::MessageFile;
 use message_report::run::run;
 use plural_fallback::FallbackProvider;
 
@@ -25,8 +26,12 @@ fn messages_report(call: &mut Call) {
         provider: &provider,
         locales: &rules,
     };
+    let file = MessageFile {
+        name: "m.json",
+        document: &messages,
+    };
     let mut report = Vec::new(call.alloc);
-    match run(call.alloc, &source, &messages, &mut report) {
+    match run(call.alloc, &source, &[file], &mut report) {
         Ok(_) => print_lines(call, report.as_slice()),
         Err(error) => call.print_error(&error),
     }
