@@ -19,14 +19,12 @@ pub(crate) fn condition_text(alloc: Global, rule: &Rule<'_>) -> Result<String, A
         open: String::new(alloc),
         is_false: false,
     };
-    let mut is_first = true;
     for item in rule.iter() {
         let relation = item.as_relation();
-        if !is_first && relation.and_or() == AndOr::Or {
+        if relation.and_or() == AndOr::Or {
             groups.end()?;
         }
         groups.add(alloc, &relation)?;
-        is_first = false;
     }
     groups.end()?;
     if groups.ended.is_empty() {

@@ -2,5 +2,7 @@ pub mod ChosenLemmas
 pub mod FoundLemmas
 pub mod LanguageLemmas
 pub mod PartLemmas
+-- rules that choose alike for whole numbers that leave the same by 100
+pub mod Periods
 pub mod PrintedChars
 pub mod ToldLemmas

@@ -2,6 +2,7 @@
 pub mod PrintedKeys
 pub mod MessageForms
 pub mod ChosenNumbers
+pub mod WholeNumberLaws
 pub mod FormFaults
 -- the rules of locales
 pub mod RulesSource

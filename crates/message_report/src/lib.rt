@@ -11,6 +11,7 @@ mod form;
 mod found;
 mod keys;
 mod language;
+pub mod laws;
 mod message;
 mod part;
 mod printed_key;

@@ -1,5 +1,5 @@
 //! The kinds of the upper crates: `icu_plurals`, `plural_message`, `plural_checker`,
-//! `plural_fallback`, `message_report`, `uses` and `message_pattern`.
+//! `plural_fallback`, `message_report`, `form_commands`, `uses` and `message_pattern`.
 
 mod callers;
 mod checker;
@@ -7,6 +7,7 @@ mod element_values;
 mod elements;
 mod elements_json;
 mod fallback;
+mod forms;
 mod message_reports;
 mod messages;
 mod packed_texts;
@@ -25,6 +26,7 @@ pub fn make(kind: &str, call: &mut Call) -> bool {
         || checker::make(kind, call)
         || fallback::make(kind, call)
         || message_reports::make(kind, call)
+        || forms::make(kind, call)
         || callers::make(kind, call)
         || patterns::make(kind, call)
 }
