@@ -123,10 +123,10 @@ no_report files input old Memory given = Keeps-refl old
 -- the report under the rules of a document
 pub report_checked : (files : List MessageFile) (input : List ℕ) (value : Data) (old new : Option (List ℕ)) (r : Result Verdict FormsError)
     → IsDocumentIn input value → Checks value files old new r → IsChecked files input old new r
-report_checked files input value old new r given (inl (document, Ok counts, is, reported, same)) =
+report_checked files input value old new r given (inl (document, is, Ok counts, reported, same)) =
     rw same (counts, (value, document, given, is, reported), refl)
-report_checked files input value old new r given (inl (document, Err report.Write, is, reported, same)) =
+report_checked files input value old new r given (inl (document, is, Err report.Write, reported, same)) =
     rw same (value, document, given, is, reported)
-report_checked files input value old new r given (inl (document, Err report.Memory, is, reported, same)) = rw same reported
+report_checked files input value old new r given (inl (document, is, Err report.Memory, reported, same)) = rw same reported
 report_checked files input value old new r given (inr (inl (error, is, same, kept))) = rw same (value, given, is, kept)
 report_checked files input value old new r given (inr (inr (same, kept))) = rw same kept

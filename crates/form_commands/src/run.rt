@@ -3,7 +3,7 @@
 ghost use Rattle.std.specs.Prelude.{◌≡◌, IfOk, List, ℕ};
 ghost use Rattle.form_commands.specs.FormsAnswers.{Answers, IsAnswered, IsAnsweredLines, IsChecked, IsListAnswer, IsNumbersAnswer, IsOneText, verdict_of_counts};
 ghost use Rattle.form_commands.specs.Inner.QuestionViews.{words_view};
-ghost use Rattle.form_commands.specs.Inner.RunSteps.{AnswersLines, Checks, GivesDocument, GivesValue, WritesAnswer};
+ghost use Rattle.form_commands.specs.Inner.RunSteps.{AnswersLines, Checks, GivesDocument, GivesValue, Reports, WritesAnswer};
 ghost use Rattle.plural_documents.specs.Inputs.{IsInput};
 ghost use Rattle.serde_json.specs.View.{view};
 
@@ -123,18 +123,29 @@ fn check_by<W: Write>(
     ensures { Checks (view document.now) files.now (W.contents writer.old) (W.contents writer.new) result }
 {
     match JsonProvider::from_value(alloc, document) {
-        Ok(provider) => {
-            let source = FallbackProvider {
-                provider: &provider,
-                locales: document,
-            };
-            match run(alloc, &source, files, writer) {
-                Ok(counts) => Ok(verdict_of(counts)),
-                Err(error) => Err(FormsError::from(error)),
-            }
-        }
+        Ok(provider) => report_by(alloc, &provider, document, files, writer),
         Err(JsonError::Memory) => Err(FormsError::Memory),
         Err(error) => Err(FormsError::Refused(error)),
+    }
+}
+
+// Writes the report of files of messages under the rules of a provider.
+fn report_by<W: Write>(
+    alloc: Global,
+    provider: &JsonProvider,
+    document: &Value,
+    files: &[MessageFile<'_>],
+    writer: &mut W,
+) -> Result<Verdict, FormsError>
+    ensures { Reports (view document.now) provider.now files.now (W.contents writer.old) (W.contents writer.new) result }
+{
+    let source = FallbackProvider {
+        provider,
+        locales: document,
+    };
+    match run(alloc, &source, files, writer) {
+        Ok(counts) => Ok(verdict_of(counts)),
+        Err(error) => Err(FormsError::from(error)),
     }
 }
 

@@ -83,10 +83,15 @@ AnswersLines document part locale before left old new result =
 
 -- ---- Files of messages
 
--- the report under the rules of a document, or nothing at all
+-- the report under the rules of a document, as the result of a command
+abbrev pub Reports : Data → Document → List MessageFile → Option (List ℕ) → Option (List ℕ) → Result Verdict FormsError → Type 0
+Reports value document files old new result =
+    (reported : Result Counts ReportError) × IsReported (rules_source value document) files old new reported
+    × (result ≡ result_of_report reported)
+
+-- the same, or nothing at all
 abbrev pub Checks : Data → List MessageFile → Option (List ℕ) → Option (List ℕ) → Result Verdict FormsError → Type 0
 Checks value files old new result =
-    ((document : Document) × (reported : Result Counts ReportError) × (document_of_json value ≡ Ok document)
-    × IsReported (rules_source value document) files old new reported × (result ≡ result_of_report reported))
+    ((document : Document) × (document_of_json value ≡ Ok document) × Reports value document files old new result)
     ⊎ (((error : JsonError) × (document_of_json value ≡ Err error) × (result ≡ Err (Document error)) × Keeps old new)
     ⊎ ((result ≡ Err Memory) × Keeps old new))
