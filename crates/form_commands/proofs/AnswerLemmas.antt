@@ -3,6 +3,10 @@ use Rattle.std.proofs.Common.{◌≡◌, ℕ, ◌≤◌, List, length, Option, R
 use Rattle.std.specs.Prelude.{IfOk}
 use Rattle.std.proofs.KnownBytes.{Keeps-refl}
 use Rattle.std.specs.declared.alloc.AllocError.{AllocError}
+use Rattle.icu_plurals.specs.DocumentJson.{Document}
+use Rattle.icu_plurals.specs.Json.{IsRefusal, Stands}
+use Rattle.icu_plurals.specs.declared.JsonError.{JsonError}
+use Rattle.icu_plurals.specs.declared.JsonError.TheVariants as json
 use Rattle.message_report.specs.declared.error.ReportError.TheVariants as report
 use Rattle.message_report.specs.declared.file.MessageFile.{MessageFile}
 use Rattle.plural_documents.specs.Inputs.{GivesInput, IsInput, most_bytes}
@@ -130,3 +134,13 @@ report_checked files input value old new r given (inl (document, is, Err report.
 report_checked files input value old new r given (inl (document, is, Err report.Memory, reported, same)) = rw same reported
 report_checked files input value old new r given (inr (inl (error, is, same, kept))) = rw same (value, given, is, kept)
 report_checked files input value old new r given (inr (inr (same, kept))) = rw same kept
+
+-- a refusal that isn't for want of memory is what the document means
+pub refusal_is : (error : JsonError) (stands : Stands Document) → (error ≡ json.Memory → ⊥) → IsRefusal error stands → stands ≡ Err error
+refusal_is json.Float stands other is = is
+refusal_is json.Shape stands other is = is
+refusal_is (json.Rule category error) stands other is = is
+refusal_is json.RangeKey stands other is = is
+refusal_is json.RangeValue stands other is = is
+refusal_is (json.Pack error) stands other is = is
+refusal_is json.Memory stands other is = absurd (other refl)
