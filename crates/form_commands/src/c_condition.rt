@@ -1,6 +1,8 @@
 //! The condition of a rule at whole numbers, as an expression of C over `n`.
 
-use icu_plurals::provider::rules::runtime::ast::{AndOr, Operand, Polarity, RangeOrValue, Relation, Rule};
+use icu_plurals::provider::rules::runtime::ast::{
+    AndOr, Operand, Polarity, RangeOrValue, Relation, Rule,
+};
 use std::alloc::{AllocError, Global};
 
 // The groups that have ended, joined by `||`; and the open one, joined by `&&`, and whether it is false of all whole numbers.
@@ -40,7 +42,11 @@ impl Groups {
             if !self.ended.is_empty() {
                 self.ended.push_str(" || ")?;
             }
-            let open = if self.open.is_empty() { "1" } else { self.open.as_str() };
+            let open = if self.open.is_empty() {
+                "1"
+            } else {
+                self.open.as_str()
+            };
             self.ended.push_str(open)?;
         }
         self.open.clear();

@@ -9,10 +9,7 @@ use plural_checker::least_from;
 use std::alloc::{AllocError, Global};
 
 // Returns the line for a language: how many forms it has, and an expression of C for the one that `n` takes.
-pub(crate) fn gettext_line(
-    alloc: Global,
-    language: &Language<'_>,
-) -> Result<String, AllocError> {
+pub(crate) fn gettext_line(alloc: Global, language: &Language<'_>) -> Result<String, AllocError> {
     let Ok(data) = PluralRulesData::from_json(alloc, language.value) else {
         return Err(AllocError);
     };
@@ -34,7 +31,12 @@ fn is_of_whole_numbers(rules: &PluralRules<'_>, category: PluralCategory) -> boo
         return true;
     }
     let powers = [
-        10_000u32, 100_000, 1_000_000, 10_000_000, 100_000_000, 1_000_000_000,
+        10_000u32,
+        100_000,
+        1_000_000,
+        10_000_000,
+        100_000_000,
+        1_000_000_000,
     ];
     for power in powers {
         if rules.category_for(PluralOperands::from(power)) == category {

@@ -94,10 +94,10 @@ same_category rules a b alike by =
 -- a number from 10000 on has what two numbers below have
 below : (n r : ℕ) → 10000 ≤ n → n % 100 ≡ r → AreAlike n (9800 + r) × AreAlike n (9900 + r) × (r < 100)
 below n r from left = (
-    record { first = omega arith; second = omega arith; same = omega arith },
-    record { first = omega arith; second = omega arith; same = omega arith },
-    omega arith,
-  )
+  record { first = omega arith; second = omega arith; same = omega arith },
+  record { first = omega arith; second = omega arith; same = omega arith },
+  omega arith,
+)
 
 no_more : (rules : FiveRules) (category : PluralCategory) (first : Option ℕ) (n r : ℕ) → ArePeriodic rules
     → AreTwoLeast rules category first None → HasWhole rules category n → 10000 ≤ n → n % 100 ≡ r → ⊥
@@ -109,10 +109,13 @@ no_more rules category (Some m) n r by two has from left = by_order (cases_lt m 
   where
     d : AreAlike n (9800 + r) × AreAlike n (9900 + r) × (r < 100)
     d = below n r from left
+
     low : HasWhole rules category (9800 + r)
     low = sym (same_category rules n (9800 + r) d.0 by) ∙ has
+
     high : HasWhole rules category (9900 + r)
     high = sym (same_category rules n (9900 + r) d.1 by) ∙ has
+
     by_order : (m < 9900 + r) ⊎ (9900 + r ≤ m) → ⊥
     by_order (inl before) = two.1 (9900 + r) (omega arith) (omega (arith, d.2)) high
     by_order (inr after) = two.0.3 (9800 + r) (omega arith) (omega arith) low

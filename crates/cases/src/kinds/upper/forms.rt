@@ -2,7 +2,10 @@
 
 use crate::call::Call;
 use crate::kinds::upper::message_reports::print_lines;
-use form_commands::{FormsError, Verdict, answer_lines, answer_numbers, check_files, list_forms, question_of, write_gettext};
+use form_commands::{
+    FormsError, Verdict, answer_lines, answer_numbers, check_files, list_forms, question_of,
+    write_gettext,
+};
 use message_report::MessageFile;
 use plural_fallback::Part;
 
@@ -34,7 +37,13 @@ fn forms_question(call: &mut Call) {
 fn forms_list(call: &mut Call) {
     let (rules, locale) = (call.text(), call.text());
     let mut text = Vec::new(call.alloc);
-    let answer = list_forms(call.alloc, Part::Cardinal, locale.as_str(), &mut rules.as_bytes(), &mut text);
+    let answer = list_forms(
+        call.alloc,
+        Part::Cardinal,
+        locale.as_str(),
+        &mut rules.as_bytes(),
+        &mut text,
+    );
     print_answer(call, text.as_slice(), answer);
 }
 
@@ -43,7 +52,14 @@ fn forms_number(call: &mut Call) {
     let (rules, locale, number) = (call.text(), call.text(), call.text());
     let mut text = Vec::new(call.alloc);
     let numbers = [number.as_str()];
-    let answer = answer_numbers(call.alloc, Part::Ordinal, locale.as_str(), &numbers, &mut rules.as_bytes(), &mut text);
+    let answer = answer_numbers(
+        call.alloc,
+        Part::Ordinal,
+        locale.as_str(),
+        &numbers,
+        &mut rules.as_bytes(),
+        &mut text,
+    );
     print_answer(call, text.as_slice(), answer);
 }
 
@@ -66,7 +82,13 @@ fn forms_lines(call: &mut Call) {
 fn forms_gettext(call: &mut Call) {
     let (rules, locale) = (call.text(), call.text());
     let mut text = Vec::new(call.alloc);
-    let answer = write_gettext(call.alloc, Part::Cardinal, locale.as_str(), &mut rules.as_bytes(), &mut text);
+    let answer = write_gettext(
+        call.alloc,
+        Part::Cardinal,
+        locale.as_str(),
+        &mut rules.as_bytes(),
+        &mut text,
+    );
     print_answer(call, text.as_slice(), answer);
 }
 

@@ -15,8 +15,8 @@ of_one : (source : RulesSource) (file : MessageFile) (old new : Option (List ℕ
     → IsReported source (file ∷ []) old new (Ok counts) → IsComplete source (view file.document.now) (counts.faults == 0)
 of_one source file old new counts (found, (first, rest, (inside, is, same), none, both), counted, written) =
     let faults : counts.faults ≡ inside.faults =
-      ap (λ (c : Counts). c.faults) counted ∙ ap (λ (f : Found). f.faults) both
-      ∙ ap (λ (f : Found). first.faults + f.faults) none ∙ add-zero first.faults ∙ ap (λ (f : Found). f.faults) same in
+    ap (λ (c : Counts). c.faults) counted ∙ ap (λ (f : Found). f.faults) both
+    ∙ ap (λ (f : Found). first.faults + f.faults) none ∙ add-zero first.faults ∙ ap (λ (f : Found). f.faults) same in
     (inside, is, ap (λ (n : ℕ). n == 0) faults)
 
 pub returns-in-Ok : goal.returns-in-Ok
