@@ -1,6 +1,8 @@
-use Rattle.std.proofs.Common.{drop}
+use Rattle.std.proofs.Common.{drop, subst}
 use Rattle.std.proofs.lemmas.List.{drop_all}
+use Rattle.message_report.specs.Inner.Added.{Adds}
 use Rattle.message_report.specs.MessagesReport.{IsFoundInFile}
+use Rattle.message_report.specs.declared.file.MessageFile.{MessageFile}
 use Rattle.message_report.proofs.FoundLemmas.{each_begins, each_ends, each_goes_on}
 use Rattle.message_report.proofs.file.add_files.Goals as goal
 
@@ -9,8 +11,10 @@ loop-file-init g c = each_begins (IsFoundInFile (g.S.RulesOfLocales.source c.arg
 
 pub loop-file-preserved : goal.loop-file-preserved
 loop-file-preserved g c =
-    each_goes_on (IsFoundInFile (g.S.RulesOfLocales.source c.args.source.now)) c.args.files.now c.args.found.now
-    c.loop-file.file-index _ c.loop-file.found c.add_file.new.found c.loop-file-test.true c.loop-file.invariant c.in_ok-add_file.ensures
+    let Is = IsFoundInFile (g.S.RulesOfLocales.source c.args.source.now) in
+    each_goes_on Is c.args.files.now c.args.found.now c.loop-file.file-index c.file-item.result c.loop-file.found c.add_file.new.found
+    c.loop-file-test.true c.loop-file.invariant
+    (subst (λ (file : MessageFile). Adds (Is file) c.loop-file.found c.add_file.new.found) c.file-item.is c.in_ok-add_file.ensures)
 
 pub returns : goal.returns
 returns g c =
