@@ -93,5 +93,5 @@ Reports value document files old new result =
 abbrev pub Checks : Data → List MessageFile → Option (List ℕ) → Option (List ℕ) → Result Verdict FormsError → Type 0
 Checks value files old new result =
     ((document : Document) × (document_of_json value ≡ Ok document) × Reports value document files old new result)
-    ⊎ (((error : JsonError) × (document_of_json value ≡ Err error) × (result ≡ Err (Document error)) × Keeps old new)
+    ⊎ (((error : JsonError) × (document_of_json value ≡ Err error) × (result ≡ Err (Refused error)) × Keeps old new)
     ⊎ ((result ≡ Err Memory) × Keeps old new))
