@@ -1,5 +1,5 @@
-//! Five small callers of `icu_plurals` and `plural_message`, each proved from their public
-//! contracts alone.
+//! Six small callers of `icu_plurals`, `plural_message` and `message_report`, each proved from their
+//! public contracts alone.
 #![tactic(auto)]
 
 mod compact_units;
@@ -7,9 +7,11 @@ mod formatter;
 mod range_labels;
 mod relative_time;
 mod store;
+mod translation;
 
 pub use compact_units::CompactUnits;
 pub use formatter::Formatter;
 pub use range_labels::{RangeLabels, ShownNumber};
 pub use relative_time::RelativeTime;
 pub use store::Store;
+pub use translation::is_complete;

@@ -1,5 +1,9 @@
 //! The kinds of the upper crates: `icu_plurals`, `plural_message`, `plural_checker`,
+<<<<<<< HEAD
 //! `plural_fallback`, `message_report`, `uses`, `message_pattern` and `message_format`.
+=======
+//! `plural_fallback`, `message_report`, `form_commands`, `uses` and `message_pattern`.
+>>>>>>> h-forms-wip
 
 mod callers;
 mod checker;
@@ -7,7 +11,11 @@ mod element_values;
 mod elements;
 mod elements_json;
 mod fallback;
+<<<<<<< HEAD
 mod formatted;
+=======
+mod forms;
+>>>>>>> h-forms-wip
 mod message_reports;
 mod messages;
 mod packed_texts;
@@ -26,6 +34,7 @@ pub fn make(kind: &str, call: &mut Call) -> bool {
         || checker::make(kind, call)
         || fallback::make(kind, call)
         || message_reports::make(kind, call)
+        || forms::make(kind, call)
         || callers::make(kind, call)
         || patterns::make(kind, call)
         || formatted::make(kind, call)

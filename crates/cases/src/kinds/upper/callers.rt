@@ -5,9 +5,10 @@ use crate::kinds::decimals::next_compact;
 use crate::kinds::locales::next_provider;
 use crate::kinds::upper::element_values::{Elements, next_rules};
 use crate::kinds::upper::messages::{next_packed, print_message};
-use icu_plurals::{CompactDecimal, PluralRulesWithRanges};
+use icu_plurals::{CompactDecimal, JsonProvider, PluralRulesWithRanges};
+use plural_fallback::FallbackProvider;
 use plural_message::Message;
-use uses::{CompactUnits, Formatter, RangeLabels, RelativeTime, ShownNumber, Store};
+use uses::{CompactUnits, Formatter, RangeLabels, RelativeTime, ShownNumber, Store, is_complete};
 
 /// Makes the call of a kind of this file. Returns whether there is such a kind.
 pub fn make(kind: &str, call: &mut Call) -> bool {
@@ -17,6 +18,7 @@ pub fn make(kind: &str, call: &mut Call) -> bool {
         "compact_units" => compact_units(call),
         "store" => store(call),
         "range_label" => range_label(call),
+        "translation" => translation(call),
         _ => return false,
     }
     true
@@ -136,4 +138,20 @@ fn number_of(call: &mut Call, text: &str) -> Option<CompactDecimal> {
         call.not("a number");
     }
     number
+}
+
+// Whether a document of messages has no fault.
+fn translation(call: &mut Call) {
+    let (rules, messages) = (call.value(), call.value());
+    let Ok(provider) = JsonProvider::from_value(call.alloc, &rules) else {
+        return call.not("rules");
+    };
+    let source = FallbackProvider {
+        provider: &provider,
+        locales: &rules,
+    };
+    match is_complete(call.alloc, &source, &messages) {
+        Ok(complete) => call.print_truth(complete),
+        Err(error) => call.print_error(&error),
+    }
 }
