@@ -1,9 +1,6 @@
 //! The kinds of the upper crates: `icu_plurals`, `plural_message`, `plural_checker`,
-<<<<<<< HEAD
-//! `plural_fallback`, `message_report`, `uses`, `message_pattern` and `message_format`.
-=======
-//! `plural_fallback`, `message_report`, `form_commands`, `uses` and `message_pattern`.
->>>>>>> h-forms-wip
+//! `plural_fallback`, `message_report`, `form_commands`, `uses`, `message_pattern` and
+//! `message_format`.
 
 mod callers;
 mod checker;
@@ -11,11 +8,8 @@ mod element_values;
 mod elements;
 mod elements_json;
 mod fallback;
-<<<<<<< HEAD
 mod formatted;
-=======
 mod forms;
->>>>>>> h-forms-wip
 mod message_reports;
 mod messages;
 mod packed_texts;
