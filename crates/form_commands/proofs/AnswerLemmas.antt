@@ -3,8 +3,8 @@ use Rattle.std.proofs.Common.{◌≡◌, ℕ, ◌≤◌, List, length, Option, R
 use Rattle.std.specs.Prelude.{IfOk}
 use Rattle.std.proofs.KnownBytes.{Keeps-refl}
 use Rattle.std.specs.declared.alloc.AllocError.{AllocError}
-use Rattle.icu_plurals.specs.DocumentJson.{Document}
-use Rattle.icu_plurals.specs.Json.{IsRefusal, Stands}
+use Rattle.icu_plurals.specs.DocumentJson.{document_of_json}
+use Rattle.icu_plurals.specs.Json.{IsRefusal}
 use Rattle.icu_plurals.specs.declared.JsonError.{JsonError}
 use Rattle.icu_plurals.specs.declared.JsonError.TheVariants as json
 use Rattle.message_report.specs.declared.error.ReportError.TheVariants as report
@@ -17,7 +17,7 @@ use Rattle.plural_fallback.specs.declared.locales.Part.{Part}
 use Rattle.serde_json.specs.Data.{Data}
 use Rattle.serde_json.specs.declared.Value.{Value}
 use Rattle.form_commands.specs.FormsAnswers.{IsAnswered, IsAnsweredLines, IsChecked, IsDocumentIn}
-use Rattle.form_commands.specs.Inner.FormsInputFaults.{input_fault}
+use Rattle.form_commands.specs.Inner.FormsInputFaults.{input_fault, refused_rules}
 use Rattle.form_commands.specs.Inner.RunSteps.{AnswersLines, Checks, GivesDocument, GivesValue, WritesAnswer, WritesText}
 use Rattle.form_commands.specs.PrintedTexts.{PrintedText}
 use Rattle.form_commands.specs.declared.error.FormsError.{FormsError}
@@ -127,20 +127,22 @@ no_report files input old Memory given = Keeps-refl old
 -- the report under the rules of a document
 pub report_checked : (files : List MessageFile) (input : List ℕ) (value : Data) (old new : Option (List ℕ)) (r : Result Verdict FormsError)
     → IsDocumentIn input value → Checks value files old new r → IsChecked files input old new r
-report_checked files input value old new r given (inl (document, is, Ok counts, reported, same)) =
+report_checked files input value old new r given (inl (document, is, (Ok counts, reported, same))) =
     rw same (counts, (value, document, given, is, reported), refl)
-report_checked files input value old new r given (inl (document, is, Err report.Write, reported, same)) =
+report_checked files input value old new r given (inl (document, is, (Err report.Write, reported, same))) =
     rw same (value, document, given, is, reported)
-report_checked files input value old new r given (inl (document, is, Err report.Memory, reported, same)) = rw same reported
+report_checked files input value old new r given (inl (document, is, (Err report.Memory, reported, same))) = rw same reported
 report_checked files input value old new r given (inr (inl (error, is, same, kept))) = rw same (value, given, is, kept)
 report_checked files input value old new r given (inr (inr (same, kept))) = rw same kept
 
--- a refusal that isn't for want of memory is what the document means
-pub refusal_is : (error : JsonError) (stands : Stands Document) → (error ≡ json.Memory → ⊥) → IsRefusal error stands → stands ≡ Err error
-refusal_is json.Float stands other is = is
-refusal_is json.Shape stands other is = is
-refusal_is (json.Rule category error) stands other is = is
-refusal_is json.RangeKey stands other is = is
-refusal_is json.RangeValue stands other is = is
-refusal_is (json.Pack error) stands other is = is
-refusal_is json.Memory stands other is = absurd (other refl)
+-- rules that are refused
+pub no_rules : (value : Data) (files : List MessageFile) (old : Option (List ℕ)) (error : JsonError) (fault : FormsError)
+    → IsRefusal error (document_of_json value) → fault ≡ refused_rules error → Checks value files old old (Err fault)
+no_rules value files old json.Float fault is same = rw same (inr (inl (json.Float, is, refl, Keeps-refl old)))
+no_rules value files old json.Shape fault is same = rw same (inr (inl (json.Shape, is, refl, Keeps-refl old)))
+no_rules value files old (json.Rule category error) fault is same =
+    rw same (inr (inl (json.Rule category error, is, refl, Keeps-refl old)))
+no_rules value files old json.RangeKey fault is same = rw same (inr (inl (json.RangeKey, is, refl, Keeps-refl old)))
+no_rules value files old json.RangeValue fault is same = rw same (inr (inl (json.RangeValue, is, refl, Keeps-refl old)))
+no_rules value files old (json.Pack error) fault is same = rw same (inr (inl (json.Pack error, is, refl, Keeps-refl old)))
+no_rules value files old json.Memory fault is same = rw same (inr (inr (refl, Keeps-refl old)))

@@ -42,12 +42,11 @@ impl Groups {
             if !self.ended.is_empty() {
                 self.ended.push_str(" || ")?;
             }
-            let open = if self.open.is_empty() {
-                "1"
+            if self.open.is_empty() {
+                self.ended.push_str("1")?;
             } else {
-                self.open.as_str()
-            };
-            self.ended.push_str(open)?;
+                self.ended.push_str(self.open.as_str())?;
+            }
         }
         self.open.clear();
         self.is_false = false;

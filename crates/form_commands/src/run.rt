@@ -2,6 +2,7 @@
 
 ghost use Rattle.std.specs.Prelude.{◌≡◌, IfOk, List, ℕ};
 ghost use Rattle.form_commands.specs.FormsAnswers.{Answers, IsAnswered, IsAnsweredLines, IsChecked, IsListAnswer, IsNumbersAnswer, IsOneText, verdict_of_counts};
+ghost use Rattle.form_commands.specs.Inner.FormsInputFaults.{refused_rules};
 ghost use Rattle.form_commands.specs.Inner.QuestionViews.{words_view};
 ghost use Rattle.form_commands.specs.Inner.RunSteps.{AnswersLines, Checks, GivesDocument, GivesValue, Reports, WritesAnswer};
 ghost use Rattle.plural_documents.specs.Inputs.{IsInput};
@@ -124,8 +125,22 @@ fn check_by<W: Write>(
 {
     match JsonProvider::from_value(alloc, document) {
         Ok(provider) => report_by(alloc, &provider, document, files, writer),
-        Err(JsonError::Memory) => Err(FormsError::Memory),
-        Err(error) => Err(FormsError::Refused(error)),
+        Err(error) => Err(refused(error)),
+    }
+}
+
+// Returns the fault of rules that are refused.
+fn refused(error: JsonError) -> FormsError
+    ensures { result ≡ refused_rules error }
+{
+    match error {
+        JsonError::Memory => FormsError::Memory,
+        JsonError::Float => FormsError::Refused(JsonError::Float),
+        JsonError::Shape => FormsError::Refused(JsonError::Shape),
+        JsonError::Rule(category, fault) => FormsError::Refused(JsonError::Rule(category, fault)),
+        JsonError::RangeKey => FormsError::Refused(JsonError::RangeKey),
+        JsonError::RangeValue => FormsError::Refused(JsonError::RangeValue),
+        JsonError::Pack(fault) => FormsError::Refused(JsonError::Pack(fault)),
     }
 }
 
