@@ -44,9 +44,9 @@ fn read_file<R: Files + AllocGlobal>(rt: &R, name: &str) -> Result<Value, Failur
 }
 
 // Returns the files of these names and documents.
-pub(crate) fn files_of<'a>(
+pub(crate) fn files_of<'a, 'n: 'a>(
     alloc: Global,
-    names: &[&'a str],
+    names: &[&'n str],
     documents: &'a [Value],
 ) -> Result<Vec<MessageFile<'a>>, Failure> {
     let mut files = Vec::new(alloc);
