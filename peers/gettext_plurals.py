@@ -183,6 +183,46 @@ def compare(library, say):
     return counts
 
 
+# ---- the lines of plural_forms gettext
+
+FORMS_DOCUMENT = TOP / "crates/plural_forms/data/cldr.json"
+
+
+def line_of(forms_program, locale, part):
+    """Returns how many forms plural_forms prints for a locale, and its expression."""
+    words = ["gettext", locale, *(["--ordinal"] if part == "ordinal" else []), "--rules", str(FORMS_DOCUMENT)]
+    ran = subprocess.run([forms_program, *words], capture_output=True, text=True)
+    found = re.fullmatch(r"Plural-Forms: nplurals=(\d+); plural=\((.*)\);\n", ran.stdout)
+    if not found:
+        raise Missing(f"plural_forms prints no expression for {locale}: {ran.stdout}{ran.stderr}")
+    return int(found[1]), found[2]
+
+
+def compare_lines(forms_program, library, say):
+    """Returns the counts of the lines of plural_forms, beside the library's categories and gettext's."""
+    path, counts = program(), Counter()
+    for rules, locales in sets().items():
+        block, choose = library.rules(dict(rules)), chooser(path, rules)
+        names = [*(name for name, _ in rules), "other"]
+        for part, several in locales.items():
+            forms, expression = line_of(forms_program, several[0], part)
+            form = form_of(expression)
+            counts["lines"] += 1
+            held, by_form = set(), {}
+            for number in [*range(LAST + 1), *EDGES]:
+                ours, theirs, at = library.category_of_integer(block, number), choose(number), form(number)
+                held.add(ours)
+                counts["compared"] += 1
+                if by_form.setdefault(at, ours) != ours or ours != theirs or not 0 <= at < forms:
+                    counts["unexplained"] += 1
+                    if counts["unexplained"] <= SAID:
+                        say(f"plural_forms gettext {several[0]}, {part}, {number}: form {at}, {ours}, {theirs} by gettext")
+            if [by_form.get(at) for at in range(forms)] != [it for it in names if it in held]:
+                counts["unexplained"] += 1
+                say(f"plural_forms gettext {several[0]}, {part}: {by_form}, and the integers have {sorted(held)}")
+    return counts
+
+
 # ---- rows
 
 

@@ -1,8 +1,14 @@
 -- The answers to documents.
-use Rattle.std.proofs.Common.{◌≡◌, ℕ, ◌≤◌, List, length, Option, Result, Ok, Err, inl, inr}
+use Rattle.std.proofs.Common.{◌≡◌, ℕ, ◌≤◌, List, length, Option, Result, Ok, Err, inl, inr, refl}
 use Rattle.std.specs.Prelude.{IfOk}
 use Rattle.std.proofs.KnownBytes.{Keeps-refl}
 use Rattle.std.specs.declared.alloc.AllocError.{AllocError}
+use Rattle.icu_plurals.specs.DocumentJson.{document_of_json}
+use Rattle.icu_plurals.specs.Json.{IsRefusal}
+use Rattle.icu_plurals.specs.declared.JsonError.{JsonError}
+use Rattle.icu_plurals.specs.declared.JsonError.TheVariants as json
+use Rattle.message_report.specs.declared.error.ReportError.TheVariants as report
+use Rattle.message_report.specs.declared.file.MessageFile.{MessageFile}
 use Rattle.plural_documents.specs.Inputs.{GivesInput, IsInput, most_bytes}
 use Rattle.plural_documents.specs.declared.input.InputError.{InputError}
 use Rattle.plural_documents.specs.declared.input.InputError.TheVariants as cause
@@ -10,12 +16,12 @@ use Rattle.plural_documents.proofs.InputLemmas.{some_input}
 use Rattle.plural_fallback.specs.declared.locales.Part.{Part}
 use Rattle.serde_json.specs.Data.{Data}
 use Rattle.serde_json.specs.declared.Value.{Value}
-use Rattle.form_commands.specs.FormsAnswers.{IsAnswered, IsAnsweredLines, IsDocumentIn}
-use Rattle.form_commands.specs.Inner.FormsInputFaults.{input_fault}
-use Rattle.form_commands.specs.Inner.RunSteps.{AnswersLines, GivesDocument, GivesValue, WritesAnswer, WritesText}
+use Rattle.form_commands.specs.FormsAnswers.{IsAnswered, IsAnsweredLines, IsChecked, IsDocumentIn}
+use Rattle.form_commands.specs.Inner.FormsInputFaults.{input_fault, refused_rules}
+use Rattle.form_commands.specs.Inner.RunSteps.{AnswersLines, Checks, GivesDocument, GivesValue, WritesAnswer, WritesText}
 use Rattle.form_commands.specs.PrintedTexts.{PrintedText}
 use Rattle.form_commands.specs.declared.error.FormsError.{FormsError}
-use Rattle.form_commands.specs.declared.error.FormsError.TheVariants.{Rules, TooLong, Json, Language, Numbers, Write, Memory}
+use Rattle.form_commands.specs.declared.error.FormsError.TheVariants.{Rules, TooLong, Json, Refused, Language, Numbers, Write, Memory}
 use Rattle.form_commands.specs.declared.error.LanguageError.{LanguageError}
 use Rattle.form_commands.specs.declared.error.Verdict.{Verdict}
 
@@ -35,6 +41,7 @@ document_in input bytes (Ok value) is short given = (short, rw (← is) given)
 document_in input bytes (Err Rules) is short given = tt
 document_in input bytes (Err TooLong) is short given = absurd given
 document_in input bytes (Err Json) is short given = rw (← is) given
+document_in input bytes (Err (Refused error)) is short given = given
 document_in input bytes (Err (Language error)) is short given = given
 document_in input bytes (Err Numbers) is short given = given
 document_in input bytes (Err Write) is short given = given
@@ -48,6 +55,7 @@ pub no_answer : (IsAnswer : Data → Result PrintedText LanguageError → Type 0
 no_answer IsAnswer input old Rules given = Keeps-refl old
 no_answer IsAnswer input old TooLong given = (given, Keeps-refl old)
 no_answer IsAnswer input old Json given = (given, Keeps-refl old)
+no_answer IsAnswer input old (Refused error) given = given
 no_answer IsAnswer input old (Language error) given = absurd given
 no_answer IsAnswer input old Numbers given = given
 no_answer IsAnswer input old Write given = absurd given
@@ -79,6 +87,7 @@ pub no_lines : (part : Part) (locale input : List ℕ) (before old : Option (Lis
 no_lines part locale input before old Rules given = (Keeps-refl before, Keeps-refl old)
 no_lines part locale input before old TooLong given = (given, (Keeps-refl before, Keeps-refl old))
 no_lines part locale input before old Json given = (given, (Keeps-refl before, Keeps-refl old))
+no_lines part locale input before old (Refused error) given = absurd given
 no_lines part locale input before old (Language error) given = absurd given
 no_lines part locale input before old Numbers given = absurd given
 no_lines part locale input before old Write given = absurd given
@@ -93,9 +102,47 @@ lines_answered part locale input document before left old new (Ok verdict) given
 lines_answered part locale input document before left old new (Err Rules) given (inl by) = absurd by.2
 lines_answered part locale input document before left old new (Err TooLong) given (inl by) = absurd by.2
 lines_answered part locale input document before left old new (Err Json) given (inl by) = absurd by.2
+lines_answered part locale input document before left old new (Err (Refused error)) given (inl by) = absurd by.2
 lines_answered part locale input document before left old new (Err (Language error)) given (inl by) = absurd by.2
 lines_answered part locale input document before left old new (Err Numbers) given (inl by) = (document, by.0, given, by.1, by.2)
 lines_answered part locale input document before left old new (Err Write) given (inl by) = (document, by.0, given, by.1, by.2)
 lines_answered part locale input document before left old new (Err Memory) given (inl by) = inr (document, by.0, given, by.1, by.2)
 lines_answered part locale input document before left old new r given (inr (inl none)) = rw none.2 (document, given, none.1, none.3)
 lines_answered part locale input document before left old new r given (inr (inr none)) = rw none.0 (inl none.1)
+
+-- ---- Files of messages
+
+-- without a document nothing is reported
+pub no_report : (files : List MessageFile) (input : List ℕ) (old : Option (List ℕ)) (error : FormsError)
+    → GivesDocument input (Err error) → IsChecked files input old old (Err error)
+no_report files input old Rules given = Keeps-refl old
+no_report files input old TooLong given = (given, Keeps-refl old)
+no_report files input old Json given = (given, Keeps-refl old)
+no_report files input old (Refused error) given = absurd given
+no_report files input old (Language error) given = given
+no_report files input old Numbers given = given
+no_report files input old Write given = absurd given
+no_report files input old Memory given = Keeps-refl old
+
+-- the report under the rules of a document
+pub report_checked : (files : List MessageFile) (input : List ℕ) (value : Data) (old new : Option (List ℕ)) (r : Result Verdict FormsError)
+    → IsDocumentIn input value → Checks value files old new r → IsChecked files input old new r
+report_checked files input value old new r given (inl (document, is, (Ok counts, reported, same))) =
+    rw same (counts, (value, document, given, is, reported), refl)
+report_checked files input value old new r given (inl (document, is, (Err report.Write, reported, same))) =
+    rw same (value, document, given, is, reported)
+report_checked files input value old new r given (inl (document, is, (Err report.Memory, reported, same))) = rw same reported
+report_checked files input value old new r given (inr (inl (error, is, same, kept))) = rw same (value, given, is, kept)
+report_checked files input value old new r given (inr (inr (same, kept))) = rw same kept
+
+-- rules that are refused
+pub no_rules : (value : Data) (files : List MessageFile) (old : Option (List ℕ)) (error : JsonError) (fault : FormsError)
+    → IsRefusal error (document_of_json value) → fault ≡ refused_rules error → Checks value files old old (Err fault)
+no_rules value files old json.Float fault is same = rw same (inr (inl (json.Float, is, refl, Keeps-refl old)))
+no_rules value files old json.Shape fault is same = rw same (inr (inl (json.Shape, is, refl, Keeps-refl old)))
+no_rules value files old (json.Rule category error) fault is same =
+    rw same (inr (inl (json.Rule category error, is, refl, Keeps-refl old)))
+no_rules value files old json.RangeKey fault is same = rw same (inr (inl (json.RangeKey, is, refl, Keeps-refl old)))
+no_rules value files old json.RangeValue fault is same = rw same (inr (inl (json.RangeValue, is, refl, Keeps-refl old)))
+no_rules value files old (json.Pack error) fault is same = rw same (inr (inl (json.Pack error, is, refl, Keeps-refl old)))
+no_rules value files old json.Memory fault is same = rw same (inr (inr (refl, Keeps-refl old)))

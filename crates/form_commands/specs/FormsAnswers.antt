@@ -3,12 +3,21 @@
 --     Answers Prints part locale document answer      what is printed by the rules of a locale, or why there are none
 --     IsAnswered IsAnswer input old new result      what a writer took, and the result
 --     IsAnsweredLines part locale input before left old new result      the same for the lines of another input
-use Rattle.std.specs.Prelude.{◌≡◌, ◌⊎◌, ℕ, ◌<◌, ◌≤◌, List, ◌++◌, length, Option, Some, None, Result, Ok, Err}
+--     IsChecked files input old new result      the same for files of messages
+use Rattle.std.specs.Prelude.{◌≡◌, ◌⊎◌, ℕ, ◌<◌, ◌≤◌, ◌==◌, List, ◌++◌, length, Option, Some, None, Result, Ok, Err, if◌then◌else◌}
 use Rattle.std.specs.Io.KnownBytes.{Appends, Consumes, IsAtEnd, Keeps}
+use Rattle.icu_plurals.specs.DocumentJson.{Document, document_of_json, found}
 use Rattle.icu_plurals.specs.FiveRules.{FiveRules}
+use Rattle.message_report.specs.MessagesRun.{IsReported}
+use Rattle.message_report.specs.RulesSource.{RulesSource, source_of}
+use Rattle.message_report.specs.declared.counts.Counts.{Counts}
+use Rattle.message_report.specs.declared.error.ReportError.{ReportError}
+use Rattle.message_report.specs.declared.error.ReportError.TheVariants as report
+use Rattle.message_report.specs.declared.file.MessageFile.{MessageFile}
 use Rattle.plural_documents.specs.Inputs.{most_bytes}
 use Rattle.plural_documents.specs.JsonTexts.{json_of}
 use Rattle.plural_documents.specs.Outputs.{IsPartWritten}
+use Rattle.plural_fallback.specs.LocalesJson.{keys_under, parent_in, part_name}
 use Rattle.plural_fallback.specs.declared.locales.Part.{Part}
 use Rattle.serde_json.specs.Data.{Data}
 use Rattle.form_commands.specs.FormLines.{IsFormList}
@@ -17,9 +26,10 @@ use Rattle.form_commands.specs.Languages.{IsLanguageOf}
 use Rattle.form_commands.specs.NumberAnswers.{AreLineAnswers, AreNumberAnswers}
 use Rattle.form_commands.specs.PrintedTexts.{PrintedText, only_text, verdict_of}
 use Rattle.form_commands.specs.declared.error.FormsError.{FormsError}
-use Rattle.form_commands.specs.declared.error.FormsError.TheVariants.{Rules, TooLong, Json, Language, Numbers, Write, Memory}
+use Rattle.form_commands.specs.declared.error.FormsError.TheVariants.{Rules, TooLong, Json, Refused, Language, Numbers, Write, Memory}
 use Rattle.form_commands.specs.declared.error.LanguageError.{LanguageError}
 use Rattle.form_commands.specs.declared.error.Verdict.{Verdict}
+use Rattle.form_commands.specs.declared.error.Verdict.TheVariants.{Complete, Faults}
 use Rattle.form_commands.specs.declared.language.Language as code
 
 -- ---- Answers
@@ -31,6 +41,10 @@ IsDocumentIn input document = (length input ≤ most_bytes) × (json_of input �
 -- the forms of a language
 abbrev pub IsListAnswer : Part → List ℕ → code.Language → PrintedText → Type 0
 IsListAnswer part locale language printed = (text : List ℕ) × IsFormList part locale language text × (printed ≡ only_text text)
+
+-- one text, without a fault
+abbrev pub IsOneText : code.Language → PrintedText → Type 0
+IsOneText language printed = (text : List ℕ) × (printed ≡ only_text text)
 
 -- a line for each word of a list
 abbrev pub IsNumbersAnswer : List (List ℕ) → code.Language → PrintedText → Type 0
@@ -53,6 +67,7 @@ IsAnswered IsAnswer input old new (Ok verdict) =
 IsAnswered IsAnswer input old new (Err Rules) = Keeps old new
 IsAnswered IsAnswer input old new (Err TooLong) = (most_bytes < length input) × Keeps old new
 IsAnswered IsAnswer input old new (Err Json) = (json_of input ≡ None) × Keeps old new
+IsAnswered IsAnswer input old new (Err (Refused error)) = ⊥
 IsAnswered IsAnswer input old new (Err (Language error)) =
     (document : Data) × IsDocumentIn input document × IsAnswer document (Err error) × Keeps old new
 IsAnswered IsAnswer input old new (Err Numbers) = ⊥
@@ -77,6 +92,7 @@ IsStreamed rules before left old new (Ok verdict) =
 IsStreamed rules before left old new (Err Rules) = ⊥
 IsStreamed rules before left old new (Err TooLong) = ⊥
 IsStreamed rules before left old new (Err Json) = ⊥
+IsStreamed rules before left old new (Err (Refused error)) = ⊥
 IsStreamed rules before left old new (Err (Language error)) = ⊥
 IsStreamed rules before left old new (Err Numbers) = IsBegun rules before left old new
 IsStreamed rules before left old new (Err Write) = IsBegun rules before left old new
@@ -99,9 +115,41 @@ IsAnsweredLines part locale input before left old new (Ok verdict) = IsStreamedF
 IsAnsweredLines part locale input before left old new (Err Rules) = IsUntouched before left old new
 IsAnsweredLines part locale input before left old new (Err TooLong) = (most_bytes < length input) × IsUntouched before left old new
 IsAnsweredLines part locale input before left old new (Err Json) = (json_of input ≡ None) × IsUntouched before left old new
+IsAnsweredLines part locale input before left old new (Err (Refused error)) = ⊥
 IsAnsweredLines part locale input before left old new (Err (Language error)) =
     (document : Data) × IsDocumentIn input document × IsLanguageOf document part locale (Err error) × IsUntouched before left old new
 IsAnsweredLines part locale input before left old new (Err Numbers) = IsStreamedFor part locale input before left old new (Err Numbers)
 IsAnsweredLines part locale input before left old new (Err Write) = IsStreamedFor part locale input before left old new (Err Write)
 IsAnsweredLines part locale input before left old new (Err Memory) =
     IsUntouched before left old new ⊎ IsStreamedFor part locale input before left old new (Err Memory)
+
+-- ---- Files of messages
+
+-- the rules of a document, by its keys and parents
+abbrev pub rules_source : Data → Document → RulesSource
+rules_source value document =
+    source_of (λ locale. found locale document.cardinal) (λ locale. found locale document.ordinal) (λ part. keys_under (part_name part) value)
+    (parent_in value)
+
+-- the report under the rules that an input writes
+abbrev pub IsReportedBy : List MessageFile → List ℕ → Option (List ℕ) → Option (List ℕ) → Result Counts ReportError → Type 0
+IsReportedBy files input old new result =
+    (value : Data) × (document : Document) × IsDocumentIn input value × (document_of_json value ≡ Ok document)
+    × IsReported (rules_source value document) files old new result
+
+abbrev pub verdict_of_counts : Counts → Verdict
+verdict_of_counts counts = if counts.faults == 0 then Complete else Faults
+
+-- the report, or a beginning of it; or a fault, and nothing at all
+abbrev pub IsChecked : List MessageFile → List ℕ → Option (List ℕ) → Option (List ℕ) → Result Verdict FormsError → Type 0
+IsChecked files input old new (Ok verdict) =
+    (counts : Counts) × IsReportedBy files input old new (Ok counts) × (verdict ≡ verdict_of_counts counts)
+IsChecked files input old new (Err Rules) = Keeps old new
+IsChecked files input old new (Err TooLong) = (most_bytes < length input) × Keeps old new
+IsChecked files input old new (Err Json) = (json_of input ≡ None) × Keeps old new
+IsChecked files input old new (Err (Refused error)) =
+    (value : Data) × IsDocumentIn input value × (document_of_json value ≡ Err error) × Keeps old new
+IsChecked files input old new (Err (Language error)) = ⊥
+IsChecked files input old new (Err Numbers) = ⊥
+IsChecked files input old new (Err Write) = IsReportedBy files input old new (Err report.Write)
+IsChecked files input old new (Err Memory) = Keeps old new

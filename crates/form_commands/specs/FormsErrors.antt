@@ -30,6 +30,7 @@ abbrev pub is_of_rules : FormsError → Bool
 is_of_rules forms.Rules = true
 is_of_rules forms.TooLong = true
 is_of_rules forms.Json = true
+is_of_rules (forms.Refused error) = true
 is_of_rules (forms.Language error) = true
 is_of_rules forms.Numbers = false
 is_of_rules forms.Write = false

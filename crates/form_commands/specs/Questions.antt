@@ -1,6 +1,6 @@
 -- The questions of the program, and the words that ask them.
 --     of_words words      the question, if the words are one
-use Rattle.std.specs.Prelude.{ℕ, List, [], ◌∷◌, codes, Bool, true, false, ◌&&◌, not, Option, Some, None, bytes_eq, nat_eq, if◌then◌else◌}
+use Rattle.std.specs.Prelude.{ℕ, List, [], ◌∷◌, codes, Bool, true, false, ◌&&◌, ◌||◌, not, Option, Some, None, bytes_eq, nat_eq, if◌then◌else◌}
 use Rattle.std.specs.List.{list_any, starts_with}
 use Rattle.plural_fallback.specs.declared.locales.Part.{Part}
 use Rattle.plural_fallback.specs.declared.locales.Part.TheVariants.{Cardinal, Ordinal}
@@ -11,12 +11,14 @@ pub record Wanted : Type 0 where
   pub locale : List ℕ
   pub file : Option (List ℕ)
 
--- --help, --version, list LOCALE, category LOCALE NUMBER..
+-- --help, --version, list LOCALE, gettext LOCALE, category LOCALE NUMBER.., check FILE.. with the file after `--rules`
 pub data Question : Type 0 where
   help : Question
   version : Question
   list : Wanted → Question
+  gettext : Wanted → Question
   category : Wanted → List (List ℕ) → Question
+  check : Option (List ℕ) → List (List ℕ) → Question
 
 -- ---- Options
 
@@ -82,13 +84,22 @@ wanted_by locale options = record { part = options.part; locale = locale; file =
 abbrev pub of_options : List ℕ → List ℕ → Options → Option Question
 of_options command locale options =
     if bytes_eq command (codes "list") && is_empty options.rest then Some (list (wanted_by locale options))
+    else (if bytes_eq command (codes "gettext") && is_empty options.rest then Some (gettext (wanted_by locale options))
     else (if bytes_eq command (codes "category") && not (has_option options.rest)
-    then Some (category (wanted_by locale options) options.rest) else None)
+    then Some (category (wanted_by locale options) options.rest) else None))
 
 abbrev pub of_command : List ℕ → List ℕ → List (List ℕ) → Option Question
 of_command command locale words = of_options command locale (options_of words)
 
+-- the words after `check`: at least one file, and no further option
+abbrev pub of_files : FileAndRest → Option Question
+of_files found = if is_empty found.rest || has_option found.rest then None else Some (check found.file found.rest)
+
+-- any other command and the words after it
+abbrev pub of_other : List ℕ → List (List ℕ) → Option Question
+of_other command [] = of_word command
+of_other command (locale ∷ words) = of_command command locale words
+
 abbrev pub of_words : List (List ℕ) → Option Question
-of_words (word ∷ []) = of_word word
-of_words (command ∷ locale ∷ words) = of_command command locale words
-of_words words = None
+of_words [] = None
+of_words (command ∷ words) = if bytes_eq command (codes "check") then of_files (file_of words) else of_other command words

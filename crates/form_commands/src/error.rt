@@ -5,22 +5,23 @@ ghost use Rattle.form_commands.specs.FormsErrors.{is_of_rules, language_error_te
 
 use crate::name::Name;
 use icu_plurals::JsonError;
+use message_report::ReportError;
 use plural_documents::InputError;
 use plural_fallback::{FallbackError, Part};
 use std::{error, fmt};
 use thiserror::Error;
 
-/// Whether each number has a category.
+/// Whether nothing is missing.
 #[derive(Clone, Copy, Debug, PartialEq, Eq)]
 pub enum Verdict {
-    /// Each has one, or none was asked for.
+    /// Each number has a category, and no message has a fault.
     Complete,
-    /// A number has none: its text is out of form, or over a limit.
+    /// A number has none: its text is out of form, or over a limit; or a message has a fault.
     Faults,
 }
 
 impl Verdict {
-    /// Returns the exit status of the program: 0 if each number has a category, otherwise 1.
+    /// Returns the exit status of the program: 0 if nothing is missing, otherwise 1.
     pub fn status(self) -> u8
         ensures { result ≡ verdict_status self }
     {
@@ -83,6 +84,9 @@ pub enum FormsError {
     /// The rules are no JSON text.
     #[error("rules are not JSON")]
     Json,
+    /// The rules of some locale are refused. The reason is never out of memory.
+    #[error("{0}")]
+    Refused(JsonError),
     /// The rules have none for the locale.
     #[error("{0}")]
     Language(LanguageError),
@@ -111,14 +115,30 @@ impl From<InputError> for FormsError {
     }
 }
 
+impl From<ReportError> for FormsError {
+    ghost use Rattle.form_commands.specs.Inner.FormsInputFaults.{report_fault};
+
+    ghost from_gives = { λ error fault. fault ≡ report_fault error };
+
+    fn from(error: ReportError) -> FormsError {
+        match error {
+            ReportError::Write => FormsError::Write,
+            ReportError::Memory => FormsError::Memory,
+        }
+    }
+}
+
 impl FormsError {
     /// Returns whether the rules are at fault.
     pub fn is_of_rules(&self) -> bool
         ensures { result ≡ is_of_rules self.now }
     {
         match self {
-            FormsError::Rules | FormsError::TooLong | FormsError::Json | FormsError::Language(_) =>
-                true,
+            FormsError::Rules
+            | FormsError::TooLong
+            | FormsError::Json
+            | FormsError::Refused(_)
+            | FormsError::Language(_) => true,
             FormsError::Numbers | FormsError::Write | FormsError::Memory => false,
         }
     }
@@ -132,6 +152,7 @@ impl FormsError {
             FormsError::Rules
             | FormsError::TooLong
             | FormsError::Json
+            | FormsError::Refused(_)
             | FormsError::Numbers
             | FormsError::Write
             | FormsError::Memory => 2,

@@ -1,7 +1,9 @@
 //! Which forms a language has, and which of them a number takes, over any reader and writer.
 #![tactic(auto)]
 
+mod c_condition;
 mod error;
+mod gettext;
 mod language;
 mod list;
 mod name;
@@ -15,4 +17,4 @@ pub use error::{FormsError, LanguageError, Verdict};
 pub use name::Name;
 pub use printed::{NumberFault, Place};
 pub use question::{Question, Wanted, question_of};
-pub use run::{answer_lines, answer_numbers, list_forms};
+pub use run::{answer_lines, answer_numbers, check_files, list_forms, write_gettext};

@@ -2,7 +2,7 @@
 
 ghost use Rattle.std.specs.Prelude.{◌≡◌, map, option_map};
 ghost use Rattle.std.specs.Option.{option_copied};
-ghost use Rattle.form_commands.specs.Questions.{file_of, has_option, in_part, of_command, of_word, of_words, options_after, options_of, options_with, part_of, with_file};
+ghost use Rattle.form_commands.specs.Questions.{file_of, has_option, in_part, of_command, of_files, of_other, of_word, of_words, options_after, options_of, options_with, part_of, with_file};
 ghost use Rattle.form_commands.specs.Inner.QuestionViews.{options_view, question_view, words_view};
 
 use plural_fallback::Part;
@@ -27,8 +27,12 @@ pub enum Question<'w> {
     Version,
     /// Which forms a language has.
     List(Wanted<'w>),
+    /// How gettext's files number the forms of a language.
+    Gettext(Wanted<'w>),
     /// Which category each of these numbers has. Without any, they are in the input.
     Category(Wanted<'w>, &'w [&'w str]),
+    /// What these files of messages lack, by the rules in the file after `--rules`, if there is one.
+    Check(Option<&'w str>, &'w [&'w str]),
 }
 
 // The words that are options, and those after them.
@@ -40,15 +44,43 @@ struct Options<'w> {
 }
 
 /// Returns the question of the words after the program's name: `--help`, `--version`,
-/// `list LOCALE [OPTION..]` or `category LOCALE [OPTION..] [NUMBER..]`, where an option is `--ordinal`
-/// or `--rules FILE`, each at most once. `None` for other words. It allocates nothing.
+/// `list LOCALE [OPTION..]`, `gettext LOCALE [OPTION..]`, `category LOCALE [OPTION..] [NUMBER..]` or
+/// `check [--rules FILE] FILE..`, where an option is `--ordinal` or `--rules FILE`, each at most once.
+/// `None` for other words. It allocates nothing.
 pub fn question_of<'w>(words: &'w [&'w str]) -> Option<Question<'w>>
     ensures { option_map question_view result ≡ of_words (words_view words.now) }
 {
     match words {
-        [word] => of_word(word),
-        [command, locale, rest @ ..] => of_command(command, locale, rest),
-        _ => None,
+        [command, rest @ ..] => {
+            if *command == "check" {
+                of_files(rest)
+            } else {
+                of_other(command, rest)
+            }
+        }
+        [] => None,
+    }
+}
+
+// The question of the words after `check`.
+fn of_files<'w>(words: &'w [&'w str]) -> Option<Question<'w>>
+    ensures { option_map question_view result ≡ of_files (file_of (words_view words.now)) }
+{
+    let (file, rest) = file_of(words);
+    if rest.is_empty() || has_option(rest) {
+        None
+    } else {
+        Some(Question::Check(file, rest))
+    }
+}
+
+// The question of another command and the words after it.
+fn of_other<'w>(command: &str, words: &'w [&'w str]) -> Option<Question<'w>>
+    ensures { option_map question_view result ≡ of_other command.now (words_view words.now) }
+{
+    match words {
+        [locale, rest @ ..] => of_command(command, locale, rest),
+        [] => of_word(command),
     }
 }
 
@@ -75,6 +107,8 @@ fn of_command<'w>(command: &str, locale: &'w str, words: &'w [&'w str]) -> Optio
     };
     if command == "list" && options.rest.is_empty() {
         Some(Question::List(wanted))
+    } else if command == "gettext" && options.rest.is_empty() {
+        Some(Question::Gettext(wanted))
     } else if command == "category" && !has_option(options.rest) {
         Some(Question::Category(wanted, options.rest))
     } else {

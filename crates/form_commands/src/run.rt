@@ -1,20 +1,25 @@
 //! The answers to questions, over any readers and writer.
 
-ghost use Rattle.std.specs.Prelude.{IfOk, List, ℕ};
-ghost use Rattle.form_commands.specs.FormsAnswers.{Answers, IsAnswered, IsAnsweredLines, IsListAnswer, IsNumbersAnswer};
+ghost use Rattle.std.specs.Prelude.{◌≡◌, IfOk, List, ℕ};
+ghost use Rattle.form_commands.specs.FormsAnswers.{Answers, IsAnswered, IsAnsweredLines, IsChecked, IsListAnswer, IsNumbersAnswer, IsOneText, verdict_of_counts};
+ghost use Rattle.form_commands.specs.Inner.FormsInputFaults.{refused_rules};
 ghost use Rattle.form_commands.specs.Inner.QuestionViews.{words_view};
-ghost use Rattle.form_commands.specs.Inner.RunSteps.{AnswersLines, GivesDocument, GivesValue, WritesAnswer};
+ghost use Rattle.form_commands.specs.Inner.RunSteps.{AnswersLines, Checks, GivesDocument, GivesValue, Reports, WritesAnswer};
 ghost use Rattle.plural_documents.specs.Inputs.{IsInput};
 ghost use Rattle.serde_json.specs.View.{view};
 
 use crate::error::{FormsError, LanguageError, Verdict};
+use crate::gettext::gettext_line;
 use crate::language::language_of;
 use crate::list::list_text;
 use crate::number::numbers_text;
 use crate::printed::Printed;
 use crate::stream::answer_input;
+use icu_plurals::{JsonError, JsonProvider};
+use message_report::run::run;
+use message_report::{Counts, MessageFile};
 use plural_documents::{JsonTextError, json_value, read_input};
-use plural_fallback::Part;
+use plural_fallback::{FallbackProvider, Part};
 use serde_json::Value;
 use std::alloc::{AllocError, Global};
 use std::io::{Read, Write};
@@ -75,6 +80,101 @@ pub fn answer_lines<R: Read, N: Read, W: Write>(
     }
 }
 
+/// Writes how gettext's files number the forms that whole numbers of a language have: a line of the
+/// kind of `Plural-Forms`.
+pub fn write_gettext<R: Read, W: Write>(
+    alloc: Global,
+    part: Part,
+    locale: &str,
+    rules: &mut R,
+    writer: &mut W,
+) -> Result<Verdict, FormsError>
+    ensures { (input : List ℕ) × IsInput (R.remaining rules.old) input
+        × IsAnswered (Answers IsOneText part locale.now) input (W.contents writer.old) (W.contents writer.new) result }
+{
+    match document_of(alloc, rules) {
+        Ok(document) => write_answer(gettext_of(alloc, &document, part, locale), writer),
+        Err(error) => Err(error),
+    }
+}
+
+/// Writes the report of files of messages: a line for each fault, and one with the counts.
+pub fn check_files<R: Read, W: Write>(
+    alloc: Global,
+    files: &[MessageFile<'_>],
+    rules: &mut R,
+    writer: &mut W,
+) -> Result<Verdict, FormsError>
+    ensures { (input : List ℕ) × IsInput (R.remaining rules.old) input
+        × IsChecked files.now input (W.contents writer.old) (W.contents writer.new) result }
+{
+    match document_of(alloc, rules) {
+        Ok(document) => check_by(alloc, &document, files, writer),
+        Err(error) => Err(error),
+    }
+}
+
+// Writes the report of files of messages under the rules of a document.
+fn check_by<W: Write>(
+    alloc: Global,
+    document: &Value,
+    files: &[MessageFile<'_>],
+    writer: &mut W,
+) -> Result<Verdict, FormsError>
+    ensures { Checks (view document.now) files.now (W.contents writer.old) (W.contents writer.new) result }
+{
+    match JsonProvider::from_value(alloc, document) {
+        Ok(provider) => report_by(alloc, &provider, document, files, writer),
+        Err(error) => Err(refused(error)),
+    }
+}
+
+// Returns the fault of rules that are refused.
+fn refused(error: JsonError) -> FormsError
+    ensures { result ≡ refused_rules error }
+{
+    match error {
+        JsonError::Memory => FormsError::Memory,
+        JsonError::Float => FormsError::Refused(JsonError::Float),
+        JsonError::Shape => FormsError::Refused(JsonError::Shape),
+        JsonError::Rule(category, fault) => FormsError::Refused(JsonError::Rule(category, fault)),
+        JsonError::RangeKey => FormsError::Refused(JsonError::RangeKey),
+        JsonError::RangeValue => FormsError::Refused(JsonError::RangeValue),
+        JsonError::Pack(fault) => FormsError::Refused(JsonError::Pack(fault)),
+    }
+}
+
+// Writes the report of files of messages under the rules of a provider.
+fn report_by<W: Write>(
+    alloc: Global,
+    provider: &JsonProvider,
+    document: &Value,
+    files: &[MessageFile<'_>],
+    writer: &mut W,
+) -> Result<Verdict, FormsError>
+    ensures { Reports (view document.now) provider.now files.now (W.contents writer.old) (W.contents writer.new) result }
+{
+    let source = FallbackProvider {
+        provider,
+        locales: document,
+    };
+    match run(alloc, &source, files, writer) {
+        Ok(counts) => Ok(verdict_of(counts)),
+        Err(error) => Err(FormsError::from(error)),
+    }
+}
+
+// Returns whether messages have no fault.
+fn verdict_of(counts: Counts) -> Verdict
+    ensures { result ≡ verdict_of_counts counts }
+{
+    if counts.faults == 0 {
+        Verdict::Complete
+    } else {
+        Verdict::Faults
+    }
+}
+
 // Writes the answers to the lines of the numbers by the rules of a locale.
 fn lines_by<N: Read, W: Write>(
     alloc: Global,
@@ -126,6 +226,24 @@ fn list_of(
     match language_of(alloc, document, part, locale)? {
         Ok(language) => {
             let text = list_text(alloc, part, locale, &language)?;
+            Ok(Ok(Printed::of(text)))
+        }
+        Err(error) => Ok(Err(error)),
+    }
+}
+
+// Returns the line for gettext by the rules of a locale.
+fn gettext_of(
+    alloc: Global,
+    document: &Value,
+    part: Part,
+    locale: &str,
+) -> Result<Result<Printed, LanguageError>, AllocError>
+    ensures { IfOk result (λ answer. Answers IsOneText part locale.now (view document.now) answer) }
+{
+    match language_of(alloc, document, part, locale)? {
+        Ok(language) => {
+            let text = gettext_line(alloc, &language)?;
             Ok(Ok(Printed::of(text)))
         }
         Err(error) => Ok(Err(error)),

@@ -7,12 +7,28 @@ use thiserror::Error;
 // How the program is used.
 pub(crate) const USAGE: &str = "usage: plural_forms list LOCALE [--ordinal] [--rules FILE]
        plural_forms category LOCALE [--ordinal] [--rules FILE] [NUMBER..]
+       plural_forms check [--rules FILE] FILE..
+       plural_forms gettext LOCALE [--ordinal] [--rules FILE]
        plural_forms --help | --version
 Without --rules, the rules are in the file that PLURALS_RULES names, else in standard input.
 Without a NUMBER, the numbers are the lines of standard input.";
 
 // Which version it is.
 pub(crate) const VERSION: &str = "plural_forms 0.1.0";
+
+// Why a file gives no document of messages.
+#[derive(Clone, Copy, Debug, Error)]
+pub(crate) enum MessagesFault {
+    // It can't be read.
+    #[error("cannot read messages")]
+    Read,
+    // It has more than 4194304 bytes.
+    #[error("messages too long")]
+    TooLong,
+    // It is no JSON text.
+    #[error("messages are not JSON")]
+    Json,
+}
 
 // Why the program fails.
 #[derive(Debug, Drop, Error)]
@@ -26,6 +42,9 @@ pub(crate) enum Failure {
     // The file can't be opened.
     #[error("{0}: cannot open")]
     Open(String),
+    // The messages in this file have a fault.
+    #[error("{0}: {1}")]
+    Messages(String, MessagesFault),
     // The rules in this file have a fault.
     #[error("{0}: {1}")]
     File(String, FormsError),
@@ -74,6 +93,7 @@ impl Failure {
             Failure::Usage
             | Failure::Variable
             | Failure::Open(_)
+            | Failure::Messages(_, _)
             | Failure::Write
             | Failure::Memory => 2,
         }

@@ -1,13 +1,16 @@
-//! The program `plural_forms`: which forms a language has, and which of them a number takes.
+//! The program `plural_forms`: which forms a language has, which of them a number takes, and which a translation lacks.
 #![tactic(auto)]
 
 mod failure;
+mod messages;
 mod rules;
 
 use failure::{Failure, USAGE, VERSION};
 use form_commands::{
-    Question, Verdict, Wanted, answer_lines, answer_numbers, list_forms, question_of,
+    Question, Verdict, Wanted, answer_lines, answer_numbers, check_files, list_forms, question_of,
+    write_gettext,
 };
+use messages::{files_of, read_files};
 use plural_commands::arguments::arguments;
 use plural_documents::write_output;
 use rules::{open, rules_name};
@@ -27,6 +30,8 @@ fn answer_words(rt: &HostRuntime) -> Result<Verdict, Failure> {
         Some(Question::Help) => print(rt, USAGE),
         Some(Question::Version) => print(rt, VERSION),
         Some(Question::List(wanted)) => list(rt, wanted),
+        Some(Question::Gettext(wanted)) => gettext(rt, wanted),
+        Some(Question::Check(file, names)) => check(rt, file, names),
         Some(Question::Category(wanted, numbers)) => category(rt, wanted, numbers),
         None => Err(Failure::Usage),
     }
@@ -53,6 +58,34 @@ fn list(rt: &HostRuntime, wanted: Wanted<'_>) -> Result<Verdict, Failure> {
     };
     let mut file = open(rt, &name)?;
     let answer = list_forms(alloc, part, locale, &mut file, &mut output);
+    Failure::of_file(name, answer)
+}
+
+// Writes how gettext's files number the forms of a language.
+fn gettext(rt: &HostRuntime, wanted: Wanted<'_>) -> Result<Verdict, Failure> {
+    let alloc = rt.alloc();
+    let (part, locale, mut output) = (wanted.part, wanted.locale, rt.stdout());
+    let Some(name) = rules_name(rt, wanted.file)? else {
+        let answer = write_gettext(alloc, part, locale, &mut rt.stdin(), &mut output);
+        return Failure::of_input(answer);
+    };
+    let mut file = open(rt, &name)?;
+    let answer = write_gettext(alloc, part, locale, &mut file, &mut output);
+    Failure::of_file(name, answer)
+}
+
+// Writes what files of messages lack.
+fn check(rt: &HostRuntime, rules: Option<&str>, names: &[&str]) -> Result<Verdict, Failure> {
+    let alloc = rt.alloc();
+    let documents = read_files(rt, names)?;
+    let files = files_of(alloc, names, documents.as_slice())?;
+    let mut output = rt.stdout();
+    let Some(name) = rules_name(rt, rules)? else {
+        let answer = check_files(alloc, files.as_slice(), &mut rt.stdin(), &mut output);
+        return Failure::of_input(answer);
+    };
+    let mut file = open(rt, &name)?;
+    let answer = check_files(alloc, files.as_slice(), &mut file, &mut output);
     Failure::of_file(name, answer)
 }
 

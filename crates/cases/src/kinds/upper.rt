@@ -1,5 +1,6 @@
 //! The kinds of the upper crates: `icu_plurals`, `plural_message`, `plural_checker`,
-//! `plural_fallback`, `message_report`, `uses`, `message_pattern` and `message_format`.
+//! `plural_fallback`, `message_report`, `form_commands`, `uses`, `message_pattern` and
+//! `message_format`.
 
 mod callers;
 mod checker;
@@ -8,6 +9,7 @@ mod elements;
 mod elements_json;
 mod fallback;
 mod formatted;
+mod forms;
 mod message_reports;
 mod messages;
 mod packed_texts;
@@ -26,6 +28,7 @@ pub fn make(kind: &str, call: &mut Call) -> bool {
         || checker::make(kind, call)
         || fallback::make(kind, call)
         || message_reports::make(kind, call)
+        || forms::make(kind, call)
         || callers::make(kind, call)
         || patterns::make(kind, call)
         || formatted::make(kind, call)

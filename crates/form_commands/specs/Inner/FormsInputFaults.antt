@@ -1,10 +1,23 @@
--- Not a definition of the subject: the fault that an error of the input becomes.
+-- Not a definition of the subject: the faults that errors of the input and of a report become.
+use Rattle.icu_plurals.specs.declared.JsonError.{JsonError}
+use Rattle.icu_plurals.specs.declared.JsonError.TheVariants as json
 use Rattle.plural_documents.specs.declared.InputError.{InputError}
 use Rattle.plural_documents.specs.declared.InputError.TheVariants as cause
 use Rattle.form_commands.specs.declared.error.FormsError.{FormsError}
-use Rattle.form_commands.specs.declared.error.FormsError.TheVariants.{Rules, TooLong, Memory}
+use Rattle.form_commands.specs.declared.error.FormsError.TheVariants.{Rules, TooLong, Refused, Write, Memory}
+use Rattle.message_report.specs.declared.error.ReportError.{ReportError}
+use Rattle.message_report.specs.declared.error.ReportError.TheVariants as report
 
 abbrev pub input_fault : InputError → FormsError
 input_fault cause.Read = Rules
 input_fault cause.TooLong = TooLong
 input_fault cause.Memory = Memory
+
+abbrev pub report_fault : ReportError → FormsError
+report_fault report.Write = Write
+report_fault report.Memory = Memory
+
+-- of rules that are refused
+abbrev pub refused_rules : JsonError → FormsError
+refused_rules json.Memory = Memory
+refused_rules error = Refused error

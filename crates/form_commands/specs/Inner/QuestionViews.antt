@@ -2,7 +2,7 @@
 use Rattle.std.specs.Prelude.{ℕ, List, map}
 use Rattle.std.specs.Borrow.{Bor}
 use Rattle.std.specs.Option.{option_copied}
-use Rattle.form_commands.specs.Questions.{Options, Question, Wanted, category, help, list, version}
+use Rattle.form_commands.specs.Questions.{Options, Question, Wanted, category, check, gettext, help, list, version}
 use Rattle.form_commands.specs.declared.question.Options.{Options as CodeOptions}
 use Rattle.form_commands.specs.declared.question.Question.{Question as CodeQuestion}
 use Rattle.form_commands.specs.declared.question.Question.TheVariants as code
@@ -21,4 +21,6 @@ abbrev pub question_view : CodeQuestion → Question
 question_view code.Help = help
 question_view code.Version = version
 question_view (code.List wanted) = list (wanted_view wanted)
+question_view (code.Gettext wanted) = gettext (wanted_view wanted)
 question_view (code.Category wanted numbers) = category (wanted_view wanted) (words_view numbers.now)
+question_view (code.Check file files) = check (option_copied file) (words_view files.now)

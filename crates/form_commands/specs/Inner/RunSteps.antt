@@ -2,6 +2,12 @@
 use Rattle.std.specs.Prelude.{◌≡◌, ◌⊎◌, ℕ, ◌<◌, List, length, Option, Some, None, Result, Ok, Err, ⊤}
 use Rattle.std.specs.Io.KnownBytes.{Appends, Keeps}
 use Rattle.std.specs.declared.alloc.AllocError.{AllocError}
+use Rattle.icu_plurals.specs.DocumentJson.{Document, document_of_json}
+use Rattle.icu_plurals.specs.declared.JsonError.{JsonError}
+use Rattle.message_report.specs.MessagesRun.{IsReported}
+use Rattle.message_report.specs.declared.counts.Counts.{Counts}
+use Rattle.message_report.specs.declared.error.ReportError.{ReportError}
+use Rattle.message_report.specs.declared.file.MessageFile.{MessageFile}
 use Rattle.plural_documents.specs.Inputs.{most_bytes}
 use Rattle.plural_documents.specs.JsonTexts.{json_of}
 use Rattle.plural_documents.specs.Outputs.{IsPartWritten}
@@ -9,14 +15,20 @@ use Rattle.plural_fallback.specs.declared.locales.Part.{Part}
 use Rattle.serde_json.specs.Data.{Data}
 use Rattle.serde_json.specs.View.{view}
 use Rattle.serde_json.specs.declared.Value.{Value}
-use Rattle.form_commands.specs.FormsAnswers.{IsDocumentIn, IsStreamed, IsUntouched}
+use Rattle.form_commands.specs.FormsAnswers.{IsDocumentIn, IsStreamed, IsUntouched, rules_source, verdict_of_counts}
+use Rattle.form_commands.specs.Inner.FormsInputFaults.{report_fault}
 use Rattle.form_commands.specs.Languages.{IsLanguageOf}
 use Rattle.form_commands.specs.PrintedTexts.{PrintedText, verdict_of}
 use Rattle.form_commands.specs.declared.error.FormsError.{FormsError}
-use Rattle.form_commands.specs.declared.error.FormsError.TheVariants.{Rules, TooLong, Json, Language, Numbers, Write, Memory}
+use Rattle.form_commands.specs.declared.error.FormsError.TheVariants.{Rules, TooLong, Json, Refused, Language, Numbers, Write, Memory}
 use Rattle.form_commands.specs.declared.error.LanguageError.{LanguageError}
 use Rattle.form_commands.specs.declared.error.Verdict.{Verdict}
 use Rattle.form_commands.specs.declared.language.Language as code
+
+-- the result of a report
+abbrev pub result_of_report : Result Counts ReportError → Result Verdict FormsError
+result_of_report (Ok counts) = Ok (verdict_of_counts counts)
+result_of_report (Err error) = Err (report_fault error)
 
 -- ---- The document
 
@@ -26,6 +38,7 @@ GivesValue bytes (Ok value) = json_of bytes ≡ Some (view value)
 GivesValue bytes (Err Rules) = ⊥
 GivesValue bytes (Err TooLong) = ⊥
 GivesValue bytes (Err Json) = json_of bytes ≡ None
+GivesValue bytes (Err (Refused error)) = ⊥
 GivesValue bytes (Err (Language error)) = ⊥
 GivesValue bytes (Err Numbers) = ⊥
 GivesValue bytes (Err Write) = ⊥
@@ -37,6 +50,7 @@ GivesDocument input (Ok value) = IsDocumentIn input (view value)
 GivesDocument input (Err Rules) = ⊤
 GivesDocument input (Err TooLong) = most_bytes < length input
 GivesDocument input (Err Json) = json_of input ≡ None
+GivesDocument input (Err (Refused error)) = ⊥
 GivesDocument input (Err (Language error)) = ⊥
 GivesDocument input (Err Numbers) = ⊥
 GivesDocument input (Err Write) = ⊥
@@ -66,3 +80,18 @@ AnswersLines document part locale before left old new result =
     ⊎ (((error : LanguageError) × IsLanguageOf document part locale (Err error) × (result ≡ Err (Language error))
     × IsUntouched before left old new)
     ⊎ ((result ≡ Err Memory) × IsUntouched before left old new))
+
+-- ---- Files of messages
+
+-- the report under the rules of a document, as the result of a command
+abbrev pub Reports : Data → Document → List MessageFile → Option (List ℕ) → Option (List ℕ) → Result Verdict FormsError → Type 0
+Reports value document files old new result =
+    (reported : Result Counts ReportError) × IsReported (rules_source value document) files old new reported
+    × (result ≡ result_of_report reported)
+
+-- the same, or nothing at all
+abbrev pub Checks : Data → List MessageFile → Option (List ℕ) → Option (List ℕ) → Result Verdict FormsError → Type 0
+Checks value files old new result =
+    ((document : Document) × (document_of_json value ≡ Ok document) × Reports value document files old new result)
+    ⊎ (((error : JsonError) × (document_of_json value ≡ Err error) × (result ≡ Err (Refused error)) × Keeps old new)
+    ⊎ ((result ≡ Err Memory) × Keeps old new))

@@ -38,7 +38,7 @@ fn messages_report(call: &mut Call) {
 }
 
 // Prints the lines of a report.
-fn print_lines(call: &mut Call, report: &[u8]) {
+pub(crate) fn print_lines(call: &mut Call, report: &[u8]) {
     match std::str::from_utf8(report) {
         Ok(text) => {
             for line in text.lines() {

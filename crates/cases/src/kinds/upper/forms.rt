@@ -1,0 +1,126 @@
+//! What the program `plural_forms` prints.
+
+use crate::call::Call;
+use crate::kinds::upper::message_reports::print_lines;
+use form_commands::{
+    FormsError, Verdict, answer_lines, answer_numbers, check_files, list_forms, question_of,
+    write_gettext,
+};
+use message_report::MessageFile;
+use plural_fallback::Part;
+
+/// Makes the call of a kind of this file. Returns whether there is such a kind.
+pub fn make(kind: &str, call: &mut Call) -> bool {
+    match kind {
+        "forms_question" => forms_question(call),
+        "forms_list" => forms_list(call),
+        "forms_number" => forms_number(call),
+        "forms_lines" => forms_lines(call),
+        "forms_gettext" => forms_gettext(call),
+        "forms_check" => forms_check(call),
+        _ => return false,
+    }
+    true
+}
+
+// What three words ask.
+fn forms_question(call: &mut Call) {
+    let (first, second, third) = (call.text(), call.text(), call.text());
+    let words = [first.as_str(), second.as_str(), third.as_str()];
+    match question_of(&words) {
+        Some(question) => call.print_name(&question),
+        None => call.print("none"),
+    }
+}
+
+// The forms of a locale, for cardinal numbers, by a text of rules.
+fn forms_list(call: &mut Call) {
+    let (rules, locale) = (call.text(), call.text());
+    let mut text = Vec::new(call.alloc);
+    let answer = list_forms(
+        call.alloc,
+        Part::Cardinal,
+        locale.as_str(),
+        &mut rules.as_bytes(),
+        &mut text,
+    );
+    print_answer(call, text.as_slice(), answer);
+}
+
+// The category of a number.
+fn forms_number(call: &mut Call) {
+    let (rules, locale, number) = (call.text(), call.text(), call.text());
+    let mut text = Vec::new(call.alloc);
+    let numbers = [number.as_str()];
+    let answer = answer_numbers(
+        call.alloc,
+        Part::Ordinal,
+        locale.as_str(),
+        &numbers,
+        &mut rules.as_bytes(),
+        &mut text,
+    );
+    print_answer(call, text.as_slice(), answer);
+}
+
+// The categories of lines.
+fn forms_lines(call: &mut Call) {
+    let (rules, locale, lines) = (call.text(), call.text(), call.text());
+    let mut text = Vec::new(call.alloc);
+    let answer = answer_lines(
+        call.alloc,
+        Part::Cardinal,
+        locale.as_str(),
+        &mut rules.as_bytes(),
+        &mut lines.as_bytes(),
+        &mut text,
+    );
+    print_answer(call, text.as_slice(), answer);
+}
+
+// The line for gettext.
+fn forms_gettext(call: &mut Call) {
+    let (rules, locale) = (call.text(), call.text());
+    let mut text = Vec::new(call.alloc);
+    let answer = write_gettext(
+        call.alloc,
+        Part::Cardinal,
+        locale.as_str(),
+        &mut rules.as_bytes(),
+        &mut text,
+    );
+    print_answer(call, text.as_slice(), answer);
+}
+
+// The report of two files of messages.
+fn forms_check(call: &mut Call) {
+    let rules = call.text();
+    let (first, second) = (call.value(), call.value());
+    let files = [
+        MessageFile {
+            name: "a.json",
+            document: &first,
+        },
+        MessageFile {
+            name: "b.json",
+            document: &second,
+        },
+    ];
+    let mut text = Vec::new(call.alloc);
+    let answer = check_files(call.alloc, &files, &mut rules.as_bytes(), &mut text);
+    print_answer(call, text.as_slice(), answer);
+}
+
+// Prints what was written, and the status.
+fn print_answer(call: &mut Call, text: &[u8], answer: Result<Verdict, FormsError>) {
+    print_lines(call, text);
+    call.separate(" | ");
+    match answer {
+        Ok(verdict) => call.print_value(&verdict.status()),
+        Err(error) => {
+            call.print_value(&error);
+            call.separate(", ");
+            call.print_value(&error.status());
+        }
+    }
+}
