@@ -1,6 +1,5 @@
 //! The kinds of the upper crates: `icu_plurals`, `plural_message`, `plural_checker`,
-//! `plural_fallback`, `message_report`, `form_commands`, `uses`, `message_pattern` and
-//! `message_format`.
+//! `plural_fallback`, `message_report`, `form_commands`, `uses` and `message_pattern`.
 
 mod callers;
 mod checker;
@@ -8,7 +7,6 @@ mod element_values;
 mod elements;
 mod elements_json;
 mod fallback;
-mod formatted;
 mod forms;
 mod message_reports;
 mod messages;
@@ -31,5 +29,4 @@ pub fn make(kind: &str, call: &mut Call) -> bool {
         || forms::make(kind, call)
         || callers::make(kind, call)
         || patterns::make(kind, call)
-        || formatted::make(kind, call)
 }
