@@ -166,6 +166,9 @@ name_back x s name t r n h =
     subst (λ (u : List ℕ). IsNameOrNumber u name (x ∷ r)) (sym (name_first x s name t r n h.nonempty h.bytes))
     (record { bytes = name_moved x s name t r n h.bytes; nonempty = h.nonempty; no_zeros = h.no_zeros })
 
+nonempty : (b : ℕ) (w : List ℕ) → b ∷ w ≢ []
+nonempty b w e = cc
+
 -- the type behind the comma
 pub record IsTypeThere (kind : ArgumentKind) (s : List ℕ) : Type 0 where
   pub rest : List ℕ
@@ -175,17 +178,17 @@ pub record IsTypeThere (kind : ArgumentKind) (s : List ℕ) : Type 0 where
 pub type_back : (kind : ArgumentKind) (s : List ℕ) → IsTypeThere kind s
 type_back Plural s = record {
   rest = comma ∷ s;
-  there = record { word = codes "plural"; letters = is_longest Letter (codes "plural," ++ s); nonempty = cc; named = refl };
+  there = record { word = codes "plural"; letters = is_longest Letter (codes "plural," ++ s); nonempty = nonempty 112 (codes "lural"); named = refl };
   comma_there = comma_stays s;
 }
 type_back Ordinal s = record {
   rest = comma ∷ s;
-  there = record { word = codes "selectordinal"; letters = is_longest Letter (codes "selectordinal," ++ s); nonempty = cc; named = refl };
+  there = record { word = codes "selectordinal"; letters = is_longest Letter (codes "selectordinal," ++ s); nonempty = nonempty 115 (codes "electordinal"); named = refl };
   comma_there = comma_stays s;
 }
 type_back Select s = record {
   rest = comma ∷ s;
-  there = record { word = codes "select"; letters = is_longest Letter (codes "select," ++ s); nonempty = cc; named = refl };
+  there = record { word = codes "select"; letters = is_longest Letter (codes "select," ++ s); nonempty = nonempty 115 (codes "elect"); named = refl };
   comma_there = comma_stays s;
 }
 

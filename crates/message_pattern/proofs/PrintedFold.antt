@@ -1,8 +1,7 @@
 -- The text that parts are printed as is the text of the parts, one after the other.
-use Rattle.std.proofs.Common.{◌≡◌, ◌+◌, ℕ, List, [], ◌∷◌, ◌++◌, Bool, true, false, ◌||◌, Option, refl, sym, ap, subst, ◌∙◌, append_assoc}
+use Rattle.std.proofs.Common.{◌≡◌, ◌+◌, ℕ, List, [], ◌∷◌, ◌++◌, Bool, true, false, ◌||◌, Option, Result, Ok, Err, IfOk, refl, sym, ap, subst, ◌∙◌, append_assoc}
 use Rattle.std.proofs.lemmas.List.{append-nil}
 use Rattle.message_pattern.specs.declared.part.ArgumentKind.{ArgumentKind}
-use Rattle.message_pattern.specs.declared.part.Part as parts
 use Rattle.message_pattern.specs.declared.print.Spot.{Spot}
 use Rattle.message_pattern.specs.declared.print.Spot.TheVariants.{Message, Branches}
 use Rattle.message_pattern.specs.declared.text.Context.{Context}
@@ -111,6 +110,11 @@ prints_exactly parts text e = record {
       let b = prints_back source parts h in
       read_alike parts text b.0 (e ∙ printed_whole parts b.0 b.1) b.2;
 }
+
+pub ok_exactly : {A E : Type 0} (view : A → List ℕ) (parts : List Part) (r : Result A E) → IfOk r (λ x. view x ≡ whole_text parts)
+    → IfOk r (λ x. PrintsExactly parts (view x))
+ok_exactly view parts (Ok x) h = prints_exactly parts (view x) h
+ok_exactly view parts (Err e) h = h
 
 -- ---- parts that say the same
 

@@ -24,14 +24,14 @@ BeginsWith (InMessage c d q) s parts rest =
 BeginsWith (InArgument d) s parts rest = Unit {0}
 BeginsWith (InBranches k d o) s parts rest = Unit {0}
 
-no_piece : {f : Front} {p : Option Piece} {r : Bool} {t s : List ℕ} → f ≡ End → f ≡ Takes p r t → ⊥
-no_piece e h = let x : End ≡ Takes _ _ _ = sym e ∙ h in cc
+no_piece : {f : Front} (p : Option Piece) (r : Bool) (t : List ℕ) → f ≡ End → f ≡ Takes p r t → ⊥
+no_piece p r t e h = let x : End ≡ Takes p r t = sym e ∙ h in cc
 
-no_piece_closes : {f : Front} {p : Option Piece} {r : Bool} {t s : List ℕ} → f ≡ Closes s → f ≡ Takes p r t → ⊥
-no_piece_closes e h = let x : Closes _ ≡ Takes _ _ _ = sym e ∙ h in cc
+no_piece_closes : {f : Front} (p : Option Piece) (r : Bool) (t s : List ℕ) → f ≡ Closes s → f ≡ Takes p r t → ⊥
+no_piece_closes p r t s e h = let x : Closes s ≡ Takes p r t = sym e ∙ h in cc
 
-no_piece_opens : {f : Front} {p : Option Piece} {r : Bool} {t s : List ℕ} → f ≡ Opens s → f ≡ Takes p r t → ⊥
-no_piece_opens e h = let x : Opens _ ≡ Takes _ _ _ = sym e ∙ h in cc
+no_piece_opens : {f : Front} (p : Option Piece) (r : Bool) (t s : List ℕ) → f ≡ Opens s → f ≡ Takes p r t → ⊥
+no_piece_opens p r t s e h = let x : Opens s ≡ Takes p r t = sym e ∙ h in cc
 
 same_piece : (c : Context) (d : ℕ) (p p' : Option Piece) (r r' : Bool) (t t' rest : List ℕ) (more : List Part)
     → Takes p r t ≡ Takes p' r' t' → IsRead (InMessage c d r) t more rest
@@ -44,10 +44,10 @@ same_piece c d p p' r r' t t' rest more e h =
     ap (λ (x : Option Piece). at_most_one d x ++ more) f)
 
 begins_with : {place : Place} {s rest : List ℕ} {parts : List Part} → IsRead place s parts rest → BeginsWith place s parts rest
-begins_with (message_ends c d q s e w) = λ p r t h. absurd (no_piece {s = []} e h)
-begins_with (message_closes c d q s rest e) = λ p r t h. absurd (no_piece_closes e h)
+begins_with (message_ends c d q s e w) = λ p r t h. absurd (no_piece p r t e h)
+begins_with (message_closes c d q s rest e) = λ p r t h. absurd (no_piece_closes p r t rest e h)
 begins_with (message_text c d q r s t rest p more e h) = λ p' r' t' f. same_piece c d p p' r r' t t' rest more (sym e ∙ f) h
-begins_with (message_argument c d q s t u rest inner more e h k) = λ p r t h. absurd (no_piece_opens e h)
+begins_with (message_argument c d q s t u rest inner more e h k) = λ p r t' f. absurd (no_piece_opens p r t' t e f)
 begins_with (none_arg d s name t rest i e) = tt
 begins_with (complex_arg d kind offset s name t u v w x rest more i e j f o h) = tt
 begins_with (style_branch d kind other sel s t u v rest inner more i e room h k) = tt
@@ -145,11 +145,6 @@ doubled c d false t parts rest h = (
 )
 
 -- a byte that needs no quotes: `#` where it isn't the number, or one that stands for itself
-hash_by : (c : Context) (s t u : List ℕ) (n : Bool) → is_counted c ≡ n → n ≡ false
-    → (if true && n then Takes (Some Hash) false s else if false || true then takes_text (hash ∷ []) false s else takes_text t false u) ≡ takes_text (hash ∷ []) false s
-hash_by c s t u true e f = absurd (let x : true ≡ false = f in cc)
-hash_by c s t u false e f = refl
-
 hash_alone : (c : Context) (s : List ℕ) → is_counted c ≡ false → front c false (hash ∷ s) ≡ takes_text (hash ∷ []) false s
 hash_alone c s e = ap (λ (n : Bool). if n then Takes (Some Hash) false s else takes_text (hash ∷ []) false s) e
 
@@ -161,9 +156,6 @@ bare_hash c d b t parts rest e f h = (
   (subst (λ (x : ℕ). front c false (x ∷ t) ≡ takes_text (x ∷ []) false t) (sym e) (hash_alone c t f)) h.1,
   ap (λ (l : List Part). letters d (b ∷ []) ++ l) h.2,
 )
-
-abbrev IsBare : Bool → Bool → Bool → Bool → Bool → Type 0
-IsBare a o e h n = (a ≡ false) × ((o || e || (h && n)) ≡ false)
 
 bare_plain : (o e n : Bool) → (o || e || (false && n)) ≡ false → not (false || o || e || false) ≡ true
 bare_plain true e n x = absurd (let y : true ≡ false = x in cc)
