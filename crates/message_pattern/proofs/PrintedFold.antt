@@ -1,20 +1,15 @@
 -- The text that parts are printed as is the text of the parts, one after the other.
-use Rattle.std.proofs.Common.{◌≡◌, ◌+◌, ℕ, List, [], ◌∷◌, ◌++◌, Bool, true, false, ◌||◌, Option, Result, Ok, Err, IfOk, refl, sym, ap, subst, ◌∙◌, append_assoc}
+use Rattle.std.proofs.Common.{◌≡◌, ℕ, List, [], ◌∷◌, ◌++◌, Bool, false, ◌||◌, Result, Ok, Err, IfOk, refl, sym, ap, subst, ◌∙◌, append_assoc}
 use Rattle.std.proofs.lemmas.List.{append-nil}
-use Rattle.message_pattern.specs.declared.part.ArgumentKind.{ArgumentKind}
-use Rattle.message_pattern.specs.declared.print.Spot.{Spot}
 use Rattle.message_pattern.specs.declared.print.Spot.TheVariants.{Message, Branches}
 use Rattle.message_pattern.specs.declared.text.Context.{Context}
 use Rattle.message_pattern.specs.declared.text.Context.TheVariants.{Whole}
 use Rattle.message_pattern.specs.PatternBytes.{hash, comma, opening, closing}
 use Rattle.message_pattern.specs.PatternText.{is_quotable}
-use Rattle.message_pattern.specs.PatternParts.{Part, Piece, Selector, Text, Hash, Argument, Begin, Branch}
-use Rattle.message_pattern.specs.PatternParts as piece
-use Rattle.message_pattern.specs.PatternHeads.{is_other}
+use Rattle.message_pattern.specs.PatternParts.{Part, Branch}
 use Rattle.message_pattern.specs.PatternReading.{Place, InMessage, InArgument, InBranches, one, context_of}
-use Rattle.message_pattern.specs.PatternAnswers.{IsPattern}
-use Rattle.message_pattern.specs.PatternPrinting.{letters, spelled_piece, spelled, SayTheSame, end_of_quote, byte_text, text_text, quoted_behind, kind_text, offset_text, selector_text, IsPrinted, message_ends, message_text, message_hash, message_argument, none_arg, complex_arg, style_branch, style_ends, PrintsAs, PrintsExactly, IsReadAlike}
-use Rattle.message_pattern.specs.Inner.PatternFold.{piece_text, spot_behind, context_behind, outer_behind, fold}
+use Rattle.message_pattern.specs.PatternPrinting.{letters, spelled, SayTheSame, end_of_quote, byte_text, text_text, quoted_behind, kind_text, offset_text, selector_text, IsPrinted, message_ends, message_text, message_hash, message_argument, none_arg, complex_arg, style_branch, style_ends, PrintsAs, PrintsExactly, IsReadAlike}
+use Rattle.message_pattern.specs.Inner.PatternFold.{fold}
 use Rattle.message_pattern.proofs.Spelled.{spelled-append}
 use Rattle.message_pattern.proofs.PrintsBack.{prints_back}
 
@@ -78,12 +73,11 @@ folds (complex_arg d kind name offset text more h) = λ c q outer tail.
 folds (style_branch d kind other sel message text inner more h k) = λ c outer tail.
     let t = fold c outer (Message false) tail in
     let inside : fold (context_of kind) (c ∷ outer) (Message false) ((inner ++ more) ++ tail) ≡ message ++ closing ∷ (text ++ t) =
-        ap (λ (l : List Part). fold (context_of kind) (c ∷ outer) (Message false) l) (parts_grouped inner more tail)
-        ∙ folds h (c ∷ outer) (more ++ tail) (closing ∷ (text ++ t)) (folds k c outer tail).1 in
-    (
+    ap (λ (l : List Part). fold (context_of kind) (c ∷ outer) (Message false) l) (parts_grouped inner more tail)
+    ∙ folds h (c ∷ outer) (more ++ tail) (closing ∷ (text ++ t)) (folds k c outer tail).1 in (
       ap (λ (u : List ℕ). (32 ∷ (selector_text sel ++ 32 ∷ opening ∷ [])) ++ u) inside ∙ branch_grouped (selector_text sel) message text t,
       λ q. ap (λ (u : List ℕ). ((end_of_quote q ++ closing ∷ []) ++ 32 ∷ (selector_text sel ++ 32 ∷ opening ∷ [])) ++ u) inside
-      ∙ branch_behind (end_of_quote q) (selector_text sel) message text t,
+          ∙ branch_behind (end_of_quote q) (selector_text sel) message text t,
     )
 folds (style_ends d kind) = λ c outer tail. (refl, λ q. end_grouped (end_of_quote q) (fold c outer (Message false) tail))
 

@@ -5,10 +5,10 @@ use Rattle.message_pattern.specs.declared.part.ArgumentKind.{ArgumentKind}
 use Rattle.message_pattern.specs.declared.part.ArgumentKind.TheVariants.{Plural, Ordinal, Select}
 use Rattle.message_pattern.specs.declared.reader.TheConstants.{DEPTH_LIMIT}
 use Rattle.message_pattern.specs.declared.text.Context.{Context}
-use Rattle.message_pattern.specs.declared.text.Context.TheVariants.{Whole, Counted, Selected}
+use Rattle.message_pattern.specs.declared.text.Context.TheVariants.{Whole}
 use Rattle.message_pattern.specs.PatternBytes.{apostrophe, hash, comma, opening, closing, run, behind_run, after_white}
 use Rattle.message_pattern.specs.declared.bytes.Class.TheVariants as class
-use Rattle.message_pattern.specs.PatternText.{Front, End, Closes, Opens, Takes, takes_text, front, is_nested, is_counted, is_quotable, apostrophe_front, quoted_apostrophe, quoted_front, plain_front}
+use Rattle.message_pattern.specs.PatternText.{Front, Closes, Opens, Takes, takes_text, front, is_nested, is_counted, is_quotable, apostrophe_front, quoted_apostrophe}
 use Rattle.message_pattern.specs.PatternParts.{Part, Piece, Text, Hash, Argument, Begin, Branch, Selector}
 use Rattle.message_pattern.specs.PatternParts as piece
 use Rattle.message_pattern.specs.PatternHeads.{is_other}
@@ -108,12 +108,11 @@ ends_back c d k t rest e =
 
 text_part : (c : Context) (d : ℕ) (k : Bool) (s : List ℕ) (more : List Part) → MessageBack c d (quoted_behind c k s) more → MessageBack c d k (one d (Text s) ++ more)
 text_part c d k s more h t rest e =
-    let m = h t rest e in
-    (
+    let m = h t rest e in (
       text_text c k s ++ m.0,
       prints.message_text c d k s m.0 more m.1,
       subst (λ (u : List ℕ). IsReadAs (InMessage c d k) u (letters d s ++ spelled more) rest) (sym (append_assoc (text_text c k s) m.0 t))
-      (text_back c d k s (m.0 ++ t) (spelled more) rest m.2),
+          (text_back c d k s (m.0 ++ t) (spelled more) rest m.2),
     )
 
 hash_front : (c : Context) (s : List ℕ) → is_counted c ≡ true → front c false (hash ∷ s) ≡ Takes (Some Hash) false s
@@ -121,13 +120,12 @@ hash_front c s e = ap (λ (v : Bool). if v then Takes (Some Hash) false s else t
 
 hash_part : (c : Context) (d : ℕ) (k : Bool) (more : List Part) → is_counted c ≡ true → MessageBack c d false more → MessageBack c d k (one d Hash ++ more)
 hash_part c d k more n h t rest e =
-    let m = h t rest e in
-    (
+    let m = h t rest e in (
       end_of_quote k ++ hash ∷ m.0,
       prints.message_hash c d k m.0 more m.1,
       subst (λ (u : List ℕ). IsReadAs (InMessage c d k) u (one d Hash ++ spelled more) rest) (sym (append_assoc (end_of_quote k) (hash ∷ m.0) t))
-      (quote_back c d k (hash ∷ (m.0 ++ t)) (one d Hash ++ spelled more) rest refl
-      (one d Hash ++ m.2.0, message_text c d false false (hash ∷ (m.0 ++ t)) (m.0 ++ t) rest (Some Hash) m.2.0 (hash_front c (m.0 ++ t) n) m.2.1, ap (λ (l : List Part). one d Hash ++ l) m.2.2)),
+          (quote_back c d k (hash ∷ (m.0 ++ t)) (one d Hash ++ spelled more) rest refl
+          (one d Hash ++ m.2.0, message_text c d false false (hash ∷ (m.0 ++ t)) (m.0 ++ t) rest (Some Hash) m.2.0 (hash_front c (m.0 ++ t) n) m.2.1, ap (λ (l : List Part). one d Hash ++ l) m.2.2)),
     )
 
 pieces_back : (c : Context) (d : ℕ) (p : Option Piece) (r : Bool) (t : List ℕ) (more : List Part) → IsMessagePiece c (Takes p r t)
@@ -145,15 +143,15 @@ argument_part c d k inner more a h t rest e =
     let m = h t rest e in
     let i = a (m.0 ++ t) in
     let whole : (end_of_quote k ++ opening ∷ (i.0 ++ m.0)) ++ t ≡ end_of_quote k ++ opening ∷ (i.0 ++ (m.0 ++ t)) =
-        append_assoc (end_of_quote k) (opening ∷ (i.0 ++ m.0)) t ∙ ap (λ (u : List ℕ). end_of_quote k ++ opening ∷ u) (append_assoc i.0 m.0 t) in
-    (
+    append_assoc (end_of_quote k) (opening ∷ (i.0 ++ m.0)) t ∙ ap (λ (u : List ℕ). end_of_quote k ++ opening ∷ u) (append_assoc i.0 m.0 t) in (
       end_of_quote k ++ opening ∷ (i.0 ++ m.0),
       prints.message_argument c d k i.0 m.0 inner more i.1 m.1,
       subst (λ (u : List ℕ). IsReadAs (InMessage c d k) u (spelled (inner ++ more)) rest) (sym whole)
-      (quote_back c d k (opening ∷ (i.0 ++ (m.0 ++ t))) (spelled (inner ++ more)) rest refl
-      (i.2.0 ++ m.2.0,
-      message_argument c d false (opening ∷ (i.0 ++ (m.0 ++ t))) (i.0 ++ (m.0 ++ t)) (m.0 ++ t) rest i.2.0 m.2.0 refl i.2.1 m.2.1,
-      spelled-append i.2.0 m.2.0 ∙ (ap (λ (l : List Part). l ++ spelled m.2.0) i.2.2 ∙ (ap (λ (l : List Part). spelled inner ++ l) m.2.2 ∙ sym (spelled-append inner more))))),
+          (quote_back c d k (opening ∷ (i.0 ++ (m.0 ++ t))) (spelled (inner ++ more)) rest refl (
+            i.2.0 ++ m.2.0,
+            message_argument c d false (opening ∷ (i.0 ++ (m.0 ++ t))) (i.0 ++ (m.0 ++ t)) (m.0 ++ t) rest i.2.0 m.2.0 refl i.2.1 m.2.1,
+            spelled-append i.2.0 m.2.0 ∙ (ap (λ (l : List Part). l ++ spelled m.2.0) i.2.2 ∙ (ap (λ (l : List Part). spelled inner ++ l) m.2.2 ∙ sym (spelled-append inner more))),
+          )),
     )
 
 none_back : (d : ℕ) (s name t : List ℕ) → IsNameOrNumber s name t → IsBack (InArgument d) (one d (Argument name))
@@ -161,7 +159,7 @@ none_back d s name t h rest = (
   name ++ closing ∷ [],
   prints.none_arg d name,
   subst (λ (u : List ℕ). IsReadAs (InArgument d) u (one d (Argument name)) rest) (sym (append_assoc name (closing ∷ []) rest))
-  (one d (Argument name), none_arg d (name ++ closing ∷ rest) name (closing ∷ rest) rest (name_back closing s name t rest closing_ends h) (closing_stays rest), refl),
+      (one d (Argument name), none_arg d (name ++ closing ∷ rest) name (closing ∷ rest) rest (name_back closing s name t rest closing_ends h) (closing_stays rest), refl),
 )
 
 -- white space before a branch may be passed first
@@ -197,17 +195,17 @@ complex_back d kind offset s name t w x more i o h rest =
     let m = h rest in
     let n = m.0 ++ rest in
     let b = type_back kind (offset_text offset ++ n) in
-    let y = offset_back kind w offset x n m.3 o in
-    (
+    let y = offset_back kind w offset x n m.3 o in (
       name ++ comma ∷ (kind_text kind ++ (offset_text offset ++ m.0)),
       prints.complex_arg d kind name offset m.0 more m.1,
-      subst (λ (u : List ℕ). IsReadAs (InArgument d) u (one d (Begin kind name offset) ++ spelled more) rest) (sym (head_grouped name (kind_text kind) (offset_text offset) m.0 rest))
-      (one d (Begin kind name offset) ++ m.2.0,
-      complex_arg d kind offset (name ++ comma ∷ (kind_text kind ++ (offset_text offset ++ n))) name
-      (comma ∷ (kind_text kind ++ (offset_text offset ++ n))) (kind_text kind ++ (offset_text offset ++ n)) b.rest (offset_text offset ++ n) y.0 rest m.2.0
-      (name_back comma s name t (kind_text kind ++ (offset_text offset ++ n)) comma_ends i)
-      (comma_stays (kind_text kind ++ (offset_text offset ++ n))) b.there b.comma_there y.1 (offset_then kind d n y.0 rest m.2.0 y.2 m.2.1),
-      ap (λ (l : List Part). one d (Begin kind name offset) ++ l) m.2.2),
+      subst (λ (u : List ℕ). IsReadAs (InArgument d) u (one d (Begin kind name offset) ++ spelled more) rest) (sym (head_grouped name (kind_text kind) (offset_text offset) m.0 rest)) (
+        one d (Begin kind name offset) ++ m.2.0,
+        complex_arg d kind offset (name ++ comma ∷ (kind_text kind ++ (offset_text offset ++ n))) name
+            (comma ∷ (kind_text kind ++ (offset_text offset ++ n))) (kind_text kind ++ (offset_text offset ++ n)) b.rest (offset_text offset ++ n) y.0 rest m.2.0
+            (name_back comma s name t (kind_text kind ++ (offset_text offset ++ n)) comma_ends i)
+            (comma_stays (kind_text kind ++ (offset_text offset ++ n))) b.there b.comma_there y.1 (offset_then kind d n y.0 rest m.2.0 y.2 m.2.1),
+        ap (λ (l : List Part). one d (Begin kind name offset) ++ l) m.2.2,
+      ),
     )
 
 is_branch : (kind : ArgumentKind) → is_nested (context_of kind) ≡ true
@@ -227,16 +225,16 @@ branch_part d kind other sel s t inner more i room h k rest =
     let n = m.0 ++ rest in
     let b = h (closing ∷ n) n (inr (is_branch kind, refl)) in
     let z = b.0 ++ closing ∷ n in
-    let grouped = branch_grouped (selector_text sel) b.0 m.0 rest in
-    (
+    let grouped = branch_grouped (selector_text sel) b.0 m.0 rest in (
       32 ∷ (selector_text sel ++ 32 ∷ opening ∷ (b.0 ++ closing ∷ m.0)),
       prints.style_branch d kind other sel b.0 m.0 inner more b.1 m.1,
-      subst (λ (u : List ℕ). IsReadAs (InBranches kind d other) u (one d (Branch sel) ++ spelled (inner ++ more)) rest) (sym grouped)
-      (one d (Branch sel) ++ (b.2.0 ++ m.2.0),
-      style_branch d kind other sel (32 ∷ (selector_text sel ++ 32 ∷ opening ∷ z)) (32 ∷ opening ∷ z) z n rest b.2.0 m.2.0
-      (selector_back kind s sel t (opening ∷ z) i) (brace_back z) room b.2.1 m.2.1,
-      ap (λ (l : List Part). one d (Branch sel) ++ l)
-      (spelled-append b.2.0 m.2.0 ∙ (ap (λ (l : List Part). l ++ spelled m.2.0) b.2.2 ∙ (ap (λ (l : List Part). spelled inner ++ l) m.2.2 ∙ sym (spelled-append inner more))))),
+      subst (λ (u : List ℕ). IsReadAs (InBranches kind d other) u (one d (Branch sel) ++ spelled (inner ++ more)) rest) (sym grouped) (
+        one d (Branch sel) ++ (b.2.0 ++ m.2.0),
+        style_branch d kind other sel (32 ∷ (selector_text sel ++ 32 ∷ opening ∷ z)) (32 ∷ opening ∷ z) z n rest b.2.0 m.2.0
+            (selector_back kind s sel t (opening ∷ z) i) (brace_back z) room b.2.1 m.2.1,
+        ap (λ (l : List Part). one d (Branch sel) ++ l)
+            (spelled-append b.2.0 m.2.0 ∙ (ap (λ (l : List Part). l ++ spelled m.2.0) b.2.2 ∙ (ap (λ (l : List Part). spelled inner ++ l) m.2.2 ∙ sym (spelled-append inner more)))),
+      ),
       subst NoOffset (sym grouped) (selector_no_offset kind s sel t (opening ∷ z) i),
     )
 

@@ -39,9 +39,11 @@ same_piece : (c : Context) (d : ℕ) (p p' : Option Piece) (r r' : Bool) (t t' r
 same_piece c d p p' r r' t t' rest more e h =
     let f : p ≡ p' = cc in
     let g : r ≡ r' = cc in
-    let k : t ≡ t' = cc in
-    (more, subst (λ (v : Bool). IsRead (InMessage c d v) t' more rest) g (subst (λ (u : List ℕ). IsRead (InMessage c d r) u more rest) k h),
-    ap (λ (x : Option Piece). at_most_one d x ++ more) f)
+    let k : t ≡ t' = cc in (
+      more,
+      subst (λ (v : Bool). IsRead (InMessage c d v) t' more rest) g (subst (λ (u : List ℕ). IsRead (InMessage c d r) u more rest) k h),
+      ap (λ (x : Option Piece). at_most_one d x ++ more) f,
+    )
 
 begins_with : {place : Place} {s rest : List ℕ} {parts : List Part} → IsRead place s parts rest → BeginsWith place s parts rest
 begins_with (message_ends c d q s e w) = λ p r t h. absurd (no_piece p r t e h)
@@ -77,13 +79,12 @@ byte_before : (c : Context) (d : ℕ) (q : Bool) (k : Class) (b : ℕ) (t : List
 byte_before c d q k b t parts rest false runs e f h = (
   one d (Text (b ∷ [])) ++ h.0,
   message_text c d q q (b ∷ t) t rest (Some (Text (b ∷ []))) h.0
-  (runs b t e ∙ (takes_one k b t q e ∙ (ap (λ (u : List ℕ). takes_text (b ∷ u) q (behind_run k t)) (run_none k t f) ∙ ap (λ (u : List ℕ). takes_text (b ∷ []) q u) (behind_none k t f)))) h.1,
+      (runs b t e ∙ (takes_one k b t q e ∙ (ap (λ (u : List ℕ). takes_text (b ∷ u) q (behind_run k t)) (run_none k t f) ∙ ap (λ (u : List ℕ). takes_text (b ∷ []) q u) (behind_none k t f)))) h.1,
   ap (λ (l : List Part). letters d (b ∷ []) ++ l) h.2,
 )
 byte_before c d q k b [] parts rest true runs e f h = absurd (let x : false ≡ true = f in cc)
 byte_before c d q k b (a ∷ t) parts rest true runs e f h =
-    let m = begins_with h.1 (Some (Text (run k (a ∷ t)))) q (behind_run k (a ∷ t)) (runs a t f) in
-    (
+    let m = begins_with h.1 (Some (Text (run k (a ∷ t)))) q (behind_run k (a ∷ t)) (runs a t f) in (
       one d (Text (b ∷ run k (a ∷ t))) ++ m.0,
       message_text c d q q (b ∷ a ∷ t) (behind_run k (a ∷ t)) rest (Some (Text (b ∷ run k (a ∷ t)))) m.0 (runs b (a ∷ t) e ∙ takes_one k b (a ∷ t) q e) m.1,
       ap (λ (l : List Part). letters d (b ∷ []) ++ l) (sym (ap spelled m.2) ∙ h.2),
@@ -153,7 +154,7 @@ bare_hash : (c : Context) (d b : ℕ) (t : List ℕ) (parts : List Part) (rest :
 bare_hash c d b t parts rest e f h = (
   one d (Text (b ∷ [])) ++ h.0,
   message_text c d false false (b ∷ t) t rest (Some (Text (b ∷ []))) h.0
-  (subst (λ (x : ℕ). front c false (x ∷ t) ≡ takes_text (x ∷ []) false t) (sym e) (hash_alone c t f)) h.1,
+      (subst (λ (x : ℕ). front c false (x ∷ t) ≡ takes_text (x ∷ []) false t) (sym e) (hash_alone c t f)) h.1,
   ap (λ (l : List Part). letters d (b ∷ []) ++ l) h.2,
 )
 

@@ -69,7 +69,12 @@ fn end_branch(spot: Spot, text: &mut Vec<u8>) -> Result<(), AllocError>
 }
 
 // Prints a byte of a text, and the apostrophe before it.
-fn print_byte(context: Context, quoted: bool, byte: u8, text: &mut Vec<u8>) -> Result<(), AllocError>
+fn print_byte(
+    context: Context,
+    quoted: bool,
+    byte: u8,
+    text: &mut Vec<u8>,
+) -> Result<(), AllocError>
     ensures { OnOk result (text.new.items ≡ text.old.items ++ byte_text context quoted byte) }
 {
     if byte == b'\'' {

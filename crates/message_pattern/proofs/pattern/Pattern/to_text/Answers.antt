@@ -1,4 +1,4 @@
-use Rattle.std.proofs.Common.{List, ℕ, IfOk, subst}
+use Rattle.std.proofs.Common.{List, IfOk, subst}
 use Rattle.message_pattern.specs.PatternParts.{Part, parts_view}
 use Rattle.message_pattern.specs.PatternPrinting.{PrintsExactly}
 use Rattle.message_pattern.proofs.PrintedFold.{ok_exactly}
