@@ -13,8 +13,8 @@ pub fn every_text_is_read()
     ensures { EveryTextIsRead }
 {}
 
-/// The parts of each pattern are printed as a text, and that text is read as a pattern that says the
-/// same: the same pieces at the same depths, but for where texts are cut into pieces.
+/// The parts of each pattern are printed as a text, and that text is read as a pattern that says
+/// the same: the same pieces at the same depths, but for where texts are cut into pieces.
 pub fn patterns_print_back()
     ensures { PatternsPrintBack }
 {}

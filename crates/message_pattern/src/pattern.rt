@@ -51,10 +51,11 @@ impl<'p> Pattern<'p> {
         &self.parts
     }
 
-    /// Returns the pattern's text, in one form: `{name}`, `{n, plural, offset:1 one {..} other {..}}`,
-    /// and texts that are quoted from the first byte on that has to be, with each apostrophe doubled.
-    /// It is read as a pattern that says the same: only where texts are cut into pieces may differ.
-    /// It allocates the text; memory is the only error.
+    /// Returns the pattern's text in one form, as bytes: `{name}`, `{n, plural, offset:1 one {..}
+    /// other {..}}`, and texts with each apostrophe doubled, quoted from the first byte on that has
+    /// to be. It is read as a pattern that says the same: only where texts are cut into pieces may
+    /// differ. It allocates the text, and the contexts that stand in each other; the error is out of
+    /// memory.
     pub fn to_text(&self, alloc: Global) -> Result<Vec<u8>, AllocError>
         ensures { IfOk result (λ text. PrintsExactly self.now text.items) }
     {
