@@ -1,0 +1,36 @@
+//! What the library for C exports, in Rust: plural rules over blocks of bytes, and numbers for
+//! results and faults.
+#![tactic(auto)]
+
+mod buffer;
+mod categories;
+mod category;
+mod document;
+mod element_texts;
+mod elements;
+mod fault;
+mod given;
+mod integers;
+mod message;
+mod operands;
+mod ranges;
+mod rules;
+mod signed;
+mod sure;
+mod table;
+mod whole;
+
+pub use categories::categories;
+pub use category::{category, category_of_integer, is_exact};
+pub use element_texts::elements_from_texts;
+pub use elements::{element, elements_from_json};
+pub use fault::Fault;
+pub use integers::categories_of_integers;
+pub use message::message;
+pub use operands::category_of_operands;
+pub use ranges::ranges_from_document;
+pub use rules::{check_rules, rules_from_document, rules_from_texts};
+pub use signed::category_of_signed_integer;
+pub use sure::sure_category;
+pub use table::{category_by_table, table_of_rules};
+pub use whole::is_read_whole;
