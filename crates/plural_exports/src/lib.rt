@@ -24,7 +24,6 @@ pub use categories::categories;
 pub use category::{category, category_of_integer, is_exact};
 pub use element_texts::elements_from_texts;
 pub use elements::{element, elements_from_json};
-pub use fault::Fault;
 pub use integers::categories_of_integers;
 pub use message::message;
 pub use operands::category_of_operands;
