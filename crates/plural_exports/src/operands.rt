@@ -15,7 +15,7 @@ use icu_plurals::{PluralCategory, PluralOperands, RawPluralOperands};
 ///
 /// A fault is negative, and is one of the rules.
 ///
-/// [`category_of_integer`]: crate::category::category_of_integer
+/// [`category_of_integer`]: crate::category_of_integer
 pub fn category_of_operands(
     rules: &[u8],
     i: u64,
