@@ -37,13 +37,7 @@ pub fn elements_from_json(alloc: Global, json: &[u8], out: &mut [u8]) -> i64
 ///
 /// A fault is negative, and then nothing is written: one of the rules, else of the elements, else
 /// of the number. It allocates for a number of more than 16 bytes.
-pub fn element(
-    alloc: Global,
-    rules: &[u8],
-    elements: &[u8],
-    number: &[u8],
-    out: &mut [u8],
-) -> i64
+pub fn element(alloc: Global, rules: &[u8], elements: &[u8], number: &[u8], out: &mut [u8]) -> i64
     ensures { Written (IsElementOf rules.now elements.now number.now) out.old out.new result }
 {
     match element_of(alloc, rules, elements, number) {

@@ -28,11 +28,7 @@ enum Chooser<'a> {
 /// allocates nothing.
 ///
 /// A fault is negative, and is one of the rules; then nothing is written.
-pub fn categories_of_integers(
-    rules: &[u8],
-    numbers: &[u64],
-    out: &mut [u8],
-) -> i64
+pub fn categories_of_integers(rules: &[u8], numbers: &[u64], out: &mut [u8]) -> i64
     ensures { Written (AreCategoriesOfIntegers rules.now numbers.now) out.old out.new result }
 {
     match rules_in(rules) {

@@ -20,13 +20,7 @@ const MOST_BYTES: usize = 9_223_372_036_854_775_807;
 /// of the number. It allocates for a number of more than 16 bytes alone: the message is written in
 /// place. One of 2^63 bytes or more, which needs elements that no memory holds, is told as out of
 /// memory.
-pub fn message(
-    alloc: Global,
-    rules: &[u8],
-    elements: &[u8],
-    number: &[u8],
-    out: &mut [u8],
-) -> i64
+pub fn message(alloc: Global, rules: &[u8], elements: &[u8], number: &[u8], out: &mut [u8]) -> i64
     ensures { Written (IsMessageFor rules.now elements.now number.now) out.old out.new result }
 {
     match write_message(alloc, rules, elements, number, out) {

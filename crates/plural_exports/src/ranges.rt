@@ -21,12 +21,7 @@ use std::alloc::Global;
 /// A fault is negative, and then nothing is written. Faults are looked for in this order: the
 /// locale's text isn't UTF-8, no JSON text, no document, the document has no ranges for the locale.
 /// It allocates.
-pub fn ranges_from_document(
-    alloc: Global,
-    json: &[u8],
-    locale: &[u8],
-    out: &mut [u8],
-) -> i64
+pub fn ranges_from_document(alloc: Global, json: &[u8], locale: &[u8], out: &mut [u8]) -> i64
     ensures { Written (AreRangesIn json.now locale.now) out.old out.new result }
 {
     match ranges_of_document(alloc, json, locale) {

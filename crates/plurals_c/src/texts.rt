@@ -53,7 +53,18 @@ pub extern "C" fn plurals_elements_from_texts(
 ) -> i64
     ensures { Written (AreElementsFrom (eight other.now zero.now one.now two.now few.now many.now explicit_zero.now explicit_one.now)) out.old out.new result }
 {
-    plural_exports::elements_from_texts(alloc, other, zero, one, two, few, many, explicit_zero, explicit_one, out)
+    plural_exports::elements_from_texts(
+        alloc,
+        other,
+        zero,
+        one,
+        two,
+        few,
+        many,
+        explicit_zero,
+        explicit_one,
+        out,
+    )
 }
 
 /// Writes the text of the element that a number chooses under the rules. The result is how many

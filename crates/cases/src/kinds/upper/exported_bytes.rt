@@ -87,8 +87,7 @@ fn rules(call: &mut Call) {
     let [zero, one, two, few, many] = texts.as_slice() else {
         return call.not("five texts");
     };
-    let told =
-        plural_exports::rules_from_texts(call.alloc, zero, one, two, few, many, &mut room);
+    let told = plural_exports::rules_from_texts(call.alloc, zero, one, two, few, many, &mut room);
     print_bytes(call, told, &room);
 }
 
@@ -98,8 +97,9 @@ fn document(call: &mut Call) {
     let locale = next_given(call);
     let rule_type = call.byte();
     let mut room = next_room(call);
-    let told =
-        plural_exports::rules_from_document(call.alloc, &json, &locale, rule_type, &mut room);
+    let told = plural_exports::rules_from_document(
+        call.alloc, &json, &locale, rule_type, &mut room,
+    );
     print_bytes(call, told, &room);
 }
 
@@ -149,16 +149,7 @@ fn texts(call: &mut Call) {
         return call.not("eight texts");
     };
     let told = plural_exports::elements_from_texts(
-        call.alloc,
-        other,
-        zero,
-        one,
-        two,
-        few,
-        many,
-        exactly_0,
-        exactly_1,
-        &mut room,
+        call.alloc, other, zero, one, two, few, many, exactly_0, exactly_1, &mut room,
     );
     print_bytes(call, told, &room);
 }
