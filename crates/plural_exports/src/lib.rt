@@ -2,16 +2,16 @@
 //! results and faults.
 #![tactic(auto)]
 
+mod block_categories;
 mod buffer;
-mod categories;
-mod category;
 mod document;
 mod element_texts;
 mod elements;
 mod fault;
 mod given;
 mod integers;
-mod message;
+mod number_category;
+mod number_message;
 mod operands;
 mod ranges;
 mod rules;
@@ -20,12 +20,12 @@ mod sure;
 mod table;
 mod whole;
 
-pub use categories::categories;
-pub use category::{category, category_of_integer, is_exact};
+pub use block_categories::categories;
 pub use element_texts::elements_from_texts;
 pub use elements::{element, elements_from_json};
 pub use integers::categories_of_integers;
-pub use message::message;
+pub use number_category::{category, category_of_integer, is_exact};
+pub use number_message::message;
 pub use operands::category_of_operands;
 pub use ranges::ranges_from_document;
 pub use rules::{check_rules, rules_from_document, rules_from_texts};

@@ -4,7 +4,7 @@ ghost use Rattle.plural_exports.specs.NumberAnswers.{category_number};
 ghost use Rattle.plural_exports.specs.OperandAnswers.{IsCategoryOfOperands};
 ghost use Rattle.plural_exports.specs.Results.{Answered};
 
-use crate::category::category_number;
+use crate::number_category::category_number;
 use crate::fault::Fault;
 use crate::given::rules_in;
 use icu_plurals::{PluralCategory, PluralOperands, RawPluralOperands};

@@ -4,7 +4,7 @@ ghost use Rattle.std.specs.Prelude.{nat_abs};
 ghost use Rattle.plural_exports.specs.NumberAnswers.{IsCategoryOfInteger, category_number};
 ghost use Rattle.plural_exports.specs.Results.{Answered};
 
-use crate::category::category_of_integer;
+use crate::number_category::category_of_integer;
 
 /// Returns the category of an integer, which is that of its absolute value, as
 /// [`category_of_integer`] does. It allocates nothing.

@@ -4,7 +4,7 @@ ghost use Rattle.std.specs.Prelude.{◌≡◌};
 ghost use Rattle.plural_exports.specs.NumberAnswers.{IsSureCategoryOf, category_number};
 ghost use Rattle.plural_exports.specs.Results.{Answered};
 
-use crate::category::category_number;
+use crate::number_category::category_number;
 use crate::fault::Fault;
 use crate::given::{number_in, rules_in};
 use icu_plurals::PluralCategory;

@@ -6,7 +6,7 @@ ghost use Rattle.plural_exports.specs.Results.{Answered, Written};
 ghost use Rattle.plural_exports.specs.TableAnswers.{AreTableFor, IsToldByTable, told_number};
 
 use crate::buffer::put;
-use crate::category::category_number;
+use crate::number_category::category_number;
 use crate::fault::Fault;
 use crate::given::rules_in;
 use icu_plurals::{CategoryTable, PluralCategory, PreparedRules};

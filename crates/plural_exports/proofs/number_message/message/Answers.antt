@@ -1,5 +1,5 @@
 use Rattle.std.proofs.Common.{Ok, Err, rules}
-use Rattle.plural_exports.proofs.message.message.Goals as goal
+use Rattle.plural_exports.proofs.number_message.message.Goals as goal
 
 pub returns-in-Ok : goal.returns-in-Ok
 returns-in-Ok c = (Ok c.in-Ok.ensures.0, c.in-Ok.ensures.1, (search rules, c.in-Ok.ensures.2.1))

@@ -1,6 +1,6 @@
 use Rattle.std.proofs.Common.{Ok, Err, refl, rules}
 use Rattle.icu_plurals.specs.FiveRules.{categories_of, rules_of}
-use Rattle.plural_exports.proofs.categories.categories.Goals as goal
+use Rattle.plural_exports.proofs.block_categories.categories.Goals as goal
 
 pub returns-in-Ok : goal.returns-in-Ok
 returns-in-Ok c = (

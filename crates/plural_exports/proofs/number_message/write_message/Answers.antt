@@ -13,7 +13,7 @@ use Rattle.plural_exports.specs.NumberAnswers.{HasMessage, IsMessageFor}
 use Rattle.plural_exports.specs.Results.{filled}
 use Rattle.plural_exports.specs.declared.fault.Fault.{Fault}
 use Rattle.plural_exports.proofs.Steps.{passed_on}
-use Rattle.plural_exports.proofs.message.write_message.Goals as goal
+use Rattle.plural_exports.proofs.number_message.write_message.Goals as goal
 
 -- a fault, at which nothing was written
 faulty : (Is : Result (List ℕ) Fault → Type 0) (old : List ℕ) (e : Fault) (r : Result ℤ Fault) → r ≡ Err e → Is (Err e)
