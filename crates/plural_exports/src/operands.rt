@@ -4,9 +4,9 @@ ghost use Rattle.plural_exports.specs.NumberAnswers.{category_number};
 ghost use Rattle.plural_exports.specs.OperandAnswers.{IsCategoryOfOperands};
 ghost use Rattle.plural_exports.specs.Results.{Answered};
 
-use crate::number_category::category_number;
 use crate::fault::Fault;
 use crate::given::rules_in;
+use crate::number_category::category_number;
 use icu_plurals::{PluralCategory, PluralOperands, RawPluralOperands};
 
 /// Returns the category of six operands (UTS 35 Part 3, Plural Operand Meanings), by its number as

@@ -4,9 +4,9 @@ ghost use Rattle.std.specs.Prelude.{◌≡◌};
 ghost use Rattle.plural_exports.specs.NumberAnswers.{IsSureCategoryOf, category_number};
 ghost use Rattle.plural_exports.specs.Results.{Answered};
 
-use crate::number_category::category_number;
 use crate::fault::Fault;
 use crate::given::{number_in, rules_in};
+use crate::number_category::category_number;
 use icu_plurals::PluralCategory;
 use std::alloc::Global;
 

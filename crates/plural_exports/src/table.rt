@@ -6,9 +6,9 @@ ghost use Rattle.plural_exports.specs.Results.{Answered, Written};
 ghost use Rattle.plural_exports.specs.TableAnswers.{AreTableFor, IsToldByTable, told_number};
 
 use crate::buffer::put;
-use crate::number_category::category_number;
 use crate::fault::Fault;
 use crate::given::rules_in;
+use crate::number_category::category_number;
 use icu_plurals::{CategoryTable, PluralCategory, PreparedRules};
 
 // The number that tells that the rules are asked.
