@@ -17,10 +17,10 @@ use std::alloc::Global;
 // Formats the message at the front of the parts.
 fn message<'p>(
     alloc: Global,
-    arguments: &'p [Argument<'p>],
+    arguments: &[Argument<'_>],
     rules: &Rules<'_, '_>,
-    hash: &'p [u8],
-    parts: &'p [Part<'p>],
+    hash: &[u8],
+    parts: &[Part<'p>],
     said: &mut Vec<u8>,
 ) -> Result<(), FormatError<'p>>
     ensures { GivesOutcome (arguments_view arguments.now) (two_rules rules.now) hash.now (parts_view parts.now) said.old.items said.new.items result }
@@ -55,8 +55,8 @@ fn message<'p>(
 /// `OffsetUnsupported` for a plural with an offset; [`FormatError::Memory`] if memory ran out.
 pub fn format<'p>(
     alloc: Global,
-    pattern: &'p Pattern<'p>,
-    arguments: &'p [Argument<'p>],
+    pattern: &Pattern<'p>,
+    arguments: &[Argument<'_>],
     rules: &Rules<'_, '_>,
 ) -> Result<Vec<u8>, FormatError<'p>>
     ensures { SaysExactly (arguments_view arguments.now) (two_rules rules.now) pattern.now (outcome_of result) }

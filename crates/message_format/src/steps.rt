@@ -26,17 +26,20 @@ pub struct Rules<'r, 'data> {
 }
 
 // What a part does.
-pub(crate) enum Step<'p> {
+pub(crate) enum Step<'s, 'p> {
     // Ends the message.
     Stops,
     // Prints a text.
-    Prints(&'p [u8]),
+    Prints(&'s [u8]),
     // Chooses a branch: the text of `#` in it, and the parts from it on.
-    Chooses(&'p [u8], &'p [Part<'p>]),
+    Chooses(&'s [u8], &'s [Part<'p>]),
 }
 
 // What `{name}` prints.
-fn shown_value<'p>(name: &'p [u8], value: Option<Value<'p>>) -> Result<Step<'p>, FormatError<'p>>
+fn shown_value<'s, 'p: 's>(
+    name: &'p [u8],
+    value: Option<Value<'s>>,
+) -> Result<Step<'s, 'p>, FormatError<'p>>
     ensures step { GivesStep (λ step. step ≡ shown_value name.now (any_value value.entry)) result }
     ensures shorter { IsBehind 0 result }
 {
@@ -48,13 +51,13 @@ fn shown_value<'p>(name: &'p [u8], value: Option<Value<'p>>) -> Result<Step<'p>,
 }
 
 // A select of a value.
-fn selected<'p>(
-    hash: &'p [u8],
+fn selected<'s, 'p: 's>(
+    hash: &'s [u8],
     name: &'p [u8],
     depth: usize,
-    rest: &'p [Part<'p>],
-    value: Option<Value<'p>>,
-) -> Result<Step<'p>, FormatError<'p>>
+    rest: &'s [Part<'p>],
+    value: Option<Value<'s>>,
+) -> Result<Step<'s, 'p>, FormatError<'p>>
     ensures step { GivesStep (λ step. step ≡ selected hash.now name.now (branches_of depth (parts_view rest.now)) (any_value value.entry)) result }
     ensures shorter { IsBehind (length rest.now) result }
 {
@@ -69,14 +72,14 @@ fn selected<'p>(
 }
 
 // A plural without an offset, of the text of a number.
-fn counted<'p>(
+fn counted<'s, 'p: 's>(
     alloc: Global,
     rules: &PluralRules<'_>,
     name: &'p [u8],
     depth: usize,
-    rest: &'p [Part<'p>],
-    text: &'p str,
-) -> Result<Step<'p>, FormatError<'p>>
+    rest: &'s [Part<'p>],
+    text: &'s str,
+) -> Result<Step<'s, 'p>, FormatError<'p>>
     ensures step { GivesStep (λ step. IsCounted rules.now name.now (branches_of depth (parts_view rest.now)) text.now step) result }
     ensures shorter { IsBehind (length rest.now) result }
 {
@@ -92,15 +95,15 @@ fn counted<'p>(
 }
 
 // A plural of a value.
-fn plural<'p>(
+fn plural<'s, 'p: 's>(
     alloc: Global,
     rules: &PluralRules<'_>,
     name: &'p [u8],
     offset: Option<&'p [u8]>,
     depth: usize,
-    rest: &'p [Part<'p>],
-    value: Option<Value<'p>>,
-) -> Result<Step<'p>, FormatError<'p>>
+    rest: &'s [Part<'p>],
+    value: Option<Value<'s>>,
+) -> Result<Step<'s, 'p>, FormatError<'p>>
     ensures step { GivesStep (λ step. IsPlural rules.now name.now (offset_view offset.entry) (branches_of depth (parts_view rest.now)) (any_value value.entry) step) result }
     ensures shorter { IsBehind (length rest.now) result }
 {
@@ -115,14 +118,14 @@ fn plural<'p>(
 }
 
 // What a part does, which these parts follow.
-pub(crate) fn step_of<'p>(
+pub(crate) fn step_of<'s, 'p: 's>(
     alloc: Global,
-    arguments: &[Argument<'p>],
+    arguments: &[Argument<'s>],
     rules: &Rules<'_, '_>,
-    hash: &'p [u8],
+    hash: &'s [u8],
     part: Part<'p>,
-    rest: &'p [Part<'p>],
-) -> Result<Step<'p>, FormatError<'p>>
+    rest: &'s [Part<'p>],
+) -> Result<Step<'s, 'p>, FormatError<'p>>
     ensures step { GivesStep (λ step. IsStep (arguments_view arguments.now) (two_rules rules.now) hash.now part.entry.depth (piece_view part.entry.piece) (parts_view rest.now) step) result }
     ensures shorter { IsBehind (length rest.now) result }
 {
