@@ -1,5 +1,6 @@
 //! The kinds of the upper crates: `icu_plurals`, `plural_message`, `plural_checker`,
-//! `plural_fallback`, `message_report`, `form_commands`, `uses` and `message_pattern`.
+//! `plural_fallback`, `message_report`, `form_commands`, `uses`, `message_pattern` and
+//! `message_format`.
 
 mod callers;
 mod checker;
@@ -12,6 +13,7 @@ mod message_reports;
 mod messages;
 mod packed_texts;
 mod packing;
+mod pattern_texts;
 mod patterns;
 
 use crate::call::Call;
@@ -29,4 +31,5 @@ pub fn make(kind: &str, call: &mut Call) -> bool {
         || forms::make(kind, call)
         || callers::make(kind, call)
         || patterns::make(kind, call)
+        || pattern_texts::make(kind, call)
 }
