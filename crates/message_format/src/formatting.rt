@@ -15,12 +15,12 @@ use message_pattern::{Part, Pattern};
 use std::alloc::Global;
 
 // Formats the message at the front of the parts.
-fn message<'p>(
+fn message<'s, 'p: 's>(
     alloc: Global,
-    arguments: &[Argument<'_>],
+    arguments: &'s [Argument<'s>],
     rules: &Rules<'_, '_>,
-    hash: &[u8],
-    parts: &[Part<'p>],
+    hash: &'s [u8],
+    parts: &'s [Part<'p>],
     said: &mut Vec<u8>,
 ) -> Result<(), FormatError<'p>>
     ensures { GivesOutcome (arguments_view arguments.now) (two_rules rules.now) hash.now (parts_view parts.now) said.old.items said.new.items result }
