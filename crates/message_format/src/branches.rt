@@ -101,20 +101,22 @@ fn branch_of_value<'s, 'p>(
     Ok(None)
 }
 
-// The branch for a number: the first of its value, else that of its category, else `other`.
+// The branch for a number: the first of its value, else that of the category of the number less the
+// offset, else `other`.
 pub(crate) fn branch_of_number<'s, 'p>(
     alloc: Global,
     rules: &PluralRules<'_>,
     number: &CompactDecimal,
+    less: &CompactDecimal,
     depth: usize,
     parts: &'s [Part<'p>],
 ) -> Result<&'s [Part<'p>], AllocError>
-    ensures branch { IfOk result (λ x. IsBranchOfNumber rules.now number.now (branches_of depth (parts_view parts.now)) (parts_view x.now)) }
+    ensures branch { IfOk result (λ x. IsBranchOfNumber rules.now number.now less.now (branches_of depth (parts_view parts.now)) (parts_view x.now)) }
     ensures shorter { IfOk result (λ x. length x.now ≤ length parts.now) }
 {
     if let Some(branch) = branch_of_value(alloc, number, depth, parts)? {
         return Ok(branch);
     }
-    let category = rules.category_for_compact(number);
+    let category = rules.category_for_compact(less);
     Ok(branch_or_other(category.as_str().as_bytes(), depth, parts))
 }

@@ -34,7 +34,7 @@ fn message<'s, 'p: 's>(
                 left = rest;
             }
             Step::Chooses(number, branch) => {
-                message(alloc, arguments, rules, number, branch, said)?;
+                message(alloc, arguments, rules, number.as_bytes(), branch, said)?;
                 left = behind_end(part.depth, rest);
             }
         }
@@ -48,11 +48,14 @@ fn message<'s, 'p: 's>(
 ///
 /// A plural takes the first branch whose selector is `=` and a number of the same value, else the
 /// one of the number's category, else `other`; a select the one of the text, else `other`. `{name}`
-/// and `#` are said as the caller writes them.
+/// and `#` are said as the caller writes them. With an offset the category is that of the number
+/// less the offset, and `#` says this difference with the fraction digits of the number: `1.50` less
+/// `1` is `0.50`. Its text and digits are allocated, too.
 ///
 /// The errors: [`FormatError::Argument`] with the first fault, in the order of the parts that are
 /// formatted, and the name of its argument: `Missing`, `WrongKind`, `NotANumber`, `OverLimit`, and
-/// `OffsetUnsupported` for a plural with an offset; [`FormatError::Memory`] if memory ran out.
+/// `CompactOffset` for a number with a compact exponent where there is an offset;
+/// [`FormatError::Memory`] if memory ran out.
 pub fn format<'p>(
     alloc: Global,
     pattern: &Pattern<'p>,

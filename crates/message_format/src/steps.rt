@@ -10,6 +10,7 @@ ghost use Rattle.message_format.specs.Inner.FormatViews.{any_value, GivesStep, I
 use crate::arguments::{Argument, Value, value_named};
 use crate::branches::{branch_of_number, branch_or_other};
 use crate::error::{ArgumentFault, FormatError};
+use crate::offsets::counted_less;
 use fixed_decimal::laws::texts_write_one_number;
 use fixed_decimal::{CompactDecimal, DecimalError};
 use message_pattern::{ArgumentKind, Part, Piece};
@@ -26,13 +27,37 @@ pub struct Rules<'r, 'data> {
 }
 
 // What a part does.
+#[derive(Drop)]
 pub(crate) enum Step<'s, 'p> {
     // Ends the message.
     Stops,
     // Prints a text.
     Prints(&'s [u8]),
     // Chooses a branch: the text of `#` in it, and the parts from it on.
-    Chooses(&'s [u8], &'s [Part<'p>]),
+    Chooses(Shown<'s>, &'s [Part<'p>]),
+}
+
+// The text of `#`.
+#[derive(Drop)]
+pub(crate) enum Shown<'s> {
+    // As it is given.
+    Given(&'s [u8]),
+    // Of a number less an offset.
+    Less(Vec<u8>),
+}
+
+impl<'s> Shown<'s> {
+    ghost use Rattle.message_format.specs.Inner.FormatViews.{shown_view};
+
+    // The text.
+    pub(crate) fn as_bytes(&self) -> &[u8]
+        ensures { result.now ≡ shown_view self.now }
+    {
+        match self {
+            Shown::Given(text) => *text,
+            Shown::Less(text) => text.as_slice(),
+        }
+    }
 }
 
 // What `{name}` prints.
@@ -64,7 +89,7 @@ fn selected<'s, 'p: 's>(
     match value {
         Some(Value::Text(text)) => {
             let branch = branch_or_other(text.as_bytes(), depth, rest);
-            Ok(Step::Chooses(hash, branch))
+            Ok(Step::Chooses(Shown::Given(hash), branch))
         }
         Some(Value::Number(_)) => Err(FormatError::Argument(ArgumentFault::WrongKind, name)),
         None => Err(FormatError::Argument(ArgumentFault::Missing, name)),
@@ -85,8 +110,8 @@ fn counted<'s, 'p: 's>(
 {
     match CompactDecimal::from_str(alloc, text) {
         Ok(number) => {
-            let branch = branch_of_number(alloc, rules, &number, depth, rest)?;
-            Ok(Step::Chooses(text.as_bytes(), branch))
+            let branch = branch_of_number(alloc, rules, &number, &number, depth, rest)?;
+            Ok(Step::Chooses(Shown::Given(text.as_bytes()), branch))
         }
         Err(DecimalError::Syntax) => { Err(FormatError::Argument(ArgumentFault::NotANumber, name)) }
         Err(DecimalError::Limit) => Err(FormatError::Argument(ArgumentFault::OverLimit, name)),
@@ -110,7 +135,7 @@ fn plural<'s, 'p: 's>(
     match value {
         Some(Value::Number(text)) => match offset {
             None => counted(alloc, rules, name, depth, rest, text),
-            Some(_) => Err(FormatError::Argument(ArgumentFault::OffsetUnsupported, name)),
+            Some(digits) => counted_less(alloc, rules, name, digits, depth, rest, text),
         },
         Some(Value::Text(_)) => Err(FormatError::Argument(ArgumentFault::WrongKind, name)),
         None => Err(FormatError::Argument(ArgumentFault::Missing, name)),
