@@ -10,7 +10,7 @@ use Rattle.message_format.specs.declared.error.FormatError.{FormatError}
 use Rattle.message_format.specs.declared.error.FormatError.TheVariants as error
 use Rattle.message_format.specs.declared.steps.Rules as rules
 use Rattle.message_format.specs.declared.steps.Shown as shown
-use Rattle.message_format.specs.declared.steps.Shown.TheVariants as text
+use Rattle.message_format.specs.declared.steps.Shown.TheVariants as shows
 use Rattle.message_format.specs.declared.steps.Step as steps
 use Rattle.message_format.specs.declared.steps.Step.TheVariants as step
 use Rattle.message_format.specs.FormatArguments.{Argument, Value, value_view}
@@ -28,8 +28,8 @@ any_parts (Some ps) = Some (parts_view ps.now)
 
 -- the text of `#`
 abbrev pub shown_view : shown.Shown → List ℕ
-shown_view (text.Given given) = given.now
-shown_view (text.Less less) = less.items
+shown_view (shows.Given given) = given.now
+shown_view (shows.Less less) = less.items
 
 abbrev pub step_view : steps.Step → Step
 step_view step.Stops = Stops
