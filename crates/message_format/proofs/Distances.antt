@@ -114,29 +114,29 @@ pub record AreColumns (x : Decimal) (o : Places) (most places columns before oth
   pub whole : length x.absolute.whole ≤ most
   pub other_whole : length o.whole ≤ most
   pub some : 0 < length x.absolute.whole
-  pub places : places ≡ most_fraction x o
-  pub columns : columns ≡ most + places
-  pub before : before ≡ most - length x.absolute.whole
-  pub other_before : other ≡ most - length o.whole
+  pub most_places : places ≡ most_fraction x o
+  pub all_columns : columns ≡ most + places
+  pub zeros : before ≡ most - length x.absolute.whole
+  pub other_zeros : other ≡ most - length o.whole
 
 module _ (x : Decimal) (o : Places) (most f columns before other : ℕ) (h : AreColumns x o most f columns before other) where
   first_length : length (replicate {A = ℕ} before 0 ++ (x.absolute.whole ++ x.absolute.fraction)) ≡ most + length x.absolute.fraction
-  first_length = let a = h.whole in let b = h.before in behind_length before x.absolute ∙ omega arith
+  first_length = let a = h.whole in let b = h.zeros in behind_length before x.absolute ∙ omega arith
 
   other_length : length (replicate {A = ℕ} other 0 ++ (o.whole ++ o.fraction)) ≡ most + length o.fraction
-  other_length = let a = h.other_whole in let b = h.other_before in behind_length other o ∙ omega arith
+  other_length = let a = h.other_whole in let b = h.other_zeros in behind_length other o ∙ omega arith
 
   first_value : value_of (placed columns before x.absolute) ≡ units (most_fraction x o) x.absolute
-  first_value = let a = first_length in let b = h.places in let d = h.columns in placed_value columns before (most_fraction x o) x.absolute (omega arith)
+  first_value = let a = first_length in let b = h.most_places in let d = h.all_columns in placed_value columns before (most_fraction x o) x.absolute (omega arith)
 
   other_value : value_of (placed columns other o) ≡ units (most_fraction x o) o
-  other_value = let a = other_length in let b = h.places in let d = h.columns in placed_value columns other (most_fraction x o) o (omega arith)
+  other_value = let a = other_length in let b = h.most_places in let d = h.all_columns in placed_value columns other (most_fraction x o) o (omega arith)
 
   all_columns : most_fraction x o + 1 ≤ length (placed columns before x.absolute)
   all_columns =
       let a = first_length in
-      let b = h.places in
-      let d = h.columns in
+      let b = h.most_places in
+      let d = h.all_columns in
       let e = h.some in
       let w = h.whole in
       let l : length (placed columns before x.absolute) ≡ columns = placed_length columns before x.absolute (omega arith) in

@@ -23,8 +23,8 @@ use std::alloc::Global;
 // The number that a text writes.
 fn number_of_text(alloc: Global, text: &[u8]) -> Result<CompactDecimal, DecimalError>
     ensures number { IfOk result (λ x. WritesCompact text.now x × IsWithinLimit x.significand.absolute) }
-    ensures syntax { result ≡ Err DecimalError.Syntax → (x : CompactNumber) → ¬ (WritesCompact text.now x) }
-    ensures limit { result ≡ Err DecimalError.Limit → (x : CompactNumber) × WritesCompact text.now x × IsCompactOverLimit x }
+    ensures syntax { (result ≡ Err DecimalError.Syntax) → ((x : CompactNumber) → ¬ (WritesCompact text.now x)) }
+    ensures limit { (result ≡ Err DecimalError.Limit) → ((x : CompactNumber) × WritesCompact text.now x × IsCompactOverLimit x) }
 {
     match std::str::from_utf8(text) {
         Ok(text) => CompactDecimal::from_str(alloc, text),

@@ -21,10 +21,10 @@ columns c =
       whole = omega arith;
       other_whole = omega arith;
       some = some;
-      places = omega arith;
-      columns = omega arith;
-      before = omega arith;
-      other_before = omega arith;
+      most_places = omega arith;
+      all_columns = omega arith;
+      zeros = omega arith;
+      other_zeros = omega arith;
     }
 
 pub returns-then-eq : goal.returns-then-eq
