@@ -21,7 +21,7 @@ use Rattle.message_format.proofs.Ascii.{unsigned_is_utf8}
 use Rattle.message_format.proofs.Equal.{within}
 
 -- what follows from each step follows from what is returned
-pub gives : (r : Result steps.Step FormatError) (P Q : Step → Type 0) → ((s : Step) → P s → Q s) → GivesStep P r → GivesStep Q r
+gives : (r : Result steps.Step FormatError) (P Q : Step → Type 0) → ((s : Step) → P s → Q s) → GivesStep P r → GivesStep Q r
 gives (Ok s) P Q f h = f (step_view s) h
 gives (Err (error.Argument fault name)) P Q f h = f (Fails fault name.now) h
 gives (Err error.Memory) P Q f h = tt
@@ -74,12 +74,22 @@ module _ (rules : FiveRules) (name : List ℕ) (bs : List Branching) (digits : L
   pub offset_over : (text : List ℕ) → text ≡ digits → (o : Places) × WritesUnsigned text o × IsOverLimit o → IsLess rules name bs digits x (Fails OverLimit name)
   offset_over text e h = inr (plain_number, inr (inl ((h.0, subst (λ (t : List ℕ). WritesUnsigned t h.0) e h.1, h.2), refl)))
 
-  pub offset_read : (text : List ℕ) (o : Places) (s : Step) → text ≡ digits → WritesUnsigned text o → IsWithinLimit o
+  offset_read : (text : List ℕ) (o : Places) (s : Step) → text ≡ digits → WritesUnsigned text o → IsWithinLimit o
       → (d : Decimal) × IsDifference x.significand o d × IsCountedBy rules name bs x d s → IsLess rules name bs digits x s
   offset_read text o s e w l h = inr (plain_number, inr (inr (o, subst (λ (t : List ℕ). WritesUnsigned t o) e w, not_over o l, h)))
 
+  pub offset_gives : (text : List ℕ) (o : Places) (r : Result steps.Step FormatError) → text ≡ digits → WritesUnsigned text o → IsWithinLimit o
+      → GivesStep (λ (s : Step). (d : Decimal) × IsDifference x.significand o d × IsCountedBy rules name bs x d s) r
+      → GivesStep (λ (s : Step). IsLess rules name bs digits x s) r
+  offset_gives text o r e w l h =
+      gives r (λ (s : Step). (d : Decimal) × IsDifference x.significand o d × IsCountedBy rules name bs x d s) (λ (s : Step). IsLess rules name bs digits x s)
+      (λ s k. offset_read text o s e w l k) h
+
 -- ---- the text of a number
 
-pub number_read : (rules : FiveRules) (name : List ℕ) (bs : List Branching) (digits text : List ℕ) (x : CompactNumber) (s : Step) → WritesCompact text x
-    → IsWithinLimit x.significand.absolute → x.exponent ≤ 255 → IsLess rules name bs digits x s → IsCountedLess rules name bs digits text s
-number_read rules name bs digits text x s w l e h = inr (inr (x, w, within x l e, h))
+pub number_gives : (rules : FiveRules) (name : List ℕ) (bs : List Branching) (digits text : List ℕ) (x : CompactNumber) (r : Result steps.Step FormatError)
+    → WritesCompact text x → IsWithinLimit x.significand.absolute → x.exponent ≤ 255 → GivesStep (λ (s : Step). IsLess rules name bs digits x s) r
+    → GivesStep (λ (s : Step). IsCountedLess rules name bs digits text s) r
+number_gives rules name bs digits text x r w l e h =
+    gives r (λ (s : Step). IsLess rules name bs digits x s) (λ (s : Step). IsCountedLess rules name bs digits text s)
+    (λ s k. inr (inr (x, w, within x l e, k))) h

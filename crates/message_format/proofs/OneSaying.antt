@@ -1,5 +1,5 @@
 -- A pattern says one thing with its arguments.
-use Rattle.std.proofs.Common.{◌≡◌, ◌⊎◌, ◌≤◌, ◌++◌, ◌-◌, ◌/◌, ◌^◌, ℕ, List, [], ◌∷◌, Option, Some, None, refl, sym, ap, subst, ◌∙◌, inl, inr, arith}
+use Rattle.std.proofs.Common.{◌≡◌, ◌⊎◌, ◌<◌, ◌≤◌, ◌++◌, ◌-◌, ◌/◌, ◌^◌, ℕ, List, [], ◌∷◌, Option, Some, None, refl, sym, ap, subst, ◌∙◌, inl, inr, arith}
 use Rattle.fixed_decimal.specs.Places.{Places}
 use Rattle.fixed_decimal.specs.Places.{IsOverLimit}
 use Rattle.fixed_decimal.specs.Shown.{decimal_text}

@@ -34,7 +34,7 @@ fn message<'s, 'p: 's>(
                 left = rest;
             }
             Step::Chooses(number, branch) => {
-                message(alloc, arguments, rules, number.as_bytes(), branch, said)?;
+                message(alloc, &*arguments, rules, number.as_bytes(), branch, said)?;
                 left = behind_end(part.depth, rest);
             }
         }
