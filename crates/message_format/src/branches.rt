@@ -39,7 +39,11 @@ fn is_keyword(word: &[u8], selector: Selector<'_>) -> bool
 }
 
 // The first branch of a keyword.
-fn branch_of_keyword<'s, 'p>(word: &[u8], depth: usize, parts: &'s [Part<'p>]) -> Option<&'s [Part<'p>]>
+fn branch_of_keyword<'s, 'p>(
+    word: &[u8],
+    depth: usize,
+    parts: &'s [Part<'p>],
+) -> Option<&'s [Part<'p>]>
     ensures branch { any_parts result ≡ branch_of_keyword word.now (branches_of depth (parts_view parts.now)) }
     ensures shorter { IfSome result (λ x. length x.now ≤ length parts.now) }
 {

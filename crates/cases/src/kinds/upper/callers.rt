@@ -6,12 +6,12 @@ use crate::kinds::locales::next_provider;
 use crate::kinds::upper::element_values::{Elements, next_rules};
 use crate::kinds::upper::messages::{next_packed, print_message};
 use icu_plurals::{CompactDecimal, JsonProvider, PluralRulesWithRanges};
-use plural_fallback::FallbackProvider;
 use message_format::{FormatError, Rules};
+use plural_fallback::FallbackProvider;
 use plural_message::Message;
 use uses::{
-    CompactUnits, Formatter, NoticeError, RangeLabels, RelativeTime, ShownNumber, Store, is_complete,
-    notice,
+    CompactUnits, Formatter, NoticeError, RangeLabels, RelativeTime, ShownNumber, Store,
+    is_complete, notice,
 };
 
 /// Makes the call of a kind of this file. Returns whether there is such a kind.
