@@ -14,6 +14,7 @@ WRITTEN = "numbers are written anew"
 MISSING = "a missing argument"
 DOUBLES = "values are doubles"
 CHANGES = (WRITTEN, MISSING, DOUBLES)
+PATTERN = "Pattern"
 PLACES = 3
 DOUBLE_DIGITS = 17
 
@@ -172,7 +173,7 @@ def spoken(text, arguments, language, changes=()):
     """Returns what a pattern says; fails by Refused."""
     parts, fault = patterns.read(text)
     if fault:
-        raise Refused("Pattern", "")
+        raise Refused(PATTERN, "")
     return Speaker(parts, arguments, language, changes).message(0, 0, "#")
 
 
@@ -189,7 +190,7 @@ def row_result(text, arguments, language):
     try:
         return patterns.quoted(spoken(text, arguments, language))
     except Refused as refused:
-        return f"error {refused.fault} {refused.name}"
+        return patterns.row_result(text) if refused.fault == PATTERN else f"error {refused.fault} {refused.name}"
 
 
 # ---- rules of CLDR
