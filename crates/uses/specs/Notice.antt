@@ -6,8 +6,8 @@ use Rattle.message_format.specs.declared.error.FormatError.TheVariants as format
 use Rattle.message_format.specs.FormatArguments.{Argument, Number}
 use Rattle.message_format.specs.FormatMeaning.{Outcome, Said, Faulty, PatternSays}
 use Rattle.message_format.specs.FormatSteps.{TwoRules}
-use Rattle.uses.specs.declared.notice.NoticeError.{NoticeError}
-use Rattle.uses.specs.declared.notice.NoticeError.TheVariants as notice_error
+use Rattle.uses.specs.declared.notices.NoticeError.{NoticeError}
+use Rattle.uses.specs.declared.notices.NoticeError.TheVariants as notice_error
 
 -- the count, under its name
 abbrev pub counts : List ℕ → List Argument

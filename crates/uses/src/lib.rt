@@ -4,7 +4,7 @@
 
 mod compact_units;
 mod formatter;
-mod notice;
+mod notices;
 mod range_labels;
 mod relative_time;
 mod store;
@@ -12,7 +12,7 @@ mod translation;
 
 pub use compact_units::CompactUnits;
 pub use formatter::Formatter;
-pub use notice::{NoticeError, notice};
+pub use notices::{NoticeError, notice};
 pub use range_labels::{RangeLabels, ShownNumber};
 pub use relative_time::RelativeTime;
 pub use store::Store;
