@@ -1,9 +1,9 @@
 -- Digits in columns, and the numbers that they write.
-use Rattle.std.proofs.Common.{◌≡◌, ◌⊎◌, ◌↔◌, Bool, true, ℕ, zero, suc, ◌+◌, ◌-◌, ◌*◌, ◌^◌, ◌<◌, ◌≤◌, List, [], ◌∷◌, ◌++◌, length, take, drop, replicate, get_or, reverse, refl, sym, ap, subst, ◌∙◌, inl, inr, arith, length-append, append_assoc}
+use Rattle.std.proofs.Common.{◌≡◌, ◌↔◌, true, ℕ, zero, suc, ◌+◌, ◌-◌, ◌*◌, ◌^◌, ◌<◌, ◌≤◌, List, [], ◌∷◌, ◌++◌, length, take, drop, replicate, get_or, reverse, refl, sym, ap, subst, ◌∙◌, arith, length-append}
 use Rattle.std.specs.Bool.{IsTrue}
 use Rattle.std.proofs.Math.Nat.{pow-suc, mul-le-mul_right}
 use Rattle.std.proofs.Math.Seq.{drop-cons}
-use Rattle.std.proofs.lemmas.List.{reverse-append, length-replicate, length-drop}
+use Rattle.std.proofs.lemmas.List.{reverse-append, length-replicate}
 use Rattle.fixed_decimal.specs.Digits.{value_of, AreDigits}
 use Rattle.message_format.specs.declared.difference.Aligned.{Aligned}
 use Rattle.message_format.specs.Inner.FormatColumns.{behind_zeros, lined, IsBorrowed, IsCarried, IsSum}

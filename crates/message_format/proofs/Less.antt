@@ -1,15 +1,13 @@
 -- A plural with an offset.
-use Rattle.std.proofs.Common.{◌≡◌, ◌⊎◌, ◌<◌, ◌≤◌, ◌++◌, ℕ, List, Result, Ok, Err, refl, sym, subst, ap, ◌∙◌, inl, inr, arith}
-use Rattle.std.specs.Str.{IsUtf8}
+use Rattle.std.proofs.Common.{◌≡◌, ◌≤◌, ℕ, List, Result, Ok, Err, refl, sym, subst, ap, ◌∙◌, inl, inr, arith}
 use Rattle.std.proofs.lemmas.List.{append-nil}
-use Rattle.fixed_decimal.specs.Places.{Places, IsWritten, IsWithinLimit, IsOverLimit}
+use Rattle.fixed_decimal.specs.Places.{Places, IsWithinLimit, IsOverLimit}
 use Rattle.fixed_decimal.specs.Shown.{decimal_text, CompactReadAgain}
 use Rattle.fixed_decimal.specs.Written.{CompactNumber, WritesUnsigned, WritesCompact, IsCompactOverLimit, OneCompact}
 use Rattle.fixed_decimal.specs.declared.decimal.Decimal.{Decimal}
 use Rattle.plural_base.specs.FiveRules.{FiveRules}
 use Rattle.message_pattern.specs.PatternParts.{Part}
-use Rattle.message_format.specs.declared.error.ArgumentFault.{ArgumentFault}
-use Rattle.message_format.specs.declared.error.ArgumentFault.TheVariants.{NotANumber, OverLimit, CompactOffset}
+use Rattle.message_format.specs.declared.error.ArgumentFault.TheVariants.{NotANumber, OverLimit}
 use Rattle.message_format.specs.declared.error.FormatError.{FormatError}
 use Rattle.message_format.specs.declared.error.FormatError.TheVariants as error
 use Rattle.message_format.specs.declared.steps.Step as steps
@@ -17,7 +15,6 @@ use Rattle.message_format.specs.FormatBranches.{Branching, IsBranchOfNumber}
 use Rattle.message_format.specs.FormatOffsets.{IsDifference, plain}
 use Rattle.message_format.specs.FormatSteps.{Step, Chooses, Fails, IsCountedBy, IsLess, IsCountedLess}
 use Rattle.message_format.specs.Inner.FormatViews.{step_view, GivesStep}
-use Rattle.message_format.proofs.Ascii.{unsigned_is_utf8}
 use Rattle.message_format.proofs.Equal.{within}
 
 -- what follows from each step follows from what is returned

@@ -1,5 +1,5 @@
 -- A number less an offset, as it is written: `1.50` less `1` is `0.50`, and `0` less `2` is `-2`.
-use Rattle.std.specs.Prelude.{◌≡◌, ℕ, ◌-◌, ◌<◌, max, ℤ, pos, neg_ℤ, ◌-ℤ◌, List, [], ◌∷◌, ◌++◌, length, replicate, slice_index}
+use Rattle.std.specs.Prelude.{◌≡◌, ℕ, ◌-◌, ◌<◌, max, ℤ, pos, neg_ℤ, ◌-ℤ◌, [], ◌∷◌, ◌++◌, length, replicate, slice_index}
 use Rattle.fixed_decimal.specs.Digits.{value_of}
 use Rattle.fixed_decimal.specs.Places.{Places, IsWritten}
 use Rattle.fixed_decimal.specs.Written.{CompactNumber}

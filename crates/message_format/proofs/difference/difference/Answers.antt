@@ -1,4 +1,4 @@
-use Rattle.std.proofs.Common.{◌≡◌, ◌∙◌, max, length, ap, arith}
+use Rattle.std.proofs.Common.{◌≡◌, ◌∙◌, ap, arith}
 use Rattle.fixed_decimal.specs.Digits.{value_of}
 use Rattle.message_format.specs.Inner.FormatColumns.{most_fraction, number_of}
 use Rattle.message_format.proofs.Distances.{is_difference_at, if_ok}

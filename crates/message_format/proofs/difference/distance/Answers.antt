@@ -1,6 +1,5 @@
-use Rattle.std.proofs.Common.{◌≡◌, ◌+◌, ◌-◌, max, length, rules, arith}
+use Rattle.std.proofs.Common.{◌≡◌, ◌+◌, ◌-◌, rules, arith}
 use Rattle.fixed_decimal.specs.declared.sign.Sign.TheVariants as sign
-use Rattle.message_format.specs.Inner.FormatColumns.{most_fraction}
 use Rattle.message_format.proofs.Distances.{AreColumns, sum_distance, rest_distance, turned_distance}
 use Rattle.message_format.proofs.difference.distance.Goals.{After-max}
 use Rattle.message_format.proofs.difference.distance.Goals as goal
