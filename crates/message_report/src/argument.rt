@@ -1,0 +1,164 @@
+//! The branches of plural arguments in patterns.
+
+ghost use Rattle.std.specs.Prelude.{◌≡◌, ◌<◌, map};
+ghost use Rattle.message_pattern.specs.PatternParts.{part_view, parts_view, selector_view};
+ghost use Rattle.message_report.specs.PatternBranches.{branches_of, has_branch, has_number, inside_of, is_for, is_number_of};
+ghost use Rattle.message_report.specs.PatternBranches.{is_one_text, is_word_of, is_zero_fraction, is_zero_text, same_selector};
+ghost use Rattle.message_report.specs.PatternBranches.{says_number, stands_in};
+
+use crate::form::{Form, name_of};
+use message_pattern::{Part, Piece, Selector};
+
+// A plural or an ordinal.
+#[derive(Clone, Copy)]
+pub(crate) struct Argument<'p> {
+    pub(crate) name: &'p [u8],
+    pub(crate) has_offset: bool,
+    // How many branches it is in.
+    pub(crate) depth: usize,
+    // The parts that follow its beginning.
+    pub(crate) parts: &'p [Part<'p>],
+}
+
+// Returns whether all digits of a number's text are 0.
+fn is_zero_text(text: &[u8]) -> bool
+    ensures { result ≡ is_zero_text text.now }
+{
+    let mut left = text;
+    while let [byte, rest @ ..] = left {
+        if *byte != b'0' && *byte != b'-' && *byte != b'.' {
+            return false;
+        }
+        left = rest;
+    }
+    true
+}
+
+// Returns whether a text is empty, or a point and zeros.
+fn is_zero_fraction(text: &[u8]) -> bool
+    ensures { result ≡ is_zero_fraction text.now }
+{
+    match text {
+        [byte, rest @ ..] => *byte == b'.' && is_zero_text(rest),
+        [] => true,
+    }
+}
+
+// Returns whether a text writes 1.
+fn is_one_text(text: &[u8]) -> bool
+    ensures { result ≡ is_one_text text.now }
+{
+    let mut left = text;
+    while let [byte, rest @ ..] = left {
+        if *byte != b'0' {
+            return *byte == b'1' && is_zero_fraction(rest);
+        }
+        left = rest;
+    }
+    false
+}
+
+// Returns whether `=` and a number is for a form.
+fn is_number_of(form: Form, number: &[u8]) -> bool
+    ensures { result ≡ is_number_of form number.now }
+{
+    match form {
+        Form::ExplicitZero => is_zero_text(number),
+        Form::ExplicitOne => is_one_text(number),
+        Form::Category(_) => false,
+    }
+}
+
+// Returns whether a keyword is for a form.
+fn is_word_of(form: Form, word: &[u8]) -> bool
+    ensures { result ≡ is_word_of form word.now }
+{
+    match form {
+        Form::ExplicitZero => false,
+        Form::ExplicitOne => false,
+        Form::Category(category) => word == name_of(category).as_bytes(),
+    }
+}
+
+// Returns whether a selector is for a form.
+fn is_for(form: Form, selector: Selector<'_>) -> bool
+    ensures { result ≡ is_for form (selector_view selector.entry) }
+{
+    match selector {
+        Selector::Exactly(number) => is_number_of(form, number),
+        Selector::Keyword(word) => is_word_of(form, word),
+    }
+}
+
+// Returns whether an argument at this depth has a branch for a form.
+pub(crate) fn has_branch(form: Form, depth: usize, parts: &[Part<'_>]) -> bool
+    ensures { result ≡ has_branch form (branches_of depth (parts_view parts.now)) }
+{
+    let mut left = parts;
+    while let [part, rest @ ..] = left {
+        if part.depth <= depth {
+            let Piece::Branch(selector) = part.piece else {
+                return false;
+            };
+            if is_for(form, selector) {
+                return true;
+            }
+        }
+        left = rest;
+    }
+    false
+}
+
+// Returns whether a part says the number of an argument of this depth and name.
+fn says_number(depth: usize, name: &[u8], part: &Part<'_>) -> bool
+    requires { depth < part.now.depth }
+    ensures { result ≡ says_number depth name.now (part_view part.now) }
+{
+    match part.piece {
+        Piece::Hash => part.depth == depth + 1,
+        Piece::Argument(other) => other == name,
+        _ => false,
+    }
+}
+
+// Returns whether the branch that begins with these parts says the number.
+pub(crate) fn has_number(depth: usize, name: &[u8], parts: &[Part<'_>]) -> bool
+    ensures { result ≡ has_number depth name.now (inside_of depth (parts_view parts.now)) }
+{
+    let mut left = parts;
+    while let [part, rest @ ..] = left {
+        if part.depth <= depth {
+            return false;
+        }
+        if says_number(depth, name, part) {
+            return true;
+        }
+        left = rest;
+    }
+    false
+}
+
+// Returns whether two selectors are the same.
+fn same_selector(one: Selector<'_>, other: Selector<'_>) -> bool
+    ensures { result ≡ same_selector (selector_view one.entry) (selector_view other.entry) }
+{
+    match (one, other) {
+        (Selector::Exactly(a), Selector::Exactly(b)) => a == b,
+        (Selector::Keyword(a), Selector::Keyword(b)) => a == b,
+        _ => false,
+    }
+}
+
+// Returns whether a selector stands among these.
+pub(crate) fn stands_in(selector: Selector<'_>, others: &[Selector<'_>]) -> bool
+    ensures { result ≡ stands_in (selector_view selector.entry) (map selector_view others.now) }
+{
+    let mut left = others;
+    while let [other, rest @ ..] = left {
+        if same_selector(*other, selector) {
+            return true;
+        }
+        left = rest;
+    }
+    false
+}
