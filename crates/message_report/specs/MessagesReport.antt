@@ -23,8 +23,8 @@ use Rattle.message_pattern.specs.declared.error.PatternError.TheVariants as erro
 use Rattle.message_report.specs.FormFaults.{Language, HasFormFault, IsLanguageOf, form_fault_text}
 use Rattle.message_report.specs.FoundInMessages.{Found, IsFoundIn, IsFoundInEach, nothing, one_fault, one_form, one_message, together}
 use Rattle.message_report.specs.MessageForms.{form_name, form_order, has_form, is_form_name}
-use Rattle.message_report.specs.PatternBranches.{Branching, branches_of}
-use Rattle.message_report.specs.PatternFaults.{PluralArgument, TwoLanguages, branch_fault, branch_fault_text, language_of, missing_fault, type_of_kind}
+use Rattle.message_report.specs.PatternBranches.{Branching}
+use Rattle.message_report.specs.PatternFaults.{PluralArgument, TwoLanguages, argument_at, branch_fault, branch_fault_text, language_of, missing_fault, type_of_kind}
 use Rattle.message_report.specs.PrintedKeys.{bytes_text, message_text, name_text}
 use Rattle.message_report.specs.RulesSource.{RulesSource, HasRules}
 use Rattle.message_report.specs.declared.branch_fault.BranchFault.{BranchFault}
@@ -219,7 +219,7 @@ abbrev pub part_lines : TwoLanguages → List ℕ → Part → List Part → Lis
 part_lines two place p ps =
     elim p.piece as (λ _. List (List ℕ)) [
       | Begin kind name offset ↦ argument_lines two place (type_of_kind kind)
-          (record { name = name; has_offset = is_some offset; depth = p.depth; branches = branches_of p.depth ps })
+          (argument_at name (is_some offset) p.depth ps)
       | _ ↦ []
     ]
 

@@ -11,7 +11,7 @@ use Rattle.message_pattern.specs.PatternParts.{Part, Selector, Exactly, Keyword}
 use Rattle.message_pattern.specs.declared.part.ArgumentKind.{ArgumentKind}
 use Rattle.message_pattern.specs.declared.part.ArgumentKind.TheVariants as kind
 use Rattle.message_report.specs.FormFaults.{Language, are_text, missing_text}
-use Rattle.message_report.specs.PatternBranches.{Branching, has_branch, has_number, stands_in}
+use Rattle.message_report.specs.PatternBranches.{Branching, branches_of, has_branch, has_number, stands_in}
 use Rattle.message_report.specs.declared.branch_fault.BranchFault.{BranchFault}
 use Rattle.message_report.specs.declared.branch_fault.BranchFault.TheVariants.{NoCategory, Twice, Unused, NoHash, Missing}
 use Rattle.message_report.specs.declared.category_numbers.TwoNumbers.{TwoNumbers}
@@ -20,12 +20,30 @@ use Rattle.message_report.specs.declared.form.Form.TheVariants.{ExplicitZero, Ex
 
 -- ---- An argument
 
--- a plural or an ordinal: its name, whether it has an offset, its depth, and its branches
+-- a plural or an ordinal: its name, whether it has an offset, its depth, its branches, and whether exactly 0 and exactly 1 have
+-- branches of their own
 pub record PluralArgument : Type 0 where
   pub name : List ℕ
   pub has_offset : Bool
   pub depth : ℕ
   pub branches : List Branching
+  pub own_zero : Bool
+  pub own_one : Bool
+
+-- behind an offset none counts, where `=0` is for another number than that which has the category
+abbrev pub has_own : Form → Bool → List Branching → Bool
+has_own form has_offset branches = not has_offset && has_branch form branches
+
+-- the argument at a depth, of which these parts follow its beginning
+abbrev pub argument_at : List ℕ → Bool → ℕ → List Part → PluralArgument
+argument_at name has_offset depth ps = record {
+  name = name;
+  has_offset = has_offset;
+  depth = depth;
+  branches = branches_of depth ps;
+  own_zero = has_own ExplicitZero has_offset (branches_of depth ps);
+  own_one = has_own ExplicitOne has_offset (branches_of depth ps);
+}
 
 -- the type of the rules that choose its branch; a select needs none
 abbrev pub type_of_kind : ArgumentKind → Option PluralRuleType
@@ -44,13 +62,9 @@ language_of two Ordinal = two.ordinal
 
 -- ---- The numbers that choose a branch
 
--- exactly 0 or 1 has a branch of its own; behind an offset `=0` is for another number than that which has the category
-abbrev pub has_own : Form → PluralArgument → Bool
-has_own form a = not a.has_offset && has_branch form a.branches
-
 -- the two least that choose the branch of a category; with an offset those less the offset
 abbrev pub numbers_of : Language → PluralArgument → PluralCategory → TwoNumbers
-numbers_of language a category = language.numbers category (has_own ExplicitZero a) (has_own ExplicitOne a)
+numbers_of language a category = language.numbers category a.own_zero a.own_one
 
 -- ---- Faults
 

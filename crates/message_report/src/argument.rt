@@ -2,6 +2,8 @@
 
 ghost use Rattle.std.specs.Prelude.{◌≡◌, ◌<◌, map};
 ghost use Rattle.message_pattern.specs.PatternParts.{part_view, parts_view, selector_view};
+ghost use Rattle.message_report.specs.Inner.ArgumentViews.{argument_view};
+ghost use Rattle.message_report.specs.PatternFaults.{argument_at, has_own};
 ghost use Rattle.message_report.specs.PatternBranches.{branches_of, has_branch, has_number, inside_of, is_for, is_number_of};
 ghost use Rattle.message_report.specs.PatternBranches.{is_one_text, is_word_of, is_zero_fraction, is_zero_text, same_selector};
 ghost use Rattle.message_report.specs.PatternBranches.{says_number, stands_in};
@@ -18,6 +20,35 @@ pub(crate) struct Argument<'p> {
     pub(crate) depth: usize,
     // The parts that follow its beginning.
     pub(crate) parts: &'p [Part<'p>],
+    // Whether exactly 0 has a branch of its own, and exactly 1.
+    pub(crate) own_zero: bool,
+    pub(crate) own_one: bool,
+}
+
+// Returns the argument at a depth, of which these parts follow its beginning.
+pub(crate) fn argument_at<'p>(
+    name: &'p [u8],
+    has_offset: bool,
+    depth: usize,
+    parts: &'p [Part<'p>],
+) -> Argument<'p>
+    ensures { argument_view result ≡ argument_at name.now has_offset depth (parts_view parts.now) }
+{
+    Argument {
+        name,
+        has_offset,
+        depth,
+        parts,
+        own_zero: has_own(Form::ExplicitZero, has_offset, depth, parts),
+        own_one: has_own(Form::ExplicitOne, has_offset, depth, parts),
+    }
+}
+
+// Returns whether exactly 0 or 1 has a branch of its own.
+fn has_own(form: Form, has_offset: bool, depth: usize, parts: &[Part<'_>]) -> bool
+    ensures { result ≡ has_own form has_offset (branches_of depth (parts_view parts.now)) }
+{
+    !has_offset && has_branch(form, depth, parts)
 }
 
 // Returns whether all digits of a number's text are 0.

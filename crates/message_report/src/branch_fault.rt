@@ -6,7 +6,7 @@ ghost use Rattle.message_report.specs.Inner.ArgumentViews.{argument_view};
 ghost use Rattle.message_report.specs.Inner.LanguageViews.{language_view};
 ghost use Rattle.message_report.specs.PatternBranches.{inside_of};
 ghost use Rattle.message_report.specs.PatternFaults.{branch_fault, branch_fault_text, category_fault, category_fault_if, category_named};
-ghost use Rattle.message_report.specs.PatternFaults.{has_own, missing_by, missing_fault, no_hash, numbers_of, selector_fault};
+ghost use Rattle.message_report.specs.PatternFaults.{missing_by, missing_fault, no_hash, numbers_of, selector_fault};
 ghost use Rattle.message_report.specs.Inner.ArgumentViews.{branching};
 
 use crate::argument::{Argument, has_branch, has_number, stands_in};
@@ -65,20 +65,11 @@ impl fmt::Display for BranchFault {
     }
 }
 
-// Returns whether exactly 0 or 1 has a branch of its own.
-fn has_own(form: Form, argument: Argument<'_>) -> bool
-    ensures { result ≡ has_own form (argument_view argument.entry) }
-{
-    !argument.has_offset && has_branch(form, argument.depth, argument.parts)
-}
-
 // Returns the two least numbers that choose the branch of a category.
 fn numbers_of(language: &Language, argument: Argument<'_>, category: PluralCategory) -> TwoNumbers
     ensures { result ≡ numbers_of (language_view language.now) (argument_view argument.entry) category }
 {
-    let own_zero = has_own(Form::ExplicitZero, argument);
-    let own_one = has_own(Form::ExplicitOne, argument);
-    language.numbers(category, own_zero, own_one)
+    language.numbers(category, argument.own_zero, argument.own_one)
 }
 
 // Returns that a category has no branch, if numbers would choose it.

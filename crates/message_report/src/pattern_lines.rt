@@ -11,7 +11,7 @@ ghost use Rattle.message_report.specs.MessagesReport.{language_lines, lines_unde
 ghost use Rattle.message_report.specs.MessagesReport.{pattern_lines, selector_text};
 ghost use Rattle.message_report.specs.PatternFaults.{branch_fault, branch_fault_text, language_of, missing_fault, type_of_kind};
 
-use crate::argument::Argument;
+use crate::argument::{Argument, argument_at};
 use crate::branch_fault::{BranchFault, branch_fault, missing_fault};
 use crate::form::name_of;
 use crate::found::{Found, sum};
@@ -91,18 +91,12 @@ fn tell_part(
     let Piece::Begin(kind, name, offset) = part.piece else {
         return Ok(before);
     };
-    let argument = Argument {
-        name,
-        has_offset: offset.is_some(),
-        depth: part.depth,
-        parts,
-    };
     tell_argument(
         alloc,
         languages,
         place,
         type_of_kind(kind),
-        argument,
+        argument_at(name, offset.is_some(), part.depth, parts),
         before,
         found,
     )

@@ -15,6 +15,8 @@ argument_view a = record {
   has_offset = a.has_offset;
   depth = a.depth;
   branches = branches_of a.depth (parts_view a.parts.now);
+  own_zero = a.own_zero;
+  own_one = a.own_one;
 }
 
 -- the branch of a selector, from whose parts on these are
