@@ -36,6 +36,22 @@ at_selector depth ps rest p selector is low branch =
     let test : nat_lt depth p.depth ≡ false = grind (arith, nat_tests) in
     rw is (rw (test, branch) refl)
 
+-- neither
+pub other_part : (depth : ℕ) (ps rest : List parts.Part) (p : parts.Part) → ps ≡ p ∷ rest → p.depth ≤ depth
+    → ((s : selectors.Selector) → p.piece ≡ piece.Branch s → ⊥) → branches_of depth (parts_view ps) ≡ []
+other_part depth ps rest p is low not = rw is (by p.piece refl)
+  where
+    test : nat_lt depth p.depth ≡ false
+    test = grind (arith, nat_tests)
+
+    by : (x : pieces.Piece) → p.piece ≡ x → branches_of depth (parts_view (p ∷ rest)) ≡ []
+    by (piece.Text t) e = rw (test, e) refl
+    by piece.Hash e = rw (test, e) refl
+    by (piece.Argument name) e = rw (test, e) refl
+    by (piece.Begin kind name offset) e = rw (test, e) refl
+    by (piece.Branch s) e = absurd (not s e)
+    by piece.End e = rw (test, e) refl
+
 -- ---- In a loop
 
 -- the lines of the remaining branches complete those that were told

@@ -249,15 +249,16 @@ fn tell_each_branch(
     let mut count = before;
     let mut left = argument.parts;
     while let [part, rest @ ..] = left {
-        if part.depth <= argument.depth {
-            let Piece::Branch(selector) = part.piece else {
-                return Ok(count);
-            };
-            let fault = branch_fault(language, argument, seen.as_slice(), selector, rest);
-            count = tell_branch(alloc, place, selector, fault, count, found)?;
-            remember(selector, &mut seen)?;
-        }
         left = rest;
+        if part.depth > argument.depth {
+            continue;
+        }
+        let Piece::Branch(selector) = part.piece else {
+            return Ok(count);
+        };
+        let fault = branch_fault(language, argument, seen.as_slice(), selector, rest);
+        count = tell_branch(alloc, place, selector, fault, count, found)?;
+        remember(selector, &mut seen)?;
     }
     Ok(count)
 }
