@@ -1,7 +1,7 @@
 //! The branches of plural arguments in patterns.
 
 ghost use Rattle.std.specs.Prelude.{◌≡◌, ◌<◌, map};
-ghost use Rattle.message_pattern.specs.PatternParts.{part_view, parts_view, selector_view};
+ghost use Rattle.message_pattern.specs.PatternParts.{Exactly, Keyword, part_view, parts_view, selector_view};
 ghost use Rattle.message_report.specs.Inner.ArgumentViews.{argument_view};
 ghost use Rattle.message_report.specs.PatternFaults.{argument_at, has_own};
 ghost use Rattle.message_report.specs.PatternBranches.{branches_of, has_branch, has_number, inside_of, is_for, is_number_of};
@@ -169,14 +169,33 @@ pub(crate) fn has_number(depth: usize, name: &[u8], parts: &[Part<'_>]) -> bool
     false
 }
 
+// Returns whether a selector is `=` and this number, as it is written.
+fn is_number(number: &[u8], selector: Selector<'_>) -> bool
+    ensures { result ≡ same_selector (Exactly number.now) (selector_view selector.entry) }
+{
+    match selector {
+        Selector::Exactly(other) => number == other,
+        Selector::Keyword(_) => false,
+    }
+}
+
+// Returns whether a selector is this keyword.
+fn is_keyword(word: &[u8], selector: Selector<'_>) -> bool
+    ensures { result ≡ same_selector (Keyword word.now) (selector_view selector.entry) }
+{
+    match selector {
+        Selector::Exactly(_) => false,
+        Selector::Keyword(other) => word == other,
+    }
+}
+
 // Returns whether two selectors are the same.
 fn same_selector(one: Selector<'_>, other: Selector<'_>) -> bool
     ensures { result ≡ same_selector (selector_view one.entry) (selector_view other.entry) }
 {
-    match (one, other) {
-        (Selector::Exactly(a), Selector::Exactly(b)) => a == b,
-        (Selector::Keyword(a), Selector::Keyword(b)) => a == b,
-        _ => false,
+    match one {
+        Selector::Exactly(a) => is_number(a, other),
+        Selector::Keyword(a) => is_keyword(a, other),
     }
 }
 

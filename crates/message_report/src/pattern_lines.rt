@@ -1,6 +1,6 @@
 //! What is told of a pattern.
 
-ghost use Rattle.std.specs.Prelude.{◌≡◌, ◌∷◌, [], IfOk, OnOk, map, option_map, string_bytes};
+ghost use Rattle.std.specs.Prelude.{◌≡◌, ◌∷◌, ◌++◌, [], codes, IfOk, OnOk, map, option_map, string_bytes};
 ghost use Rattle.icu_plurals.specs.Categories.{name_of};
 ghost use Rattle.message_pattern.specs.PatternParts.{part_view, parts_view, selector_view};
 ghost use Rattle.message_report.specs.Inner.ArgumentViews.{argument_view, branching, languages_view};
@@ -8,7 +8,8 @@ ghost use Rattle.message_report.specs.Inner.LanguageViews.{language_view};
 ghost use Rattle.message_report.specs.Inner.ToldLines.{Tells, remembered};
 ghost use Rattle.message_report.specs.MessagesReport.{argument_lines, argument_place, branch_lines, category_order, fault_lines};
 ghost use Rattle.message_report.specs.MessagesReport.{language_lines, lines_under, missing_lines, named_line, part_lines};
-ghost use Rattle.message_report.specs.MessagesReport.{pattern_lines, selector_text};
+ghost use Rattle.message_report.specs.MessagesReport.{no_rules_text, pattern_lines, place_line, selector_text};
+ghost use Rattle.message_report.specs.PrintedKeys.{bytes_text};
 ghost use Rattle.message_report.specs.PatternFaults.{branch_fault, branch_fault_text, language_of, missing_fault, type_of_kind};
 
 use crate::argument::{Argument, argument_at};
