@@ -25,7 +25,7 @@ none_left {A} (p ∷ ps) h = absurd (omega arith)
 
 -- the first n of two lists
 take_both : (n : ℕ) (xs ys : List (List ℕ)) → take n (xs ++ ys) ≡ take n xs ++ take (n - length xs) ys
-take_both n [] ys = rw (take-nil n) (let same : n - 0 ≡ n = omega arith in rw same refl)
+take_both n [] ys = rw (take-nil {A = List ℕ} n) (let same : n - 0 ≡ n = omega arith in rw same refl)
 take_both zero (x ∷ xs) ys = let none : 0 - suc (length xs) ≡ 0 = omega arith in rw none refl
 take_both (suc n) (x ∷ xs) ys =
     let same : suc n - suc (length xs) ≡ n - length xs = omega arith in
@@ -34,7 +34,7 @@ take_both (suc n) (x ∷ xs) ys =
 -- nothing is told
 pub tells_none : (before : ℕ) (old : Found) → Tells before old before old []
 tells_none before old = record {
-  found = rw (take-nil (most_told - before)) (none_added old);
+  found = rw (take-nil {A = List ℕ} (most_told - before)) (none_added old);
   counted = sym (add-zero before);
 }
 
