@@ -18,7 +18,8 @@ use Rattle.message_report.specs.PatternFaults.{PluralArgument, TwoLanguages, bra
 use Rattle.message_report.specs.declared.branch_fault.BranchFault.{BranchFault}
 use Rattle.message_report.proofs.TellLemmas.{Going, completes, continues, remembers}
 
-pub no_part : parts.Part
+-- what stands for a part that isn't there
+abbrev pub no_part : parts.Part
 no_part = record { depth = 0; piece = piece.Text record { ref_ptr = (0, 0); now = [] } }
 
 -- a part that is deeper

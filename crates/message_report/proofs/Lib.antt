@@ -8,4 +8,5 @@ pub mod PrintedChars
 -- lines of patterns
 pub mod BranchLemmas
 pub mod TellLemmas
+pub mod TextLemmas
 pub mod ToldLemmas

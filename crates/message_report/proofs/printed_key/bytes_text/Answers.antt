@@ -5,10 +5,10 @@ use Rattle.message_report.proofs.printed_key.bytes_text.Goals as goal
 
 -- bytes that are no text
 not_utf8 : (bytes : List ℕ) → (IsUtf8 bytes → ⊥) → is_utf8 bytes ≡ false
-not_utf8 bytes no = by (is_utf8 bytes) refl
+not_utf8 bytes invalid = by (is_utf8 bytes) refl
   where
     by : (is : Bool) → is_utf8 bytes ≡ is → is_utf8 bytes ≡ false
-    by true e = absurd (no (IsUtf8-from_is_utf8 bytes e))
+    by true e = absurd (invalid (IsUtf8-from_is_utf8 bytes e))
     by false e = e
 
 pub returns-in-Ok : goal.returns-in-Ok
