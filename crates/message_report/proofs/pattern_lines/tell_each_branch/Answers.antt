@@ -55,13 +55,13 @@ returns c =
     (map selector_view c.loop-left.seen.items) ps (branch_lines language c.args.place.now a [] a.branches)
     (ap (λ (l : List parts.Part). branches_of a.depth (parts_view l)) (none_left ps c.in_default.len_below)) c.loop-left.invariant
 
-pub returns-in_default : goal.returns-in_default
-returns-in_default c =
+pub returns-in_default-piece : goal.returns-in_default-piece
+returns-in_default-piece c =
     let ps = c.loop-left.left.now in
     let a = argument_view c.args.argument in
     let language = language_view c.args.language.now in
     ends_branches language c.args.place.now a c.args.before c.args.found.now c.loop-left.count c.loop-left.found
     (map selector_view c.loop-left.seen.items) ps (branch_lines language c.args.place.now a [] a.branches)
     (other_part a.depth ps (take (length ps - 1) (drop 1 ps)) (get_or ps 0 no_part)
-    (headed ps no_part (length ps) c.in-len1-up.len_at_least refl) c.if-part-argument.false c.in_default.not-Branch)
+    (headed ps no_part (length ps) c.in-len1-up.len_at_least refl) c.if-part-argument.false c.in_default-piece.not-Branch)
     c.loop-left.invariant
