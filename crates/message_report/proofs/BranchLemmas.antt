@@ -1,9 +1,9 @@
 -- The branches of an argument, part by part.
-use Rattle.std.proofs.Common.{◌≡◌, ℕ, ◌+◌, ◌<◌, ◌≤◌, Bool, true, false, List, [], ◌∷◌, ◌++◌, length, map, take}
-use Rattle.std.proofs.Common.{refl, sym, ap, subst, ◌∙◌, arith}
+use Rattle.std.proofs.Common.{◌≡◌, ℕ, ◌<◌, ◌≤◌, true, false, List, [], ◌∷◌, ◌++◌, take}
+use Rattle.std.proofs.Common.{refl, ◌∙◌, arith}
 use Rattle.std.specs.Prelude.{nat_lt, Option}
 use Rattle.std.proofs.lemmas.Bool.Decides.{nat_tests}
-use Rattle.message_pattern.specs.PatternParts.{Part, Selector, part_view, parts_view, piece_view, selector_view}
+use Rattle.message_pattern.specs.PatternParts.{Selector, parts_view, selector_view}
 use Rattle.message_pattern.specs.declared.part.Part as parts
 use Rattle.message_pattern.specs.declared.part.Piece as pieces
 use Rattle.message_pattern.specs.declared.part.Piece.TheVariants as piece
@@ -12,9 +12,9 @@ use Rattle.message_report.specs.FormFaults.{Language}
 use Rattle.message_report.specs.FoundInMessages.{Found}
 use Rattle.message_report.specs.Inner.ArgumentViews.{branching}
 use Rattle.message_report.specs.Inner.ToldLines.{Tells, remembered}
-use Rattle.message_report.specs.MessagesReport.{branch_lines, fault_lines, most_compared, part_lines, pattern_lines, selector_text}
+use Rattle.message_report.specs.MessagesReport.{branch_lines, fault_lines, most_compared, selector_text}
 use Rattle.message_report.specs.PatternBranches.{branches_of}
-use Rattle.message_report.specs.PatternFaults.{PluralArgument, TwoLanguages, branch_fault}
+use Rattle.message_report.specs.PatternFaults.{PluralArgument, branch_fault}
 use Rattle.message_report.specs.declared.branch_fault.BranchFault.{BranchFault}
 use Rattle.message_report.proofs.TellLemmas.{Going, completes, continues, remembers}
 

@@ -1,13 +1,13 @@
 -- Lines of a pattern, told one after the other.
 use Rattle.std.proofs.Common.{◌≡◌, ℕ, zero, suc, ◌+◌, ◌-◌, ◌<◌, ◌≤◌, Bool, true, false, List, [], ◌∷◌, ◌++◌, length, take, drop, get_or}
 use Rattle.std.proofs.Common.{refl, sym, ap, subst, ◌∙◌, arith, append_assoc}
-use Rattle.std.specs.Prelude.{nat_lt, if◌then◌else◌, Result, Ok, Err, IfOk}
+use Rattle.std.specs.Prelude.{nat_lt, Result, Ok, Err, IfOk}
 use Rattle.std.proofs.Math.Nat.{add-zero}
 use Rattle.std.proofs.Math.Seq.{take-nil}
 use Rattle.std.proofs.lemmas.Bool.{ltb-true, ltb-false}
 use Rattle.std.proofs.lemmas.List.{append-nil, length-append, length-take-le, take_all, take-append-le}
 use Rattle.message_pattern.specs.PatternParts.{Selector}
-use Rattle.message_report.specs.FoundInMessages.{Found, nothing, one_fault, together}
+use Rattle.message_report.specs.FoundInMessages.{Found, one_fault, together}
 use Rattle.message_report.specs.Inner.Added.{faults_alone, lines_alone}
 use Rattle.message_report.specs.Inner.ToldLines.{Tells, remembered, told_lines}
 use Rattle.message_report.specs.MessagesReport.{found_of_lines, most_compared, most_told, rest_lines}

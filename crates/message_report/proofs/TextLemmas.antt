@@ -1,5 +1,5 @@
 -- What is found in a text, of what the reader of patterns returns.
-use Rattle.std.proofs.Common.{◌≡◌, ℕ, List, inl, inr, refl, ap, subst, sym, ◌∙◌}
+use Rattle.std.proofs.Common.{◌≡◌, ℕ, List, inl, inr, refl, ap, subst, ◌∙◌}
 use Rattle.std.specs.Prelude.{Ok, Err}
 use Rattle.message_pattern.specs.PatternAnswers.{AnswersExactly, HasFault, IsPattern}
 use Rattle.message_pattern.specs.PatternParts.{Part}

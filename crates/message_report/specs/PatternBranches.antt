@@ -2,7 +2,6 @@
 --     branches_of depth parts      the branches of an argument at a depth, of which these parts follow its beginning
 --     has_branch form branches      one of them is for the form: `=0` and `=1` for exactly 0 and 1, a keyword for its category
 use Rattle.std.specs.Prelude.{ℕ, ◌+◌, ◌==◌, nat_lt, Bool, true, false, ◌&&◌, ◌||◌, bytes_eq, List, [], ◌∷◌, if◌then◌else◌}
-use Rattle.icu_plurals.specs.declared.PluralCategory.{PluralCategory}
 use Rattle.icu_plurals.specs.Categories.{name_of}
 use Rattle.message_pattern.specs.PatternParts.{Part, Selector, Exactly, Keyword, Branch, Hash, Argument}
 use Rattle.message_report.specs.declared.form.Form.{Form}

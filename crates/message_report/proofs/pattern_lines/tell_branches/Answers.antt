@@ -1,4 +1,3 @@
-use Rattle.icu_plurals.specs.declared.PluralCategory.{PluralCategory}
 use Rattle.std.proofs.Common.{[]}
 use Rattle.message_report.specs.Inner.ArgumentViews.{argument_view}
 use Rattle.message_report.specs.Inner.LanguageViews.{language_view}

@@ -1,4 +1,4 @@
-use Rattle.std.proofs.Common.{◌≡◌, ◌-◌, [], List, length, map, take, drop, get_or, refl, ap, ◌∙◌}
+use Rattle.std.proofs.Common.{◌-◌, [], List, length, map, take, drop, get_or, refl, ap, ◌∙◌}
 use Rattle.message_pattern.specs.PatternParts.{parts_view, selector_view}
 use Rattle.message_pattern.specs.declared.part.Part as parts
 use Rattle.message_pattern.specs.declared.part.Selector as selectors

@@ -1,4 +1,4 @@
-use Rattle.std.proofs.Common.{◌-◌, List, ℕ, length, take, drop, get_or, ap, refl}
+use Rattle.std.proofs.Common.{◌-◌, List, length, take, drop, get_or, ap, refl}
 use Rattle.message_pattern.specs.PatternParts.{part_view, parts_view}
 use Rattle.message_pattern.specs.declared.part.Part as parts
 use Rattle.message_report.specs.Inner.ArgumentViews.{languages_view}
