@@ -90,8 +90,8 @@ abbrev pub category_fault : Language → PluralArgument → List Part → Plural
 category_fault language a inside category =
     if language.has category
     then (
-      if a.has_offset || has_number a.depth a.name inside then None
-      else no_hash category (numbers_of language a category).first (numbers_of language a category).second
+    if a.has_offset || has_number a.depth a.name inside then None
+    else no_hash category (numbers_of language a category).first (numbers_of language a category).second
     )
     else Some (Unused category)
 
