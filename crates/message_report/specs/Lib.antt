@@ -4,6 +4,9 @@ pub mod MessageForms
 pub mod ChosenNumbers
 pub mod WholeNumberLaws
 pub mod FormFaults
+-- patterns
+pub mod PatternBranches
+pub mod PatternFaults
 -- the rules of locales
 pub mod RulesSource
 -- the report

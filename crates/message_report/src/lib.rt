@@ -1,6 +1,8 @@
 //! The report of files of messages under plural rules: which forms are missing, unused or without the number.
 #![tactic(auto)]
 
+mod argument;
+mod branch_fault;
 mod category_numbers;
 mod counts;
 mod document;
@@ -14,6 +16,9 @@ mod language;
 pub mod laws;
 mod message;
 mod part;
+mod pattern;
+mod pattern_lines;
+mod patterns;
 mod printed_key;
 mod report;
 pub mod run;
