@@ -2,6 +2,7 @@
 #![tactic(auto)]
 
 mod category_numbers;
+mod category_set;
 mod counts;
 mod document;
 mod error;
@@ -19,6 +20,7 @@ mod report;
 pub mod run;
 mod source;
 
+pub use category_set::category_set;
 pub use counts::Counts;
 pub use error::ReportError;
 pub use fault::FormFault;

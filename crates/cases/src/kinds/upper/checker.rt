@@ -5,6 +5,7 @@ use crate::call::Call;
 use crate::kinds::categories::category;
 use icu_plurals::provider::rules::reference::ast::{DecimalValue, SampleRange};
 use icu_plurals::{PluralCategory, PluralElements};
+use message_report::category_set;
 use plural_checker::{
     CategorySet, Coverage, LanguageTexts, RangeFault, SampleNumbers, check_texts,
 };
@@ -19,6 +20,7 @@ pub fn make(kind: &str, call: &mut Call) -> bool {
         "has_rule" => has_rule(call),
         "coverage" => coverage(call),
         "set_of_elements" => set_of_elements(call),
+        "set_of_message" => set_of_message(call),
         _ => return false,
     }
     true
@@ -152,6 +154,12 @@ fn set_of_elements(call: &mut Call) {
         elements = with_value(call, elements, key.as_str());
     }
     print_names(call, CategorySet::of_elements(&elements));
+}
+
+// The categories that a message has forms for.
+fn set_of_message(call: &mut Call) {
+    let message = call.value();
+    print_names(call, category_set(&message));
 }
 
 // Puts a value under a key of elements.
