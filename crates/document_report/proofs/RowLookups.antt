@@ -107,6 +107,10 @@ module _ (old : BTreeMap (Vec ℕ Global) Row) (name : Vec ℕ Global) (row : Ro
       by_case false e =
           others_stay old new name (Some row) other updates (turned name.items other ∙ e) ∙ sym (or_none (rows_at old other))
 
+-- an empty map has no rows
+pub no_rows : (rows : BTreeMap (Vec ℕ Global) Row) (name : List ℕ) → rows.entries ≡ [] → rows_at rows name ≡ None
+no_rows rows name empty = ap (λ (es : List (Vec ℕ Global × Row)). option_map row_text (lookup (is_at (by_items name)) es)) empty
+
 -- a row that was put before the remaining ones
 pub before_rest : {X : Type 0} (o : Option X) (b : Bool) (x : X) (rest : Option X)
     → option_or (option_or o (if b then Some x else None)) rest ≡ option_or o (if b then Some x else rest)
@@ -196,22 +200,24 @@ parent_found members locale =
 
 -- ---- The part of a document
 
+-- the parent of a locale by the part
+abbrev parent_by : Option Data → List ℕ → Option (List ℕ)
+parent_by part locale =
+    option_and_then (λ key. option_and_then as_str (option_and_then (get key) part))
+    (key_of (keys_in_object (option_and_then as_object part)) locale)
+
+by_part : (part : Option Data) (members : Members) (locale : List ℕ) → option_and_then as_object part ≡ Some members
+    → parent_among members locale ≡ parent_by part locale
+by_part None members locale h = absurd cc
+by_part (Some null) members locale h = absurd cc
+by_part (Some (boolean b)) members locale h = absurd cc
+by_part (Some (number n)) members locale h = absurd cc
+by_part (Some (string s)) members locale h = absurd cc
+by_part (Some (array items)) members locale h = absurd cc
+by_part (Some (object fields)) members locale h =
+    let same : members ≡ fields = cc in ap (λ (ms : Members). parent_among ms locale) same
+
 -- the members are those of the part
 pub parents_are : (document : Data) (members : Members) → option_and_then as_object (get (codes "parents") document) ≡ Some members
     → (locale : List ℕ) → parent_among members locale ≡ parent_in document locale
-parents_are document members h locale = by_part (get (codes "parents") document) h
-  where
-    abbrev parent_of : Option Data → Option (List ℕ)
-    parent_of part =
-        option_and_then (λ key. option_and_then as_str (option_and_then (get key) part))
-        (key_of (keys_in_object (option_and_then as_object part)) locale)
-
-    by_part : (part : Option Data) → option_and_then as_object part ≡ Some members → parent_among members locale ≡ parent_of part
-    by_part None h = absurd cc
-    by_part (Some null) h = absurd cc
-    by_part (Some (boolean b)) h = absurd cc
-    by_part (Some (number n)) h = absurd cc
-    by_part (Some (string s)) h = absurd cc
-    by_part (Some (array items)) h = absurd cc
-    by_part (Some (object fields)) h =
-        let same : members ≡ fields = cc in ap (λ (ms : Members). parent_among ms locale) same
+parents_are document members h locale = by_part (get (codes "parents") document) members locale h

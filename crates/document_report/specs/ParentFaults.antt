@@ -7,7 +7,7 @@ use Rattle.serde_json.specs.Find.{get, as_null, as_object, as_str}
 use Rattle.plural_fallback.specs.Chain.{next_of}
 use Rattle.plural_fallback.specs.FirstKeys.{locale_at}
 use Rattle.plural_fallback.specs.LocalesJson.{parent_in}
-use Rattle.plural_fallback.specs.declared.TheConstants.{MOST_LOCALES}
+use Rattle.plural_fallback.specs.declared.first_key.TheConstants.{MOST_LOCALES}
 use Rattle.document_report.specs.CheckedDocument.{members_or_none}
 use Rattle.document_report.specs.Found.{Found, IsFoundIn, nothing, one_fault, together}
 use Rattle.document_report.specs.Names.{is_long_name, name_text}

@@ -12,7 +12,7 @@ use std::alloc::{AllocError, Global};
 use std::collections::BTreeMap;
 
 // The parent of a locale: the text of its member, if the member has one.
-#[derive(Clone, Copy, Debug)]
+#[derive(Clone, Copy)]
 pub(crate) struct Row<'a> {
     parent: Option<&'a str>,
 }
@@ -36,7 +36,7 @@ impl<'a> Locales for Row<'a> {
 }
 
 // How names are compared.
-#[derive(Clone, Copy, Debug)]
+#[derive(Clone, Copy)]
 pub(crate) enum Names {
     // As they are.
     Exact,
@@ -46,7 +46,7 @@ pub(crate) enum Names {
 
 // The parents of a document, by the exact names of their locales, and by folded names, of which each
 // has the parent of the first of its locales.
-#[derive(Debug, Drop)]
+#[derive(Drop)]
 pub(crate) struct Parents<'a> {
     exact: BTreeMap<Vec<u8>, Row<'a>>,
     folded: BTreeMap<Vec<u8>, Row<'a>>,

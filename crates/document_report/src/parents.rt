@@ -162,7 +162,7 @@ fn goes_on<'p>(
     parents: &'p Parents<'_>,
     locale: &'p [u8],
 ) -> Result<bool, AllocError>
-    ensures { IfOk result (λ goes_on. goes_on
+    ensures { IfOk result (λ answer. answer
         ≡ is_some (locale_at (short_next (named_parent parents.now)) locale.now MOST_LOCALES)) }
 {
     let mut current = locale;
