@@ -6,6 +6,7 @@ pub mod PrintedNames
 pub mod Told
 pub mod RowLookups
 pub mod ChainLimits
+pub mod ParentsFound
 pub mod CheckReadings
 pub mod Faultless
 pub mod FormedParts

@@ -47,10 +47,10 @@ other_entries : {K X : Type 0} (eq : K → K → Bool) (test : K → Bool) (old 
 unfolding KeepsOthers
 other_entries eq test old new h = h
 
-abbrev by_items : List ℕ → Vec ℕ Global → Ordering
+abbrev pub by_items : List ℕ → Vec ℕ Global → Ordering
 by_items name key = slice_cmp nat_cmp name key.items
 
-abbrev items_cmp : Vec ℕ Global → Vec ℕ Global → Ordering
+abbrev pub items_cmp : Vec ℕ Global → Vec ℕ Global → Ordering
 items_cmp x y = slice_cmp nat_cmp x.items y.items
 
 -- an insertion leaves the rows under other names
@@ -197,6 +197,18 @@ parent_found members locale =
     rw (exact, same)
     (joined (text_among members) (find (λ key. bytes_eq locale key) (keys_of members))
     (find (λ key. is_same locale key) (keys_of members)))
+
+-- so two maps of rows name the parent
+pub parent_of_rows : (exact same : BTreeMap (Vec ℕ Global) Row) (members : Members) (locale : List ℕ)
+    → rows_at exact locale ≡ first_by (λ key. bytes_eq locale key) members
+    → rows_at same (map folded locale) ≡ first_by (λ key. bytes_eq (map folded locale) (map folded key)) members
+    → option_flatten (option_or (rows_at exact locale) (option_or (rows_at same (map folded locale)) (Some None)))
+    ≡ parent_among members locale
+parent_of_rows exact same members locale is also =
+    ap (λ (o : Option (Option (List ℕ))). option_flatten (option_or o (option_or (rows_at same (map folded locale)) (Some None)))) is
+    ∙ ap (λ (o : Option (Option (List ℕ))).
+    option_flatten (option_or (first_by (λ key. bytes_eq locale key) members) (option_or o (Some None)))) also
+    ∙ parent_found members locale
 
 -- ---- The part of a document
 

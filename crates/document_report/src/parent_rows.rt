@@ -112,7 +112,7 @@ fn put_first<'a>(
     row: Row<'a>,
 ) -> Result<(), AllocError>
     ensures { OnOk result ((other : List ℕ) → rows_at rows.new other
-        ≡ option_or (rows_at rows.old other) (if bytes_eq other name.items then Some (row_text row) else None)) }
+        ≡ option_or (rows_at rows.old other) (if bytes_eq other name.items then Some (row_text row.entry) else None)) }
 {
     if rows.contains_key(name.as_slice()) {
         return Ok(());

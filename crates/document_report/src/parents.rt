@@ -77,11 +77,11 @@ fn add_named(
 
 // Checks a member, beside all parents.
 #[derive(Clone, Copy)]
-struct ParentCheck<'a> {
-    parents: &'a Parents<'a>,
+struct ParentCheck<'p, 'a> {
+    parents: &'p Parents<'a>,
 }
 
-impl<'a> MemberCheck for ParentCheck<'a> {
+impl<'p, 'a> MemberCheck for ParentCheck<'p, 'a> {
     ghost finds = { λ check. IsFoundInParent (named_parent check.parents.now) };
 
     fn add(
