@@ -146,17 +146,18 @@ text_first k key value members =
 -- a key that is found passes
 passes : (test : List ℕ → Bool) (keys : List (List ℕ)) (k : List ℕ) → find test keys ≡ Some k → test k ≡ true
 passes test [] k h = absurd cc
-passes test (key ∷ keys) k h = by_case (test key) refl h
+passes test (key ∷ keys) k h = by_case (λ later. passes test keys k later) (test key) refl h
   where
-    by_case : (b : Bool) → test key ≡ b → cond b (Some key) (find test keys) ≡ Some k → test k ≡ true
-    by_case true e found = let same : key ≡ k = cc in ap test (sym same) ∙ e
-    by_case false e found = passes test keys k found
+    by_case : (find test keys ≡ Some k → test k ≡ true) → (b : Bool) → test key ≡ b → cond b (Some key) (find test keys) ≡ Some k
+        → test k ≡ true
+    by_case later true e found = let same : key ≡ k = cc in ap test (sym same) ∙ e
+    by_case later false e found = later found
 
 -- the first member that passes has the text under the first key that passes
 first_text : (test : List ℕ → Bool) (members : Members)
     → first_by test members ≡ option_map (text_among members) (find test (keys_of members))
 first_text test no_members = refl
-first_text test (member key value members) = by_case (test key) refl
+first_text test (member key value members) = by_case (first_text test members) (test key) refl
   where
     further : (o : Option (List ℕ)) → test key ≡ false → ((k : List ℕ) → o ≡ Some k → test k ≡ true)
         → option_map (text_among members) o ≡ option_map (text_among (member key value members)) o
@@ -167,15 +168,15 @@ first_text test (member key value members) = by_case (test key) refl
         other true e = absurd (let f : true ≡ false = sym (found k refl) ∙ ap test (equal k key e) ∙ fails in cc)
         other false e = refl
 
-    by_case : (b : Bool) → test key ≡ b
+    by_case : first_by test members ≡ option_map (text_among members) (find test (keys_of members)) → (b : Bool) → test key ≡ b
         → (if b then Some (as_str value) else first_by test members)
         ≡ option_map (text_among (member key value members)) (cond b (Some key) (find test (keys_of members)))
-    by_case true e =
+    by_case rest true e =
         ap (λ (t : Option (List ℕ)). Some t)
         (sym (text_first key key value members
         ∙ ap (λ (b : Bool). if b then as_str value else text_among members key) ((bytes_eq-Decides key key).1 refl)))
-    by_case false e =
-        first_text test members ∙ further (find test (keys_of members)) e (λ k. passes test (keys_of members) k)
+    by_case rest false e =
+        rest ∙ further (find test (keys_of members)) e (λ k. passes test (keys_of members) k)
 
 joined : {X : Type 0} (f : List ℕ → Option X) (a b : Option (List ℕ))
     → option_flatten (option_or (option_map f a) (option_or (option_map f b) (Some None))) ≡ option_and_then f (option_or a b)
@@ -218,16 +219,16 @@ parent_by part locale =
     option_and_then (λ key. option_and_then as_str (option_and_then (get key) part))
     (key_of (keys_in_object (option_and_then as_object part)) locale)
 
-by_part : (part : Option Data) (members : Members) (locale : List ℕ) → option_and_then as_object part ≡ Some members
-    → parent_among members locale ≡ parent_by part locale
-by_part None members locale h = absurd cc
-by_part (Some null) members locale h = absurd cc
-by_part (Some (boolean b)) members locale h = absurd cc
-by_part (Some (number n)) members locale h = absurd cc
-by_part (Some (string s)) members locale h = absurd cc
-by_part (Some (array items)) members locale h = absurd cc
-by_part (Some (object fields)) members locale h =
-    let same : members ≡ fields = cc in ap (λ (ms : Members). parent_among ms locale) same
+by_part : (part : Option Data) (all : Members) (locale : List ℕ) → option_and_then as_object part ≡ Some all
+    → parent_among all locale ≡ parent_by part locale
+by_part None all locale h = absurd cc
+by_part (Some null) all locale h = absurd cc
+by_part (Some (boolean b)) all locale h = absurd cc
+by_part (Some (number n)) all locale h = absurd cc
+by_part (Some (string s)) all locale h = absurd cc
+by_part (Some (array items)) all locale h = absurd cc
+by_part (Some (object fields)) all locale h =
+    let same : all ≡ fields = cc in ap (λ (ms : Members). parent_among ms locale) same
 
 -- the members are those of the part
 pub parents_are : (document : Data) (members : Members) → option_and_then as_object (get (codes "parents") document) ≡ Some members
