@@ -44,8 +44,8 @@ pub(crate) enum Names {
     Folded,
 }
 
-// The parents of a document, by the exact names of their locales, and by folded names, of which each
-// has the parent of the first of its locales.
+// The parents of a document, by the exact names of their locales, and by folded names, of which
+// each has the parent of the first of its locales.
 #[derive(Drop)]
 pub(crate) struct Parents<'a> {
     exact: BTreeMap<Vec<u8>, Row<'a>>,

@@ -1,4 +1,4 @@
--- The set of the categories that a message has forms for. Other is left out, as in each `CategorySet`.
+-- The set of the categories that a message has forms for. Other is left out, as in every set.
 --     categories_in message      those whose name is a key of the message
 use Rattle.std.specs.Prelude.{Bool}
 use Rattle.serde_json.specs.Data.{Data}

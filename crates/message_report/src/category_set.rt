@@ -9,9 +9,9 @@ use icu_plurals::PluralCategory;
 use plural_checker::CategorySet;
 use serde_json::Value;
 
-/// Returns the categories that a message, which is an object of forms by name, has a form for, whatever
-/// stands under its name. The forms of exactly 0 and 1 belong to no category; a value that is no
-/// object has no form. It allocates nothing.
+/// Returns the categories that a message, which is an object of forms by name, has a form for,
+/// whatever stands under its name. The forms of exactly 0 and 1 belong to no category; a value that
+/// is no object has no form. It allocates nothing.
 ///
 /// [`Coverage::of`](plural_checker::Coverage::of) compares the set with the rules of a language.
 pub fn category_set(message: &Value) -> CategorySet

@@ -37,8 +37,8 @@ impl CategorySet {
     }
 
     /// Returns the categories whose value is present in elements: those for which
-    /// [`get`](PluralElements::get) doesn't fall back on other. The values for exactly 0 and 1 belong
-    /// to no category.
+    /// [`get`](PluralElements::get) doesn't fall back on other. The values for exactly 0 and 1
+    /// belong to no category. It allocates nothing.
     pub fn of_elements<T>(elements: &PluralElements<T>) -> CategorySet
         ensures { result ≡ categories_with_value elements.now }
     {

@@ -153,8 +153,8 @@ locales: 1, rules: 1, numbers: 0, faults: 3
     table_holds(&rt, rt.alloc(), table)
 }
 
-// Returns a document where each of the locales `a`, `aa`, `aaa`, .. up to this many letters, but the
-// last, has the next one as its parent.
+// Returns a document where each of the locales `a`, `aa`, `aaa`, .. up to this many letters, but
+// the last, has the next one as its parent.
 fn document_of_chain(alloc: Global, locales: usize) -> Result<String, AllocError> {
     let mut text = String::from_str(alloc, r#"{"cardinal":{"a":{"other":""}},"parents":{"#)?;
     for letters in 1..locales {
