@@ -10,6 +10,7 @@
 
 #include <cstddef>
 #include <cstdint>
+#include <cstring>
 #include <memory>
 #include <new>
 #include <optional>
@@ -21,7 +22,7 @@
 
 namespace plurals {
 
-enum class Category : std::int32_t {
+enum class Category : std::uint8_t {
     zero = PLURALS_ZERO,
     one = PLURALS_ONE,
     two = PLURALS_TWO,
@@ -107,6 +108,48 @@ private:
     std::size_t size_ = 0;
 };
 
+/* What is an integer here: a bool isn't. */
+template <class Integer>
+using IfInteger = std::enable_if_t<std::is_integral_v<Integer> && !std::is_same_v<Integer, bool>>;
+
+/* A table of the categories of integers under some rules (docs/FORMATS.md), for who asks for many: asking it takes one step, whatever
+ * the language. Rules::table makes one. It is copied as its bytes are. */
+class CategoryTable {
+public:
+    /* The table in these bytes, which were those of one before. What they hold isn't checked; other than PLURALS_TABLE_BYTES of
+     * them are the fault PLURALS_TABLE_LENGTH. */
+    static Result<CategoryTable> from_bytes(std::string_view bytes) noexcept {
+        const auto *from = reinterpret_cast<const std::uint8_t *>(bytes.data());
+        std::int32_t found = plurals_category_by_table(from, bytes.size(), 0);
+        if (found < 0) return Fault(found);
+        CategoryTable table;
+        std::memcpy(table.bytes_, from, sizeof table.bytes_);
+        return table;
+    }
+
+    /* Returns the category of an integer, that of its absolute value if it is negative; none where the rules have to be asked, which is
+     * nowhere below 128. */
+    template <class Integer, class = IfInteger<Integer>>
+    std::optional<Category> category(Integer number) const noexcept {
+        static_assert(sizeof(Integer) <= 8, "an integer has at most 64 bits");
+        auto absolute = static_cast<std::uint64_t>(number);
+        if constexpr (std::is_signed_v<Integer>) absolute = number < 0 ? 0 - absolute : absolute;
+        /* There are PLURALS_TABLE_BYTES bytes, so there is no fault. */
+        std::int32_t found = plurals_category_by_table(bytes_, sizeof bytes_, absolute);
+        if (found == PLURALS_ASK_RULES) return std::nullopt;
+        return static_cast<Category>(found);
+    }
+
+    /* The bytes of the table, as calls of plurals.h take it. */
+    const std::uint8_t *data() const noexcept { return bytes_; }
+    static constexpr std::size_t size() noexcept { return PLURALS_TABLE_BYTES; }
+
+private:
+    friend class Rules;
+    CategoryTable() noexcept = default;
+    std::uint8_t bytes_[PLURALS_TABLE_BYTES] = {};
+};
+
 /* The operands of a number (UTS 35 Part 3, Plural Operand Meanings): the integer part, how many fraction digits are shown with the zeros
  * at the end and without, these digits as a number, the compact exponent. */
 struct Operands {
@@ -148,7 +191,7 @@ public:
     }
 
     /* Returns the category of an integer; one that is negative has that of its absolute value. */
-    template <class Integer, class = std::enable_if_t<std::is_integral_v<Integer> && !std::is_same_v<Integer, bool>>>
+    template <class Integer, class = IfInteger<Integer>>
     Category category(Integer number) const noexcept {
         static_assert(sizeof(Integer) <= 8, "an integer has at most 64 bits: pass a larger one as a text");
         /* The block is one that the library wrote, so there is no fault. */
@@ -157,6 +200,19 @@ public:
         } else {
             return static_cast<Category>(plurals_category_of_integer(block_.data(), block_.size(), number));
         }
+    }
+
+    /* Writes the category of each of count integers to out, in their order. The block of the rules is checked once. */
+    void categories_of_integers(const std::uint64_t *numbers, std::size_t count, Category *out) const noexcept {
+        /* A category is a byte, its number, and the block has no fault. */
+        plurals_categories_of_integers(block_.data(), block_.size(), numbers, count, reinterpret_cast<std::uint8_t *>(out), count);
+    }
+
+    /* Returns the table of the categories of integers under these rules. Making it takes as long as some 200 categories. */
+    CategoryTable table() const noexcept {
+        CategoryTable table;
+        plurals_table_of_rules(block_.data(), block_.size(), table.bytes_, sizeof table.bytes_);
+        return table;
     }
 
     /* Returns the category of a number as it is written: "1" and "1.0" are two numbers. */

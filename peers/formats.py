@@ -14,6 +14,7 @@ WRITTEN = "numbers are written anew"
 MISSING = "a missing argument"
 DOUBLES = "values are doubles"
 CHANGES = (WRITTEN, MISSING, DOUBLES)
+PATTERN = "Pattern"
 PLACES = 3
 DOUBLE_DIGITS = 17
 
@@ -172,7 +173,7 @@ def spoken(text, arguments, language, changes=()):
     """Returns what a pattern says; fails by Refused."""
     parts, fault = patterns.read(text)
     if fault:
-        raise Refused("Pattern", "")
+        raise Refused(PATTERN, "")
     return Speaker(parts, arguments, language, changes).message(0, 0, "#")
 
 
@@ -185,11 +186,11 @@ def said(text, arguments, language, changes=()):
 
 
 def row_result(text, arguments, language):
-    """Returns what the row of a pattern and its arguments wants (crates/cases/data/formatted.rows)."""
+    """Returns what the row of a pattern and its arguments wants (crates/cases/data/pattern_texts.rows)."""
     try:
         return patterns.quoted(spoken(text, arguments, language))
     except Refused as refused:
-        return f"error {refused.fault} {refused.name}"
+        return patterns.row_result(text) if refused.fault == PATTERN else f"error {refused.fault} {refused.name}"
 
 
 # ---- rules of CLDR

@@ -18,7 +18,7 @@ LOCALES = {"en": ("en", "."), "ru": ("ru", ","), "ar": ("ar@numbers=latn", "."),
 LEFT_OUT = "\xa0\u202f\u200e\u061c"
 MARKS = ".," + LEFT_OUT
 UNEXPLAINED = "unexplained"
-KIND = "formatted"  # of rows
+KIND = "pattern_text"  # of rows
 OFFSET = "library: no offset"
 SEVERAL = "several of these"
 WORDS = tuple(it for it in pattern_texts.WORDS if not set(it) & set(MARKS))

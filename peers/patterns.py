@@ -281,6 +281,43 @@ def joined(parts):
     return found
 
 
+# ---- the text of a pattern, in the one form that it is printed in
+
+
+def printed_text(text, context):
+    """Returns a whole text as it is written: quoted from the first character on that has to be, and each apostrophe twice."""
+    marks = "{}#" if context == COUNTED else "{}"
+    first = min((text.index(mark) for mark in marks if mark in text), default=len(text))
+    bare, rest = (it.replace("'", "''") for it in (text[:first], text[first:]))
+    return f"{bare}'{rest}'" if rest else bare
+
+
+def printed(parts):
+    """Returns the text that the parts of a pattern are printed as."""
+    words = {kind: word for word, kind in TYPES.items()}
+    found, kinds, before = [], [], ""
+    for _, piece in joined(parts):
+        word = "text" if isinstance(piece, str) else piece[0]
+        ends_a_branch = "" if before == "begin" else "}"
+        if word == "text":
+            found.append(printed_text(piece, CONTEXTS[kinds[-1]] if kinds else WHOLE))
+        elif word == "hash":
+            found.append("#")
+        elif word == "argument":
+            found.append(f"{{{piece[1]}}}")
+        elif word == "begin":
+            _, kind, name, offset = piece
+            kinds.append(kind)
+            found.append(f"{{{name}, {words[kind]}," + ("" if offset is None else f" offset:{offset}"))
+        elif word == "end":
+            kinds.pop()
+            found.append(ends_a_branch + "}")
+        else:
+            found.append(f"{ends_a_branch} {'=' if word == 'exactly' else ''}{piece[1]} {{")
+        before = word
+    return "".join(found)
+
+
 # ---- as the rows of crates/cases/data/patterns.rows have it
 
 
@@ -299,9 +336,19 @@ def piece_text(piece):
     return {"hash": "#", "end": "/", "argument": "{%s}", "exactly": "=%s", "keyword": "%s"}[word].replace("%s", "".join(piece[1:]))
 
 
+def error_text(text, fault):
+    return f"error Fault({fault.kind}, {len(text[: fault.at].encode())})"
+
+
 def row_result(text):
     """Returns what the row of a pattern wants."""
     parts, fault = read(text)
     if fault:
-        return f"error Fault({fault.kind}, {len(text[: fault.at].encode())})"
+        return error_text(text, fault)
     return " ".join(f"{depth}:{piece_text(piece)}" for depth, piece in parts) or "none"
+
+
+def printed_result(text):
+    """Returns what the row of a pattern that is printed wants."""
+    parts, fault = read(text)
+    return error_text(text, fault) if fault else quoted(printed(parts))

@@ -1,5 +1,5 @@
-/* Prints the messages of some numbers, other "{} items", one "{} item", with English's rule for one, and the category of the operands
- * of 1.0. */
+/* Prints the messages of some numbers, other "{} items", one "{} item", with English's rule for one, and the categories of the operands
+ * of 1.0, of 1 by a table, and of three integers at once. */
 #include <plurals.h>
 #include <stdio.h>
 #include <string.h>
@@ -8,7 +8,8 @@ int main(void) {
     const char *one = "i = 1 and v = 0";
     const char *texts = "{\"other\":[0,\"{} items\"],\"one\":[0,\"{} item\"]}";
     const char *numbers[] = {"0", "1", "1.0", "2", "1c6", "-1", "x", "1c256"};
-    uint8_t rules[256], elements[256];
+    uint64_t integers[] = {0, 1, 100};
+    uint8_t rules[256], elements[256], table[PLURALS_TABLE_BYTES], categories[3];
     char message[256];
     int64_t rules_len = plurals_rules_from_texts("", 0, one, strlen(one), "", 0, "", 0, "", 0, rules, sizeof rules);
     int64_t elements_len = plurals_elements_from_json(texts, strlen(texts), elements, sizeof elements);
@@ -23,5 +24,12 @@ int main(void) {
     }
     int32_t category = plurals_category_of_operands(rules, (size_t)rules_len, 1, 1, 0, 0, 0, 0);
     printf("i 1, v 1: %s\n", plurals_category_name(category));
+    plurals_table_of_rules(rules, (size_t)rules_len, table, sizeof table);
+    category = plurals_category_by_table(table, sizeof table, 1);
+    printf("1 by a table: %s\n", category == PLURALS_ASK_RULES ? "ask the rules" : plurals_category_name(category));
+    plurals_categories_of_integers(rules, (size_t)rules_len, integers, 3, categories, sizeof categories);
+    printf("0, 1, 100:");
+    for (size_t k = 0; k < sizeof categories; k++) printf(" %s", plurals_category_name(categories[k]));
+    printf("\n");
     return 0;
 }

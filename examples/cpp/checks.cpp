@@ -86,6 +86,49 @@ static void operands_and_categories() {
     CHECK(!rules->has(Category::zero) && !rules->has(Category::two) && !rules->has(Category::many));
 }
 
+static void tables() {
+    Texts texts;
+    texts.one = "i % 10 = 1";
+    texts.few = "i = 200";
+    texts.many = "i % 1000 = 5";
+    auto rules = Rules::from_texts(texts);
+    plurals::CategoryTable table = rules->table();
+    CHECK(table.category(1) == Category::one && table.category(-11) == Category::one && table.category('\1') == Category::one);
+    CHECK(table.category(5u) == Category::many && table.category(2L) == Category::other);
+    // Its absolute value ends in 08, and isn't an int64_t.
+    CHECK(table.category(std::numeric_limits<std::int64_t>::min()) == Category::other);
+    CHECK(table.category(1000001) == Category::one);
+    // The table doesn't tell: 150 is below the bound, and 1005 may be 1105.
+    CHECK(!table.category(150) && !table.category(1005) && rules->category(1005) == Category::many);
+    std::uint64_t wrong = 0, untold = 0;
+    for (std::uint64_t number = 0; number < 100000; number++) {
+        auto told = table.category(number);
+        untold += !told;
+        wrong += told ? *told != rules->category(number) : number < 128;
+    }
+    CHECK(wrong == 0 && untold < 2000);
+    std::string_view bytes(reinterpret_cast<const char *>(table.data()), table.size());
+    auto again = plurals::CategoryTable::from_bytes(bytes);
+    CHECK(again.has_value() && again->category(200) == table.category(200) && again->category(21) == Category::one);
+    CHECK(plurals::CategoryTable::from_bytes(bytes.substr(1)).fault().number() == PLURALS_TABLE_LENGTH);
+    CHECK(plurals::CategoryTable::from_bytes({}).fault().number() == PLURALS_TABLE_LENGTH);
+    CHECK(plurals::CategoryTable::from_bytes(std::string(PLURALS_TABLE_BYTES, '\0'))->category(1) == Category::zero);
+    CHECK(!plurals::CategoryTable::from_bytes(std::string(PLURALS_TABLE_BYTES, '\xff'))->category(1));
+    static_assert(std::is_trivially_copyable_v<plurals::CategoryTable> && sizeof(plurals::CategoryTable) == PLURALS_TABLE_BYTES);
+}
+
+static void many_integers() {
+    Texts texts;
+    texts.one = "i % 10 = 1";
+    auto rules = Rules::from_texts(texts);
+    std::uint64_t numbers[] = {1, 2, 21, std::numeric_limits<std::uint64_t>::max()};
+    Category found[] = {Category::zero, Category::zero, Category::zero, Category::zero, Category::few};
+    rules->categories_of_integers(numbers, 4, found);
+    CHECK(found[0] == Category::one && found[1] == Category::other && found[2] == Category::one && found[3] == Category::other);
+    CHECK(found[4] == Category::few);
+    rules->categories_of_integers(nullptr, 0, nullptr);
+}
+
 static void ranges() {
     std::string_view json = R"({"ranges":{"lv":{"ranges":{"one--other":"one","zero--zero":"other"}}}})";
     auto found = plurals::Ranges::from_document(json, "lv");
@@ -126,6 +169,8 @@ int main() {
     texts_of_numbers();
     rules_and_documents();
     operands_and_categories();
+    tables();
+    many_integers();
     ranges();
     elements();
     std::printf("%d failed\n", failed);

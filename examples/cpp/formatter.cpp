@@ -1,4 +1,4 @@
-// Prints the messages of some numbers and a category, as ../c/formatter.c does.
+// Prints the messages of some numbers and some categories, as ../c/formatter.c does.
 #include <iostream>
 #include <plurals.hpp>
 
@@ -23,4 +23,12 @@ int main() {
     plurals::Operands operands;
     operands.i = operands.v = 1;
     std::cout << "i 1, v 1: " << plurals::name(rules->category(operands)) << '\n';
+    auto told = rules->table().category(1);
+    std::cout << "1 by a table: " << (told ? plurals::name(*told) : "ask the rules") << '\n';
+    std::uint64_t numbers[] = {0, 1, 100};
+    plurals::Category categories[3];
+    rules->categories_of_integers(numbers, 3, categories);
+    std::cout << "0, 1, 100:";
+    for (auto category : categories) std::cout << ' ' << plurals::name(category);
+    std::cout << '\n';
 }

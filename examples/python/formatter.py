@@ -1,4 +1,4 @@
-"""Prints the messages of some numbers and a category, as ../c/formatter.c does."""
+"""Prints the messages of some numbers and some categories, as ../c/formatter.c does."""
 import plurals
 
 REFUSED = {-10: "it isn't a number", -11: "it is over a limit"}
@@ -11,3 +11,5 @@ for number in ("0", "1", "1.0", "2", "1c6", "-1", "x", "1c256"):
     except plurals.Fault as fault:
         print(f"{number}: {REFUSED[fault.number]}")
 print("i 1, v 1:", rules.category_of_operands(i=1, v=1))
+print("1 by a table:", plurals.CategoryTable(rules).category(1) or "ask the rules")
+print("0, 1, 100:", *rules.categories_of_integers([0, 1, 100]))

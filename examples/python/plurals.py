@@ -17,14 +17,16 @@ import os
 from decimal import Decimal
 from enum import Enum
 from pathlib import Path
-from typing import Any, Optional, Union
+from typing import Any, Iterable, Optional, Union
 
-__all__ = ["Category", "Elements", "Fault", "Number", "Ranges", "Rules", "is_read_whole", "text_of", "version"]
+__all__ = ["Category", "CategoryTable", "Elements", "Fault", "Number", "Ranges", "Rules", "is_read_whole", "text_of", "version"]
 
 Number = Union[int, float, Decimal, str]
 _HERE = Path(__file__).resolve()
 # The number of digits beside the point above which the library refuses a number.
 _MOST_DIGITS = 32767
+# What a table of categories returns of a number that the rules have to be asked for.
+_ASK_RULES = 6
 
 
 class Category(str, Enum):
@@ -71,6 +73,9 @@ def _opened() -> ctypes.CDLL:
         "plurals_ranges_from_document": (ctypes.c_int64, [*given, *given, *given]),
         "plurals_categories": (ctypes.c_int32, [*given]),
         "plurals_category_of_integer": (ctypes.c_int32, [*given, ctypes.c_uint64]),
+        "plurals_categories_of_integers": (ctypes.c_int64, [*given, ctypes.POINTER(ctypes.c_uint64), ctypes.c_size_t, *given]),
+        "plurals_table_of_rules": (ctypes.c_int64, [*given, *given]),
+        "plurals_category_by_table": (ctypes.c_int32, [*given, ctypes.c_uint64]),
         "plurals_category_of_operands": (
             ctypes.c_int32,
             [*given, ctypes.c_uint64, ctypes.c_size_t, ctypes.c_size_t, ctypes.c_uint64, ctypes.c_uint64, ctypes.c_size_t],
@@ -140,9 +145,8 @@ def _checked(result: int) -> int:
     return result
 
 
-def _written(export: Any, *words: Any) -> bytes:
+def _written(export: Any, *words: Any, room: int = 256) -> bytes:
     """Returns the bytes that an export writes. It is called again if they are more than there is room for."""
-    room = 256
     while True:
         out = ctypes.create_string_buffer(room)
         length = _checked(export(*words, out, room))
@@ -154,6 +158,13 @@ def _written(export: Any, *words: Any) -> bytes:
 def is_read_whole(text: str) -> bool:
     """Returns whether a text is a rule from its first byte to its last: of other texts a part may be read."""
     return _checked(_library.plurals_is_read_whole(*_words((_bytes(text),)))) == 1
+
+
+def _absolute(number: int) -> int:
+    """Returns the absolute value of an integer, of which a category may be asked without a text if it is below 2**64."""
+    if isinstance(number, bool) or not isinstance(number, int):
+        raise TypeError(f"an integer is an int, not {type(number).__name__}")
+    return abs(number)
 
 
 def _document(given: Optional[Union[str, bytes]]) -> bytes:
@@ -203,6 +214,16 @@ class Rules:
             found = _library.plurals_category(*_words((self.block, _bytes(text_of(number)))))
         return Category(_library.plurals_category_name(_checked(found)).decode())
 
+    def categories_of_integers(self, numbers: Iterable[int]) -> list[Category]:
+        """Returns the category of each integer, in their order, faster than one by one. Each is above -2**64 and below 2**64."""
+        absolute = [_absolute(number) for number in numbers]
+        if any(number >= 2**64 for number in absolute):
+            raise OverflowError("each integer is above -2**64 and below 2**64")
+        words = [*_words((self.block,)), (ctypes.c_uint64 * len(absolute))(*absolute), len(absolute)]
+        found = _written(_library.plurals_categories_of_integers, *words, room=len(absolute))
+        categories = list(Category)
+        return [categories[number] for number in found]
+
     def category_of_operands(self, i: int, v: int = 0, w: int = 0, f: int = 0, t: int = 0, c: int = 0) -> Category:
         """Returns the category of six operands, for callers that format numbers themselves: those of 1.50 are i=1, v=2, w=1, f=50, t=5.
 
@@ -222,6 +243,41 @@ class Rules:
     def is_exact(self, number: Number) -> bool:
         """Returns whether the category is that of all digits of the number, however many it has."""
         return _checked(_library.plurals_is_exact(*_words((self.block, _bytes(text_of(number)))))) == 1
+
+
+class CategoryTable:
+    """A table of the categories of integers under some rules, 236 bytes (docs/FORMATS.md): asking takes one step, whatever the language.
+
+    >>> rules = Rules.of_locale("fr")
+    >>> table = CategoryTable(rules)
+    >>> str(table.category(1)), str(table.category(1000001)), table.category(1000000)
+    ('one', 'other', None)
+    >>> str(table.category(1000000) or rules.category(1000000))
+    'many'
+    """
+
+    __slots__ = ("table",)
+    table: bytes
+
+    def __init__(self, rules: Rules) -> None:
+        """Makes the table of some rules, which takes as long as some 200 categories."""
+        self.table = _written(_library.plurals_table_of_rules, *_words((rules.block,)))
+
+    @classmethod
+    def of_bytes(cls, table: bytes) -> CategoryTable:
+        """Takes the bytes of a table, as table has them. What they hold isn't checked; other than 236 of them are the fault -80."""
+        _checked(_library.plurals_category_by_table(table, len(table), 0))
+        found = cls.__new__(cls)
+        found.table = bytes(table)
+        return found
+
+    def category(self, number: int) -> Optional[Category]:
+        """Returns the category of an integer, or None where the rules have to be asked, which is nowhere below 128."""
+        absolute = _absolute(number)
+        if absolute >= 2**64:
+            return None
+        found = _checked(_library.plurals_category_by_table(self.table, len(self.table), absolute))
+        return None if found == _ASK_RULES else Category(_library.plurals_category_name(found).decode())
 
 
 class Ranges:

@@ -6,7 +6,7 @@ from decimal import Decimal
 
 import plurals
 import pytest
-from plurals import Category, Elements, Fault, Ranges, Rules, text_of
+from plurals import Category, CategoryTable, Elements, Fault, Ranges, Rules, text_of
 
 ENGLISH = Rules(one="i = 1 and v = 0")
 
@@ -191,6 +191,52 @@ def test_elements_of_texts():
 def test_categories_of_rules():
     assert Rules.of_locale("pl").categories() == ["one", "few", "many", "other"]
     assert Rules().categories() == [Category.OTHER]
+
+
+@pytest.mark.parametrize("locale", ["en", "ru", "ar", "fr", "cy", "lv", "ja", "mt", "br", "kw"])
+def test_a_table_has_what_the_rules_choose(locale):
+    rules = Rules.of_locale(locale)
+    table = CategoryTable(rules)
+    numbers = [*range(3000), *(sign * (2**power - 1) for power in range(65) for sign in (1, -1)), 10**6, 2 * 10**6]
+    told = {number: table.category(number) for number in numbers}
+    assert all(category for number, category in told.items() if abs(number) < 128)
+    assert {number: category or rules.category(number) for number, category in told.items()} == {it: rules.category(it) for it in numbers}
+
+
+def test_a_table_asks_the_rules():
+    assert CategoryTable(Rules.of_locale("fr")).category(10**6) is None
+    assert CategoryTable(Rules.of_locale("ru")).category(10**6 + 22) is Category.FEW
+    assert CategoryTable(ENGLISH).category(2**64) is None
+    assert CategoryTable(ENGLISH).category(1 - 2**64) is Category.OTHER
+
+
+def test_a_table_is_its_bytes():
+    table = CategoryTable(ENGLISH)
+    assert CategoryTable.of_bytes(table.table).category(1) is Category.ONE
+    assert (len(table.table), table.table[:11]) == (236, bytes([2, 0, 0, 0, 0, 0, 0, 0, 5, 1, 5]))
+    for length in (0, 235, 237):
+        with pytest.raises(Fault) as fault:
+            CategoryTable.of_bytes(bytes(length))
+        assert fault.value.number == -80
+    assert CategoryTable.of_bytes(bytes([2] * 236)).category(-7) is Category.TWO
+    assert CategoryTable.of_bytes(bytes([6] * 236)).category(7) is None
+
+
+@pytest.mark.parametrize("number", [1.0, True, "1", None, Decimal(1)])
+def test_what_is_no_integer(number):
+    with pytest.raises(TypeError):
+        CategoryTable(ENGLISH).category(number)
+    with pytest.raises(TypeError):
+        ENGLISH.categories_of_integers([1, number])
+
+
+def test_many_integers():
+    rules, numbers = Rules.of_locale("ru"), [*range(-500, 500), 2**64 - 1, 1 - 2**64]
+    assert rules.categories_of_integers(iter(numbers)) == [rules.category(number) for number in numbers]
+    assert rules.categories_of_integers([]) == []
+    for number in (2**64, -(2**64)):
+        with pytest.raises(OverflowError):
+            rules.categories_of_integers([1, number])
 
 
 def test_ranges():

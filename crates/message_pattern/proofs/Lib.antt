@@ -11,3 +11,8 @@ pub mod GrammarAgain
 pub mod GrammarReads
 pub mod Shorter
 pub mod Total
+pub mod Spelled
+pub mod TextBack
+pub mod HeadsBack
+pub mod PrintsBack
+pub mod PrintedFold

@@ -6,7 +6,7 @@ use Rattle.message_pattern.specs.PatternGrammar.{IsLongest}
 use Rattle.message_pattern.proofs.Runs.{run-whole}
 
 -- at each place before the rest a byte of the class begins
-abbrev AllBegin : Class → List ℕ → List ℕ → Type 0
+abbrev pub AllBegin : Class → List ℕ → List ℕ → Type 0
 AllBegin class s taken = (i : ℕ) → i < length taken → begins class (drop i s) ≡ true
 
 each_step : (class : Class) (b : ℕ) (s r : List ℕ) (v : Bool) → begins class (b ∷ s) ≡ v → AllBegin class s r
@@ -33,10 +33,10 @@ pub is_longest : (class : Class) (s : List ℕ) → IsLongest class s (run class
 is_longest class s = record { whole = sym (run-whole class s); each = run-each class s; longest = behind-stops class s }
 
 -- behind the first byte
-later : (class : Class) (b : ℕ) (t s : List ℕ) → AllBegin class (b ∷ s) (b ∷ t) → AllBegin class s t
+pub later : (class : Class) (b : ℕ) (t s : List ℕ) → AllBegin class (b ∷ s) (b ∷ t) → AllBegin class s t
 later class b t s a i l = a (suc i) (omega (arith, l))
 
-first : (class : Class) (b : ℕ) (t s : List ℕ) → AllBegin class (b ∷ s) (b ∷ t) → begins class (b ∷ s) ≡ true
+pub first : (class : Class) (b : ℕ) (t s : List ℕ) → AllBegin class (b ∷ s) (b ∷ t) → begins class (b ∷ s) ≡ true
 first class b t s a = a zero (omega arith)
 
 run_front : (class : Class) (t r : List ℕ) → AllBegin class (t ++ r) t → begins class r ≡ false → run class (t ++ r) ≡ t
@@ -54,7 +54,7 @@ behind_front class (b ∷ t) r a h =
     ∙ behind_front class t r (later class b t (t ++ r) a) h
 
 -- in the text that is taken apart
-each_in : (class : Class) (s t r : List ℕ) → IsLongest class s t r → AllBegin class (t ++ r) t
+pub each_in : (class : Class) (s t r : List ℕ) → IsLongest class s t r → AllBegin class (t ++ r) t
 each_in class s t r l = subst (λ (u : List ℕ). AllBegin class u t) l.whole l.each
 
 -- the longest front is the run

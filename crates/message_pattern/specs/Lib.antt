@@ -6,6 +6,7 @@ pub mod PatternHeads
 pub mod PatternReading
 pub mod PatternGrammar
 pub mod PatternAnswers
+pub mod PatternPrinting
 pub mod PatternErrors
 -- not definitions of the subject
 pub mod Inner

@@ -1,6 +1,7 @@
 //! Laws of the definitions that the contracts name.
 
 ghost use Rattle.message_pattern.specs.PatternAnswers.{EveryTextIsRead, HaveOneReading};
+ghost use Rattle.message_pattern.specs.PatternPrinting.{HaveOnePrintedText, PatternsPrintBack};
 
 /// A text is read in at most one way: it has one list of parts, or one first fault, and never both.
 pub fn one_reading()
@@ -10,4 +11,15 @@ pub fn one_reading()
 /// Every text is a pattern, or has a first fault.
 pub fn every_text_is_read()
     ensures { EveryTextIsRead }
+{}
+
+/// The parts of each pattern are printed as a text, and that text is read as a pattern that says
+/// the same: the same pieces at the same depths, but for where texts are cut into pieces.
+pub fn patterns_print_back()
+    ensures { PatternsPrintBack }
+{}
+
+/// Parts that say the same are printed as the same text.
+pub fn one_printed_text()
+    ensures { HaveOnePrintedText }
 {}

@@ -8,6 +8,7 @@ mod head;
 pub mod laws;
 mod part;
 mod pattern;
+mod print;
 mod reader;
 mod text;
 

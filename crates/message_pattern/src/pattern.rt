@@ -1,15 +1,17 @@
 //! A pattern that was read.
 
-ghost use Rattle.std.specs.Prelude.{◌≡◌};
+ghost use Rattle.std.specs.Prelude.{◌≡◌, IfOk};
 ghost use Rattle.message_pattern.specs.PatternParts.{parts_view};
 ghost use Rattle.message_pattern.specs.PatternAnswers.{AnswersExactly};
+ghost use Rattle.message_pattern.specs.PatternPrinting.{PrintsExactly};
 ghost use Rattle.message_pattern.specs.Inner.PatternViews.{pattern_error};
 
 use crate::error::{PatternError, ReadError};
 use crate::part::Part;
+use crate::print::print;
 use crate::reader::message;
 use crate::text::Context;
-use std::alloc::Global;
+use std::alloc::{AllocError, Global};
 use std::marker::Model;
 
 /// A pattern of messages: the flat list of its parts, which borrow from the text.
@@ -47,6 +49,17 @@ impl<'p> Pattern<'p> {
         ensures { parts_view result.now ≡ self.now }
     {
         &self.parts
+    }
+
+    /// Returns the pattern's text in one form, as bytes: `{name}`, `{n, plural, offset:1 one {..}
+    /// other {..}}`, and texts with each apostrophe doubled, quoted from the first byte on that has
+    /// to be. It is read as a pattern that says the same: only where texts are cut into pieces may
+    /// differ. It allocates the text, and the contexts that stand in each other; the error is out of
+    /// memory.
+    pub fn to_text(&self, alloc: Global) -> Result<Vec<u8>, AllocError>
+        ensures { IfOk result (λ text. PrintsExactly self.now text.items) }
+    {
+        print(alloc, &self.parts)
     }
 }
 

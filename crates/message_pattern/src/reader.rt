@@ -18,7 +18,7 @@ pub const DEPTH_LIMIT: usize = 32;
 
 impl ArgumentKind {
     // What a branch of such an argument is.
-    fn context(self) -> Context
+    pub(crate) fn context(self) -> Context
         ensures { result ≡ context_of self }
     {
         match self {

@@ -60,7 +60,7 @@ impl Context {
     }
 
     // An apostrophe before this byte begins quoted text.
-    fn is_quotable(self, byte: u8) -> bool
+    pub(crate) fn is_quotable(self, byte: u8) -> bool
         ensures { result ≡ is_quotable self byte }
     {
         byte == b'{' || byte == b'}' || byte == b'#' && self.is_counted()

@@ -1,26 +1,50 @@
-//! The categories of many integers under one block of rules.
+//! The categories of integers and of operands.
 
-ghost use Rattle.std.specs.Prelude.{◌≡◌, ◌≤◌, ◌++◌, drop, length, map, pos};
-ghost use Rattle.icu_plurals.specs.CategoryTables.{integer_entry};
-ghost use Rattle.icu_plurals.specs.FiveRules.{first_category};
-ghost use Rattle.icu_plurals.specs.Operands.{of_whole};
-ghost use Rattle.icu_plurals.specs.PackedTruth.{packed_truth};
-ghost use Rattle.plurals_c.specs.IntegersAnswers.{AreCategoriesOfIntegers};
-ghost use Rattle.plurals_c.specs.Inner.Choosers.{chooser_rules};
-ghost use Rattle.plurals_c.specs.Results.{Written, filled};
+ghost use Rattle.std.specs.Prelude.{nat_abs};
+ghost use Rattle.plural_exports.specs.IntegersAnswers.{AreCategoriesOfIntegers};
+ghost use Rattle.plural_exports.specs.NumberAnswers.{IsCategoryOfInteger, category_number};
+ghost use Rattle.plural_exports.specs.OperandAnswers.{IsCategoryOfOperands};
+ghost use Rattle.plural_exports.specs.Results.{Answered, Written};
+ghost use Rattle.plural_exports.specs.TableAnswers.{AreTableFor, IsToldByTable, told_number};
 
-use crate::given::rules_in;
-use crate::ranges::number_of;
-use icu_plurals::{PluralCategory, PluralOperands, PluralRules, PreparedRules};
+/// Returns the category of an integer, by its number: 0 zero, 1 one, 2 two, 3 few, 4 many, 5 other.
+/// It allocates nothing.
+///
+/// A fault is negative, and is one of the rules.
+#[unsafe(no_mangle)]
+pub extern "C" fn plurals_category_of_integer(rules: &[u8], number: u64) -> i32
+    ensures { Answered (IsCategoryOfInteger rules.now number) category_number result }
+{
+    plural_exports::category_of_integer(rules, number)
+}
 
-// From how many numbers on tables are made first.
-const MANY: usize = 512;
+/// Returns the category of an integer, which is that of its absolute value, as
+/// [`plurals_category_of_integer`] does. It allocates nothing.
+#[unsafe(no_mangle)]
+pub extern "C" fn plurals_category_of_signed_integer(rules: &[u8], number: i64) -> i32
+    ensures { Answered (IsCategoryOfInteger rules.now (nat_abs number)) category_number result }
+{
+    plural_exports::category_of_signed_integer(rules, number)
+}
 
-// What chooses the categories of integers: rules, or their tables.
-#[derive(Drop)]
-enum Chooser<'a> {
-    Rules(PluralRules<'a>),
-    Tables(PreparedRules<'a>),
+/// Returns the category of six operands (UTS 35 Part 3, Plural Operand Meanings), by its number as
+/// [`plurals_category_of_integer`] returns it. Any six are allowed, also those of no number. It
+/// allocates nothing.
+///
+/// A fault is negative, and is one of the rules.
+#[unsafe(no_mangle)]
+pub extern "C" fn plurals_category_of_operands(
+    rules: &[u8],
+    i: u64,
+    v: usize,
+    w: usize,
+    f: u64,
+    t: u64,
+    c: usize,
+) -> i32
+    ensures { Answered (IsCategoryOfOperands rules.now (record { i = i; v = v; w = w; f = f; t = t; c = c })) category_number result }
+{
+    plural_exports::category_of_operands(rules, i, v, w, f, t, c)
 }
 
 /// Writes the categories of integers, a byte each, by their numbers: 0 zero, 1 one, 2 two, 3 few, 4
@@ -36,55 +60,30 @@ pub extern "C" fn plurals_categories_of_integers(
 ) -> i64
     ensures { Written (AreCategoriesOfIntegers rules.now numbers.now) out.old out.new result }
 {
-    match rules_in(rules) {
-        Ok(rules) => put_categories(rules, numbers, out),
-        Err(fault) => i64::from(fault.number()),
-    }
+    plural_exports::categories_of_integers(rules, numbers, out)
 }
 
-// Writes the categories at the front of the buffer, if they fit, and returns how many they are.
-fn put_categories(rules: PluralRules<'_>, numbers: &[u64], out: &mut [u8]) -> i64
-    ensures told { result ≡ pos (length numbers.now) }
-    ensures written { out.new ≡ filled (map (integer_entry rules.entry) numbers.now) out.old }
+/// Writes the table of the categories of integers under the rules, 236 bytes, which
+/// [`plurals_category_by_table`] takes. The result is 236; if the buffer is shorter, nothing is
+/// written. It allocates nothing.
+///
+/// A fault is negative, and is one of the rules; then nothing is written.
+#[unsafe(no_mangle)]
+pub extern "C" fn plurals_table_of_rules(rules: &[u8], out: &mut [u8]) -> i64
+    ensures { Written (AreTableFor rules.now) out.old out.new result }
 {
-    let count = numbers.len();
-    let room = out.len();
-    if room < count {
-        return count as i64;
-    }
-    let chooser = chooser_of(rules, count);
-    write_categories(&chooser, numbers, out);
-    count as i64
+    plural_exports::table_of_rules(rules, out)
 }
 
-// The rules, with tables if that is worth it for so many numbers.
-fn chooser_of(rules: PluralRules<'_>, count: usize) -> Chooser<'_>
-    ensures { chooser_rules result ≡ rules.entry }
+/// Returns the category that a table has for an integer, by its number: 0 zero, 1 one, 2 two, 3
+/// few, 4 many, 5 other; 6 if the rules have to be asked. Any bytes may be given: of a table that
+/// [`plurals_table_of_rules`] wrote it is the category that those rules choose. It allocates
+/// nothing.
+///
+/// The only fault is that the table isn't of 236 bytes, -80.
+#[unsafe(no_mangle)]
+pub extern "C" fn plurals_category_by_table(table: &[u8], number: u64) -> i32
+    ensures { Answered (IsToldByTable table.now number) told_number result }
 {
-    if count < MANY {
-        Chooser::Rules(rules)
-    } else {
-        Chooser::Tables(PreparedRules::from_rules(rules))
-    }
-}
-
-// Writes the categories at the front of a buffer that has room for them.
-fn write_categories(chooser: &Chooser<'_>, numbers: &[u64], out: &mut [u8])
-    requires { length numbers.now ≤ length out.old }
-    ensures { out.new ≡ map (integer_entry (chooser_rules chooser.now)) numbers.now ++ drop (length numbers.now) out.old }
-{
-    for k in 0..numbers.len() {
-        out[k] = number_of(category_by(chooser, numbers[k]));
-    }
-}
-
-// The category of one.
-#[inline(always)]
-fn category_by(chooser: &Chooser<'_>, number: u64) -> PluralCategory
-    ensures { result ≡ first_category (packed_truth (of_whole number)) (chooser_rules chooser.now) }
-{
-    match chooser {
-        Chooser::Rules(rules) => rules.category_for(PluralOperands::from(number)),
-        Chooser::Tables(tables) => tables.category_for_integer(number),
-    }
+    plural_exports::category_by_table(table, number)
 }

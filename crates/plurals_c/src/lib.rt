@@ -1,22 +1,8 @@
-//! Plural rules for C: a static library over `icu_plurals` and `plural_message`.
+//! Plural rules for C: the exports of the static library, each of which calls the function of
+//! `plural_exports` that has its name without `plurals_`.
 #![tactic(auto)]
 
-mod buffer;
-mod categories;
-mod category;
-mod document;
-mod element_texts;
-mod elements;
-mod fault;
-mod given;
 mod integers;
-mod message;
-mod operands;
-mod ranges;
+mod numbers;
 mod rules;
-mod signed;
-mod sure;
-mod table;
-#[cfg(test)]
-mod tests;
-mod whole;
+mod texts;

@@ -1,5 +1,5 @@
-//! Prints the messages of some numbers and a category, as ../../c/formatter.c does.
-use plurals::{Message, PluralRules, PluralsError, RawPluralOperands};
+//! Prints the messages of some numbers and some categories, as ../../c/formatter.c does.
+use plurals::{Message, PluralCategory, PluralRules, PluralsError, RawPluralOperands};
 
 fn main() -> Result<(), PluralsError> {
     let rules = PluralRules::try_from_texts(["", "i = 1 and v = 0", "", "", ""])?;
@@ -14,5 +14,9 @@ fn main() -> Result<(), PluralsError> {
     }
     let operands = RawPluralOperands { i: 1, v: 1, ..RawPluralOperands::default() };
     println!("i 1, v 1: {}", rules.category_for_operands(operands));
+    let told = rules.to_table().category_for_integer(1);
+    println!("1 by a table: {}", told.map_or("ask the rules", PluralCategory::as_str));
+    let categories = rules.categories_for_integers(&[0, 1, 100]);
+    println!("0, 1, 100: {}", categories.into_iter().map(PluralCategory::as_str).collect::<Vec<_>>().join(" "));
     Ok(())
 }

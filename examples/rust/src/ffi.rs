@@ -23,6 +23,12 @@ mod raw {
             rules: *const u8, rules_len: usize, i: u64, v: usize, w: usize, f: u64, t: u64, c: usize,
         ) -> i32;
         pub fn plurals_category_of_integer(rules: *const u8, rules_len: usize, number: u64) -> i32;
+        #[rustfmt::skip]
+        pub fn plurals_categories_of_integers(
+            rules: *const u8, rules_len: usize, numbers: *const u64, numbers_len: usize, out: *mut u8, out_len: usize,
+        ) -> i64;
+        pub fn plurals_table_of_rules(rules: *const u8, rules_len: usize, out: *mut u8, out_len: usize) -> i64;
+        pub fn plurals_category_by_table(table: *const u8, table_len: usize, number: u64) -> i32;
         pub fn plurals_category(rules: *const u8, rules_len: usize, number: *const u8, number_len: usize) -> i32;
         pub fn plurals_sure_category(rules: *const u8, rules_len: usize, number: *const u8, number_len: usize) -> i32;
         pub fn plurals_is_exact(rules: *const u8, rules_len: usize, number: *const u8, number_len: usize) -> i32;
@@ -41,9 +47,13 @@ mod raw {
     }
 }
 
-/// What a call writes: it is called again if its result has no room.
+/// What a call writes.
 fn written(call: impl Fn(&mut [u8]) -> i64) -> Result<Vec<u8>, PluralsError> {
-    let mut out = vec![0; 256];
+    written_to(vec![0; 256], call)
+}
+
+/// What a call writes: it is called again if its result has no room.
+fn written_to(mut out: Vec<u8>, call: impl Fn(&mut [u8]) -> i64) -> Result<Vec<u8>, PluralsError> {
     loop {
         let length = call(&mut out);
         let length = usize::try_from(length).map_err(|_| PluralsError(length))?;
@@ -103,6 +113,23 @@ pub fn category_of_operands(rules: &[u8], of: &RawPluralOperands) -> Result<i32,
 
 pub fn category_of_integer(rules: &[u8], number: u64) -> Result<i32, PluralsError> {
     checked(unsafe { raw::plurals_category_of_integer(rules.as_ptr(), rules.len(), number) })
+}
+
+pub fn categories_of_integers(rules: &[u8], numbers: &[u64]) -> Result<Vec<u8>, PluralsError> {
+    written_to(vec![0; numbers.len()], |out| unsafe {
+        let (from, from_len) = (numbers.as_ptr(), numbers.len());
+        raw::plurals_categories_of_integers(rules.as_ptr(), rules.len(), from, from_len, out.as_mut_ptr(), out.len())
+    })
+}
+
+pub fn table_of_rules(rules: &[u8]) -> Result<[u8; 236], PluralsError> {
+    let found = written(|out| unsafe { raw::plurals_table_of_rules(rules.as_ptr(), rules.len(), out.as_mut_ptr(), out.len()) })?;
+    Ok(found.try_into().expect("the table has 236 bytes"))
+}
+
+/// 6 where the rules have to be asked.
+pub fn category_by_table(table: &[u8], number: u64) -> Result<i32, PluralsError> {
+    checked(unsafe { raw::plurals_category_by_table(table.as_ptr(), table.len(), number) })
 }
 
 pub fn category(rules: &[u8], number: &str) -> Result<i32, PluralsError> {

@@ -19,12 +19,14 @@ mod elements;
 mod ffi;
 mod operands;
 mod ranges;
+mod table;
 
 pub use elements::PluralElements;
 use operands::Written;
 pub use operands::{PluralOperands, RawPluralOperands};
 pub use ranges::PluralRulesWithRanges;
 use std::fmt;
+pub use table::CategoryTable;
 
 /// The document of the rules of CLDR 41 that is installed with the library.
 pub const CLDR: &str = include_str!(env!("PLURALS_CLDR"));
@@ -196,6 +198,25 @@ impl PluralRules {
             Written::Text(text) => ffi::category(&self.block, &text),
         };
         PluralCategory::of(found.unwrap_or_else(|error| panic!("{error}")))
+    }
+
+    /// The category of each integer, in their order. The block of the rules is checked once.
+    ///
+    /// ```
+    /// use plurals::PluralCategory::{Few, Many, One};
+    ///
+    /// let rules = plurals::PluralRules::try_new_cardinal(plurals::CLDR, "pl")?;
+    /// assert_eq!(rules.categories_for_integers(&[1, 3, 5]), [One, Few, Many]);
+    /// # Ok::<(), plurals::PluralsError>(())
+    /// ```
+    pub fn categories_for_integers(&self, numbers: &[u64]) -> Vec<PluralCategory> {
+        let found = ffi::categories_of_integers(&self.block, numbers).unwrap_or_else(|error| panic!("{error}"));
+        found.into_iter().map(|it| PluralCategory::of(it.into())).collect()
+    }
+
+    /// The table of the categories of integers under these rules, for who asks for many. Making it takes as long as some 200 categories.
+    pub fn to_table(&self) -> CategoryTable {
+        CategoryTable::from_bytes(ffi::table_of_rules(&self.block).unwrap_or_else(|error| panic!("{error}")))
     }
 
     /// The category of a number, unless it may be another one for all its digits.

@@ -1,6 +1,6 @@
 //! Categories, operands and values by category, over the document of CLDR 41. What is expected comes from UTS 35 and CLDR's samples.
 use plurals::PluralCategory::{self, *};
-use plurals::{PluralElements, PluralOperands, PluralRuleType, PluralRules, PluralRulesOptions, PluralRulesWithRanges, CLDR};
+use plurals::{CategoryTable, PluralElements, PluralOperands, PluralRuleType, PluralRules, PluralRulesOptions, PluralRulesWithRanges, CLDR};
 use plurals::RawPluralOperands;
 
 fn cardinal(locale: &str) -> PluralRules {
@@ -131,6 +131,46 @@ fn rules_have_categories() {
     assert_eq!(found("en"), [One, Other]);
     assert_eq!(found("ar"), [Zero, One, Two, Few, Many, Other]);
     assert_eq!(found("ja"), [Other]);
+}
+
+#[test]
+fn a_table_has_what_the_rules_choose() {
+    for locale in ["en", "ru", "ar", "fr", "cy", "lv", "ja", "mt", "br", "gv", "kw"] {
+        let rules = cardinal(locale);
+        let table = rules.to_table();
+        let numbers = (0..20_000).chain((0..64).flat_map(|it| [1 << it, (1 << it) - 1, u64::MAX >> it]));
+        for number in numbers.chain([1_000_000, 2_000_000, 1_000_001]) {
+            let told = table.category_for_integer(number);
+            assert!(told.is_some() || number >= 128, "{locale}: {number}");
+            assert_eq!(told.unwrap_or_else(|| rules.category_for(number)), rules.category_for(number), "{locale}: {number}");
+        }
+    }
+    assert_eq!(cardinal("ru").to_table().category_for_integer(1_000_022), Some(Few));
+}
+
+#[test]
+fn a_table_is_its_bytes() {
+    let table = cardinal("pl").to_table();
+    assert_eq!(CategoryTable::from_bytes(*table.as_bytes()), table);
+    assert_eq!(CategoryTable::try_from(&table.as_bytes()[..]), Ok(table));
+    assert_ne!(cardinal("en").to_table(), table);
+    for length in [0, 235, 237] {
+        assert_eq!(CategoryTable::try_from(&vec![0; length][..]).unwrap_err().number(), -80, "{length}");
+    }
+    assert_eq!(CategoryTable::from_bytes([2; 236]).category_for_integer(7), Some(Two));
+    for byte in [6, 255] {
+        assert_eq!(CategoryTable::from_bytes([byte; 236]).category_for_integer(7), None);
+    }
+}
+
+#[test]
+fn many_integers_have_categories() {
+    for locale in ["ru", "ar", "ja"] {
+        let rules = cardinal(locale);
+        let numbers: Vec<u64> = (0..1000).chain([u64::MAX]).collect();
+        assert_eq!(rules.categories_for_integers(&numbers), numbers.iter().map(|it| rules.category_for(*it)).collect::<Vec<_>>());
+    }
+    assert_eq!(cardinal("en").categories_for_integers(&[]), []);
 }
 
 #[test]

@@ -1,11 +1,14 @@
 //! The kinds of the upper crates: `icu_plurals`, `plural_message`, `plural_checker`,
-//! `plural_fallback`, `message_report`, `form_commands`, `uses` and `message_pattern`.
+//! `plural_fallback`, `message_report`, `form_commands`, `uses`, `message_pattern` and
+//! `plural_exports`.
 
 mod callers;
 mod checker;
 mod element_values;
 mod elements;
 mod elements_json;
+mod exported_bytes;
+mod exports;
 mod fallback;
 mod forms;
 mod message_reports;
@@ -29,4 +32,6 @@ pub fn make(kind: &str, call: &mut Call) -> bool {
         || forms::make(kind, call)
         || callers::make(kind, call)
         || patterns::make(kind, call)
+        || exports::make(kind, call)
+        || exported_bytes::make(kind, call)
 }

@@ -9,6 +9,7 @@ pub fn make(kind: &str, call: &mut Call) -> bool {
     match kind {
         "pattern" => pattern(call),
         "pattern_error" => pattern_error(call),
+        "pattern_print" => pattern_print(call),
         "nested_pattern" => nested_pattern(call),
         _ => return false,
     }
@@ -30,6 +31,23 @@ fn pattern_error(call: &mut Call) {
     match Pattern::parse(call.alloc, text.as_bytes()) {
         Ok(_) => call.print("none"),
         Err(fault) => call.print_value(&fault),
+    }
+}
+
+// The text that a pattern is printed as.
+fn pattern_print(call: &mut Call) {
+    let text = call.text();
+    match Pattern::parse(call.alloc, text.as_bytes()) {
+        Ok(pattern) => print_back(call, &pattern),
+        Err(fault) => call.print_error(&fault),
+    }
+}
+
+// Prints a pattern.
+fn print_back(call: &mut Call, pattern: &Pattern<'_>) {
+    match pattern.to_text(call.alloc) {
+        Ok(text) => call.print_quoted(shown(text.as_slice())),
+        Err(_) => call.out_of_memory(),
     }
 }
 

@@ -1,0 +1,5 @@
+use Rattle.message_pattern.proofs.PrintsBack.{prints_back}
+use Rattle.message_pattern.proofs.laws.patterns_print_back.Goals as goal
+
+pub returns : goal.returns
+returns c = prints_back

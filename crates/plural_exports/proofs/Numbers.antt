@@ -1,0 +1,45 @@
+-- A number, and what is read before it.
+use Rattle.std.proofs.Common.{◌≡◌, ◌≢◌, ◌≤◌, ◌↔◌, List, length, ℕ, Result, Ok, Err, refl}
+use Rattle.std.proofs.Math.Nat.{lt_of_not-le}
+use Rattle.icu_plurals.specs.declared.DecimalError.{DecimalError}
+use Rattle.icu_plurals.specs.declared.DecimalError.TheVariants as decimal
+use Rattle.icu_plurals.specs.FiveRules.{FiveRules}
+use Rattle.icu_plurals.specs.PackedElements.{PackedElements}
+use Rattle.icu_plurals.specs.Written.{CompactNumber, WritesCompact, IsCompactOverLimit}
+use Rattle.plural_exports.specs.GivenBytes.{ReadsElements, ReadsNumber, ReadsRules, WritesNumber}
+use Rattle.plural_exports.specs.Inner.Conversions.{decimal_fault}
+use Rattle.plural_exports.specs.Inner.GivenResults.{Gives}
+use Rattle.plural_exports.specs.NumberAnswers.{AfterAll}
+use Rattle.plural_exports.specs.declared.fault.Fault.{Fault}
+
+-- the fault of a text that is refused as a number
+pub number_refused : (text : List ℕ) (e : DecimalError) (r : Result CompactNumber Fault) → r ≡ Err (decimal_fault e)
+    → ◌≡◌ {A = Result CompactNumber DecimalError} (Err e) (Err decimal.Syntax) ↔ ((x : CompactNumber) → ¬ (WritesCompact text x))
+    → ◌≡◌ {A = Result CompactNumber DecimalError} (Err e) (Err decimal.Limit)
+    ↔ ((x : CompactNumber) × WritesCompact text x × IsCompactOverLimit x)
+    → (length text ≤ 16 → ◌≢◌ {A = Result CompactNumber DecimalError} (Err e) (Err decimal.Memory))
+    → WritesNumber text r
+number_refused text decimal.Syntax r is syntax limit short = rw is (syntax.0 refl)
+number_refused text decimal.Limit r is syntax limit short = rw is (limit.0 refl)
+number_refused text decimal.Memory r is syntax limit short =
+    rw is (
+      λ none. (let same : ◌≡◌ {A = Result CompactNumber DecimalError} (Err decimal.Memory) (Err decimal.Syntax) = syntax.1 none in absurd cc),
+      λ over. (let same : ◌≡◌ {A = Result CompactNumber DecimalError} (Err decimal.Memory) (Err decimal.Limit) = limit.1 over in absurd cc),
+      lt_of_not-le (λ few. short few refl),
+    )
+
+-- ---- After the rules
+
+-- elements that are refused after rules
+pub refused_elements : {B D : Type 0} (seen : D → B) (Is : FiveRules → PackedElements → CompactNumber → Result B Fault → Type 0)
+    (rules elements number : List ℕ) (five : FiveRules) (e : Fault) (r : Result D Fault)
+    → r ≡ Err e → ReadsRules rules (Ok five) → ReadsElements elements (Err e) → Gives seen (AfterAll Is rules elements number) r
+refused_elements seen Is rules elements number five e r is read h = rw is (Ok five, read, (Err e, h, refl))
+
+-- a number that is refused after rules and elements
+pub refused_number : {B D : Type 0} (seen : D → B) (Is : FiveRules → PackedElements → CompactNumber → Result B Fault → Type 0)
+    (rules elements number : List ℕ) (five : FiveRules) (values : PackedElements) (e : Fault) (r : Result D Fault)
+    → r ≡ Err e → ReadsRules rules (Ok five) → ReadsElements elements (Ok values) → ReadsNumber number (Err e)
+    → Gives seen (AfterAll Is rules elements number) r
+refused_number seen Is rules elements number five values e r is read packed h =
+    rw is (Ok five, read, (Ok values, packed, (Err e, h, refl)))

@@ -1,0 +1,25 @@
+-- One step after another.
+use Rattle.std.proofs.Common.{◌≡◌, Result, Ok, Err, refl, ◌∙◌, ap}
+use Rattle.plural_exports.specs.Inner.GivenResults.{Gives}
+use Rattle.plural_exports.specs.Results.{Then}
+use Rattle.plural_exports.specs.declared.fault.Fault.{Fault}
+
+-- what `?` hands on is the fault that an error becomes
+pub handed_on : {E X : Type 0} (becomes : E → Fault) (r : Result X Fault) (e : E)
+    (p : (fault : Fault) × (r ≡ Err fault) × (fault ≡ becomes e)) → r ≡ Err (becomes e)
+handed_on becomes r e p = p.1 ∙ ap Err p.2
+
+-- what `?` passes on is the fault itself
+pub passed_on : {X : Type 0} (r : Result X Fault) (e : Fault) (p : (fault : Fault) × (r ≡ Err fault) × (fault ≡ e)) → r ≡ Err e
+passed_on r e p = p.1 ∙ ap Err p.2
+
+-- a fault of the first is the result of both
+pub refused_first : {A B D : Type 0} (seen : D → B) (First : Result A Fault → Type 0) (Next : A → Result B Fault → Type 0)
+    (e : Fault) (r : Result D Fault) → r ≡ Err e → First (Err e) → Gives seen (Then First Next) r
+refused_first seen First Next e r is h = rw is (Err e, h, refl)
+
+-- what a call gives after a value of the first, it gives for both
+pub of_second : {A B D : Type 0} (seen : D → B) (First : Result A Fault → Type 0) (Next : A → Result B Fault → Type 0)
+    (x : A) (r : Result D Fault) → First (Ok x) → Gives seen (Next x) r → Gives seen (Then First Next) r
+of_second seen First Next x (Ok y) h next = (Ok x, h, next)
+of_second seen First Next x (Err e) h next = (Ok x, h, next)

@@ -1,0 +1,43 @@
+-- The block of the rules of five texts.
+use Rattle.std.proofs.Common.{◌≡◌, List, ℕ, Option, Result, Ok, Err, refl}
+use Rattle.std.specs.Prelude.{Vec}
+use Rattle.std.specs.Str.{IsUtf8}
+use Rattle.std.specs.declared.alloc.Global.{Global}
+use Rattle.icu_plurals.specs.FiveRules.{Five, FiveRules, five}
+use Rattle.plural_exports.specs.GivenTexts.{AreRulesFrom, AreUtf8, GiveRules, PackRules, ReadsTexts, text_given}
+use Rattle.plural_exports.specs.Inner.GivenResults.{Gives}
+use Rattle.plural_exports.specs.declared.fault.Fault.{Fault}
+use Rattle.plural_exports.specs.declared.fault.Fault.TheVariants.{Utf8}
+
+-- a block, or why there is none
+abbrev pub Block : Type 0
+Block = Result (Vec ℕ Global) Fault
+
+-- its bytes
+abbrev pub bytes_of : Vec ℕ Global → List ℕ
+bytes_of block = block.items
+
+-- one of the texts isn't UTF-8
+pub not_texts : (texts : Five (List ℕ)) (e : Fault) (r : Block)
+    → r ≡ Err e → e ≡ Utf8 → ¬ (AreUtf8 texts) → Gives bytes_of (AreRulesFrom texts) r
+not_texts texts e r is same none = rw is (Err e, (same, none), refl)
+
+-- each of the texts was read
+pub texts_read : (bytes : Five (List ℕ)) (zero one two few many : Option (List ℕ))
+    → IsUtf8 bytes.zero × (zero ≡ text_given bytes.zero) → IsUtf8 bytes.one × (one ≡ text_given bytes.one)
+    → IsUtf8 bytes.two × (two ≡ text_given bytes.two) → IsUtf8 bytes.few × (few ≡ text_given bytes.few)
+    → IsUtf8 bytes.many × (many ≡ text_given bytes.many) → ReadsTexts bytes (Ok (five zero one two few many))
+texts_read bytes zero one two few many z o t f m =
+    (record { zero = z.0; one = o.0; two = t.0; few = f.0; many = m.0 }, rw (z.1, o.1, t.1, f.1, m.1) refl)
+
+-- the texts give no rules
+pub refused_texts : (bytes : Five (List ℕ)) (texts : Five (Option (List ℕ))) (e : Fault) (r : Block)
+    → r ≡ Err e → ReadsTexts bytes (Ok texts) → GiveRules texts (Err e) → Gives bytes_of (AreRulesFrom bytes) r
+refused_texts bytes texts e r is read h = rw is (Ok texts, read, (Err e, h, refl))
+
+-- the rules of the texts are packed, or can't be
+pub packed_texts : (bytes : Five (List ℕ)) (texts : Five (Option (List ℕ))) (rules : FiveRules) (r : Block)
+    → ReadsTexts bytes (Ok texts) → GiveRules texts (Ok rules) → Gives bytes_of (PackRules rules) r
+    → Gives bytes_of (AreRulesFrom bytes) r
+packed_texts bytes texts rules (Ok block) read given packed = (Ok texts, read, (Ok rules, given, packed))
+packed_texts bytes texts rules (Err e) read given packed = (Ok texts, read, (Ok rules, given, packed))

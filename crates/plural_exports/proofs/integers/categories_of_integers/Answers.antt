@@ -1,0 +1,17 @@
+use Rattle.std.proofs.Common.{Ok, Err, refl, rules}
+use Rattle.std.specs.Prelude.{map}
+use Rattle.std.proofs.lemmas.List.{length-map}
+use Rattle.icu_plurals.specs.CategoryTables.{integer_entry}
+use Rattle.plural_exports.proofs.integers.categories_of_integers.Goals as goal
+
+pub returns-in-Ok : goal.returns-in-Ok
+returns-in-Ok c =
+    let entry = integer_entry c.in-Ok.rules in
+    let numbers = c.args.numbers.now in (
+      Ok (map entry numbers),
+      (Ok c.in-Ok.rules, c.in-Ok.ensures, refl),
+      (rw (length-map numbers entry) (search rules), c.put_categories.ensures.written),
+    )
+
+pub returns-in-Err : goal.returns-in-Err
+returns-in-Err c = (Err c.in-Err.fault, (Err c.in-Err.fault, c.in-Err.ensures, refl), search rules)

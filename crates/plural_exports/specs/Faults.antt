@@ -1,0 +1,115 @@
+-- The number that an export returns for each fault (docs/C.md). Places aren't told.
+use Rattle.std.specs.Prelude.{ℕ, ◌-◌, ℤ, negsuc}
+use Rattle.icu_plurals.specs.declared.DecimalError.{DecimalError}
+use Rattle.icu_plurals.specs.declared.DecimalError.TheVariants as decimal
+use Rattle.icu_plurals.specs.declared.ElementsPackError.{ElementsPackError}
+use Rattle.icu_plurals.specs.declared.ElementsPackError.TheVariants as packing
+use Rattle.icu_plurals.specs.declared.JsonError.{JsonError}
+use Rattle.icu_plurals.specs.declared.JsonError.TheVariants as json
+use Rattle.icu_plurals.specs.declared.ListError.TheVariants.{Header, ZeroCount, Start}
+use Rattle.icu_plurals.specs.declared.RulesBytesError.{RulesBytesError}
+use Rattle.icu_plurals.specs.declared.RulesBytesError.TheVariants as block
+use Rattle.icu_plurals.specs.declared.packed.error.ElementsBytesError.{ElementsBytesError}
+use Rattle.icu_plurals.specs.declared.packed.error.ElementsBytesError.TheVariants as elements
+use Rattle.icu_plurals.specs.declared.provider.rules.reference.ParseError.{ParseError}
+use Rattle.icu_plurals.specs.declared.provider.rules.reference.ParseError.TheVariants as parse
+use Rattle.icu_plurals.specs.declared.provider.rules.runtime.ast.RuleBytesError.{RuleBytesError}
+use Rattle.icu_plurals.specs.declared.provider.rules.runtime.ast.RuleBytesError.TheVariants as packed
+use Rattle.icu_plurals.specs.declared.provider.rules.runtime.ast.RuleError.{RuleError}
+use Rattle.icu_plurals.specs.declared.provider.rules.runtime.ast.RuleError.TheVariants as rule
+use Rattle.plural_exports.specs.declared.fault.Fault.{Fault}
+use Rattle.plural_exports.specs.declared.fault.Fault.TheVariants.{Memory, Utf8, RuleType, Number, OutsideBound, Text, Rules, RulesLimit, Elements, Json}
+use Rattle.plural_exports.specs.declared.fault.Fault.TheVariants.{Document, Locale, TableLength}
+
+-- the negative of a number that isn't 0
+abbrev pub minus : ℕ → ℤ
+minus n = negsuc (n - 1)
+
+-- out of memory, for whatever it was wanted
+abbrev pub memory_number : ℤ
+memory_number = minus 1
+
+-- a text isn't a number
+abbrev pub decimal_number : DecimalError → ℤ
+decimal_number decimal.Syntax = minus 10
+decimal_number decimal.Limit = minus 11
+decimal_number decimal.Memory = memory_number
+
+-- a text isn't a rule
+abbrev pub parse_number : ParseError → ℤ
+parse_number parse.ExpectedAndCondition = minus 20
+parse_number parse.ExpectedRelation = minus 21
+parse_number parse.ExpectedOperator = minus 22
+parse_number parse.ExpectedOperand = minus 23
+parse_number parse.ExpectedValue = minus 24
+parse_number parse.ExpectedSampleType = minus 25
+parse_number parse.ValueTooLarge = minus 26
+
+-- a text gives no rule: it is none, or the rule is too long
+abbrev pub rule_number : RuleError → ℤ
+rule_number (rule.Parse fault) = parse_number fault
+rule_number rule.StartLimit = minus 27
+rule_number rule.Memory = memory_number
+
+-- bytes in a block aren't a rule
+abbrev pub packed_number : RuleBytesError → ℤ
+packed_number (packed.List Header) = minus 35
+packed_number (packed.List ZeroCount) = minus 36
+packed_number (packed.List Start) = minus 37
+packed_number (packed.ItemLength place) = minus 38
+packed_number (packed.Operand place) = minus 39
+
+-- bytes aren't a block of rules
+abbrev pub block_number : RulesBytesError → ℤ
+block_number (block.List Header) = minus 30
+block_number (block.List ZeroCount) = minus 31
+block_number (block.List Start) = minus 32
+block_number (block.ItemEmpty place) = minus 33
+block_number (block.Key place) = minus 34
+block_number (block.Rule place fault) = packed_number fault
+
+-- bytes aren't packed elements
+abbrev pub elements_number : ElementsBytesError → ℤ
+elements_number elements.Empty = minus 50
+elements_number elements.Short = minus 51
+elements_number elements.Padding = minus 52
+elements_number elements.DefaultText = minus 53
+elements_number (elements.List Header) = minus 54
+elements_number (elements.List ZeroCount) = minus 55
+elements_number (elements.List Start) = minus 56
+elements_number (elements.ItemEmpty place) = minus 57
+elements_number (elements.Key place) = minus 58
+elements_number (elements.ItemText place) = minus 59
+
+-- elements can't be packed
+abbrev pub packing_number : ElementsPackError → ℤ
+packing_number packing.DefaultLimit = minus 60
+packing_number packing.StartLimit = minus 61
+packing_number packing.Memory = memory_number
+
+-- a JSON value is refused; a rule's text in it and elements that can't be packed have the same
+-- numbers as elsewhere
+abbrev pub json_number : JsonError → ℤ
+json_number json.Float = minus 71
+json_number json.Shape = minus 72
+json_number (json.Rule category fault) = rule_number fault
+json_number json.RangeKey = minus 73
+json_number json.RangeValue = minus 74
+json_number (json.Pack fault) = packing_number fault
+json_number json.Memory = memory_number
+
+-- the number of a fault
+abbrev pub fault_number : Fault → ℤ
+fault_number Memory = memory_number
+fault_number Utf8 = minus 2
+fault_number RuleType = minus 3
+fault_number (Number fault) = decimal_number fault
+fault_number OutsideBound = minus 12
+fault_number (Text fault) = rule_number fault
+fault_number (Rules fault) = block_number fault
+fault_number RulesLimit = minus 40
+fault_number (Elements fault) = elements_number fault
+fault_number Json = minus 70
+fault_number (Document fault) = json_number fault
+fault_number Locale = minus 75
+fault_number TableLength = minus 80

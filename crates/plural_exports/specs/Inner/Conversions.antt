@@ -1,0 +1,34 @@
+-- Not a definition of the subject: the fault that an error of a crate below becomes. One of memory
+-- becomes that of memory.
+use Rattle.icu_plurals.specs.declared.DecimalError.{DecimalError}
+use Rattle.icu_plurals.specs.declared.DecimalError.TheVariants as decimal
+use Rattle.icu_plurals.specs.declared.JsonError.{JsonError}
+use Rattle.icu_plurals.specs.declared.JsonError.TheVariants as json
+use Rattle.icu_plurals.specs.declared.RulesPackError.{RulesPackError}
+use Rattle.icu_plurals.specs.declared.RulesPackError.TheVariants as packing
+use Rattle.icu_plurals.specs.declared.provider.rules.runtime.ast.RuleError.{RuleError}
+use Rattle.icu_plurals.specs.declared.provider.rules.runtime.ast.RuleError.TheVariants as rule
+use Rattle.plural_exports.specs.declared.fault.Fault.{Fault}
+use Rattle.plural_exports.specs.declared.fault.Fault.TheVariants.{Memory, Number, Text, RulesLimit, Document}
+
+-- of a number's text
+abbrev pub decimal_fault : DecimalError → Fault
+decimal_fault decimal.Syntax = Number decimal.Syntax
+decimal_fault decimal.Limit = Number decimal.Limit
+decimal_fault decimal.Memory = Memory
+
+-- of a rule's text
+abbrev pub text_fault : RuleError → Fault
+text_fault (rule.Parse kind) = Text (rule.Parse kind)
+text_fault rule.StartLimit = Text rule.StartLimit
+text_fault rule.Memory = Memory
+
+-- of rules that are packed
+abbrev pub pack_fault : RulesPackError → Fault
+pack_fault packing.StartLimit = RulesLimit
+pack_fault packing.Memory = Memory
+
+-- of a JSON value
+abbrev pub json_fault : JsonError → Fault
+json_fault json.Memory = Memory
+json_fault refusal = Document refusal

@@ -1,0 +1,62 @@
+//! JSON texts, and the rules that a document has for a locale.
+
+ghost use Rattle.std.specs.Prelude.{◌≡◌};
+ghost use Rattle.serde_json.specs.View.{view};
+ghost use Rattle.icu_plurals.specs.DocumentJson.{document_of_json};
+ghost use Rattle.icu_plurals.specs.FiveRules.{rules_of};
+ghost use Rattle.plural_exports.specs.GivenDocuments.{HasRulesAt, Means, ReadsJson, rows_for, type_of};
+ghost use Rattle.plural_exports.specs.Inner.GivenResults.{Gives};
+
+use crate::fault::Fault;
+use icu_plurals::provider::PluralRulesData;
+use icu_plurals::{JsonProvider, PluralRuleType, PluralsProvider};
+use plural_documents::{JsonTextError, json_value};
+use serde_json::Value;
+use std::alloc::Global;
+
+// The type of a number.
+pub(crate) fn rule_type_of(number: u8) -> Result<PluralRuleType, Fault>
+    ensures { result ≡ type_of number }
+{
+    match number {
+        0 => Ok(PluralRuleType::Cardinal),
+        1 => Ok(PluralRuleType::Ordinal),
+        _ => Err(Fault::RuleType),
+    }
+}
+
+// The JSON value that the bytes write.
+pub(crate) fn value_in(alloc: Global, bytes: &[u8]) -> Result<Value, Fault>
+    ensures { Gives view (ReadsJson bytes.now) result }
+{
+    match json_value(alloc, bytes) {
+        Ok(value) => Ok(value),
+        Err(JsonTextError::Json) => Err(Fault::Json),
+        Err(JsonTextError::Memory) => Err(Fault::Memory),
+    }
+}
+
+// The maps that a JSON value means.
+pub(crate) fn maps_in(alloc: Global, value: &Value) -> Result<JsonProvider, Fault>
+    ensures { Means (document_of_json (view value.now)) result }
+{
+    Ok(JsonProvider::from_value(alloc, value)?)
+}
+
+// The rules of a type that the maps have for a locale.
+pub(crate) fn rules_for<'a>(
+    maps: &'a JsonProvider,
+    locale: &str,
+    rule_type: PluralRuleType,
+) -> Result<PluralRulesData<'a>, Fault>
+    ensures { Gives rules_of (HasRulesAt locale.now (rows_for rule_type maps.now)) result }
+{
+    let found = match rule_type {
+        PluralRuleType::Cardinal => maps.load_cardinal(locale),
+        PluralRuleType::Ordinal => maps.load_ordinal(locale),
+    };
+    match found {
+        Ok(rules) => Ok(rules),
+        Err(_) => Err(Fault::Locale),
+    }
+}

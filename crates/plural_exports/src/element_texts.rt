@@ -1,0 +1,125 @@
+//! Packed elements from eight texts.
+
+ghost use Rattle.icu_plurals.specs.Elements.{each_by};
+ghost use Rattle.icu_plurals.specs.PackedElements.{packed_of, plain_value};
+ghost use Rattle.plural_exports.specs.GivenElements.{AreElementsFrom, ArePackedAs, CanBePacked, HasElementsFrom, eight};
+ghost use Rattle.plural_exports.specs.Inner.GivenResults.{Gives};
+ghost use Rattle.plural_exports.specs.Results.{Written};
+
+use crate::buffer::put;
+use crate::fault::Fault;
+use crate::given::text_in;
+use crate::rules::given;
+use icu_plurals::provider::PluralElementsPackedCow;
+use icu_plurals::{ElementsPackError, JsonError, PluralElements};
+use std::alloc::Global;
+
+/// Writes the packed bytes of the elements of eight texts; of these only that of other is an
+/// element if it is empty. The result is how many bytes there are; if the buffer is shorter,
+/// nothing is written.
+///
+/// A fault is negative, and then nothing is written: a text isn't UTF-8, else the elements can't be
+/// packed. It allocates.
+pub fn elements_from_texts(
+    alloc: Global,
+    other: &[u8],
+    zero: &[u8],
+    one: &[u8],
+    two: &[u8],
+    few: &[u8],
+    many: &[u8],
+    explicit_zero: &[u8],
+    explicit_one: &[u8],
+    out: &mut [u8],
+) -> i64
+    ensures { Written (AreElementsFrom (eight other.now zero.now one.now two.now few.now many.now explicit_zero.now explicit_one.now)) out.old out.new result }
+{
+    match elements_of_texts(
+        alloc,
+        other,
+        zero,
+        one,
+        two,
+        few,
+        many,
+        explicit_zero,
+        explicit_one,
+    ) {
+        Ok(elements) => put(elements.as_packed().as_bytes(), out),
+        Err(fault) => i64::from(fault.number()),
+    }
+}
+
+// The packed elements of eight texts.
+fn elements_of_texts(
+    alloc: Global,
+    other: &[u8],
+    zero: &[u8],
+    one: &[u8],
+    two: &[u8],
+    few: &[u8],
+    many: &[u8],
+    explicit_zero: &[u8],
+    explicit_one: &[u8],
+) -> Result<PluralElementsPackedCow<'static>, Fault>
+    ensures { HasElementsFrom (eight other.now zero.now one.now two.now few.now many.now explicit_zero.now explicit_one.now) result }
+{
+    let texts = texts_in(
+        other,
+        zero,
+        one,
+        two,
+        few,
+        many,
+        explicit_zero,
+        explicit_one,
+    )?;
+    packed(alloc, &texts)
+}
+
+// The texts by key.
+fn texts_in<'a>(
+    other: &'a [u8],
+    zero: &'a [u8],
+    one: &'a [u8],
+    two: &'a [u8],
+    few: &'a [u8],
+    many: &'a [u8],
+    explicit_zero: &'a [u8],
+    explicit_one: &'a [u8],
+) -> Result<PluralElements<&'a str>, Fault>
+    ensures { Gives (λ texts. packed_of (each_by plain_value texts)) (ArePackedAs (eight other.now zero.now one.now two.now few.now many.now explicit_zero.now explicit_one.now)) result }
+{
+    let other = text_in(other)?;
+    let zero = given(zero)?;
+    let one = given(one)?;
+    let two = given(two)?;
+    let few = given(few)?;
+    let many = given(many)?;
+    let explicit_zero = given(explicit_zero)?;
+    let explicit_one = given(explicit_one)?;
+    Ok(
+        PluralElements::new(other)
+            .with_zero_value(zero)
+            .with_one_value(one)
+            .with_two_value(two)
+            .with_few_value(few)
+            .with_many_value(many)
+            .with_explicit_zero_value(explicit_zero)
+            .with_explicit_one_value(explicit_one),
+    )
+}
+
+// The texts as packed elements.
+fn packed(
+    alloc: Global,
+    texts: &PluralElements<&str>,
+) -> Result<PluralElementsPackedCow<'static>, Fault>
+    ensures { CanBePacked (packed_of (each_by plain_value texts.now)) result }
+{
+    match PluralElementsPackedCow::from_elements(alloc, texts) {
+        Ok(elements) => Ok(elements),
+        Err(ElementsPackError::Memory) => Err(Fault::Memory),
+        Err(fault) => Err(Fault::Document(JsonError::Pack(fault))),
+    }
+}

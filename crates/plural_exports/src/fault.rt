@@ -1,0 +1,243 @@
+//! Why an export has no result, and the numbers that tell it.
+
+ghost use Rattle.std.specs.Prelude.{◌≡◌};
+ghost use Rattle.plural_exports.specs.Faults.{block_number, decimal_number, elements_number, fault_number, json_number, packed_number, packing_number, parse_number, rule_number};
+ghost use Rattle.plural_exports.specs.Inner.Conversions.{decimal_fault, json_fault, pack_fault, text_fault};
+ghost use Rattle.plural_exports.specs.declared.fault.Fault.TheVariants.{Elements, Rules};
+
+use icu_plurals::provider::rules::reference::ParseError;
+use icu_plurals::provider::rules::runtime::ast::{RuleBytesError, RuleError};
+use icu_plurals::{
+    DecimalError, ElementsBytesError, ElementsPackError, JsonError, ListError, RulesBytesError,
+    RulesPackError,
+};
+
+// Why there is no result. A fault of memory is always `Memory`, whatever it was wanted for.
+#[derive(Clone, Copy)]
+pub(crate) enum Fault {
+    // Out of memory.
+    Memory,
+    // A text isn't UTF-8.
+    Utf8,
+    // The type is neither 0 nor 1.
+    RuleType,
+    // A text isn't a number, or over a limit.
+    Number(DecimalError),
+    // A number is outside the exactness bound.
+    OutsideBound,
+    // A text gives no rule.
+    Text(RuleError),
+    // Bytes aren't a block of rules.
+    Rules(RulesBytesError),
+    // Rules are too long for a block.
+    RulesLimit,
+    // Bytes aren't packed elements.
+    Elements(ElementsBytesError),
+    // A text isn't JSON.
+    Json,
+    // A JSON value has another form.
+    Document(JsonError),
+    // The document has no rules of the type for the locale.
+    Locale,
+    // A table of categories has another length.
+    TableLength,
+}
+
+impl Fault {
+    // The number that an export returns.
+    pub(crate) fn number(self) -> i32
+        ensures { result ≡ fault_number self }
+    {
+        match self {
+            Fault::Memory => MEMORY,
+            Fault::Utf8 => -2,
+            Fault::RuleType => -3,
+            Fault::Number(fault) => decimal_number(fault),
+            Fault::OutsideBound => -12,
+            Fault::Text(fault) => rule_number(fault),
+            Fault::Rules(fault) => block_number(fault),
+            Fault::RulesLimit => -40,
+            Fault::Elements(fault) => elements_number(fault),
+            Fault::Json => -70,
+            Fault::Document(fault) => json_number(fault),
+            Fault::Locale => -75,
+            Fault::TableLength => -80,
+        }
+    }
+}
+
+impl From<DecimalError> for Fault {
+    ghost from_gives = { λ error fault. fault ≡ decimal_fault error };
+
+    fn from(error: DecimalError) -> Fault {
+        match error {
+            DecimalError::Syntax | DecimalError::Limit => Fault::Number(error),
+            DecimalError::Memory => Fault::Memory,
+        }
+    }
+}
+
+impl From<RuleError> for Fault {
+    ghost from_gives = { λ error fault. fault ≡ text_fault error };
+
+    fn from(error: RuleError) -> Fault {
+        match error {
+            RuleError::Parse(_) | RuleError::StartLimit => Fault::Text(error),
+            RuleError::Memory => Fault::Memory,
+        }
+    }
+}
+
+impl From<RulesBytesError> for Fault {
+    ghost from_gives = { λ error fault. fault ≡ Rules error };
+
+    fn from(error: RulesBytesError) -> Fault {
+        Fault::Rules(error)
+    }
+}
+
+impl From<RulesPackError> for Fault {
+    ghost from_gives = { λ error fault. fault ≡ pack_fault error };
+
+    fn from(error: RulesPackError) -> Fault {
+        match error {
+            RulesPackError::StartLimit => Fault::RulesLimit,
+            RulesPackError::Memory => Fault::Memory,
+        }
+    }
+}
+
+impl From<ElementsBytesError> for Fault {
+    ghost from_gives = { λ error fault. fault ≡ Elements error };
+
+    fn from(error: ElementsBytesError) -> Fault {
+        Fault::Elements(error)
+    }
+}
+
+impl From<JsonError> for Fault {
+    ghost from_gives = { λ error fault. fault ≡ json_fault error };
+
+    fn from(error: JsonError) -> Fault {
+        match error {
+            JsonError::Float
+            | JsonError::Shape
+            | JsonError::Rule(_, _)
+            | JsonError::RangeKey
+            | JsonError::RangeValue
+            | JsonError::Pack(_) => Fault::Document(error),
+            JsonError::Memory => Fault::Memory,
+        }
+    }
+}
+
+// Out of memory.
+const MEMORY: i32 = -1;
+
+// The number of a text that isn't a number.
+fn decimal_number(fault: DecimalError) -> i32
+    ensures { result ≡ decimal_number fault }
+{
+    match fault {
+        DecimalError::Syntax => -10,
+        DecimalError::Limit => -11,
+        DecimalError::Memory => MEMORY,
+    }
+}
+
+// The number of a text that isn't a rule.
+fn parse_number(fault: ParseError) -> i32
+    ensures { result ≡ parse_number fault }
+{
+    match fault {
+        ParseError::ExpectedAndCondition => -20,
+        ParseError::ExpectedRelation => -21,
+        ParseError::ExpectedOperator => -22,
+        ParseError::ExpectedOperand => -23,
+        ParseError::ExpectedValue => -24,
+        ParseError::ExpectedSampleType => -25,
+        ParseError::ValueTooLarge => -26,
+    }
+}
+
+// The number of a text that gives no rule.
+fn rule_number(fault: RuleError) -> i32
+    ensures { result ≡ rule_number fault }
+{
+    match fault {
+        RuleError::Parse(fault) => parse_number(fault),
+        RuleError::StartLimit => -27,
+        RuleError::Memory => MEMORY,
+    }
+}
+
+// The number of bytes that aren't a block of rules.
+fn block_number(fault: RulesBytesError) -> i32
+    ensures { result ≡ block_number fault }
+{
+    match fault {
+        RulesBytesError::List(ListError::Header) => -30,
+        RulesBytesError::List(ListError::ZeroCount) => -31,
+        RulesBytesError::List(ListError::Start) => -32,
+        RulesBytesError::ItemEmpty(_) => -33,
+        RulesBytesError::Key(_) => -34,
+        RulesBytesError::Rule(_, fault) => packed_number(fault),
+    }
+}
+
+// The number of bytes in a block that aren't a rule.
+fn packed_number(fault: RuleBytesError) -> i32
+    ensures { result ≡ packed_number fault }
+{
+    match fault {
+        RuleBytesError::List(ListError::Header) => -35,
+        RuleBytesError::List(ListError::ZeroCount) => -36,
+        RuleBytesError::List(ListError::Start) => -37,
+        RuleBytesError::ItemLength(_) => -38,
+        RuleBytesError::Operand(_) => -39,
+    }
+}
+
+// The number of bytes that aren't packed elements.
+fn elements_number(fault: ElementsBytesError) -> i32
+    ensures { result ≡ elements_number fault }
+{
+    match fault {
+        ElementsBytesError::Empty => -50,
+        ElementsBytesError::Short => -51,
+        ElementsBytesError::Padding => -52,
+        ElementsBytesError::DefaultText => -53,
+        ElementsBytesError::List(ListError::Header) => -54,
+        ElementsBytesError::List(ListError::ZeroCount) => -55,
+        ElementsBytesError::List(ListError::Start) => -56,
+        ElementsBytesError::ItemEmpty(_) => -57,
+        ElementsBytesError::Key(_) => -58,
+        ElementsBytesError::ItemText(_) => -59,
+    }
+}
+
+// The number of elements that can't be packed.
+fn packing_number(fault: ElementsPackError) -> i32
+    ensures { result ≡ packing_number fault }
+{
+    match fault {
+        ElementsPackError::DefaultLimit => -60,
+        ElementsPackError::StartLimit => -61,
+        ElementsPackError::Memory => MEMORY,
+    }
+}
+
+// The number of a JSON value that is refused.
+fn json_number(fault: JsonError) -> i32
+    ensures { result ≡ json_number fault }
+{
+    match fault {
+        JsonError::Float => -71,
+        JsonError::Shape => -72,
+        JsonError::Rule(_, fault) => rule_number(fault),
+        JsonError::RangeKey => -73,
+        JsonError::RangeValue => -74,
+        JsonError::Pack(fault) => packing_number(fault),
+        JsonError::Memory => MEMORY,
+    }
+}

@@ -1,0 +1,35 @@
+//! What the library for C exports, in Rust: plural rules over blocks of bytes, and numbers for
+//! results and faults.
+#![tactic(auto)]
+
+mod block_categories;
+mod buffer;
+mod document;
+mod element_texts;
+mod elements;
+mod fault;
+mod given;
+mod integers;
+mod number_category;
+mod number_message;
+mod operands;
+mod ranges;
+mod rules;
+mod signed;
+mod sure;
+mod table;
+mod whole;
+
+pub use block_categories::categories;
+pub use element_texts::elements_from_texts;
+pub use elements::{element, elements_from_json};
+pub use integers::categories_of_integers;
+pub use number_category::{category, category_of_integer, is_exact};
+pub use number_message::message;
+pub use operands::category_of_operands;
+pub use ranges::ranges_from_document;
+pub use rules::{check_rules, rules_from_document, rules_from_texts};
+pub use signed::category_of_signed_integer;
+pub use sure::sure_category;
+pub use table::{category_by_table, table_of_rules};
+pub use whole::is_read_whole;

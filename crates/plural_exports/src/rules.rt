@@ -1,0 +1,144 @@
+//! Blocks of rules: from a document, from texts, and whether bytes are one.
+
+ghost use Rattle.std.specs.Prelude.{pos};
+ghost use Rattle.std.specs.Option.{option_copied};
+ghost use Rattle.icu_plurals.specs.FiveRules.{five, rules_of};
+ghost use Rattle.plural_exports.specs.GivenBytes.{ReadsRules};
+ghost use Rattle.plural_exports.specs.GivenDocuments.{AreRulesIn};
+ghost use Rattle.icu_plurals.specs.RuleTexts.{texts_of};
+ghost use Rattle.plural_exports.specs.GivenTexts.{AreRulesFrom, GiveRules, PackRules};
+ghost use Rattle.plural_exports.specs.Inner.GivenResults.{Gives, ReadsGiven};
+ghost use Rattle.plural_exports.specs.Results.{Answered, Written};
+
+use crate::buffer::put;
+use crate::document::{maps_in, rule_type_of, rules_for, value_in};
+use crate::fault::Fault;
+use crate::given::{rules_in, text_in};
+use icu_plurals::provider::PluralRulesData;
+use std::alloc::Global;
+
+/// Writes the block of the rules that a JSON document has for a locale: of cardinal rules if the
+/// type is 0, of ordinal rules if it is 1. The result is how many bytes the block has; if the
+/// buffer is shorter, nothing is written.
+///
+/// A fault is negative, and then nothing is written. Faults are looked for in this order: the type,
+/// the locale's text isn't UTF-8, no JSON text, no document, the locale isn't present, rules too
+/// long for a block. It allocates.
+pub fn rules_from_document(
+    alloc: Global,
+    json: &[u8],
+    locale: &[u8],
+    rule_type: u8,
+    out: &mut [u8],
+) -> i64
+    ensures { Written (AreRulesIn json.now locale.now rule_type) out.old out.new result }
+{
+    match rules_of_document(alloc, json, locale, rule_type) {
+        Ok(block) => put(block.as_slice(), out),
+        Err(fault) => i64::from(fault.number()),
+    }
+}
+
+/// Writes the block of the rules of five texts as CLDR writes them (UTS 35 Part 3, Plural Rules
+/// Syntax); an empty text isn't a rule. The result is how many bytes the block has; if the buffer
+/// is shorter, nothing is written.
+///
+/// A fault is negative, and then nothing is written. Faults are looked for in this order: a text
+/// isn't UTF-8, the first text that gives no rule, rules too long for a block. It allocates.
+pub fn rules_from_texts(
+    alloc: Global,
+    zero: &[u8],
+    one: &[u8],
+    two: &[u8],
+    few: &[u8],
+    many: &[u8],
+    out: &mut [u8],
+) -> i64
+    ensures { Written (AreRulesFrom (five zero.now one.now two.now few.now many.now)) out.old out.new result }
+{
+    match rules_of_texts(alloc, zero, one, two, few, many) {
+        Ok(block) => put(block.as_slice(), out),
+        Err(fault) => i64::from(fault.number()),
+    }
+}
+
+/// Returns 0 if the bytes are a block of rules, else their fault. It allocates nothing.
+pub fn check_rules(rules: &[u8]) -> i32
+    ensures { Answered (ReadsRules rules.now) (λ _. pos 0) result }
+{
+    match rules_in(rules) {
+        Ok(_) => 0,
+        Err(fault) => fault.number(),
+    }
+}
+
+// The block of the rules that a document has.
+fn rules_of_document(
+    alloc: Global,
+    json: &[u8],
+    locale: &[u8],
+    rule_type: u8,
+) -> Result<Vec<u8>, Fault>
+    ensures { Gives (λ block. block.items) (AreRulesIn json.now locale.now rule_type) result }
+{
+    let rule_type = rule_type_of(rule_type)?;
+    let locale = text_in(locale)?;
+    let value = value_in(alloc, json)?;
+    let maps = maps_in(alloc, &value)?;
+    let rules = rules_for(&maps, locale, rule_type)?;
+    packed(alloc, &rules)
+}
+
+// The block of the rules of five texts.
+fn rules_of_texts(
+    alloc: Global,
+    zero: &[u8],
+    one: &[u8],
+    two: &[u8],
+    few: &[u8],
+    many: &[u8],
+) -> Result<Vec<u8>, Fault>
+    ensures { Gives (λ block. block.items) (AreRulesFrom (five zero.now one.now two.now few.now many.now)) result }
+{
+    let zero = given(zero)?;
+    let one = given(one)?;
+    let two = given(two)?;
+    let few = given(few)?;
+    let many = given(many)?;
+    let rules = read(alloc, zero, one, two, few, many)?;
+    packed(alloc, &rules)
+}
+
+// The text of a rule, if it has any byte.
+pub(crate) fn given(bytes: &[u8]) -> Result<Option<&str>, Fault>
+    ensures { Gives option_copied (ReadsGiven bytes.now) result }
+{
+    if bytes.is_empty() {
+        return Ok(None);
+    }
+    Ok(Some(text_in(bytes)?))
+}
+
+// The rules of the texts.
+fn read(
+    alloc: Global,
+    zero: Option<&str>,
+    one: Option<&str>,
+    two: Option<&str>,
+    few: Option<&str>,
+    many: Option<&str>,
+) -> Result<PluralRulesData<'static>, Fault>
+    ensures { Gives rules_of (GiveRules (texts_of zero.entry one.entry two.entry few.entry many.entry)) result }
+{
+    match PluralRulesData::from_texts(alloc, zero, one, two, few, many) {
+        Ok(rules) => Ok(rules),
+        Err(refusal) => Err(Fault::from(refusal.error)),
+    }
+}
+
+// The block of the rules.
+fn packed(alloc: Global, rules: &PluralRulesData<'_>) -> Result<Vec<u8>, Fault>
+    ensures { Gives (λ block. block.items) (PackRules (rules_of rules.now)) result }
+{
+    Ok(rules.to_bytes(alloc)?)
+}
