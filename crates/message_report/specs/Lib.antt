@@ -1,6 +1,7 @@
 -- keys, forms, and the numbers that choose them
 pub mod PrintedKeys
 pub mod MessageForms
+pub mod MessageSets
 pub mod ChosenNumbers
 pub mod WholeNumberLaws
 pub mod FormFaults

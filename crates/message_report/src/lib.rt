@@ -4,6 +4,7 @@
 mod argument;
 mod branch_fault;
 mod category_numbers;
+mod category_set;
 mod counts;
 mod document;
 mod error;
@@ -24,6 +25,7 @@ mod report;
 pub mod run;
 mod source;
 
+pub use category_set::category_set;
 pub use counts::Counts;
 pub use error::ReportError;
 pub use fault::FormFault;
