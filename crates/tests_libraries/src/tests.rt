@@ -15,6 +15,7 @@ mod plural_base_growth;
 mod plural_base_ranges;
 mod plural_base_rules;
 mod plural_checker_reports;
+mod plural_exports_growth;
 mod plural_message_messages;
 mod plural_reference_errors;
 mod plural_reference_examples;

@@ -69,7 +69,7 @@ fn an_error_prints_its_text(rt: HostRuntime) -> Result<(), Fail> {
         (DecimalError::Memory, "out of memory"),
     ];
     for (error, text) in rows {
-        holds!(rt; error.to_string(rt.alloc())?.as_str() == text, text);
+        holds!(rt; error.to_string(rt.alloc())?.as_str() == text);
     }
     Ok(())
 }

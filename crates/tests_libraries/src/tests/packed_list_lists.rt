@@ -53,7 +53,7 @@ fn errors_say_what_is_wrong(rt: HostRuntime) -> Result<(), Fail> {
         (ListError::Start, "bad start of a list item"),
     ];
     for (error, expected) in lists {
-        holds!(rt; format!(in alloc; "{error}")?.as_str() == expected, expected);
+        holds!(rt; format!(in alloc; "{error}")?.as_str() == expected);
     }
     let packs = [
         (PackError::CountLimit, "too many list items"),
@@ -61,7 +61,7 @@ fn errors_say_what_is_wrong(rt: HostRuntime) -> Result<(), Fail> {
         (PackError::Memory, "out of memory"),
     ];
     for (error, expected) in packs {
-        holds!(rt; format!(in alloc; "{error}")?.as_str() == expected, expected);
+        holds!(rt; format!(in alloc; "{error}")?.as_str() == expected);
     }
     Ok(())
 }

@@ -42,7 +42,7 @@ fn errors_of_json_print_their_texts(rt: HostRuntime) -> Result<(), Fail> {
     ];
     for (error, wanted) in rows {
         let printed = format!(in rt.alloc(); "{error}")?;
-        holds!(rt; printed.as_str() == wanted, wanted);
+        holds!(rt; printed.as_str() == wanted);
     }
     let printed = format!(in rt.alloc(); "{}", ElementsPackError::Memory)?;
     holds!(rt; printed.as_str() == "out of memory");

@@ -30,11 +30,11 @@ fn names_are_those_of_the_categories(rt: HostRuntime) {
         ("other", PluralCategory::Other),
     ];
     for (name, category) in rows {
-        holds!(rt; PluralCategory::get_for_cldr_string(name) == Some(category), name);
-        holds!(rt; RawPluralCategory::from(category).as_str() == name, name);
+        holds!(rt; PluralCategory::get_for_cldr_string(name) == Some(category));
+        holds!(rt; RawPluralCategory::from(category).as_str() == name);
     }
     for name in ["", "Few", "other ", "ones"] {
-        holds!(rt; PluralCategory::get_for_cldr_bytes(name.as_bytes()) == None, name);
+        holds!(rt; PluralCategory::get_for_cldr_bytes(name.as_bytes()) == None);
     }
 }
 
@@ -49,8 +49,8 @@ fn numbers_are_those_of_the_raw_categories(rt: HostRuntime) {
         (RawPluralCategory::Many, PluralCategory::Many),
     ];
     for (number, (raw, category)) in rows.iter().enumerate() {
-        holds!(rt; (*raw as usize) == number, at number);
-        holds!(rt; PluralCategory::from(*raw) == *category, at number);
+        holds!(rt; (*raw as usize) == number);
+        holds!(rt; PluralCategory::from(*raw) == *category);
     }
 }
 

@@ -16,8 +16,8 @@ fn prints_errors(rt: HostRuntime) -> Result<(), Fail> {
         (ParseError::ValueTooLarge, "Value too large"),
     ];
     for (kind, text) in table {
-        holds!(rt; kind.to_string(rt.alloc())?.as_str() == text, text);
-        holds!(rt; ReadError::Parse(kind).to_string(rt.alloc())?.as_str() == text, text);
+        holds!(rt; kind.to_string(rt.alloc())?.as_str() == text);
+        holds!(rt; ReadError::Parse(kind).to_string(rt.alloc())?.as_str() == text);
     }
     holds!(rt; ReadError::Memory.to_string(rt.alloc())?.as_str() == "out of memory");
     holds!(rt; LexerError::ExpectedByte(116)
@@ -42,7 +42,7 @@ fn an_error_of_operands_prints_its_text(rt: HostRuntime) -> Result<(), Fail> {
         ),
     ];
     for (error, text) in rows {
-        holds!(rt; error.to_string(rt.alloc())?.as_str() == text, text);
+        holds!(rt; error.to_string(rt.alloc())?.as_str() == text);
     }
     Ok(())
 }

@@ -110,20 +110,6 @@ fn samples_that_are_left_out_take_no_memory(rt: HostRuntime) {
     }
 }
 
-// Nothing is allocated before the first value was read, so these faults are never told as out of memory.
-#[test]
-fn no_growth_comes_before_the_first_value(rt: HostRuntime) {
-    let table = [
-        ("i 1", ParseError::ExpectedOperator),
-        ("= 1", ParseError::ExpectedOperand),
-        ("i =", ParseError::ExpectedValue),
-    ];
-    for (text, fault) in table {
-        let condition = parse_condition(rt.alloc(), text.as_bytes());
-        holds!(rt; condition.err() == Some(ReadError::Parse(fault)), text);
-    }
-}
-
 #[test]
 fn growth_before_a_fault_may_be_refused(rt: HostRuntime) {
     let table = [

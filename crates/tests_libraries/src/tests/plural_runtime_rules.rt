@@ -147,7 +147,7 @@ fn errors_say_what_is_wrong(rt: HostRuntime) -> Result<(), Fail> {
         (RuleBytesError::Operand(0), "bad operand of relation 0"),
     ];
     for (error, expected) in of_bytes {
-        holds!(rt; format!(in alloc; "{error}")?.as_str() == expected, expected);
+        holds!(rt; format!(in alloc; "{error}")?.as_str() == expected);
     }
     let of_rules = [
         (
@@ -158,7 +158,7 @@ fn errors_say_what_is_wrong(rt: HostRuntime) -> Result<(), Fail> {
         (RuleError::Memory, "out of memory"),
     ];
     for (error, expected) in of_rules {
-        holds!(rt; format!(in alloc; "{error}")?.as_str() == expected, expected);
+        holds!(rt; format!(in alloc; "{error}")?.as_str() == expected);
     }
     Ok(())
 }
