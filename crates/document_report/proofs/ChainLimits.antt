@@ -65,9 +65,9 @@ module _ (f g : List ℕ → Option (List ℕ)) (same : (locale : List ℕ) → 
       → IsFoundIn (IsFoundInParent g) members found
   same_parents no_members found h = h
   same_parents (member key value members) found (first, rest, is, others, whole) = (
-      first,
-      rest,
-      is ∙ ap (λ (chain : Found). together (found_of_child key) (together (found_of_parent key (as_str value)) chain)) (same_found key),
-      same_parents members rest others,
-      whole,
-    )
+    first,
+    rest,
+    is ∙ ap (λ (chain : Found). together (found_of_child key) (together (found_of_parent key (as_str value)) chain)) (same_found key),
+    same_parents members rest others,
+    whole,
+  )

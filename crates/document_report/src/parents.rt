@@ -123,12 +123,7 @@ fn add_parent(
 }
 
 // Adds a line if the parent is long.
-fn add_text(
-    alloc: Global,
-    locale: &str,
-    parent: &str,
-    found: &mut Found,
-) -> Result<(), AllocError>
+fn add_text(alloc: Global, locale: &str, parent: &str, found: &mut Found) -> Result<(), AllocError>
     ensures { OnOk result (found.new ≡ together found.old (found_of_parent locale.now (Some parent.now))) }
 {
     if !is_long_name(parent) {
@@ -149,11 +144,7 @@ fn add_chain(
     if !goes_on(alloc, parents, locale.as_bytes())? {
         return Ok(());
     }
-    found.add_fault(parent_line(
-        alloc,
-        locale,
-        "the chain of parents doesn't end",
-    )?)
+    found.add_fault(parent_line(alloc, locale, "the chain of parents doesn't end")?)
 }
 
 // Returns whether a chain goes on after all the locales that are looked up.
