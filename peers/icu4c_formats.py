@@ -19,7 +19,6 @@ LEFT_OUT = "\xa0\u202f\u200e\u061c"
 MARKS = ".," + LEFT_OUT
 UNEXPLAINED = "unexplained"
 KIND = "pattern_text"  # of rows
-OFFSET = "library: no offset"
 SEVERAL = "several of these"
 WORDS = tuple(it for it in pattern_texts.WORDS if not set(it) & set(MARKS))
 TEXTS = ("", "a", "b", "male", "female", "other", "1", "one", "Ann", "да", "{n}", "it''s", "#", "'", "x y")
@@ -175,7 +174,7 @@ def compare(cases, seed, count, say):
         if run:
             run.add([comparison.row(*it) for it in messages])
     for said in run.wrong_rows().values() if run else ():
-        comparison.add(OFFSET if "found error OffsetUnsupported" in said else UNEXPLAINED, said)
+        comparison.add(UNEXPLAINED, said)
     if not run:
         say(f"the library isn't compared: crates/cases has no rows of the kind {KIND}")
     for name, example in comparison.shortest.items():

@@ -7,7 +7,7 @@ use Rattle.fixed_decimal.specs.Digits.{AreDigits, text_of}
 use Rattle.fixed_decimal.specs.Places.{Places}
 use Rattle.fixed_decimal.specs.declared.sign.Sign.{Sign}
 use Rattle.fixed_decimal.specs.declared.sign.Sign.TheVariants as sign
-use Rattle.fixed_decimal.specs.Written.{CompactNumber, StandsAs, sign_text, HasExponent, WritesCompact}
+use Rattle.fixed_decimal.specs.Written.{CompactNumber, StandsAs, sign_text, HasExponent, WritesUnsigned, WritesCompact}
 
 -- each byte is below 128
 abbrev pub Below : List ℕ → Type 0
@@ -50,3 +50,7 @@ number_is_utf8 text x h =
     let b : Below front = subst Below (sym d.2) (joined (sign_text x.significand.sign) d.0 (signs x.significand.sign) a) in
     let c : Below rest = exponent rest x.exponent h.3 in
     IsUtf8-from_ascii text (ascii text (subst Below (sym h.4) (joined front rest b c)))
+
+-- and what writes an unsigned one
+pub unsigned_is_utf8 : (text : List ℕ) (x : Places) → WritesUnsigned text x → IsUtf8 text
+unsigned_is_utf8 text x h = IsUtf8-from_ascii text (ascii text (unsigned text x h.digits.whole h.digits.fraction h.form))

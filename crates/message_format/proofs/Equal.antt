@@ -41,7 +41,7 @@ compared one x y s text b same w l e h =
 
 -- a number is counted
 pub counted_by : (rules : FiveRules) (name : List ℕ) (bs : List Branching) (text shown : List ℕ) (x : CompactNumber) (parts : List Part)
-    → WritesCompact text x → IsWithinLimit x.significand.absolute → x.exponent ≤ 255 → IsBranchOfNumber rules x bs parts → shown ≡ text
+    → WritesCompact text x → IsWithinLimit x.significand.absolute → x.exponent ≤ 255 → IsBranchOfNumber rules x x bs parts → shown ≡ text
     → IsCounted rules name bs text (Chooses shown parts)
 counted_by rules name bs text shown x parts w l e h same =
-    inr (inr (x, parts, w, within x l e, h, ap (λ (t : List ℕ). Chooses t parts) same))
+    inr (inr (x, w, within x l e, (parts, h, ap (λ (t : List ℕ). Chooses t parts) same)))

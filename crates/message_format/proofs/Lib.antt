@@ -1,6 +1,10 @@
+pub mod Columns
+pub mod Distances
+pub mod OneDifference
 pub mod OneSaying
 pub mod Ascii
 pub mod Outside
 pub mod Equal
 pub mod Passes
+pub mod Less
 pub mod Walk

@@ -1,7 +1,10 @@
 -- A pattern says one thing with its arguments.
-use Rattle.std.proofs.Common.{◌≡◌, ◌⊎◌, ◌≤◌, ◌++◌, ◌-◌, ◌/◌, ◌^◌, ℕ, List, [], ◌∷◌, Option, Some, None, refl, sym, ap, subst, ◌∙◌, inl, inr, arith}
+use Rattle.std.proofs.Common.{◌≡◌, ◌⊎◌, ◌<◌, ◌≤◌, ◌++◌, ◌-◌, ◌/◌, ◌^◌, ℕ, List, [], ◌∷◌, Option, Some, None, refl, sym, ap, subst, ◌∙◌, inl, inr, arith}
 use Rattle.fixed_decimal.specs.Places.{Places}
-use Rattle.fixed_decimal.specs.Written.{CompactNumber, IsCompactOverLimit, OneCompact}
+use Rattle.fixed_decimal.specs.Places.{IsOverLimit}
+use Rattle.fixed_decimal.specs.Shown.{decimal_text}
+use Rattle.fixed_decimal.specs.Written.{CompactNumber, WritesUnsigned, WritesCompact, IsCompactOverLimit, OneUnsigned, OneCompact}
+use Rattle.fixed_decimal.specs.declared.decimal.Decimal.{Decimal}
 use Rattle.plural_reference.specs.Operands.{Operands, HasFraction, AreKept}
 use Rattle.plural_base.specs.DecimalChoice.{IsKeptChoice}
 use Rattle.plural_base.specs.FiveRules.{FiveRules}
@@ -14,8 +17,15 @@ use Rattle.message_format.specs.declared.error.ArgumentFault.{ArgumentFault}
 use Rattle.message_format.specs.FormatArguments.{Value}
 use Rattle.message_format.specs.FormatArguments as argument
 use Rattle.message_format.specs.FormatBranches.{Branching, behind_end, branch_or_other, IsBranchOfValue, IsBranchOfNumber}
-use Rattle.message_format.specs.FormatSteps.{Step, Stops, Prints, Chooses, Fails, TwoRules, IsCounted, IsPlural, IsChoice, IsStep}
+use Rattle.message_format.specs.FormatOffsets.{IsDifference, plain}
+use Rattle.message_format.specs.FormatSteps.{Step, Stops, Prints, Chooses, Fails, TwoRules, Reads, IsCounted, IsCountedBy, IsLess, IsCountedLess, IsPlural, IsChoice, IsStep}
 use Rattle.message_format.specs.FormatMeaning.{Outcome, Said, Faulty, Says, ends, stops, prints, chooses, breaks, fails}
+use Rattle.message_format.proofs.OneDifference.{one_difference}
+
+-- a text writes one number
+pub record OneNumber : Type 0 where
+  pub unsigned : OneUnsigned
+  pub compact : OneCompact
 
 -- ---- the kept operands of a number are one
 
@@ -60,48 +70,78 @@ one_category rules x e c d h k =
     let q : d ≡ _ = k.2 in
     cc
 
-one_branch : (rules : FiveRules) (x : CompactNumber) (bs : List Branching) (p q : List Part)
-    → IsBranchOfNumber rules x bs p → IsBranchOfNumber rules x bs q → p ≡ q
-one_branch rules x bs p q (inl h) (inl k) = let e : Some p ≡ Some q = one_by_value x bs _ _ h k in cc
-one_branch rules x bs p q (inl h) (inr k) = let e : Some p ≡ None = one_by_value x bs _ _ h k.0 in cc
-one_branch rules x bs p q (inr h) (inl k) = let e : None ≡ Some q = one_by_value x bs _ _ h.0 k in cc
-one_branch rules x bs p q (inr h) (inr k) =
-    let same = one_category rules x.significand.absolute x.exponent h.1.0 k.1.0 h.1.1.kept k.1.1.kept in
+one_branch : (rules : FiveRules) (x y : CompactNumber) (bs : List Branching) (p q : List Part)
+    → IsBranchOfNumber rules x y bs p → IsBranchOfNumber rules x y bs q → p ≡ q
+one_branch rules x y bs p q (inl h) (inl k) = let e : Some p ≡ Some q = one_by_value x bs _ _ h k in cc
+one_branch rules x y bs p q (inl h) (inr k) = let e : Some p ≡ None = one_by_value x bs _ _ h k.0 in cc
+one_branch rules x y bs p q (inr h) (inl k) = let e : None ≡ Some q = one_by_value x bs _ _ h.0 k in cc
+one_branch rules x y bs p q (inr h) (inr k) =
+    let same = one_category rules y.significand.absolute y.exponent h.1.0 k.1.0 h.1.1.kept k.1.1.kept in
     h.1.2 ∙ (ap (λ (c : PluralCategory). branch_or_other (name_of c) bs) same ∙ sym k.1.2)
 
 -- ---- what a part does is one
 
-one_counted : OneCompact → (rules : FiveRules) (name : List ℕ) (bs : List Branching) (text : List ℕ) (s t : Step)
-    → IsCounted rules name bs text s → IsCounted rules name bs text t → s ≡ t
-one_counted one rules name bs text s t (inl h) (inl k) = h.1 ∙ sym k.1
-one_counted one rules name bs text s t (inl h) (inr (inl k)) = absurd (h.0 k.0.0 k.0.1)
-one_counted one rules name bs text s t (inl h) (inr (inr k)) = absurd (h.0 k.0 k.2)
-one_counted one rules name bs text s t (inr (inl h)) (inl k) = absurd (k.0 h.0.0 h.0.1)
-one_counted one rules name bs text s t (inr (inl h)) (inr (inl k)) = h.1 ∙ sym k.1
-one_counted one rules name bs text s t (inr (inl h)) (inr (inr k)) =
-    absurd (k.3 (subst (λ (x : CompactNumber). IsCompactOverLimit x) (one text h.0.0 k.0 h.0.1 k.2) h.0.2))
-one_counted one rules name bs text s t (inr (inr h)) (inl k) = absurd (k.0 h.0 h.2)
-one_counted one rules name bs text s t (inr (inr h)) (inr (inl k)) =
-    absurd (h.3 (subst (λ (x : CompactNumber). IsCompactOverLimit x) (one text k.0.0 h.0 k.0.1 h.2) k.0.2))
-one_counted one rules name bs text s t (inr (inr h)) (inr (inr k)) =
-    let same = one text h.0 k.0 h.2 k.2 in
-    let branch = subst (λ (x : CompactNumber). IsBranchOfNumber rules x bs h.1) same h.4 in
-    h.5 ∙ (ap (λ (p : List Part). Chooses text p) (one_branch rules k.0 bs h.1 k.1 branch k.4) ∙ sym k.5)
+-- where a text writes one number, what comes of it is one
+one_read : {A : Type 0} (Writes IsOver : A → Type 0) → ((x y : A) → Writes x → Writes y → x ≡ y) → (name : List ℕ) (Then : A → Step → Type 0)
+    → ((x : A) (s t : Step) → Then x s → Then x t → s ≡ t) → (s t : Step) → Reads Writes IsOver name Then s → Reads Writes IsOver name Then t → s ≡ t
+one_read Writes IsOver one name Then same s t (inl h) (inl k) = h.1 ∙ sym k.1
+one_read Writes IsOver one name Then same s t (inl h) (inr (inl k)) = absurd (h.0 k.0.0 k.0.1)
+one_read Writes IsOver one name Then same s t (inl h) (inr (inr k)) = absurd (h.0 k.0 k.1)
+one_read Writes IsOver one name Then same s t (inr (inl h)) (inl k) = absurd (k.0 h.0.0 h.0.1)
+one_read Writes IsOver one name Then same s t (inr (inl h)) (inr (inl k)) = h.1 ∙ sym k.1
+one_read Writes IsOver one name Then same s t (inr (inl h)) (inr (inr k)) = absurd (k.2 (subst IsOver (one h.0.0 k.0 h.0.1 k.1) h.0.2))
+one_read Writes IsOver one name Then same s t (inr (inr h)) (inl k) = absurd (k.0 h.0 h.1)
+one_read Writes IsOver one name Then same s t (inr (inr h)) (inr (inl k)) = absurd (h.2 (subst IsOver (one k.0.0 h.0 k.0.1 h.1) k.0.2))
+one_read {A = A} Writes IsOver one name Then same s t (inr (inr h)) (inr (inr k)) =
+    same k.0 s t (subst (λ (x : A). Then x s) (one h.0 k.0 h.1 k.1) h.3) k.3
 
-one_plural : OneCompact → (rules : FiveRules) (name : List ℕ) (offset : Option (List ℕ)) (bs : List Branching) (value : Option Value) (s t : Step)
+one_counted : OneNumber → (rules : FiveRules) (name : List ℕ) (bs : List Branching) (text : List ℕ) (s t : Step)
+    → IsCounted rules name bs text s → IsCounted rules name bs text t → s ≡ t
+one_counted one rules name bs text s t h k =
+    one_read (λ (x : CompactNumber). WritesCompact text x) (λ (x : CompactNumber). IsCompactOverLimit x) (λ x y p q. one.compact text x y p q) name
+    (λ (x : CompactNumber) (u : Step). (parts : List Part) × IsBranchOfNumber rules x x bs parts × (u ≡ Chooses text parts))
+    (λ x u v p q. p.2 ∙ (ap (λ (l : List Part). Chooses text l) (one_branch rules x x bs p.0 q.0 p.1 q.1) ∙ sym q.2)) s t h k
+
+one_counted_by : (rules : FiveRules) (name : List ℕ) (bs : List Branching) (x : CompactNumber) (less : Decimal) (s t : Step)
+    → IsCountedBy rules name bs x less s → IsCountedBy rules name bs x less t → s ≡ t
+one_counted_by rules name bs x less s t (inl h) (inl k) = h.1 ∙ sym k.1
+one_counted_by rules name bs x less s t (inl h) (inr k) = absurd (k.0 h.0)
+one_counted_by rules name bs x less s t (inr h) (inl k) = absurd (h.0 k.0)
+one_counted_by rules name bs x less s t (inr h) (inr k) =
+    h.1.2 ∙ (ap (λ (l : List Part). Chooses (decimal_text less) l) (one_branch rules x (plain less) bs h.1.0 k.1.0 h.1.1 k.1.1) ∙ sym k.1.2)
+
+one_less : OneNumber → (rules : FiveRules) (name : List ℕ) (bs : List Branching) (digits : List ℕ) (x : CompactNumber) (s t : Step)
+    → IsLess rules name bs digits x s → IsLess rules name bs digits x t → s ≡ t
+one_less one rules name bs digits x s t (inl h) (inl k) = h.1 ∙ sym k.1
+one_less one rules name bs digits x s t (inl h) (inr k) = let l : 0 < x.exponent = h.0 in let e : x.exponent ≡ 0 = k.0 in absurd (omega arith)
+one_less one rules name bs digits x s t (inr h) (inl k) = let l : 0 < x.exponent = k.0 in let e : x.exponent ≡ 0 = h.0 in absurd (omega arith)
+one_less one rules name bs digits x s t (inr h) (inr k) =
+    one_read (λ (o : Places). WritesUnsigned digits o) (λ (o : Places). IsOverLimit o) (λ o p q r. one.unsigned digits o p q r) name
+    (λ (o : Places) (u : Step). (less : Decimal) × IsDifference x.significand o less × IsCountedBy rules name bs x less u)
+    (λ o u v p q.
+    let same : p.0 ≡ q.0 = one_difference x.significand o p.0 q.0 p.1 q.1 in
+    one_counted_by rules name bs x q.0 u v (subst (λ (d : Decimal). IsCountedBy rules name bs x d u) same p.2) q.2) s t h.1 k.1
+
+one_counted_less : OneNumber → (rules : FiveRules) (name : List ℕ) (bs : List Branching) (digits text : List ℕ) (s t : Step)
+    → IsCountedLess rules name bs digits text s → IsCountedLess rules name bs digits text t → s ≡ t
+one_counted_less one rules name bs digits text s t h k =
+    one_read (λ (x : CompactNumber). WritesCompact text x) (λ (x : CompactNumber). IsCompactOverLimit x) (λ x y p q. one.compact text x y p q) name
+    (λ (x : CompactNumber) (u : Step). IsLess rules name bs digits x u) (λ x u v p q. one_less one rules name bs digits x u v p q) s t h k
+
+one_plural : OneNumber → (rules : FiveRules) (name : List ℕ) (offset : Option (List ℕ)) (bs : List Branching) (value : Option Value) (s t : Step)
     → IsPlural rules name offset bs value s → IsPlural rules name offset bs value t → s ≡ t
 one_plural one rules name offset bs None s t h k = h ∙ sym k
 one_plural one rules name offset bs (Some (argument.Text text)) s t h k = h ∙ sym k
-one_plural one rules name (Some digits) bs (Some (argument.Number text)) s t h k = h ∙ sym k
+one_plural one rules name (Some digits) bs (Some (argument.Number text)) s t h k = one_counted_less one rules name bs digits text s t h k
 one_plural one rules name None bs (Some (argument.Number text)) s t h k = one_counted one rules name bs text s t h k
 
-one_choice : OneCompact → (rules : TwoRules) (hash : List ℕ) (kind : ArgumentKind) (name : List ℕ) (offset : Option (List ℕ)) (bs : List Branching) (value : Option Value) (s t : Step)
+one_choice : OneNumber → (rules : TwoRules) (hash : List ℕ) (kind : ArgumentKind) (name : List ℕ) (offset : Option (List ℕ)) (bs : List Branching) (value : Option Value) (s t : Step)
     → IsChoice rules hash kind name offset bs value s → IsChoice rules hash kind name offset bs value t → s ≡ t
 one_choice one rules hash Plural name offset bs value s t h k = one_plural one rules.cardinal name offset bs value s t h k
 one_choice one rules hash Ordinal name offset bs value s t h k = one_plural one rules.ordinal name offset bs value s t h k
 one_choice one rules hash Select name offset bs value s t h k = h ∙ sym k
 
-one_step : OneCompact → (arguments : List argument.Argument) (rules : TwoRules) (hash : List ℕ) (depth : ℕ) (piece : Piece) (rest : List Part) (s t : Step)
+one_step : OneNumber → (arguments : List argument.Argument) (rules : TwoRules) (hash : List ℕ) (depth : ℕ) (piece : Piece) (rest : List Part) (s t : Step)
     → IsStep arguments rules hash depth piece rest s → IsStep arguments rules hash depth piece rest t → s ≡ t
 one_step one arguments rules hash depth (Text text) rest s t h k = h ∙ sym k
 one_step one arguments rules hash depth Hash rest s t h k = h ∙ sym k
@@ -137,7 +177,7 @@ follows (breaks hash number before name p rest branch fault h j) = (Chooses numb
 follows (fails hash before name p rest fault h) = (Fails fault name, h, refl)
 
 -- where the first part does this, the message goes on so
-goes_on : {arguments : List argument.Argument} {rules : TwoRules} {hash before : List ℕ} {rest : List Part} {o : Outcome} → OneCompact → (p : Part) (s : Step)
+goes_on : {arguments : List argument.Argument} {rules : TwoRules} {hash before : List ℕ} {rest : List Part} {o : Outcome} → OneNumber → (p : Part) (s : Step)
     → IsStep arguments rules hash p.depth p.piece rest s → Says arguments rules hash before (p ∷ rest) o → GoesOn arguments rules hash before p rest s o
 goes_on {arguments = arguments} {rules = rules} {hash = hash} {before = before} {rest = rest} {o = o} one p s h other =
     let f = follows other in
@@ -149,7 +189,7 @@ Behind arguments rules hash depth rest (Said said) o = Says arguments rules hash
 Behind arguments rules hash depth rest (Faulty fault name) o = Faulty fault name ≡ o
 
 -- a message says one thing
-pub one_outcome : {arguments : List argument.Argument} {rules : TwoRules} {hash before : List ℕ} {parts : List Part} {a b : Outcome} → OneCompact
+pub one_outcome : {arguments : List argument.Argument} {rules : TwoRules} {hash before : List ℕ} {parts : List Part} {a b : Outcome} → OneNumber
     → Says arguments rules hash before parts a → Says arguments rules hash before parts b → a ≡ b
 one_outcome one (ends hash before) other = follows other
 one_outcome one (stops hash before p rest h) other = goes_on one p Stops h other

@@ -1,6 +1,5 @@
 -- A walk over the parts of a message.
 use Rattle.std.proofs.Common.{◌≡◌, ◌++◌, ℕ, List, [], ◌∷◌, Option, Some, None, Err, refl, sym, ap, subst, inl, inr}
-use Rattle.fixed_decimal.specs.Written.{OneCompact}
 use Rattle.message_pattern.specs.declared.part.Part as parts
 use Rattle.message_pattern.specs.PatternParts.{Part, part_view, parts_view, piece_view}
 use Rattle.message_format.specs.declared.error.FormatError.{FormatError}
@@ -10,7 +9,7 @@ use Rattle.message_format.specs.FormatBranches.{behind_end}
 use Rattle.message_format.specs.FormatSteps.{Step, Stops, Prints, Chooses, TwoRules, IsStep}
 use Rattle.message_format.specs.FormatMeaning.{Outcome, Said, Faulty, Says, ends, stops, prints, chooses, breaks, fails, PatternSays, SaysExactly}
 use Rattle.message_format.specs.Inner.FormatViews.{GivesStep, GivesOutcome, outcome_of}
-use Rattle.message_format.proofs.OneSaying.{one_outcome}
+use Rattle.message_format.proofs.OneSaying.{OneNumber, one_outcome}
 
 -- what the part does that these follow
 abbrev pub PartIs : List Argument → TwoRules → List ℕ → parts.Part → List parts.Part → Step → Type 0
@@ -73,7 +72,7 @@ at_fault arguments rules hash before old new whole ps p rest error.Memory e h sa
 -- ---- the whole pattern
 
 -- what is said is the only thing
-pub exactly : OneCompact → (arguments : List Argument) (rules : TwoRules) (ps : List Part) (outcome : Option Outcome)
+pub exactly : OneNumber → (arguments : List Argument) (rules : TwoRules) (ps : List Part) (outcome : Option Outcome)
     → ((o : Outcome) → outcome ≡ Some o → PatternSays arguments rules ps o) → SaysExactly arguments rules ps outcome
 exactly one arguments rules ps None only = record { only = only; every = λ o h. inr refl }
 exactly one arguments rules ps (Some x) only =

@@ -82,8 +82,9 @@ pub record IsCategory (rules : FiveRules) (x : CompactNumber) (category : Plural
   pub kept : IsKeptChoice rules x.significand.absolute x.exponent category
   pub exact : IsExactChoice rules x.significand.absolute x.exponent category
 
--- The branch for a number: the first of its value, else that of its category, else `other`.
-abbrev pub IsBranchOfNumber : FiveRules → CompactNumber → List Branching → List Part → Type 0
-IsBranchOfNumber rules x bs parts =
+-- The branch for a number and the number less the offset: the first of the number's value, else that
+-- of the category of the other, else `other`.
+abbrev pub IsBranchOfNumber : FiveRules → CompactNumber → CompactNumber → List Branching → List Part → Type 0
+IsBranchOfNumber rules x less bs parts =
     IsBranchOfValue x bs (Some parts)
-    ⊎ (IsBranchOfValue x bs None × ((category : PluralCategory) × IsCategory rules x category × (parts ≡ branch_or_other (name_of category) bs)))
+    ⊎ (IsBranchOfValue x bs None × ((category : PluralCategory) × IsCategory rules less category × (parts ≡ branch_or_other (name_of category) bs)))

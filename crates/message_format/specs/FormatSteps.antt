@@ -1,14 +1,18 @@
 -- What a part of a message does: it prints, or chooses a branch, or has a fault.
-use Rattle.std.specs.Prelude.{◌≡◌, ◌⊎◌, ℕ, List, Option, Some, None}
-use Rattle.fixed_decimal.specs.Written.{CompactNumber, WritesCompact, IsCompactOverLimit}
+use Rattle.std.specs.Prelude.{◌≡◌, ◌<◌, ◌⊎◌, ℕ, List, Option, Some, None}
+use Rattle.fixed_decimal.specs.Places.{IsOverLimit}
+use Rattle.fixed_decimal.specs.Shown.{decimal_text}
+use Rattle.fixed_decimal.specs.Written.{CompactNumber, WritesUnsigned, WritesCompact, IsCompactOverLimit}
+use Rattle.fixed_decimal.specs.declared.decimal.Decimal.{Decimal}
 use Rattle.plural_base.specs.FiveRules.{FiveRules}
 use Rattle.message_pattern.specs.PatternParts.{Part, Piece, Hash, Begin, Branch, End}
 use Rattle.message_pattern.specs.PatternParts as piece
 use Rattle.message_pattern.specs.declared.part.ArgumentKind.{ArgumentKind}
 use Rattle.message_pattern.specs.declared.part.ArgumentKind.TheVariants.{Plural, Ordinal, Select}
 use Rattle.message_format.specs.declared.error.ArgumentFault.{ArgumentFault}
-use Rattle.message_format.specs.declared.error.ArgumentFault.TheVariants.{Missing, WrongKind, NotANumber, OverLimit, OffsetUnsupported}
+use Rattle.message_format.specs.declared.error.ArgumentFault.TheVariants.{Missing, WrongKind, NotANumber, OverLimit, CompactOffset}
 use Rattle.message_format.specs.FormatArguments.{Argument, Value, Number, Text, value_named}
+use Rattle.message_format.specs.FormatOffsets.{IsDifference, plain}
 use Rattle.message_format.specs.FormatBranches.{Branching, branches_of, branch_or_other, IsBranchOfNumber}
 
 -- what a part does
@@ -39,19 +43,44 @@ selected hash name bs None = Fails Missing name
 selected hash name bs (Some (Number number)) = Fails WrongKind name
 selected hash name bs (Some (Text text)) = Chooses hash (branch_or_other text bs)
 
--- The text of an argument writes a number, by which a plural chooses, and `#` is this text; or it
--- writes none, or one over a limit.
+-- A text writes a number, from which the step comes; or it writes none, or one over a limit.
+abbrev pub Reads : {A : Type 0} → (A → Type 0) → (A → Type 0) → List ℕ → (A → Step → Type 0) → Step → Type 0
+Reads {A = A} Writes IsOver name Then step =
+    (((x : A) → Writes x → ⊥) × (step ≡ Fails NotANumber name))
+    ⊎ (((x : A) × Writes x × IsOver x) × (step ≡ Fails OverLimit name))
+    ⊎ ((x : A) × Writes x × (IsOver x → ⊥) × Then x step)
+
+-- A plural chooses by the number that the text of its argument writes, and `#` is this text.
 abbrev pub IsCounted : FiveRules → List ℕ → List Branching → List ℕ → Step → Type 0
 IsCounted rules name bs text step =
-    (((x : CompactNumber) → WritesCompact text x → ⊥) × (step ≡ Fails NotANumber name))
-    ⊎ (((x : CompactNumber) × WritesCompact text x × IsCompactOverLimit x) × (step ≡ Fails OverLimit name))
-    ⊎ ((x : CompactNumber) × (parts : List Part) × WritesCompact text x × (IsCompactOverLimit x → ⊥) × IsBranchOfNumber rules x bs parts × (step ≡ Chooses text parts))
+    Reads (λ x. WritesCompact text x) (λ x. IsCompactOverLimit x) name
+    (λ x s. (parts : List Part) × IsBranchOfNumber rules x x bs parts × (s ≡ Chooses text parts)) step
+
+-- It chooses by a number and this number less the offset, and `#` is the text of the latter, which
+-- may be over the limit.
+abbrev pub IsCountedBy : FiveRules → List ℕ → List Branching → CompactNumber → Decimal → Step → Type 0
+IsCountedBy rules name bs x less step =
+    (IsOverLimit less.absolute × (step ≡ Fails OverLimit name))
+    ⊎ ((IsOverLimit less.absolute → ⊥) × ((parts : List Part) × IsBranchOfNumber rules x (plain less) bs parts × (step ≡ Chooses (decimal_text less) parts)))
+
+-- A number without an exponent less the offset that these digits write.
+abbrev pub IsLess : FiveRules → List ℕ → List Branching → List ℕ → CompactNumber → Step → Type 0
+IsLess rules name bs digits x step =
+    ((0 < x.exponent) × (step ≡ Fails CompactOffset name))
+    ⊎ ((x.exponent ≡ 0)
+    × Reads (λ o. WritesUnsigned digits o) (λ o. IsOverLimit o) name
+    (λ o s. (less : Decimal) × IsDifference x.significand o less × IsCountedBy rules name bs x less s) step)
+
+-- A plural with an offset chooses by the number that the text of its argument writes.
+abbrev pub IsCountedLess : FiveRules → List ℕ → List Branching → List ℕ → List ℕ → Step → Type 0
+IsCountedLess rules name bs digits text step =
+    Reads (λ x. WritesCompact text x) (λ x. IsCompactOverLimit x) name (λ x s. IsLess rules name bs digits x s) step
 
 -- A plural or an ordinal with these branches.
 abbrev pub IsPlural : FiveRules → List ℕ → Option (List ℕ) → List Branching → Option Value → Step → Type 0
 IsPlural rules name offset bs None step = step ≡ Fails Missing name
 IsPlural rules name offset bs (Some (Text text)) step = step ≡ Fails WrongKind name
-IsPlural rules name (Some digits) bs (Some (Number text)) step = step ≡ Fails OffsetUnsupported name
+IsPlural rules name (Some digits) bs (Some (Number text)) step = IsCountedLess rules name bs digits text step
 IsPlural rules name None bs (Some (Number text)) step = IsCounted rules name bs text step
 
 -- An argument that chooses, by its kind.

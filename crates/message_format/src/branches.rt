@@ -12,7 +12,7 @@ use plural_base::PluralRules;
 use std::alloc::{AllocError, Global};
 
 // The parts that follow the end of an argument at this depth.
-pub(crate) fn behind_end<'p>(depth: usize, parts: &'p [Part<'p>]) -> &'p [Part<'p>]
+pub(crate) fn behind_end<'s, 'p>(depth: usize, parts: &'s [Part<'p>]) -> &'s [Part<'p>]
     ensures rest { parts_view result.now ≡ behind_end depth (parts_view parts.now) }
     ensures shorter { length result.now ≤ length parts.now }
 {
@@ -39,7 +39,11 @@ fn is_keyword(word: &[u8], selector: Selector<'_>) -> bool
 }
 
 // The first branch of a keyword.
-fn branch_of_keyword<'p>(word: &[u8], depth: usize, parts: &'p [Part<'p>]) -> Option<&'p [Part<'p>]>
+fn branch_of_keyword<'s, 'p>(
+    word: &[u8],
+    depth: usize,
+    parts: &'s [Part<'p>],
+) -> Option<&'s [Part<'p>]>
     ensures branch { any_parts result ≡ branch_of_keyword word.now (branches_of depth (parts_view parts.now)) }
     ensures shorter { IfSome result (λ x. length x.now ≤ length parts.now) }
 {
@@ -59,11 +63,11 @@ fn branch_of_keyword<'p>(word: &[u8], depth: usize, parts: &'p [Part<'p>]) -> Op
 }
 
 // The branch of a keyword, or of `other` if there is none.
-pub(crate) fn branch_or_other<'p>(
+pub(crate) fn branch_or_other<'s, 'p>(
     word: &[u8],
     depth: usize,
-    parts: &'p [Part<'p>],
-) -> &'p [Part<'p>]
+    parts: &'s [Part<'p>],
+) -> &'s [Part<'p>]
     ensures branch { parts_view result.now ≡ branch_or_other word.now (branches_of depth (parts_view parts.now)) }
     ensures shorter { length result.now ≤ length parts.now }
 {
@@ -77,12 +81,12 @@ pub(crate) fn branch_or_other<'p>(
 }
 
 // The first branch whose selector is `=` and a number of the same value.
-fn branch_of_value<'p>(
+fn branch_of_value<'s, 'p>(
     alloc: Global,
     number: &CompactDecimal,
     depth: usize,
-    parts: &'p [Part<'p>],
-) -> Result<Option<&'p [Part<'p>]>, AllocError>
+    parts: &'s [Part<'p>],
+) -> Result<Option<&'s [Part<'p>]>, AllocError>
     ensures branch { IfOk result (λ found. IsBranchOfValue number.now (branches_of depth (parts_view parts.now)) (any_parts found)) }
     ensures shorter { IfOk result (λ found. IfSome found (λ x. length x.now ≤ length parts.now)) }
 {
@@ -101,20 +105,22 @@ fn branch_of_value<'p>(
     Ok(None)
 }
 
-// The branch for a number: the first of its value, else that of its category, else `other`.
-pub(crate) fn branch_of_number<'p>(
+// The branch for a number: the first of its value, else that of the category of the number less the
+// offset, else `other`.
+pub(crate) fn branch_of_number<'s, 'p>(
     alloc: Global,
     rules: &PluralRules<'_>,
     number: &CompactDecimal,
+    less: &CompactDecimal,
     depth: usize,
-    parts: &'p [Part<'p>],
-) -> Result<&'p [Part<'p>], AllocError>
-    ensures branch { IfOk result (λ x. IsBranchOfNumber rules.now number.now (branches_of depth (parts_view parts.now)) (parts_view x.now)) }
+    parts: &'s [Part<'p>],
+) -> Result<&'s [Part<'p>], AllocError>
+    ensures branch { IfOk result (λ x. IsBranchOfNumber rules.now number.now less.now (branches_of depth (parts_view parts.now)) (parts_view x.now)) }
     ensures shorter { IfOk result (λ x. length x.now ≤ length parts.now) }
 {
     if let Some(branch) = branch_of_value(alloc, number, depth, parts)? {
         return Ok(branch);
     }
-    let category = rules.category_for_compact(number);
+    let category = rules.category_for_compact(less);
     Ok(branch_or_other(category.as_str().as_bytes(), depth, parts))
 }

@@ -13,10 +13,10 @@ pub enum ArgumentFault {
     WrongKind,
     /// The text of a number doesn't write one.
     NotANumber,
-    /// The text of a number writes one over a limit.
+    /// The text of a number writes one over a limit, or a number less its offset is over it.
     OverLimit,
-    /// The argument has an offset.
-    OffsetUnsupported,
+    /// A number with a compact exponent, where there is an offset.
+    CompactOffset,
 }
 
 impl fmt::Display for ArgumentFault {
@@ -31,7 +31,7 @@ impl fmt::Display for ArgumentFault {
             ArgumentFault::WrongKind => "the argument is of the wrong kind",
             ArgumentFault::NotANumber => "bad number",
             ArgumentFault::OverLimit => "number out of limits",
-            ArgumentFault::OffsetUnsupported => "an offset isn't supported",
+            ArgumentFault::CompactOffset => "an offset from a compact number",
         })
     }
 }

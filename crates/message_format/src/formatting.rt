@@ -15,12 +15,12 @@ use message_pattern::{Part, Pattern};
 use std::alloc::Global;
 
 // Formats the message at the front of the parts.
-fn message<'p>(
+fn message<'s, 'p: 's>(
     alloc: Global,
-    arguments: &'p [Argument<'p>],
+    arguments: &'s [Argument<'s>],
     rules: &Rules<'_, '_>,
-    hash: &'p [u8],
-    parts: &'p [Part<'p>],
+    hash: &'s [u8],
+    parts: &'s [Part<'p>],
     said: &mut Vec<u8>,
 ) -> Result<(), FormatError<'p>>
     ensures { GivesOutcome (arguments_view arguments.now) (two_rules rules.now) hash.now (parts_view parts.now) said.old.items said.new.items result }
@@ -34,7 +34,7 @@ fn message<'p>(
                 left = rest;
             }
             Step::Chooses(number, branch) => {
-                message(alloc, arguments, rules, number, branch, said)?;
+                message(alloc, &*arguments, rules, number.as_bytes(), branch, said)?;
                 left = behind_end(part.depth, rest);
             }
         }
@@ -48,15 +48,18 @@ fn message<'p>(
 ///
 /// A plural takes the first branch whose selector is `=` and a number of the same value, else the
 /// one of the number's category, else `other`; a select the one of the text, else `other`. `{name}`
-/// and `#` are said as the caller writes them.
+/// and `#` are said as the caller writes them. With an offset the category is that of the number
+/// less the offset, and `#` says this difference with the fraction digits of the number: `1.50` less
+/// `1` is `0.50`. Its text and digits are allocated, too.
 ///
 /// The errors: [`FormatError::Argument`] with the first fault, in the order of the parts that are
 /// formatted, and the name of its argument: `Missing`, `WrongKind`, `NotANumber`, `OverLimit`, and
-/// `OffsetUnsupported` for a plural with an offset; [`FormatError::Memory`] if memory ran out.
+/// `CompactOffset` for a number with a compact exponent where there is an offset;
+/// [`FormatError::Memory`] if memory ran out.
 pub fn format<'p>(
     alloc: Global,
-    pattern: &'p Pattern<'p>,
-    arguments: &'p [Argument<'p>],
+    pattern: &Pattern<'p>,
+    arguments: &[Argument<'_>],
     rules: &Rules<'_, '_>,
 ) -> Result<Vec<u8>, FormatError<'p>>
     ensures { SaysExactly (arguments_view arguments.now) (two_rules rules.now) pattern.now (outcome_of result) }

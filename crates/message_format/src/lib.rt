@@ -3,9 +3,11 @@
 
 mod arguments;
 mod branches;
+mod difference;
 mod error;
 mod formatting;
 mod numbers;
+mod offsets;
 mod steps;
 
 pub use arguments::{Argument, Value};

@@ -10,6 +10,7 @@ ghost use Rattle.message_format.specs.Inner.FormatViews.{any_value, GivesStep, I
 use crate::arguments::{Argument, Value, value_named};
 use crate::branches::{branch_of_number, branch_or_other};
 use crate::error::{ArgumentFault, FormatError};
+use crate::offsets::counted_less;
 use fixed_decimal::laws::texts_write_one_number;
 use fixed_decimal::{CompactDecimal, DecimalError};
 use message_pattern::{ArgumentKind, Part, Piece};
@@ -26,17 +27,44 @@ pub struct Rules<'r, 'data> {
 }
 
 // What a part does.
-pub(crate) enum Step<'p> {
+#[derive(Drop)]
+pub(crate) enum Step<'s, 'p> {
     // Ends the message.
     Stops,
     // Prints a text.
-    Prints(&'p [u8]),
+    Prints(&'s [u8]),
     // Chooses a branch: the text of `#` in it, and the parts from it on.
-    Chooses(&'p [u8], &'p [Part<'p>]),
+    Chooses(Shown<'s>, &'s [Part<'p>]),
+}
+
+// The text of `#`.
+#[derive(Drop)]
+pub(crate) enum Shown<'s> {
+    // As it is given.
+    Given(&'s [u8]),
+    // Of a number less an offset.
+    Less(Vec<u8>),
+}
+
+impl<'s> Shown<'s> {
+    ghost use Rattle.message_format.specs.Inner.FormatViews.{shown_view};
+
+    // The text.
+    pub(crate) fn as_bytes(&self) -> &[u8]
+        ensures { result.now ≡ shown_view self.now }
+    {
+        match self {
+            Shown::Given(text) => *text,
+            Shown::Less(text) => text.as_slice(),
+        }
+    }
 }
 
 // What `{name}` prints.
-fn shown_value<'p>(name: &'p [u8], value: Option<Value<'p>>) -> Result<Step<'p>, FormatError<'p>>
+fn shown_value<'s, 'p: 's>(
+    name: &'p [u8],
+    value: Option<Value<'s>>,
+) -> Result<Step<'s, 'p>, FormatError<'p>>
     ensures step { GivesStep (λ step. step ≡ shown_value name.now (any_value value.entry)) result }
     ensures shorter { IsBehind 0 result }
 {
@@ -48,20 +76,20 @@ fn shown_value<'p>(name: &'p [u8], value: Option<Value<'p>>) -> Result<Step<'p>,
 }
 
 // A select of a value.
-fn selected<'p>(
-    hash: &'p [u8],
+fn selected<'s, 'p: 's>(
+    hash: &'s [u8],
     name: &'p [u8],
     depth: usize,
-    rest: &'p [Part<'p>],
-    value: Option<Value<'p>>,
-) -> Result<Step<'p>, FormatError<'p>>
+    rest: &'s [Part<'p>],
+    value: Option<Value<'s>>,
+) -> Result<Step<'s, 'p>, FormatError<'p>>
     ensures step { GivesStep (λ step. step ≡ selected hash.now name.now (branches_of depth (parts_view rest.now)) (any_value value.entry)) result }
     ensures shorter { IsBehind (length rest.now) result }
 {
     match value {
         Some(Value::Text(text)) => {
             let branch = branch_or_other(text.as_bytes(), depth, rest);
-            Ok(Step::Chooses(hash, branch))
+            Ok(Step::Chooses(Shown::Given(hash), branch))
         }
         Some(Value::Number(_)) => Err(FormatError::Argument(ArgumentFault::WrongKind, name)),
         None => Err(FormatError::Argument(ArgumentFault::Missing, name)),
@@ -69,21 +97,21 @@ fn selected<'p>(
 }
 
 // A plural without an offset, of the text of a number.
-fn counted<'p>(
+fn counted<'s, 'p: 's>(
     alloc: Global,
     rules: &PluralRules<'_>,
     name: &'p [u8],
     depth: usize,
-    rest: &'p [Part<'p>],
-    text: &'p str,
-) -> Result<Step<'p>, FormatError<'p>>
+    rest: &'s [Part<'p>],
+    text: &'s str,
+) -> Result<Step<'s, 'p>, FormatError<'p>>
     ensures step { GivesStep (λ step. IsCounted rules.now name.now (branches_of depth (parts_view rest.now)) text.now step) result }
     ensures shorter { IsBehind (length rest.now) result }
 {
     match CompactDecimal::from_str(alloc, text) {
         Ok(number) => {
-            let branch = branch_of_number(alloc, rules, &number, depth, rest)?;
-            Ok(Step::Chooses(text.as_bytes(), branch))
+            let branch = branch_of_number(alloc, rules, &number, &number, depth, rest)?;
+            Ok(Step::Chooses(Shown::Given(text.as_bytes()), branch))
         }
         Err(DecimalError::Syntax) => { Err(FormatError::Argument(ArgumentFault::NotANumber, name)) }
         Err(DecimalError::Limit) => Err(FormatError::Argument(ArgumentFault::OverLimit, name)),
@@ -92,22 +120,22 @@ fn counted<'p>(
 }
 
 // A plural of a value.
-fn plural<'p>(
+fn plural<'s, 'p: 's>(
     alloc: Global,
     rules: &PluralRules<'_>,
     name: &'p [u8],
     offset: Option<&'p [u8]>,
     depth: usize,
-    rest: &'p [Part<'p>],
-    value: Option<Value<'p>>,
-) -> Result<Step<'p>, FormatError<'p>>
+    rest: &'s [Part<'p>],
+    value: Option<Value<'s>>,
+) -> Result<Step<'s, 'p>, FormatError<'p>>
     ensures step { GivesStep (λ step. IsPlural rules.now name.now (offset_view offset.entry) (branches_of depth (parts_view rest.now)) (any_value value.entry) step) result }
     ensures shorter { IsBehind (length rest.now) result }
 {
     match value {
         Some(Value::Number(text)) => match offset {
             None => counted(alloc, rules, name, depth, rest, text),
-            Some(_) => Err(FormatError::Argument(ArgumentFault::OffsetUnsupported, name)),
+            Some(digits) => counted_less(alloc, rules, name, digits, depth, rest, text),
         },
         Some(Value::Text(_)) => Err(FormatError::Argument(ArgumentFault::WrongKind, name)),
         None => Err(FormatError::Argument(ArgumentFault::Missing, name)),
@@ -115,14 +143,14 @@ fn plural<'p>(
 }
 
 // What a part does, which these parts follow.
-pub(crate) fn step_of<'p>(
+pub(crate) fn step_of<'s, 'p: 's>(
     alloc: Global,
-    arguments: &[Argument<'p>],
+    arguments: &[Argument<'s>],
     rules: &Rules<'_, '_>,
-    hash: &'p [u8],
+    hash: &'s [u8],
     part: Part<'p>,
-    rest: &'p [Part<'p>],
-) -> Result<Step<'p>, FormatError<'p>>
+    rest: &'s [Part<'p>],
+) -> Result<Step<'s, 'p>, FormatError<'p>>
     ensures step { GivesStep (λ step. IsStep (arguments_view arguments.now) (two_rules rules.now) hash.now part.entry.depth (piece_view part.entry.piece) (parts_view rest.now) step) result }
     ensures shorter { IsBehind (length rest.now) result }
 {

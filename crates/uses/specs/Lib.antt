@@ -4,3 +4,4 @@ pub mod CompactUnits
 pub mod Store
 pub mod RangeLabels
 pub mod Translation
+pub mod Notice

@@ -1,6 +1,6 @@
 //! The kinds of the upper crates: `icu_plurals`, `plural_message`, `plural_checker`,
-//! `plural_fallback`, `message_report`, `form_commands`, `uses`, `message_pattern` and
-//! `plural_exports`.
+//! `plural_fallback`, `message_report`, `form_commands`, `uses`, `message_pattern`,
+//! `message_format` and `plural_exports`.
 
 mod callers;
 mod checker;
@@ -15,6 +15,7 @@ mod message_reports;
 mod messages;
 mod packed_texts;
 mod packing;
+mod pattern_texts;
 mod patterns;
 
 use crate::call::Call;
@@ -32,6 +33,7 @@ pub fn make(kind: &str, call: &mut Call) -> bool {
         || forms::make(kind, call)
         || callers::make(kind, call)
         || patterns::make(kind, call)
+        || pattern_texts::make(kind, call)
         || exports::make(kind, call)
         || exported_bytes::make(kind, call)
 }

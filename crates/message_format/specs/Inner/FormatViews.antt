@@ -9,6 +9,8 @@ use Rattle.message_format.specs.declared.arguments.Value as values
 use Rattle.message_format.specs.declared.error.FormatError.{FormatError}
 use Rattle.message_format.specs.declared.error.FormatError.TheVariants as error
 use Rattle.message_format.specs.declared.steps.Rules as rules
+use Rattle.message_format.specs.declared.steps.Shown as shown
+use Rattle.message_format.specs.declared.steps.Shown.TheVariants as shows
 use Rattle.message_format.specs.declared.steps.Step as steps
 use Rattle.message_format.specs.declared.steps.Step.TheVariants as step
 use Rattle.message_format.specs.FormatArguments.{Argument, Value, value_view}
@@ -24,10 +26,15 @@ abbrev pub any_parts : Option (Bor (List parts.Part)) → Option (List Part)
 any_parts None = None
 any_parts (Some ps) = Some (parts_view ps.now)
 
+-- the text of `#`
+abbrev pub shown_view : shown.Shown → List ℕ
+shown_view (shows.Given given) = given.now
+shown_view (shows.Less less) = less.items
+
 abbrev pub step_view : steps.Step → Step
 step_view step.Stops = Stops
 step_view (step.Prints text) = Prints text.now
-step_view (step.Chooses number branch) = Chooses number.now (parts_view branch.now)
+step_view (step.Chooses number branch) = Chooses (shown_view number) (parts_view branch.now)
 
 -- what a private call returns meets the relation of steps, unless memory ran out
 abbrev pub GivesStep : (Step → Type 0) → Result steps.Step FormatError → Type 0

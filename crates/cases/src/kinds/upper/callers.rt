@@ -6,9 +6,13 @@ use crate::kinds::locales::next_provider;
 use crate::kinds::upper::element_values::{Elements, next_rules};
 use crate::kinds::upper::messages::{next_packed, print_message};
 use icu_plurals::{CompactDecimal, JsonProvider, PluralRulesWithRanges};
+use message_format::{FormatError, Rules};
 use plural_fallback::FallbackProvider;
 use plural_message::Message;
-use uses::{CompactUnits, Formatter, RangeLabels, RelativeTime, ShownNumber, Store, is_complete};
+use uses::{
+    CompactUnits, Formatter, NoticeError, RangeLabels, RelativeTime, ShownNumber, Store,
+    is_complete, notice,
+};
 
 /// Makes the call of a kind of this file. Returns whether there is such a kind.
 pub fn make(kind: &str, call: &mut Call) -> bool {
@@ -19,6 +23,7 @@ pub fn make(kind: &str, call: &mut Call) -> bool {
         "store" => store(call),
         "range_label" => range_label(call),
         "translation" => translation(call),
+        "notice" => notice_of(call),
         _ => return false,
     }
     true
@@ -153,5 +158,23 @@ fn translation(call: &mut Call) {
     match is_complete(call.alloc, &source, &messages) {
         Ok(complete) => call.print_truth(complete),
         Err(error) => call.print_error(&error),
+    }
+}
+
+// What a pattern says of a count.
+fn notice_of(call: &mut Call) {
+    let pattern = call.text();
+    let count = call.text();
+    let cardinal = next_rules(call);
+    let ordinal = next_rules(call);
+    let rules = Rules {
+        cardinal: &cardinal,
+        ordinal: &ordinal,
+    };
+    match notice(call.alloc, pattern.as_str(), count.as_str(), &rules) {
+        Ok(said) => call.print_quoted(std::str::from_utf8(&said).unwrap_or("?")),
+        Err(NoticeError::Pattern(error)) => call.print_error(&error),
+        Err(NoticeError::Format(FormatError::Argument(fault, _))) => call.print_error(&fault),
+        Err(NoticeError::Format(FormatError::Memory)) => call.out_of_memory(),
     }
 }

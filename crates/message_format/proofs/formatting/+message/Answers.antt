@@ -43,21 +43,34 @@ parts-preserved-in-Prints t c =
 pub returns-in_err-message-in-Chooses : goal.returns-in_err-message-in-Chooses
 returns-in_err-message-in-Chooses t c =
     let ps = c.parts.left.now in
-    let does = rw c.in-Chooses.is at c.in_ok-step_of.ensures.step in
+    let does = rw (c.in-Chooses.is, ← c.as_bytes.ensures) at c.in_ok-step_of.ensures.step in
     let p = err_from_is_err_and c.from_residual-in_err-message-in-Chooses.result c.from_residual-in_err-message-in-Chooses.ensures.1 in
     rw (p.1, p.2)
-    (at_break (arguments_view c.args.arguments.now) (two_rules c.args.rules.now) c.args.hash.now c.in-Chooses.number.now c.parts.said.items c.message.new.said.items c.args.said.now.items c.message.new.said.items
+    (at_break (arguments_view c.args.arguments.now) (two_rules c.args.rules.now) c.args.hash.now c.as_bytes.result.now c.parts.said.items c.message.new.said.items c.args.said.now.items c.message.new.said.items
     c.args.parts.now ps (get_or ps 0 no_part) (take (length ps - 1) (drop 1 ps)) c.in-Chooses.branch.now c.in_err-message-in-Chooses.field-0.0
     (headed ps no_part (length ps) c.in-len1-up.len_at_least refl) does c.in_err-message-in-Chooses.ensures c.parts.invariant.says)
+
+pub parts-preserved-in_ok-message-in-Chooses : goal.parts-preserved-in_ok-message-in-Chooses
+parts-preserved-in_ok-message-in-Chooses t c =
+    let ps = c.parts.left.now in
+    let does = rw (c.in-Chooses.is, ← c.as_bytes.ensures) at c.in_ok-step_of.ensures.step in
+    record {
+      says = λ o h.
+          c.parts.invariant.says o
+          (at_branch (arguments_view c.args.arguments.now) (two_rules c.args.rules.now) c.args.hash.now c.as_bytes.result.now c.parts.said.items c.message.new.said.items ps
+          (get_or ps 0 no_part) (take (length ps - 1) (drop 1 ps)) c.in-Chooses.branch.now c.behind_end-left.result.now o
+          (headed ps no_part (length ps) c.in-len1-up.len_at_least refl) does c.in_ok-message-in-Chooses.ensures c.behind_end-left.ensures.rest h);
+      shorter = first_of (grind (arith, common_steps, c.parts.invariant.shorter, c.behind_end-left.ensures.shorter), omega (arith, length-take {A = parts.Part}, length-drop {A = parts.Part}, c.parts.invariant.shorter, c.behind_end-left.ensures.shorter));
+    }
 
 pub parts-preserved : goal.parts-preserved
 parts-preserved t c =
     let ps = c.parts.left.now in
-    let does = rw c.in-Chooses.is at c.in_ok-step_of.ensures.step in
+    let does = rw (c.in-Chooses.is, ← c.as_bytes.ensures) at c.in_ok-step_of.ensures.step in
     record {
       says = λ o h.
           c.parts.invariant.says o
-          (at_branch (arguments_view c.args.arguments.now) (two_rules c.args.rules.now) c.args.hash.now c.in-Chooses.number.now c.parts.said.items c.message.new.said.items ps
+          (at_branch (arguments_view c.args.arguments.now) (two_rules c.args.rules.now) c.args.hash.now c.as_bytes.result.now c.parts.said.items c.message.new.said.items ps
           (get_or ps 0 no_part) (take (length ps - 1) (drop 1 ps)) c.in-Chooses.branch.now c.behind_end-left.result.now o
           (headed ps no_part (length ps) c.in-len1-up.len_at_least refl) does c.in_ok-message-in-Chooses.ensures c.behind_end-left.ensures.rest h);
       shorter = first_of (grind (arith, common_steps, c.parts.invariant.shorter, c.behind_end-left.ensures.shorter), omega (arith, length-take {A = parts.Part}, length-drop {A = parts.Part}, c.parts.invariant.shorter, c.behind_end-left.ensures.shorter));
