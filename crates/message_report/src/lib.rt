@@ -4,8 +4,6 @@
 mod argument;
 mod branch_fault;
 mod category_numbers;
-mod category_set;
-mod counts;
 mod document;
 mod error;
 mod fault;
@@ -16,6 +14,7 @@ mod keys;
 mod language;
 pub mod laws;
 mod message;
+mod message_set;
 mod part;
 mod pattern;
 mod pattern_lines;
@@ -25,9 +24,9 @@ mod report;
 pub mod run;
 mod source;
 
-pub use category_set::category_set;
 pub use counts::Counts;
 pub use error::ReportError;
 pub use fault::FormFault;
 pub use file::MessageFile;
+pub use message_set::category_set;
 pub use source::RulesOfLocales;
