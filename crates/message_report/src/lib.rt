@@ -4,6 +4,7 @@
 mod argument;
 mod branch_fault;
 mod category_numbers;
+mod counts;
 mod document;
 mod error;
 mod fault;
