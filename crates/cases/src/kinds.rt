@@ -3,6 +3,7 @@
 mod categories;
 mod conditions;
 mod decimals;
+mod error_texts;
 mod five_rules;
 mod integer_categories;
 mod lists;
@@ -62,10 +63,11 @@ fn of_languages(kind: &str, call: &mut Call) -> bool {
         || rules_bytes::make(kind, call)
 }
 
-// Kinds of ranges and documents.
+// Kinds of ranges, documents and errors.
 fn of_documents(kind: &str, call: &mut Call) -> bool {
     range_categories::make(kind, call)
         || ranges::make(kind, call)
         || rules_json::make(kind, call)
         || locales::make(kind, call)
+        || error_texts::make(kind, call)
 }

@@ -474,21 +474,21 @@ maps_of value formed cardinal ordinal ranges =
 -- the document, part by part
 of_parts : TextsGiveOneAnswer → (value : Data) (all : Found) → IsFormed value → IsFoundInDocument value all → all.faults ≡ 0
     → (maps : Document) × (document_of_json value ≡ Ok maps) × HasAll value maps
-of_parts one value all formed (keys, cardinal, ordinal, ranges, in_keys, in_cardinal, in_ordinal, in_ranges, whole) none =
+of_parts one value all formed (keys, cardinal, ordinal, ranges, parents, in_keys, in_cardinal, in_ordinal, in_ranges, in_parents, whole) none =
     let sum = sym (ap (λ (f : Found). f.faults) whole) ∙ none in
-    let after_keys = no_second keys.faults (cardinal.faults + (ordinal.faults + ranges.faults)) sum in
-    let after_cardinal = no_second cardinal.faults (ordinal.faults + ranges.faults) after_keys in
+    let after_keys = no_second keys.faults (cardinal.faults + (ordinal.faults + (ranges.faults + parents.faults))) sum in
+    let after_cardinal = no_second cardinal.faults (ordinal.faults + (ranges.faults + parents.faults)) after_keys in
     let three = three_formed _ _ _ formed.parts in
     let members_of : Part → Members = λ part. members_at part value in
     let cardinal_each =
     each_faultless (IsFoundInRules Cardinal) (members_of Cardinal) cardinal in_cardinal
-    (no_first cardinal.faults (ordinal.faults + ranges.faults) after_keys) in
+    (no_first cardinal.faults (ordinal.faults + (ranges.faults + parents.faults)) after_keys) in
     let ordinal_each =
     each_faultless (IsFoundInRules Ordinal) (members_of Ordinal) ordinal in_ordinal
-    (no_first ordinal.faults ranges.faults after_cardinal) in
+    (no_first ordinal.faults (ranges.faults + parents.faults) after_cardinal) in
     let ranges_each =
     each_faultless (IsFoundInRanges value) (members_of Ranges) ranges in_ranges
-    (no_second ordinal.faults ranges.faults after_cardinal) in
+    (no_first ranges.faults parents.faults (no_second ordinal.faults (ranges.faults + parents.faults) after_cardinal)) in
     let cardinal_map =
     has_map rules_meant Cardinal (get (part_name Cardinal) value) three.cardinal_is
     (each_rules_mean one Cardinal (members_of Cardinal) cardinal_each) in

@@ -56,12 +56,13 @@ five_more old a b c d e one two three four five first second third fourth fifth 
     three_more old a b (together (together c d) e) one two five first second
     (two_added two (together c d) e four five (two_added two c d three four third fourth) fifth)
 
--- four additions to nothing
-pub four_added : (a b c d one two three four : Found) → one ≡ together nothing a → two ≡ together one b → three ≡ together two c
-    → four ≡ together three d → four ≡ together a (together b (together c d))
-four_added a b c d one two three four first second third fourth =
-    three_more one b c d two three four second third fourth
-    ∙ ap (λ (f : Found). together f (together b (together c d))) (first ∙ nothing-together a)
+-- five additions to nothing
+pub five_added : (a b c d e one two three four five : Found) → one ≡ together nothing a → two ≡ together one b
+    → three ≡ together two c → four ≡ together three d → five ≡ together four e
+    → five ≡ together a (together b (together c (together d e)))
+five_added a b c d e one two three four five first second third fourth fifth =
+    three_more one b c (together d e) two three five second third (two_added three d e four five fourth fifth)
+    ∙ ap (λ (f : Found). together f (together b (together c (together d e)))) (first ∙ nothing-together a)
 
 -- ---- Member by member
 

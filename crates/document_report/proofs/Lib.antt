@@ -4,6 +4,9 @@ pub mod FoundParts
 pub mod LineTexts
 pub mod PrintedNames
 pub mod Told
+pub mod RowLookups
+pub mod ChainLimits
+pub mod ParentsFound
 pub mod CheckReadings
 pub mod Faultless
 pub mod FormedParts

@@ -22,3 +22,7 @@ nine a b c d e f g h i = simp append_assoc
 pub eight : (a b c d e f g h : List ℕ)
     → ((((((a ++ b) ++ c) ++ d) ++ e) ++ f) ++ g) ++ h ≡ a ++ (b ++ (c ++ (d ++ (e ++ (f ++ (g ++ h))))))
 eight a b c d e f g h = simp append_assoc
+
+-- four
+pub four : (a b c d : List ℕ) → ((a ++ b) ++ c) ++ d ≡ a ++ (b ++ (c ++ d))
+four a b c d = simp append_assoc

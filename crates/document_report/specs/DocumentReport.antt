@@ -1,6 +1,6 @@
 -- The report of a document: what is found in its rules for cardinal numbers, then in those for ordinal numbers, then in its
--- ranges, and how many locales it has (docs/JSON.md). The locales of a part are in the order of their bytes, and so are the
--- entries of a locale's ranges.
+-- ranges, then in its parents, and how many locales it has (docs/JSON.md). The locales of a part are in the order of their
+-- bytes, and so are the entries of a locale's ranges.
 --     IsReportOf value report      this is the report of a document's value
 use Rattle.std.specs.Prelude.{◌≡◌, ◌≢◌, ℕ, ◌+◌, ◌&&◌, not, ◌-◌, ◌==◌, ◌||◌, ◌⊎◌, nat_lt, bytes_eq, List, [], ◌∷◌, ◌++◌, length, codes, count_by, filter, map, take}
 use Rattle.std.specs.Prelude.{Bool, true, IsTrue, IsFalse}
@@ -24,6 +24,7 @@ use Rattle.plural_checker.specs.declared.Fault.{Fault}
 use Rattle.plural_checker.specs.declared.Report.{Report as Checked}
 use Rattle.document_report.specs.CheckedDocument.{members_at, members_or_none, table_in}
 use Rattle.document_report.specs.Found.{Found, nothing, one_fault, one_rule, together, IsFoundIn}
+use Rattle.document_report.specs.ParentFaults.{IsFoundInParents}
 use Rattle.document_report.specs.Names.{has_underscore, is_long_name, name_text}
 use Rattle.document_report.specs.Parts.{part_name}
 use Rattle.document_report.specs.declared.entry.EntryFault.{EntryFault}
@@ -256,15 +257,16 @@ IsFoundInPartKey key value found = found ≡ found_of_part key
 abbrev pub found_of_count : ℕ → Found
 found_of_count locales = if locales == 0 then one_fault (codes "document: no locale") else nothing
 
--- what is found in the keys of the parts, and in all three parts
+-- what is found in the keys of the parts, in all three parts, and in the parents
 abbrev pub IsFoundInDocument : Data → Found → Type 0
 IsFoundInDocument document found =
-    (keys cardinal ordinal ranges : Found)
+    (keys cardinal ordinal ranges parents : Found)
     × IsFoundIn IsFoundInPartKey (members_or_none (as_object document)) keys
     × IsFoundIn (IsFoundInRules Cardinal) (members_at Cardinal document) cardinal
     × IsFoundIn (IsFoundInRules Ordinal) (members_at Ordinal document) ordinal
     × IsFoundIn (IsFoundInRanges document) (members_at Ranges document) ranges
-    × (found ≡ together keys (together cardinal (together ordinal ranges)))
+    × IsFoundInParents document parents
+    × (found ≡ together keys (together cardinal (together ordinal (together ranges parents))))
 
 pub record IsReportOf (document : Data) (report : Report) : Type 0 where
   pub locales : report.locales ≡ locale_count document

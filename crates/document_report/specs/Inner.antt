@@ -4,3 +4,4 @@ pub mod CheckViews
 pub mod CheckCalls
 pub mod CheckInputFaults
 pub mod RangeParts
+pub mod ParentRows

@@ -2,6 +2,7 @@ pub mod Parts
 pub mod Names
 pub mod CheckedDocument
 pub mod Found
+pub mod ParentFaults
 pub mod DocumentReport
 pub mod ReportText
 pub mod CheckAnswer

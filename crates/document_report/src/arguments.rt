@@ -1,10 +1,14 @@
 //! The arguments of the command line.
 
-use std::env::FillError;
-use std::rt::Env;
+ghost use Rattle.std.specs.Prelude.{◌≡◌, ◌↔◌, Err, IsFalse};
 
-/// Returns whether there is an argument after the program's name.
-pub fn has_words<E: Env>(env: &E) -> bool {
-    let mut first = [0u8; 1];
-    !matches!(env.arg(1, &mut first), Err(FillError::NotPresent))
+use std::env::FillError;
+
+/// Returns whether there is an argument, by what the environment answers that is asked for it:
+/// there is none if the answer is [`FillError::NotPresent`]. Any other answer tells of one, which
+/// may be longer than the room that was given.
+pub fn is_argument(answer: Result<usize, FillError>) -> bool
+    ensures { IsFalse result ↔ (answer ≡ Err FillError.NotPresent) }
+{
+    !matches!(answer, Err(FillError::NotPresent))
 }

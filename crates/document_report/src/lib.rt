@@ -12,6 +12,8 @@ mod languages;
 pub mod laws;
 mod locales;
 mod names;
+mod parent_rows;
+mod parents;
 mod place;
 mod report;
 pub mod run;

@@ -9,7 +9,7 @@ ghost use Rattle.document_report.specs.Names.{name_text, printed_byte};
 use std::alloc::{AllocError, Global};
 
 // The most bytes of a name that isn't long.
-const MOST_NAME_BYTES: usize = 255;
+pub(crate) const MOST_NAME_BYTES: usize = 255;
 
 // The most bytes that a name prints.
 const MOST_PRINTED_BYTES: usize = 64;

@@ -15,6 +15,7 @@ use crate::found::{Found, add_members};
 use crate::keys::PartCheck;
 use crate::languages::LanguageCheck;
 use crate::locales::locale_count;
+use crate::parents::add_parents;
 use crate::place::Part;
 use crate::tables::TableCheck;
 use serde_json::Value;
@@ -68,7 +69,7 @@ fn add_count(alloc: Global, locales: u64, found: &mut Found) -> Result<(), Alloc
     found.add_fault(String::from_str(alloc, "document: no locale")?)
 }
 
-// Returns what is found in the keys of the parts, and in the three parts.
+// Returns what is found in the keys of the parts, in the three parts, and in the parents.
 fn found_in(alloc: Global, document: &Value) -> Result<Found, AllocError>
     ensures { IfOk result (λ found. IsFoundInDocument (view document.now) found) }
 {
@@ -78,6 +79,7 @@ fn found_in(alloc: Global, document: &Value) -> Result<Found, AllocError>
     add_rules(alloc, document, Part::Ordinal, &mut found)?;
     let ranges = members_of(document, Part::Ranges);
     add_members(alloc, &TableCheck { document }, ranges, &mut found)?;
+    add_parents(alloc, document, &mut found)?;
     Ok(found)
 }
 

@@ -5,4 +5,8 @@ pub mod PartLemmas
 -- rules that choose alike for whole numbers that leave the same by 100
 pub mod Periods
 pub mod PrintedChars
+-- lines of patterns
+pub mod BranchLemmas
+pub mod TellLemmas
+pub mod TextLemmas
 pub mod ToldLemmas

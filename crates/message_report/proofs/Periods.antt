@@ -1,9 +1,9 @@
 -- Rules whose moduli divide 100 choose alike for whole numbers that leave the same by 100.
-use Rattle.std.proofs.Common.{◌≡◌, ◌≢◌, ◌⊎◌, ℕ, ◌+◌, ◌%◌, ◌<◌, ◌≤◌, List, [], ◌∷◌, Bool, true, false, refl, sym, ap, subst, ◌∙◌, arith, inl, inr, Option, Some, None}
+use Rattle.std.proofs.Common.{◌≡◌, ◌⊎◌, ℕ, ◌+◌, ◌%◌, ◌<◌, ◌≤◌, List, [], ◌∷◌, Bool, true, false, refl, sym, ap, subst, ◌∙◌, arith, inl, inr, Option, Some, None}
 use Rattle.std.specs.Prelude.{◌||◌}
 use Rattle.std.proofs.lemmas.Bool.{cases_lt, cases_order}
 use Rattle.icu_plurals.specs.FiveRules.{FiveRules, first_category, passes}
-use Rattle.icu_plurals.specs.Operands.{Operands, of_whole}
+use Rattle.icu_plurals.specs.Operands.{of_whole}
 use Rattle.icu_plurals.specs.PackedRelations.{PackedRelation}
 use Rattle.icu_plurals.specs.PackedTruth.{is_true_at, packed_truth}
 use Rattle.icu_plurals.specs.declared.PluralCategory.{PluralCategory}
@@ -15,7 +15,7 @@ use Rattle.plural_base.specs.Inner.WholeNumbers.{earlier_after, group_after, who
 use Rattle.icu_plurals.specs.declared.provider.rules.reference.ast.Operand.{Operand}
 use Rattle.icu_plurals.specs.declared.provider.rules.reference.ast.Operand.TheVariants.{N, I, V, W, F, T, C, E}
 use Rattle.message_report.specs.WholeNumberLaws.{AreLow, ArePeriodic, IsPeriodic, IsPeriodicBy, IsPeriodicIf, IsPeriodicOn, WholeNumbersTellAll}
-use Rattle.plural_checker.specs.WholeNumbers.{AreTwoLeast, HasWhole, IsLeastFrom}
+use Rattle.plural_checker.specs.WholeNumbers.{AreTwoLeast, HasWhole}
 
 -- ---- Numbers that are alike
 

@@ -1,6 +1,8 @@
 -- No definitions of the subject: words of private contracts.
 pub mod Added
+pub mod ArgumentViews
 pub mod KnownNumbers
 pub mod LanguageViews
 pub mod Reports
 pub mod ToldKeys
+pub mod ToldLines

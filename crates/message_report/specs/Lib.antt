@@ -1,9 +1,13 @@
 -- keys, forms, and the numbers that choose them
 pub mod PrintedKeys
 pub mod MessageForms
+pub mod MessageSets
 pub mod ChosenNumbers
 pub mod WholeNumberLaws
 pub mod FormFaults
+-- patterns
+pub mod PatternBranches
+pub mod PatternFaults
 -- the rules of locales
 pub mod RulesSource
 -- the report

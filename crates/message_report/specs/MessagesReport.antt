@@ -1,22 +1,33 @@
--- The report of files of messages (docs/TRANSLATORS.md): what is found in each locale, in the order of their bytes; in a locale
--- first in its keys, then in its messages for cardinal numbers, then in those for ordinal numbers; in a message form by form, and
--- then in its other keys.
+-- The report of files of messages (docs/TRANSLATORS.md): what is found in each locale, in the order of their bytes. In a locale
+-- first in its keys, then in its messages for cardinal numbers, in those for ordinal numbers, and in its patterns; in a message form
+-- by form, and then in its other keys; in a pattern argument by argument, first the missing branches, then branch by branch.
 --     IsFoundInDocument source document found      what is found in a document under the rules of a source
 --     IsFoundInFiles source files found      what is found in files, each line after the name of its file
 use Rattle.std.specs.Prelude.{◌≡◌, ℕ, ◌-◌, nat_lt, ◌||◌, bytes_eq, Bool, List, [], ◌∷◌, ◌++◌, codes, length, map, take}
-use Rattle.std.specs.Prelude.{Option, Some, None, if◌then◌else◌}
+use Rattle.std.specs.Prelude.{Option, Some, None, is_some, ◌⊎◌, if◌then◌else◌}
 use Rattle.std.specs.Fmt.{decimal}
 use Rattle.serde_json.specs.Data.{Data, Members, no_members, member}
-use Rattle.serde_json.specs.Find.{get, as_object}
+use Rattle.serde_json.specs.Find.{get, as_object, as_str}
 use Rattle.serde_json.specs.View.{view}
 use Rattle.icu_plurals.specs.FiveRules.{FiveRules}
+use Rattle.icu_plurals.specs.Categories.{name_of}
+use Rattle.icu_plurals.specs.declared.PluralCategory.{PluralCategory}
+use Rattle.icu_plurals.specs.declared.PluralCategory.TheVariants.{Zero, One, Two, Few, Many, Other}
 use Rattle.icu_plurals.specs.declared.PluralRuleType.{PluralRuleType}
 use Rattle.icu_plurals.specs.declared.PluralRuleType.TheVariants.{Cardinal, Ordinal}
+use Rattle.message_pattern.specs.PatternAnswers.{HasFault, IsPattern}
+use Rattle.message_pattern.specs.PatternErrors.{pattern_error_text}
+use Rattle.message_pattern.specs.PatternParts.{Part, Selector, Exactly, Keyword, Begin}
+use Rattle.message_pattern.specs.declared.error.FaultKind.{FaultKind}
+use Rattle.message_pattern.specs.declared.error.PatternError.TheVariants as error
 use Rattle.message_report.specs.FormFaults.{Language, HasFormFault, IsLanguageOf, form_fault_text}
 use Rattle.message_report.specs.FoundInMessages.{Found, IsFoundIn, IsFoundInEach, nothing, one_fault, one_form, one_message, together}
 use Rattle.message_report.specs.MessageForms.{form_name, form_order, has_form, is_form_name}
-use Rattle.message_report.specs.PrintedKeys.{message_text, name_text}
+use Rattle.message_report.specs.PatternBranches.{Branching}
+use Rattle.message_report.specs.PatternFaults.{PluralArgument, TwoLanguages, argument_at, branch_fault, branch_fault_text, language_of, missing_fault, type_of_kind}
+use Rattle.message_report.specs.PrintedKeys.{bytes_text, message_text, name_text}
 use Rattle.message_report.specs.RulesSource.{RulesSource, HasRules}
+use Rattle.message_report.specs.declared.branch_fault.BranchFault.{BranchFault}
 use Rattle.message_report.specs.declared.fault.FormFault.{FormFault}
 use Rattle.message_report.specs.declared.file.MessageFile.{MessageFile}
 use Rattle.message_report.specs.declared.form.Form.{Form}
@@ -149,15 +160,139 @@ abbrev pub IsFoundInPart : RulesSource → PluralRuleType → List ℕ → Optio
 IsFoundInPart source type locale None found = found ≡ nothing
 IsFoundInPart source type locale (Some part) found = IsFoundInObject source type locale (as_object part) found
 
+-- ---- A pattern
+
+-- `ru pattern files`
+abbrev pub pattern_place : List ℕ → List ℕ → List ℕ
+pattern_place locale key = locale ++ (codes " pattern " ++ key)
+
+-- `ru pattern files {n}`
+abbrev pub argument_place : List ℕ → List ℕ → List ℕ
+argument_place place name = place ++ (codes " {" ++ (bytes_text name ++ codes "}"))
+
+-- `=1`, `one`
+abbrev pub selector_text : Selector → List ℕ
+selector_text (Exactly number) = codes "=" ++ bytes_text number
+selector_text (Keyword word) = bytes_text word
+
+-- the line of a fault, if there is one: `ru pattern files {n} one: no #, but 1 and 21 are one`
+abbrev pub fault_lines : List ℕ → List ℕ → Option BranchFault → List (List ℕ)
+fault_lines place name None = []
+fault_lines place name (Some fault) = named_line place name (branch_fault_text fault) ∷ []
+
+-- the order of categories
+abbrev pub category_order : List PluralCategory
+category_order = Zero ∷ One ∷ Two ∷ Few ∷ Many ∷ Other ∷ []
+
+-- of these categories
+abbrev pub missing_lines : Language → List ℕ → PluralArgument → List PluralCategory → List (List ℕ)
+missing_lines language place a [] = []
+missing_lines language place a (category ∷ categories) =
+    fault_lines place (name_of category) (missing_fault language a category) ++ missing_lines language place a categories
+
+-- the selectors with which a further one is compared: the first ones of the argument
+abbrev pub most_compared : ℕ
+most_compared = 32
+
+-- of these branches, behind some selectors
+abbrev pub branch_lines : Language → List ℕ → PluralArgument → List Selector → List Branching → List (List ℕ)
+branch_lines language place a before [] = []
+branch_lines language place a before (b ∷ bs) =
+    fault_lines place (selector_text b.selector) (branch_fault language a (take most_compared before) b)
+    ++ branch_lines language place a (before ++ b.selector ∷ []) bs
+
+abbrev pub language_lines : Language → List ℕ → PluralArgument → List (List ℕ)
+language_lines language place a = missing_lines language place a category_order ++ branch_lines language place a [] a.branches
+
+-- `ru pattern files {n}: no cardinal rules`
+abbrev pub lines_under : PluralRuleType → List ℕ → Option Language → PluralArgument → List (List ℕ)
+lines_under type place None a = place_line place (no_rules_text type) ∷ []
+lines_under type place (Some language) a = language_lines language place a
+
+-- of an argument with rules of a type; a select has none
+abbrev pub argument_lines : TwoLanguages → List ℕ → Option PluralRuleType → PluralArgument → List (List ℕ)
+argument_lines two place None a = []
+argument_lines two place (Some type) a = lines_under type (argument_place place a.name) (language_of two type) a
+
+-- of a part that these parts follow, if it begins an argument
+abbrev pub part_lines : TwoLanguages → List ℕ → Part → List Part → List (List ℕ)
+part_lines two place p ps =
+    elim p.piece as (λ _. List (List ℕ)) [
+      | Begin kind name offset ↦ argument_lines two place (type_of_kind kind)
+          (argument_at name (is_some offset) p.depth ps)
+      | _ ↦ []
+    ]
+
+-- of each argument, however deep, in the order in which they begin
+abbrev pub pattern_lines : TwoLanguages → List ℕ → List Part → List (List ℕ)
+pattern_lines two place [] = []
+pattern_lines two place (p ∷ ps) = part_lines two place p ps ++ pattern_lines two place ps
+
+-- the first lines are told, and the others are counted in one
+abbrev pub found_of_lines : List ℕ → List (List ℕ) → Found
+found_of_lines place lines = record {
+  lines = take most_told lines ++ rest_lines place (length lines);
+  messages = 0;
+  forms = 0;
+  faults = length lines;
+}
+
+-- `ru pattern files: no pattern: a brace isn't closed at byte 2`
+abbrev pub no_pattern_line : List ℕ → FaultKind → ℕ → List ℕ
+no_pattern_line place kind byte = place_line place (codes "no pattern: " ++ pattern_error_text (error.Fault kind byte))
+
+-- of a text: what is wrong with the arguments of the pattern, or its first fault if it is none
+abbrev pub IsFoundInText : TwoLanguages → List ℕ → List ℕ → Found → Type 0
+IsFoundInText two place text found =
+    ((parts : List Part) × IsPattern text parts × (found ≡ found_of_lines place (pattern_lines two place parts)))
+    ⊎ ((kind : FaultKind) × (byte : ℕ) × HasFault text kind byte × (found ≡ one_fault (no_pattern_line place kind byte)))
+
+-- of a value, which should be a text
+abbrev pub IsFoundInTextIf : TwoLanguages → List ℕ → Option (List ℕ) → Found → Type 0
+IsFoundInTextIf two place None found = found ≡ one_fault (place_line place (codes "no text"))
+IsFoundInTextIf two place (Some text) found = IsFoundInText two place text found
+
+-- a pattern is counted as a message
+abbrev pub IsFoundInPattern : TwoLanguages → List ℕ → List ℕ → Data → Found → Type 0
+IsFoundInPattern two locale key value found =
+    (more : Found) × IsFoundInTextIf two (pattern_place locale (message_text key)) (as_str value) more
+    × (found ≡ together one_message more)
+
+-- ---- The patterns of a locale
+
+-- the languages of the locale's rules of both types
+abbrev pub HaveLanguages : RulesSource → List ℕ → TwoLanguages → Type 0
+HaveLanguages source locale two = HasLanguage source Cardinal locale two.cardinal × HasLanguage source Ordinal locale two.ordinal
+
+abbrev pub patterns_name : List ℕ
+patterns_name = codes "patterns"
+
+-- `ru patterns`
+abbrev pub patterns_place : List ℕ → List ℕ
+patterns_place locale = locale ++ codes " patterns"
+
+abbrev pub IsFoundInPatterns : RulesSource → List ℕ → Members → Found → Type 0
+IsFoundInPatterns source locale members found =
+    (two : TwoLanguages) × HaveLanguages source locale two × IsFoundIn (IsFoundInPattern two (name_text locale)) members found
+
+abbrev pub IsFoundInPatternsObject : RulesSource → List ℕ → Option Members → Found → Type 0
+IsFoundInPatternsObject source locale None found =
+    found ≡ one_fault (place_line (patterns_place (name_text locale)) (codes "no object"))
+IsFoundInPatternsObject source locale (Some members) found = IsFoundInPatterns source locale members found
+
+abbrev pub IsFoundInPatternsPart : RulesSource → List ℕ → Option Data → Found → Type 0
+IsFoundInPatternsPart source locale None found = found ≡ nothing
+IsFoundInPatternsPart source locale (Some part) found = IsFoundInPatternsObject source locale (as_object part) found
+
 -- ---- The document
 
-abbrev pub is_type_name : List ℕ → Bool
-is_type_name key = bytes_eq key (type_name Cardinal) || bytes_eq key (type_name Ordinal)
+abbrev pub is_part_name : List ℕ → Bool
+is_part_name key = bytes_eq key (type_name Cardinal) || bytes_eq key (type_name Ordinal) || bytes_eq key patterns_name
 
 -- `ru cardinals: not a part`
 abbrev pub found_of_part_key : List ℕ → List ℕ → Found
 found_of_part_key locale key =
-    if is_type_name key then nothing else one_fault (named_line locale (name_text key) (codes "not a part"))
+    if is_part_name key then nothing else one_fault (named_line locale (name_text key) (codes "not a part"))
 
 abbrev pub IsFoundInPartKey : List ℕ → List ℕ → Data → Found → Type 0
 IsFoundInPartKey locale key value found = found ≡ found_of_part_key locale key
@@ -170,11 +305,17 @@ IsFoundInBoth source locale value found =
     × IsFoundInPart source Ordinal locale (get (type_name Ordinal) value) ordinal
     × (found ≡ together cardinal ordinal)
 
--- in a locale: in its keys, and in both parts
+-- and then patterns
+abbrev pub IsFoundInAll : RulesSource → List ℕ → Data → Found → Type 0
+IsFoundInAll source locale value found =
+    (both patterns : Found) × IsFoundInBoth source locale value both
+    × IsFoundInPatternsPart source locale (get patterns_name value) patterns × (found ≡ together both patterns)
+
+-- in a locale: in its keys, and in all parts
 abbrev pub IsFoundInParts : RulesSource → List ℕ → Data → Option Members → Found → Type 0
 IsFoundInParts source locale value None found = found ≡ one_fault (place_line (name_text locale) (codes "no object"))
 IsFoundInParts source locale value (Some members) found =
-    (keys parts : Found) × IsFoundIn (IsFoundInPartKey (name_text locale)) members keys × IsFoundInBoth source locale value parts
+    (keys parts : Found) × IsFoundIn (IsFoundInPartKey (name_text locale)) members keys × IsFoundInAll source locale value parts
     × (found ≡ together keys parts)
 
 abbrev pub IsFoundInLocale : RulesSource → List ℕ → Data → Found → Type 0

@@ -4,6 +4,7 @@ use Rattle.std.specs.Prelude.{ℕ, ◌/◌, ◌%◌, ◌==◌, nat_lt, Bool, not
 use Rattle.std.specs.Char.{digit_char}
 use Rattle.std.specs.Fmt.{decimal}
 use Rattle.std.specs.List.{flat_map}
+use Rattle.std.specs.Str.{is_utf8}
 
 -- a byte that is printed as it is: no control character of ASCII and no backslash
 abbrev pub is_plain : ℕ → Bool
@@ -43,3 +44,7 @@ message_text key = key_text most_message_bytes key
 
 abbrev pub name_text : List ℕ → List ℕ
 name_text key = key_text most_key_bytes key
+
+-- bytes of a pattern, which is a text: the length in place of bytes that cut a character
+abbrev pub bytes_text : List ℕ → List ℕ
+bytes_text bytes = if is_utf8 bytes then name_text bytes else length_text bytes

@@ -3,8 +3,8 @@
 ghost use Rattle.std.specs.Prelude.{◌≡◌, codes, IfOk, OnOk, Some, string_bytes};
 ghost use Rattle.message_report.specs.FoundInMessages.{together, IsFoundIn};
 ghost use Rattle.message_report.specs.Inner.Added.{Adds};
-ghost use Rattle.message_report.specs.MessagesReport.{found_of_part_key, is_type_name, place_line};
-ghost use Rattle.message_report.specs.MessagesReport.{IsFoundInBoth, IsFoundInDocument, IsFoundInLocale, IsFoundInPartKey, IsFoundInParts};
+ghost use Rattle.message_report.specs.MessagesReport.{found_of_part_key, is_part_name, place_line};
+ghost use Rattle.message_report.specs.MessagesReport.{IsFoundInAll, IsFoundInBoth, IsFoundInDocument, IsFoundInLocale, IsFoundInPartKey, IsFoundInParts};
 ghost use Rattle.message_report.specs.PrintedKeys.{name_text};
 ghost use Rattle.serde_json.specs.Find.{as_object};
 ghost use Rattle.serde_json.specs.View.{members_view, view};
@@ -12,6 +12,7 @@ ghost use Rattle.serde_json.specs.View.{members_view, view};
 use crate::found::{Found, MemberCheck, add_members};
 use crate::keys::{named_line, place_line};
 use crate::part::add_part;
+use crate::patterns::add_patterns;
 use crate::printed_key::name_text;
 use crate::source::RulesOfLocales;
 use icu_plurals::PluralRuleType;
@@ -91,10 +92,24 @@ fn add_locale<S: RulesOfLocales>(
 {
     let name = name_text(alloc, locale)?;
     add_part_keys(alloc, name.as_str(), members, found)?;
-    add_parts(alloc, source, locale, value, found)
+    add_all(alloc, source, locale, value, found)
 }
 
-// Adds what is found in both parts of a locale.
+// Adds what is found in all parts of a locale.
+fn add_all<S: RulesOfLocales>(
+    alloc: Global,
+    source: &S,
+    locale: &str,
+    value: &Value,
+    found: &mut Found,
+) -> Result<(), AllocError>
+    ensures { OnOk result (Adds (IsFoundInAll (S.source source.now) locale.now (view value.now)) found.old found.new) }
+{
+    add_parts(alloc, source, locale, value, found)?;
+    add_patterns(alloc, source, locale, value, found)
+}
+
+// Adds what is found in the messages of both types.
 fn add_parts<S: RulesOfLocales>(
     alloc: Global,
     source: &S,
@@ -151,7 +166,7 @@ impl<'a> MemberCheck for PartKeyCheck<'a> {
 fn add_part_key(alloc: Global, locale: &str, key: &str, found: &mut Found) -> Result<(), AllocError>
     ensures { OnOk result (found.new ≡ together found.old (found_of_part_key locale.now key.now)) }
 {
-    if is_type_name(key) {
+    if is_part_name(key) {
         return Ok(());
     }
     let name = name_text(alloc, key)?;
@@ -159,8 +174,8 @@ fn add_part_key(alloc: Global, locale: &str, key: &str, found: &mut Found) -> Re
 }
 
 // Returns whether a key names a part.
-fn is_type_name(key: &str) -> bool
-    ensures { result ≡ is_type_name key.now }
+fn is_part_name(key: &str) -> bool
+    ensures { result ≡ is_part_name key.now }
 {
-    key == "cardinal" || key == "ordinal"
+    key == "cardinal" || key == "ordinal" || key == "patterns"
 }

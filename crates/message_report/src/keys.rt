@@ -13,8 +13,8 @@ use crate::printed_key::name_text;
 use serde_json::{Map, Value};
 use std::alloc::{AllocError, Global};
 
-// The most such keys of a message that have a line each.
-const MOST_TOLD: u64 = 10;
+// The most such keys of a message, or faults of a pattern, that have a line each.
+pub(crate) const MOST_TOLD: u64 = 10;
 
 // Adds what is found in the keys that name no form: the first ones have a line each, and the others one.
 pub(crate) fn add_keys(
@@ -68,8 +68,13 @@ fn tell(
     found.add_fault(line)
 }
 
-// Adds a line for the keys that aren't told, if there are any.
-fn add_rest(alloc: Global, place: &str, count: u64, found: &mut Found) -> Result<(), AllocError>
+// Adds a line for what isn't told, if there is any.
+pub(crate) fn add_rest(
+    alloc: Global,
+    place: &str,
+    count: u64,
+    found: &mut Found,
+) -> Result<(), AllocError>
     ensures { OnOk result (found.new ≡ together found.old (lines_alone (rest_lines place.now count))) }
 {
     if count <= MOST_TOLD {
@@ -79,7 +84,7 @@ fn add_rest(alloc: Global, place: &str, count: u64, found: &mut Found) -> Result
     found.add_line(line)
 }
 
-// Returns the line for this many keys.
+// Returns the line for this many more.
 fn rest_line(alloc: Global, place: &str, rest: u64) -> Result<String, AllocError>
     ensures { IfOk result (λ line. string_bytes line ≡ rest_line place.now rest) }
 {

@@ -1,7 +1,10 @@
 //! The report of files of messages under plural rules: which forms are missing, unused or without the number.
 #![tactic(auto)]
 
+mod argument;
+mod branch_fault;
 mod category_numbers;
+mod category_set;
 mod counts;
 mod document;
 mod error;
@@ -14,11 +17,15 @@ mod language;
 pub mod laws;
 mod message;
 mod part;
+mod pattern;
+mod pattern_lines;
+mod patterns;
 mod printed_key;
 mod report;
 pub mod run;
 mod source;
 
+pub use category_set::category_set;
 pub use counts::Counts;
 pub use error::ReportError;
 pub use fault::FormFault;

@@ -104,7 +104,7 @@ fn add_messages<S: RulesOfLocales>(
 }
 
 // Returns the language of a locale's rules, if there are any.
-fn language_at<S: RulesOfLocales>(
+pub(crate) fn language_at<S: RulesOfLocales>(
     source: &S,
     rule_type: PluralRuleType,
     locale: &str,
@@ -156,7 +156,7 @@ fn add_no_rules(
 }
 
 // Returns what is told of missing rules.
-fn no_rules_text(rule_type: PluralRuleType) -> &'static str
+pub(crate) fn no_rules_text(rule_type: PluralRuleType) -> &'static str
     ensures { result.now ≡ no_rules_text rule_type }
 {
     match rule_type {

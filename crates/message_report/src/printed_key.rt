@@ -4,7 +4,7 @@ ghost use Rattle.std.specs.Prelude.{◌≡◌, ◌<◌, ◌++◌, IfOk, OnOk, st
 ghost use Rattle.std.specs.Char.{digit_char, encode_utf8};
 ghost use Rattle.std.specs.List.{flat_map};
 ghost use Rattle.message_report.specs.PrintedKeys.{byte_escape, escaped_key, is_plain, key_text, length_text};
-ghost use Rattle.message_report.specs.PrintedKeys.{message_text, name_text, printed_byte};
+ghost use Rattle.message_report.specs.PrintedKeys.{bytes_text, message_text, name_text, printed_byte};
 
 use std::alloc::{AllocError, Global};
 
@@ -26,6 +26,23 @@ pub(crate) fn name_text(alloc: Global, key: &str) -> Result<String, AllocError>
     ensures { IfOk result (λ text. string_bytes text ≡ name_text key.now) }
 {
     key_text(alloc, MOST_KEY_BYTES, key)
+}
+
+// Returns what is printed for bytes of a pattern.
+pub(crate) fn bytes_text(alloc: Global, bytes: &[u8]) -> Result<String, AllocError>
+    ensures { IfOk result (λ text. string_bytes text ≡ bytes_text bytes.now) }
+{
+    match std::str::from_utf8(bytes) {
+        Ok(text) => name_text(alloc, text),
+        Err(_) => cut_text(alloc, bytes),
+    }
+}
+
+// Returns what is printed in place of bytes that are no text.
+fn cut_text(alloc: Global, bytes: &[u8]) -> Result<String, AllocError>
+    ensures { IfOk result (λ text. string_bytes text ≡ length_text bytes.now) }
+{
+    format!(in alloc; "\\({} bytes)", bytes.len())
 }
 
 // Returns what is printed for a key, in at most so many bytes. Of a longer one no other text is made.

@@ -4,6 +4,7 @@
 --     has_rule texts category      the category is other, or its text is present
 --     is_long text      the text is longer than those that are checked
 --     categories_with_rule rules      the categories that have a rule
+--     categories_with_value elements      the categories whose value is present in elements
 --     without set others      the categories of one set that are not in another
 use Rattle.std.specs.Prelude.{ℕ, Bool, true, not, ◌&&◌, List, length, nat_lt, ◌||◌, Option, is_some}
 use Rattle.std.specs.Option.{option_copied}
@@ -11,6 +12,7 @@ use Rattle.icu_plurals.specs.declared.PluralCategory.{PluralCategory}
 use Rattle.icu_plurals.specs.declared.PluralCategory.TheVariants.{Zero, One, Two, Few, Many, Other}
 use Rattle.icu_plurals.specs.FiveRules.{Five, FiveRules, passes}
 use Rattle.icu_plurals.specs.RuleTexts.{texts_of}
+use Rattle.icu_plurals.specs.Elements.{Elements}
 use Rattle.plural_checker.specs.declared.coverage.CategorySet.{CategorySet}
 use Rattle.plural_checker.specs.declared.texts.LanguageTexts.{LanguageTexts}
 
@@ -54,6 +56,15 @@ categories_with_rule rules = record {
   two = is_some rules.two;
   few = is_some rules.few;
   many = is_some rules.many;
+}
+
+abbrev pub categories_with_value : {T : Type 0} → Elements T → CategorySet
+categories_with_value elements = record {
+  zero = is_some elements.zero;
+  one = is_some elements.one;
+  two = is_some elements.two;
+  few = is_some elements.few;
+  many = is_some elements.many;
 }
 
 abbrev pub without : CategorySet → CategorySet → CategorySet

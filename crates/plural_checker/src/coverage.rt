@@ -2,9 +2,10 @@
 
 ghost use Rattle.std.specs.Prelude.{◌≡◌};
 ghost use Rattle.icu_plurals.specs.FiveRules.{rules_of};
-ghost use Rattle.plural_checker.specs.LanguageTexts.{categories_with_rule, without};
+ghost use Rattle.plural_checker.specs.LanguageTexts.{categories_with_rule, categories_with_value, without};
 
 use icu_plurals::provider::PluralRulesData;
+use icu_plurals::{PluralCategory, PluralElements};
 
 /// A set of categories, without other.
 #[derive(Clone, Copy, Debug, Default, PartialEq, Eq)]
@@ -32,6 +33,21 @@ impl CategorySet {
             two: rules.two.is_some(),
             few: rules.few.is_some(),
             many: rules.many.is_some(),
+        }
+    }
+
+    /// Returns the categories whose value is present in elements: those for which
+    /// [`get`](PluralElements::get) doesn't fall back on other. The values for exactly 0 and 1
+    /// belong to no category. It allocates nothing.
+    pub fn of_elements<T>(elements: &PluralElements<T>) -> CategorySet
+        ensures { result ≡ categories_with_value elements.now }
+    {
+        CategorySet {
+            zero: elements.has_value_of(PluralCategory::Zero),
+            one: elements.has_value_of(PluralCategory::One),
+            two: elements.has_value_of(PluralCategory::Two),
+            few: elements.has_value_of(PluralCategory::Few),
+            many: elements.has_value_of(PluralCategory::Many),
         }
     }
 

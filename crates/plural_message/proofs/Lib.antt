@@ -1,2 +1,3 @@
+pub mod Chosen
 pub mod Fillings
 pub mod OneWay

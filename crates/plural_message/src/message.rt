@@ -68,7 +68,9 @@ impl<'a> Message<'a> {
     /// Returns the message for a number, which is given as a text: a decimal, with a compact
     /// exponent or not. Its operands and the rules choose an element (UTS 35 Part 3, Language
     /// Plural Rules), and in the element's text each `{}`, from the left, is replaced by the
-    /// number's text as it was given. There is no escape for `{}`. It allocates the message.
+    /// number's text as it was given. There is no escape for `{}`. It allocates the message; a number
+    /// of at most 18 digits on each side of the point and without an exponent is read in one walk,
+    /// and takes no memory.
     ///
     /// For example:
     ///
@@ -109,8 +111,11 @@ impl<'a> Message<'a> {
             ↔ ((x : CompactNumber) × WritesCompact number.now x × IsCompactOverLimit x) }
         ensures memory { ¬ (result ≡ Err (MessageError.Number DecimalError.Memory)) }
     {
-        let compact = CompactDecimal::from_str(alloc, number)?;
-        Ok(self.format_number(alloc, &compact, number, rules)?)
+        // Within the exactness bound the element is that of the number itself.
+        kept_element_is_exact();
+        let written = PluralOperands::from_compact_text(alloc, number)?;
+        let (_, shown) = self.elements.get(written, rules);
+        Ok(fill(alloc, shown, number)?)
     }
 
     /// Returns the message for a number as [`Message::format`] does, with the same errors, under
@@ -130,28 +135,11 @@ impl<'a> Message<'a> {
             ↔ ((x : CompactNumber) × WritesCompact number.now x × IsCompactOverLimit x) }
         ensures memory { ¬ (result ≡ Err (MessageError.Number DecimalError.Memory)) }
     {
-        let value = CompactDecimal::from_str(alloc, number)?;
-        Ok(self.format_by_tables(alloc, &value, number, rules)?)
-    }
-
-    // The message for a number that was read already, under prepared rules.
-    fn format_by_tables(
-        &self,
-        alloc: Global,
-        number: &CompactDecimal,
-        text: &str,
-        rules: &PreparedRules<'_>,
-    ) -> Result<String, AllocError>
-        ensures kept { IfOk result (λ filled.
-            IsMessageWith (IsKeptElement self.now rules.now) number.now text.now (string_bytes filled)) }
-        ensures exact { IfOk result (λ filled.
-            IsMessageWith (IsExactElement self.now rules.now) number.now text.now (string_bytes filled)) }
-    {
         // Within the exactness bound the element is that of the number itself.
         kept_element_is_exact();
-        let op = PluralOperands::from(number);
+        let op = PluralOperands::from_compact_text(alloc, number)?;
         let (_, found) = self.elements.get_prepared(op, rules);
-        fill(alloc, found, text)
+        Ok(fill(alloc, found, number)?)
     }
 
     /// Returns the message for a number that was read already, with a text to show for it: as it

@@ -1,5 +1,5 @@
-//! Growth that is refused, writers that fail, traits and paths at concrete types, texts of errors, and the examples of the pages: a
-//! file for each crate and subject.
+//! Growth that is refused, writers that fail, traits and paths at concrete types, and the examples of the pages: a file for each
+//! crate and subject.
 
 mod assertion;
 mod fixed_decimal_examples;
@@ -10,14 +10,12 @@ mod icu_plurals_json;
 mod icu_plurals_packing;
 mod icu_plurals_paths;
 mod packed_list_lists;
-mod plural_base_errors;
 mod plural_base_growth;
 mod plural_base_ranges;
 mod plural_base_rules;
 mod plural_checker_reports;
 mod plural_exports_growth;
 mod plural_message_messages;
-mod plural_reference_errors;
 mod plural_reference_examples;
 mod plural_reference_growth;
 mod plural_reference_printing;

@@ -3,4 +3,5 @@
 
 mod assertion;
 mod commands;
+mod pieces;
 mod report;

@@ -1,7 +1,7 @@
-//! The examples of the pages of `fixed_decimal`, and the texts of its errors.
+//! The examples of the pages of `fixed_decimal`.
 
 use crate::tests::assertion::holds;
-use fixed_decimal::{CompactDecimal, Decimal, DecimalError, Sign, UnsignedDecimal};
+use fixed_decimal::{CompactDecimal, Decimal, Sign, UnsignedDecimal};
 use std::test::Fail;
 
 // Whether a number has these places and digits, the highest first.
@@ -57,19 +57,6 @@ fn an_exponent_moves_places_to_the_left_of_the_point(rt: HostRuntime) -> Result<
     for (text, exponent, places) in rows {
         let decimal = UnsignedDecimal::from_str(rt.alloc(), text)?;
         holds!(rt; decimal.places_after(exponent) == places, text);
-    }
-    Ok(())
-}
-
-#[test]
-fn an_error_prints_its_text(rt: HostRuntime) -> Result<(), Fail> {
-    let rows = [
-        (DecimalError::Syntax, "bad number"),
-        (DecimalError::Limit, "number out of limits"),
-        (DecimalError::Memory, "out of memory"),
-    ];
-    for (error, text) in rows {
-        holds!(rt; error.to_string(rt.alloc())?.as_str() == text);
     }
     Ok(())
 }

@@ -1,9 +1,8 @@
-//! Packed lists: examples of the pages, growth that is refused, the texts of errors.
+//! Packed lists: examples of the pages, growth that is refused.
 
 use crate::tests::assertion::holds;
-use packed_list::{ListError, PackError, PackedList};
+use packed_list::{PackError, PackedList};
 use std::alloc::Global;
-use std::test::Fail;
 
 // The list of `ab`, the empty item and `cd`.
 const THREE_ITEMS: &[u8] = b"\x03\x00\x02\x00\x02\x00abcd";
@@ -42,26 +41,4 @@ fn packs_again_after_a_refused_growth(rt: HostRuntime) {
     holds!(rt; second == None || second == Some(true));
     holds!(rt; first == Some(true) || second == Some(true));
     holds!(rt; PackedList::encode(rt.alloc(), &[]).is_ok(), "no item takes no memory");
-}
-
-#[test]
-fn errors_say_what_is_wrong(rt: HostRuntime) -> Result<(), Fail> {
-    let alloc = rt.alloc();
-    let lists = [
-        (ListError::Header, "list header too short"),
-        (ListError::ZeroCount, "list without items"),
-        (ListError::Start, "bad start of a list item"),
-    ];
-    for (error, expected) in lists {
-        holds!(rt; format!(in alloc; "{error}")?.as_str() == expected);
-    }
-    let packs = [
-        (PackError::CountLimit, "too many list items"),
-        (PackError::StartLimit, "list too long"),
-        (PackError::Memory, "out of memory"),
-    ];
-    for (error, expected) in packs {
-        holds!(rt; format!(in alloc; "{error}")?.as_str() == expected);
-    }
-    Ok(())
 }

@@ -1,11 +1,13 @@
-//! Growth that is refused in reading, writing and cloning rules, documents and ranges.
+//! Growth that is refused in reading, writing and cloning rules, documents and ranges. Each function makes a call and returns
+//! whether its result is the wanted one, or `None` if memory ran out.
 
 use crate::tests::assertion::holds;
 use plural_base::*;
 use plural_reference::PluralOperands;
 use plural_runtime::RuleError;
 use serde_json::Value;
-use std::test::Fail;
+use std::alloc::Global;
+use std::process::Abort;
 
 // Five rules as CLDR writes them, samples included.
 const ZERO: Option<&str> = Some(
@@ -48,214 +50,186 @@ const DOCUMENT_WITH_RANGES: &str = "{
 const ONE_AND_FEW: &[u8] =
     b"\x02\0\x10\0\x01\x01\0\xc0\0\0\0\0\x01\0\0\0\x01\0\0\0\x03\x01\0\xc0\0\0\0\0\x02\0\0\0\x02\0\0\0";
 
-// If a growth is refused, the call returns out of memory; called again with memory, it succeeds.
+// No result if memory ran out, and else a wrong one.
+fn refused(is_memory: bool) -> Option<bool> {
+    if is_memory { None } else { Some(false) }
+}
+
+fn reads_texts(alloc: Global) -> Option<bool> {
+    let (one, many) = (Some("n = 1"), Some("n % 100 = 11..99 or n = 1000000"));
+    match PluralRulesData::from_texts(alloc, None, one, None, None, many) {
+        Ok(data) => {
+            let rules = PluralRules::from_data(data);
+            Some(rules.category_for(PluralOperands::from(111u64)) == PluralCategory::Many)
+        }
+        Err(RulesTextError { category, error }) => {
+            let is_of_text = category == PluralCategory::One || category == PluralCategory::Many;
+            refused(is_of_text && error == RuleError::Memory)
+        }
+    }
+}
+
+// Clones rules that were read from texts.
+fn clones(read: Result<PluralRulesData<'static>, RulesTextError>) -> Option<bool> {
+    match read {
+        Ok(data) => match data.try_clone() {
+            Ok(copy) => Some(copy == data),
+            Err(_) => None,
+        },
+        Err(error) => refused(error.error == RuleError::Memory),
+    }
+}
+
+fn clones_rules(alloc: Global) -> Option<bool> {
+    let (one, many) = (Some("n = 1"), Some("n % 100 = 11..99"));
+    clones(PluralRulesData::from_texts(alloc, None, one, None, None, many))
+}
+
+fn clones_whole_rules(alloc: Global) -> Option<bool> {
+    clones(PluralRulesData::from_texts(alloc, ZERO, ONE, None, FEW, MANY))
+}
+
+// Reads a document that has ordinal rules of a locale, and its ranges or none.
+fn reads_document(alloc: Global, text: &str, locale: &str, has_ranges: bool) -> Option<bool> {
+    let Ok(value) = Value::from_str(alloc, text) else {
+        return None;
+    };
+    match JsonProvider::from_value(alloc, &value) {
+        Ok(provider) => {
+            let is_found = provider.load_ranges(locale).is_ok() == has_ranges;
+            Some(is_found && provider.load_ordinal(locale).is_ok())
+        }
+        Err(error) => refused(error == JsonError::Memory),
+    }
+}
+
+fn reads_rules(alloc: Global) -> Option<bool> {
+    let Ok(value) = Value::from_str(alloc, "{\"one\":\"n = 1\",\"many\":\"i % 100 = 11\"}") else {
+        return None;
+    };
+    match PluralRulesData::from_json(alloc, &value) {
+        Ok(rules) => Some(rules.one.is_some() && rules.many.is_some()),
+        Err(error) => refused(error == JsonError::Memory),
+    }
+}
+
+fn writes_rules(alloc: Global) -> Option<bool> {
+    let one = Some("n = 1");
+    let Ok(rules) = PluralRulesData::from_texts(alloc, None, one, None, None, None) else {
+        return None;
+    };
+    match rules.to_json(alloc) {
+        Ok(value) => Some(value.get("one").and_then(Value::as_str) == one),
+        Err(error) => refused(error == JsonError::Memory),
+    }
+}
+
+fn writes_ranges(alloc: Global) -> Option<bool> {
+    let (other, one) = (RawPluralCategory::Other, RawPluralCategory::One);
+    let (few, many) = (RawPluralCategory::Few, RawPluralCategory::Many);
+    let mut ranges = PluralRanges::new();
+    ranges.insert(other, one, few);
+    ranges.insert(one, many, many);
+    match ranges.to_json(alloc) {
+        Ok(value) => Some(PluralRanges::from_json(&value) == Ok(ranges)),
+        Err(error) => refused(error == JsonError::Memory),
+    }
+}
+
+fn writes_range(alloc: Global) -> Option<bool> {
+    let (one, other) = (RawPluralCategory::One, RawPluralCategory::Other);
+    match UnvalidatedPluralRange::from_range(one, other).to_json(alloc) {
+        Ok(value) => Some(value.as_str() == Some("one--other")),
+        Err(error) => refused(error == JsonError::Memory),
+    }
+}
+
+fn writes_bytes(alloc: Global) -> Option<bool> {
+    let Ok(rules) = PluralRulesData::from_bytes(ONE_AND_FEW) else {
+        return Some(false);
+    };
+    match rules.to_bytes(alloc) {
+        Ok(bytes) => Some(bytes.as_slice() == ONE_AND_FEW),
+        Err(error) => refused(error == RulesPackError::Memory),
+    }
+}
+
+// If a growth is refused, a call returns out of memory; called again with memory, it succeeds.
+fn is_answered(rt: &impl Abort, first: Option<bool>, second: Option<bool>) {
+    holds!(rt; first == Some(true) || second == Some(true));
+    holds!(rt; first != Some(false) && second != Some(false));
+}
+
 #[test]
 fn growth_may_be_refused_in_reading_texts(rt: HostRuntime) {
-    let (one, many) = (Some("n = 1"), Some("n % 100 = 11..99 or n = 1000000"));
-    let mut refused = 0u8;
-    for _ in 0..2u8 {
-        match PluralRulesData::from_texts(rt.alloc(), None, one, None, None, many) {
-            Ok(data) => {
-                let rules = PluralRules::from_data(data);
-                holds!(rt; rules.category_for(PluralOperands::from(111u64)) == PluralCategory::Many);
-            }
-            Err(error) => {
-                holds!(rt; error.error == RuleError::Memory);
-                holds!(rt; error.category == PluralCategory::One || error.category == PluralCategory::Many);
-                refused = refused.saturating_add(1);
-            }
-        }
-    }
-    holds!(rt; refused <= 1);
+    let alloc = rt.alloc();
+    let first = reads_texts(alloc);
+    is_answered(&rt, first, reads_texts(alloc));
 }
 
 #[test]
-fn growth_may_be_refused_in_clones(rt: HostRuntime) -> Result<(), Fail> {
-    let (one, many) = (Some("n = 1"), Some("n % 100 = 11..99"));
-    let mut refused = 0u8;
-    for _ in 0..2u8 {
-        let Ok(data) = PluralRulesData::from_texts(rt.alloc(), None, one, None, None, many) else {
-            refused = refused.saturating_add(1);
-            continue;
-        };
-        match data.try_clone() {
-            Ok(copy) => holds!(rt; copy == data),
-            Err(_) => {
-                refused = refused.saturating_add(1);
-                holds!(rt; data.try_clone()? == data);
-            }
-        }
-    }
-    holds!(rt; refused <= 1);
-    Ok(())
+fn growth_may_be_refused_in_clones(rt: HostRuntime) {
+    let alloc = rt.alloc();
+    let first = clones_rules(alloc);
+    is_answered(&rt, first, clones_rules(alloc));
 }
 
-// If a growth is refused, reading and cloning return out of memory; called again with memory, they succeed.
 #[test]
 fn growth_may_be_refused_in_whole_rules(rt: HostRuntime) {
-    let mut refused = 0u8;
-    for _ in 0..2u8 {
-        match PluralRulesData::from_texts(rt.alloc(), ZERO, ONE, None, FEW, MANY) {
-            Ok(data) => match data.try_clone() {
-                Ok(copy) => holds!(rt; copy == data),
-                Err(_) => refused = refused.saturating_add(1),
-            },
-            Err(error) => {
-                holds!(rt; error.error == RuleError::Memory);
-                refused = refused.saturating_add(1);
-            }
-        }
-    }
-    holds!(rt; refused <= 1);
+    let alloc = rt.alloc();
+    let first = clones_whole_rules(alloc);
+    is_answered(&rt, first, clones_whole_rules(alloc));
 }
 
-// If a growth is refused, reading a document returns out of memory; called again with memory, it succeeds.
 #[test]
 fn growth_may_be_refused_in_a_document_of_whole_rules(rt: HostRuntime) {
-    let mut refused = 0u8;
-    for _ in 0..2u8 {
-        let Ok(value) = Value::from_str(rt.alloc(), DOCUMENT) else {
-            refused = refused.saturating_add(1);
-            continue;
-        };
-        match JsonProvider::from_value(rt.alloc(), &value) {
-            Ok(provider) => holds!(rt; provider.load_ordinal("bn").is_ok()),
-            Err(error) => {
-                holds!(rt; error == JsonError::Memory);
-                refused = refused.saturating_add(1);
-            }
-        }
-    }
-    holds!(rt; refused <= 1);
+    let alloc = rt.alloc();
+    let first = reads_document(alloc, DOCUMENT, "bn", false);
+    is_answered(&rt, first, reads_document(alloc, DOCUMENT, "bn", false));
 }
 
-// If a growth is refused, reading returns out of memory; called again with memory, it succeeds.
 #[test]
 fn growth_may_be_refused_in_reading_rules(rt: HostRuntime) {
-    let mut refused = 0u8;
-    for _ in 0..2u8 {
-        let Ok(value) = Value::from_str(rt.alloc(), "{\"one\":\"n = 1\",\"many\":\"i % 100 = 11\"}")
-        else {
-            refused = refused.saturating_add(1);
-            continue;
-        };
-        match PluralRulesData::from_json(rt.alloc(), &value) {
-            Ok(rules) => holds!(rt; rules.one.is_some() && rules.many.is_some()),
-            Err(error) => {
-                holds!(rt; error == JsonError::Memory);
-                refused = refused.saturating_add(1);
-            }
-        }
-    }
-    holds!(rt; refused <= 1);
+    let alloc = rt.alloc();
+    let first = reads_rules(alloc);
+    is_answered(&rt, first, reads_rules(alloc));
 }
 
-// If a growth is refused, writing returns out of memory; called again with memory, it succeeds.
 #[test]
 fn growth_may_be_refused_in_writing_rules(rt: HostRuntime) {
-    let mut refused = 0u8;
-    for _ in 0..2u8 {
-        let one = Some("n = 1");
-        let Ok(rules) = PluralRulesData::from_texts(rt.alloc(), None, one, None, None, None) else {
-            refused = refused.saturating_add(1);
-            continue;
-        };
-        match rules.to_json(rt.alloc()) {
-            Ok(value) => holds!(rt; value.get("one").and_then(Value::as_str) == Some("n = 1")),
-            Err(error) => {
-                holds!(rt; error == JsonError::Memory);
-                refused = refused.saturating_add(1);
-            }
-        }
-    }
-    holds!(rt; refused <= 1);
+    let alloc = rt.alloc();
+    let first = writes_rules(alloc);
+    is_answered(&rt, first, writes_rules(alloc));
 }
 
-// If a growth is refused, reading returns out of memory; called again with memory, it succeeds.
 #[test]
 fn growth_may_be_refused_in_reading_a_document(rt: HostRuntime) {
-    let mut refused = 0u8;
-    for _ in 0..2u8 {
-        let Ok(value) = Value::from_str(rt.alloc(), DOCUMENT_WITH_RANGES) else {
-            refused = refused.saturating_add(1);
-            continue;
-        };
-        match JsonProvider::from_value(rt.alloc(), &value) {
-            Ok(provider) => {
-                holds!(rt; provider.load_ordinal("a").is_ok() && provider.load_ranges("a").is_ok());
-            }
-            Err(error) => {
-                holds!(rt; error == JsonError::Memory);
-                refused = refused.saturating_add(1);
-            }
-        }
-    }
-    holds!(rt; refused <= 1);
+    let alloc = rt.alloc();
+    let first = reads_document(alloc, DOCUMENT_WITH_RANGES, "a", true);
+    is_answered(
+        &rt,
+        first,
+        reads_document(alloc, DOCUMENT_WITH_RANGES, "a", true),
+    );
 }
 
-// If a growth is refused, writing returns out of memory; called again with memory, it succeeds.
 #[test]
 fn growth_may_be_refused_in_writing_ranges(rt: HostRuntime) {
-    let mut ranges = PluralRanges::new();
-    ranges.insert(
-        RawPluralCategory::Other,
-        RawPluralCategory::One,
-        RawPluralCategory::Few,
-    );
-    ranges.insert(
-        RawPluralCategory::One,
-        RawPluralCategory::Many,
-        RawPluralCategory::Many,
-    );
-    let mut refused = 0u8;
-    for _ in 0..2u8 {
-        match ranges.to_json(rt.alloc()) {
-            Ok(value) => holds!(rt; PluralRanges::from_json(&value) == Ok(ranges)),
-            Err(error) => {
-                holds!(rt; error == JsonError::Memory);
-                refused = refused.saturating_add(1);
-            }
-        }
-    }
-    holds!(rt; refused <= 1);
+    let alloc = rt.alloc();
+    let first = writes_ranges(alloc);
+    is_answered(&rt, first, writes_ranges(alloc));
 }
 
-// If a growth is refused, writing a range returns out of memory; called again with memory, it succeeds.
 #[test]
 fn growth_may_be_refused_in_writing_a_range(rt: HostRuntime) {
-    let range = UnvalidatedPluralRange::from_range(
-        RawPluralCategory::One,
-        RawPluralCategory::Other,
-    );
-    let mut refused = 0u8;
-    for _ in 0..2u8 {
-        match range.to_json(rt.alloc()) {
-            Ok(value) => holds!(rt; value.as_str() == Some("one--other")),
-            Err(error) => {
-                holds!(rt; error == JsonError::Memory);
-                refused = refused.saturating_add(1);
-            }
-        }
-    }
-    holds!(rt; refused <= 1);
+    let alloc = rt.alloc();
+    let first = writes_range(alloc);
+    is_answered(&rt, first, writes_range(alloc));
 }
 
-// If a growth is refused, the call returns out of memory; asked again with memory, it succeeds.
 #[test]
 fn growth_may_be_refused_in_writing_bytes(rt: HostRuntime) {
-    let mut refused = 0u8;
-    for _ in 0..2u8 {
-        let Ok(rules) = PluralRulesData::from_bytes(ONE_AND_FEW) else {
-            holds!(rt; false);
-            return;
-        };
-        match rules.to_bytes(rt.alloc()) {
-            Ok(bytes) => holds!(rt; bytes.as_slice() == ONE_AND_FEW),
-            Err(error) => {
-                holds!(rt; error == RulesPackError::Memory);
-                refused = refused.saturating_add(1);
-            }
-        }
-    }
-    holds!(rt; refused <= 1);
+    let alloc = rt.alloc();
+    let first = writes_bytes(alloc);
+    is_answered(&rt, first, writes_bytes(alloc));
 }

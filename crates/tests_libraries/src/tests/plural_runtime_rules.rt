@@ -1,13 +1,10 @@
-//! Packed rules: growth that is refused, writers that refuse a piece of a printed rule, the texts of errors.
+//! Packed rules: growth that is refused, writers that refuse a piece of a printed rule.
 
 use crate::tests::assertion::holds;
-use packed_list::ListError;
-use plural_reference::ParseError;
-use plural_runtime::{Rule, RuleBytesError, RuleError};
+use plural_runtime::{Rule, RuleError};
 use std::alloc::Global;
 use std::fmt;
 use std::fmt::Write;
-use std::test::Fail;
 
 // Rules of CLDR with the bytes of their conditions: Bengali's ordinal one, Russian's few and French many.
 const CLDR_RULES: [(&str, &[u8], &str); 3] = [
@@ -133,32 +130,4 @@ fn printing_stops_at_the_refused_piece(rt: HostRuntime) {
         }
         holds!(rt; whole > 0 && whole < 100, text);
     }
-}
-
-#[test]
-fn errors_say_what_is_wrong(rt: HostRuntime) -> Result<(), Fail> {
-    let alloc = rt.alloc();
-    let of_bytes = [
-        (
-            RuleBytesError::List(ListError::Header),
-            "list header too short",
-        ),
-        (RuleBytesError::ItemLength(3), "bad length of relation 3"),
-        (RuleBytesError::Operand(0), "bad operand of relation 0"),
-    ];
-    for (error, expected) in of_bytes {
-        holds!(rt; format!(in alloc; "{error}")?.as_str() == expected);
-    }
-    let of_rules = [
-        (
-            RuleError::Parse(ParseError::ExpectedOperator),
-            "expected operator",
-        ),
-        (RuleError::StartLimit, "rule too long"),
-        (RuleError::Memory, "out of memory"),
-    ];
-    for (error, expected) in of_rules {
-        holds!(rt; format!(in alloc; "{error}")?.as_str() == expected);
-    }
-    Ok(())
 }

@@ -9,6 +9,7 @@ mod inputs;
 mod languages;
 mod lengths;
 mod ranges;
+mod sizes;
 mod tables;
 mod writers;
 

@@ -4,6 +4,7 @@ mod answers;
 mod documents;
 mod growth;
 mod inputs;
+mod sizes;
 mod words;
 mod writers;
 

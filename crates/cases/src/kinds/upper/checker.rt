@@ -3,8 +3,9 @@
 use crate::arguments::has_names;
 use crate::call::Call;
 use crate::kinds::categories::category;
-use icu_plurals::PluralCategory;
 use icu_plurals::provider::rules::reference::ast::{DecimalValue, SampleRange};
+use icu_plurals::{PluralCategory, PluralElements};
+use message_report::category_set;
 use plural_checker::{
     CategorySet, Coverage, LanguageTexts, RangeFault, SampleNumbers, check_texts,
 };
@@ -18,6 +19,8 @@ pub fn make(kind: &str, call: &mut Call) -> bool {
         "report" => report(call),
         "has_rule" => has_rule(call),
         "coverage" => coverage(call),
+        "set_of_elements" => set_of_elements(call),
+        "set_of_message" => set_of_message(call),
         _ => return false,
     }
     true
@@ -142,6 +145,43 @@ fn coverage(call: &mut Call) {
     }
     let rules = call.rules();
     print_coverage(call, Coverage::of(elements, &rules));
+}
+
+// The categories whose value is present in elements.
+fn set_of_elements(call: &mut Call) {
+    let mut elements = PluralElements::new("other");
+    for key in &call.texts() {
+        elements = with_value(call, elements, key.as_str());
+    }
+    print_names(call, CategorySet::of_elements(&elements));
+}
+
+// The categories that a message has forms for.
+fn set_of_message(call: &mut Call) {
+    let message = call.value();
+    print_names(call, category_set(&message));
+}
+
+// Puts a value under a key of elements.
+fn with_value<'a>(
+    call: &mut Call,
+    elements: PluralElements<&'a str>,
+    key: &str,
+) -> PluralElements<&'a str> {
+    let value = Some("value");
+    match key {
+        "zero" => elements.with_zero_value(value),
+        "one" => elements.with_one_value(value),
+        "two" => elements.with_two_value(value),
+        "few" => elements.with_few_value(value),
+        "many" => elements.with_many_value(value),
+        "explicit_zero" => elements.with_explicit_zero_value(value),
+        "explicit_one" => elements.with_explicit_one_value(value),
+        _ => {
+            call.not("a key of elements");
+            elements
+        }
+    }
 }
 
 // Prints the categories that elements lack, and those that they have in vain.

@@ -10,7 +10,7 @@ pub returns : goal.returns
 returns g c =
     let keys = c.in_ok-add_part_keys.ensures in
     let named : c.as_str.result.now ≡ name_text c.args.locale.now = c.as_str.ensures.value ∙ c.in_ok-name.ensures in
-    on_ok c.add_parts.result
+    on_ok c.add_all.result
     (λ added. (
       together keys.0 added.0,
       (
@@ -20,6 +20,6 @@ returns g c =
         added.1,
         refl,
       ),
-      two_added c.args.found.now keys.0 added.0 c.add_part_keys.new.found c.add_parts.new.found keys.2 added.2,
+      two_added c.args.found.now keys.0 added.0 c.add_part_keys.new.found c.add_all.new.found keys.2 added.2,
     ))
-    c.add_parts.ensures
+    c.add_all.ensures

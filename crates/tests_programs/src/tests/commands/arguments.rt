@@ -47,8 +47,8 @@ fn only_the_words_after_the_name_are_texts(rt: HostRuntime) {
     for (given, count) in rows {
         match arguments(rt.alloc(), &Line { arguments: given }) {
             Ok(words) => {
-                holds!(rt; Some(words.len()) == count);
-                holds!(rt; words.iter().zip(given.iter().skip(1)).all(|(word, bytes)| word.as_bytes() == *bytes));
+                holds!(rt; Some(words.len()) == count, at count);
+                holds!(rt; words.iter().zip(given.iter().skip(1)).all(|(word, bytes)| word.as_bytes() == *bytes), at count);
             }
             Err(fault) => holds!(rt; count.is_none() && matches!(&fault, RunError::Usage)),
         }

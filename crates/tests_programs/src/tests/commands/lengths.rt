@@ -7,7 +7,7 @@ use std::alloc::{AllocError, Global};
 use std::test::Fail;
 
 // Returns a start, the text this many times, and an end.
-fn repeated(
+pub(crate) fn repeated(
     alloc: Global,
     start: &str,
     text: &str,

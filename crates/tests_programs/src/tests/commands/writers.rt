@@ -91,8 +91,8 @@ fn a_refused_write_is_a_fault_and_nothing_is_flushed(rt: HostRuntime) {
         for count in 0..length {
             holds!(rt; stops_after(rt.alloc(), words, count, true, false), at count);
         }
-        holds!(rt; stops_after(rt.alloc(), words, 0, false, false));
-        holds!(rt; stops_after(rt.alloc(), words, length, true, true));
+        holds!(rt; stops_after(rt.alloc(), words, 0, false, false), at words);
+        holds!(rt; stops_after(rt.alloc(), words, length, true, true), at words);
     }
 }
 

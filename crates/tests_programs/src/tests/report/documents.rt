@@ -16,7 +16,8 @@ const FAULTY: &str = r#"{"cardinals":{},"cardinal":{
 "ordinal":{"a":{"two":"n = 1 @integer 1~3","other":"@integer 0"}},
 "ranges":{
 "a":{"ranges":{"few--one":"one","one--few":"one","one--one":"few","one--other":5,"one-two":"one","other--one":"some","other--other":"one"}},
-"z":{"ranges":{"few--few":"few"}}}}"#;
+"z":{"ranges":{"few--few":"few"}}},
+"parents":{"a":"b","b":"a","en-AU":["en-001"]}}"#;
 
 const FAULTS: &str = "cardinals: not a part
 cardinal a one: expected operator
@@ -47,7 +48,10 @@ ranges a one-two: range key
 ranges a other--one: range value
 ranges z: no cardinal rules
 ranges z few--few: few has no rule
-locales: 7, rules: 13, numbers: 14, faults: 29
+parents a: the chain of parents doesn't end
+parents b: the chain of parents doesn't end
+parents en-AU: no text
+locales: 7, rules: 13, numbers: 14, faults: 32
 ";
 
 // A locale that is no object.
@@ -67,7 +71,7 @@ locales: 0, rules: 0, numbers: 0, faults: 1
 < {"cardinal":null,"elements":5}
 document: no locale
 locales: 0, rules: 0, numbers: 0, faults: 1
-< {"cardinal":{"a":{"other":"","one":null}},"ordinal":{"a":{"other":""},"b":{"other":"","few":null}},"ranges":{"a":{"ranges":{}}},"elements":5,"parents":[]}
+< {"cardinal":{"a":{"other":"","one":null}},"ordinal":{"a":{"other":""},"b":{"other":"","few":null}},"ranges":{"a":{"ranges":{}}},"elements":5,"parents":null}
 locales: 2, rules: 3, numbers: 0, faults: 0
 < {"cardinal":{"a":{"ones":5,"other":null,"":""}},"Cardinal":{},"a\u000a":5}
 Cardinal: not a part
@@ -94,6 +98,112 @@ cardinal a two: sample 3 is one
 locales: 1, rules: 3, numbers: 2, faults: 1
 "#;
     table_holds(&rt, rt.alloc(), table)
+}
+
+// After a locale of several subtags comes its parent, if that is of the same language, else what
+// stands before its last subtag; after a language alone its parent, else `root`.
+#[test]
+fn parents_are_texts_and_their_chains_end(rt: HostRuntime) {
+    let table = r#"< {"cardinal":{"a":{"other":""}},"parents":[]}
+parents: no object
+locales: 1, rules: 1, numbers: 0, faults: 1
+< {"cardinal":{"a":{"other":""}},"parents":"root"}
+parents: no object
+locales: 1, rules: 1, numbers: 0, faults: 1
+< {"cardinal":{"a":{"other":""}},"parents":{}}
+locales: 1, rules: 1, numbers: 0, faults: 0
+< {"cardinal":{"a":{"other":""}},"parents":{"en-150":"en-001","hi-Latn":"en-IN","nb":"no","pt_AO":"pt-PT","sr-Latn":"root","x":""}}
+locales: 1, rules: 1, numbers: 0, faults: 0
+< {"cardinal":{"a":{"other":""}},"parents":{"a":null,"en":5,"nb":["no"],"pt\u000a":{}}}
+parents a: no text
+parents en: no text
+parents nb: no text
+parents pt\x0a: no text
+locales: 1, rules: 1, numbers: 0, faults: 4
+< {"cardinal":{"a":{"other":""}},"parents":{"nb":"no","nn":"nb","no":"nn","pt-AO":"pt-PT"}}
+parents nb: the chain of parents doesn't end
+parents nn: the chain of parents doesn't end
+parents no: the chain of parents doesn't end
+locales: 1, rules: 1, numbers: 0, faults: 3
+< {"cardinal":{"a":{"other":""}},"parents":{"en":"en-GB"}}
+parents en: the chain of parents doesn't end
+locales: 1, rules: 1, numbers: 0, faults: 1
+< {"cardinal":{"a":{"other":""}},"parents":{"en":"en-GB","en-GB":"en"}}
+parents en: the chain of parents doesn't end
+parents en-GB: the chain of parents doesn't end
+locales: 1, rules: 1, numbers: 0, faults: 2
+< {"cardinal":{"a":{"other":""}},"parents":{"en-GB":"en-IN","en-IN":"hi-Latn","hi-Latn":"en-GB"}}
+locales: 1, rules: 1, numbers: 0, faults: 0
+< {"cardinal":{"a":{"other":""}},"parents":{"root":"root"}}
+parents root: the chain of parents doesn't end
+locales: 1, rules: 1, numbers: 0, faults: 1
+< {"cardinal":{"a":{"other":""}},"parents":{"PT_pt":"pt-AO","pt-ao":"pt-PT"}}
+parents PT_pt: the chain of parents doesn't end
+parents pt-ao: the chain of parents doesn't end
+locales: 1, rules: 1, numbers: 0, faults: 2
+< {"cardinal":{"a":{"other":""}},"parents":{"NB":"no","nb":5,"no":"nb"}}
+parents nb: no text
+locales: 1, rules: 1, numbers: 0, faults: 1
+< {"cardinal":{"a":{"other":""}},"parents":{"Nb":"no","nB":5,"no":"nb"}}
+parents Nb: the chain of parents doesn't end
+parents nB: no text
+parents no: the chain of parents doesn't end
+locales: 1, rules: 1, numbers: 0, faults: 3
+"#;
+    table_holds(&rt, rt.alloc(), table)
+}
+
+// Returns a document where each of the locales `a`, `aa`, `aaa`, .. up to this many letters, but
+// the last, has the next one as its parent.
+fn document_of_chain(alloc: Global, locales: usize) -> Result<String, AllocError> {
+    let mut text = String::from_str(alloc, r#"{"cardinal":{"a":{"other":""}},"parents":{"#)?;
+    for letters in 1..locales {
+        let comma = if letters == 1 { "" } else { "," };
+        let child = letters_of(alloc, letters)?;
+        let parent = letters_of(alloc, letters + 1)?;
+        let (child, parent) = (child.as_str(), parent.as_str());
+        text.push_str(format!(in alloc; r#"{comma}"{child}":"{parent}""#)?.as_str())?;
+    }
+    text.push_str("}}")?;
+    Ok(text)
+}
+
+// Returns this many letters.
+fn letters_of(alloc: Global, letters: usize) -> Result<String, AllocError> {
+    Ok(String::from_utf8(vec![in alloc; b'a'; letters]?).unwrap_or(String::new(alloc)))
+}
+
+// With `root`, a chain of 31 locales has 32, which are all looked up.
+#[test]
+fn chains_of_more_locales_than_are_looked_up_do_not_end(rt: HostRuntime) -> Result<(), Fail> {
+    let alloc = rt.alloc();
+    let document = document_of_chain(alloc, 31)?;
+    let report = "locales: 1, rules: 1, numbers: 0, faults: 0\n";
+    holds!(rt; gives(alloc, false, &mut document.as_bytes(), report) == Some(true));
+    let document = document_of_chain(alloc, 32)?;
+    let report = "parents a: the chain of parents doesn't end
+locales: 1, rules: 1, numbers: 0, faults: 1\n";
+    holds!(rt; gives(alloc, false, &mut document.as_bytes(), report) == Some(true));
+    Ok(())
+}
+
+// A chain isn't followed further than to a name that is too long.
+#[test]
+fn parents_of_more_than_255_bytes_are_faults(rt: HostRuntime) -> Result<(), Fail> {
+    let alloc = rt.alloc();
+    let (longest, too_long) = (letters_of(alloc, 255)?, letters_of(alloc, 256)?);
+    let (longest, too_long) = (longest.as_str(), too_long.as_str());
+    let document = format!(in alloc;
+        r#"{{"cardinal":{{"a":{{"other":""}}}},"parents":{{"{longest}":"b","b":"{longest}","{too_long}":"c","c":"{too_long}"}}}}"#
+    )?;
+    let report = r"parents \(255 bytes): the chain of parents doesn't end
+parents \(256 bytes): key too long
+parents b: the chain of parents doesn't end
+parents c: parent too long
+locales: 1, rules: 1, numbers: 0, faults: 4
+";
+    holds!(rt; gives(alloc, false, &mut document.as_bytes(), report) == Some(true));
+    Ok(())
 }
 
 #[test]

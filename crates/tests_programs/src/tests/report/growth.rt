@@ -57,6 +57,19 @@ locales: 1, rules: 2, numbers: 11, faults: 11
 }
 
 #[test]
+fn growth_of_parents(rt: HostRuntime) {
+    let document = r#"{"ordinal":{"a":{"other":""}},"parents":{"a_B":"a-b","en":5}}"#;
+    let report = "parents a_B: the chain of parents doesn't end
+parents en: no text
+locales: 1, rules: 1, numbers: 0, faults: 2
+";
+    holds_again(&rt, rt.alloc(), document, report);
+    let report = "parents: no object\nlocales: 1, rules: 1, numbers: 0, faults: 1\n";
+    let document = r#"{"ordinal":{"a":{"other":""}},"parents":"a"}"#;
+    holds_again(&rt, rt.alloc(), document, report)
+}
+
+#[test]
 fn growth_of_a_place(rt: HostRuntime) {
     holds_again(&rt, rt.alloc(), UNFORMED, "2: cardinal b: no object\n")
 }

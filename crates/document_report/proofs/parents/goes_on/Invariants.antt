@@ -1,0 +1,13 @@
+use Rattle.std.proofs.Common.{◌≡◌, ◌-◌, ◌≤◌, Some}
+use Rattle.plural_fallback.specs.FirstKeys.{locale_at}
+use Rattle.document_report.specs.Inner.ParentRows.{named_parent}
+use Rattle.document_report.specs.ParentFaults.{short_next}
+use Rattle.document_report.proofs.parents.goes_on.Given as goal
+
+-- the current locale is the one after so many steps
+abbrev pub invariant-loop-steps : goal.invariant-loop-steps
+invariant-loop-steps l =
+    (l.steps ≤ 32) × (locale_at (short_next (named_parent l.parents)) l.locale l.steps ≡ Some l.current)
+
+abbrev pub decreases-loop-steps : goal.decreases-loop-steps
+decreases-loop-steps l = 32 - l.steps

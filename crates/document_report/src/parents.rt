@@ -1,0 +1,201 @@
+//! What is found in the parents of a document.
+
+ghost use Rattle.std.specs.Prelude.{◌≡◌, codes, IfOk, OnOk, is_some, option_map, string_bytes};
+ghost use Rattle.std.specs.Option.{option_and_then, option_copied};
+ghost use Rattle.plural_fallback.specs.FirstKeys.{locale_at};
+ghost use Rattle.document_report.specs.Found.{together, IsFoundIn};
+ghost use Rattle.document_report.specs.Inner.Additions.{Adds};
+ghost use Rattle.document_report.specs.Inner.ParentRows.{named_parent, parent_among};
+ghost use Rattle.document_report.specs.ParentFaults.{found_of_chain, found_of_child, found_of_parent, found_of_shape};
+ghost use Rattle.document_report.specs.ParentFaults.{IsFoundInParent, IsFoundInParents, parent_line, short_next};
+ghost use Rattle.serde_json.specs.Find.{as_object, get};
+ghost use Rattle.serde_json.specs.View.{members_view, view};
+
+use crate::found::{Found, MemberCheck, add_members};
+use crate::names::{MOST_NAME_BYTES, is_long_name, name_text};
+use crate::parent_rows::Parents;
+use plural_fallback::{MOST_LOCALES, next_locale};
+use serde_json::{Map, Value};
+use std::alloc::{AllocError, Global};
+
+// Adds what is found in the parents of a document.
+pub(crate) fn add_parents(
+    alloc: Global,
+    document: &Value,
+    found: &mut Found,
+) -> Result<(), AllocError>
+    ensures { OnOk result (Adds (IsFoundInParents (view document.now)) found.old found.new) }
+{
+    add_shape(alloc, document.get("parents"), found)?;
+    match parents_of(document) {
+        Some(members) => add_named(alloc, members, found),
+        None => Ok(()),
+    }
+}
+
+// Returns the members of the part `parents`, if it is an object.
+fn parents_of(document: &Value) -> Option<&Map<String, Value>>
+    ensures { option_map (λ m. members_view m.now.entries) result
+        ≡ option_and_then as_object (get (codes "parents") (view document.now)) }
+{
+    document.get("parents")?.as_object()
+}
+
+// Adds a line if the part is there, and neither null nor an object.
+fn add_shape(alloc: Global, value: Option<&Value>, found: &mut Found) -> Result<(), AllocError>
+    ensures { OnOk result (found.new ≡ together found.old (found_of_shape (option_map (λ v. view v.now) value.entry))) }
+{
+    match value {
+        Some(value) => add_value(alloc, value, found),
+        None => Ok(()),
+    }
+}
+
+// Adds a line if the part is neither null nor an object.
+fn add_value(alloc: Global, value: &Value, found: &mut Found) -> Result<(), AllocError>
+    ensures { OnOk result (found.new ≡ together found.old (found_of_shape (Some (view value.now)))) }
+{
+    if value.is_null() || value.is_object() {
+        return Ok(());
+    }
+    found.add_fault(String::from_str(alloc, "parents: no object")?)
+}
+
+// Adds what is found in each member.
+fn add_named(
+    alloc: Global,
+    members: &Map<String, Value>,
+    found: &mut Found,
+) -> Result<(), AllocError>
+    ensures { OnOk result (Adds (IsFoundIn (IsFoundInParent (parent_among (members_view members.now.entries)))
+        (members_view members.now.entries)) found.old found.new) }
+{
+    let parents = Parents::of(alloc, members)?;
+    let check = ParentCheck { parents: &parents };
+    add_members(alloc, &check, Some(members), found)
+}
+
+// Checks a member, beside all parents.
+#[derive(Clone, Copy)]
+struct ParentCheck<'p, 'a> {
+    parents: &'p Parents<'a>,
+}
+
+impl<'p, 'a> MemberCheck for ParentCheck<'p, 'a> {
+    ghost finds = { λ check. IsFoundInParent (named_parent check.parents.now) };
+
+    fn add(
+        &self,
+        alloc: Global,
+        key: &str,
+        value: &Value,
+        found: &mut Found,
+    ) -> Result<(), AllocError> {
+        add_child(alloc, key, found)?;
+        add_parent(alloc, key, value.as_str(), found)?;
+        add_chain(alloc, self.parents, key, found)
+    }
+}
+
+// Adds a line if the key is long.
+fn add_child(alloc: Global, locale: &str, found: &mut Found) -> Result<(), AllocError>
+    ensures { OnOk result (found.new ≡ together found.old (found_of_child locale.now)) }
+{
+    if !is_long_name(locale) {
+        return Ok(());
+    }
+    found.add_fault(parent_line(alloc, locale, "key too long")?)
+}
+
+// Adds a line if the parent is no text, or a long one.
+fn add_parent(
+    alloc: Global,
+    locale: &str,
+    parent: Option<&str>,
+    found: &mut Found,
+) -> Result<(), AllocError>
+    ensures { OnOk result (found.new ≡ together found.old (found_of_parent locale.now (option_copied parent.entry))) }
+{
+    match parent {
+        Some(parent) => add_text(alloc, locale, parent, found),
+        None => found.add_fault(parent_line(alloc, locale, "no text")?),
+    }
+}
+
+// Adds a line if the parent is long.
+fn add_text(
+    alloc: Global,
+    locale: &str,
+    parent: &str,
+    found: &mut Found,
+) -> Result<(), AllocError>
+    ensures { OnOk result (found.new ≡ together found.old (found_of_parent locale.now (Some parent.now))) }
+{
+    if !is_long_name(parent) {
+        return Ok(());
+    }
+    found.add_fault(parent_line(alloc, locale, "parent too long")?)
+}
+
+// Adds a line if the chain of a locale doesn't end.
+fn add_chain(
+    alloc: Global,
+    parents: &Parents<'_>,
+    locale: &str,
+    found: &mut Found,
+) -> Result<(), AllocError>
+    ensures { OnOk result (found.new ≡ together found.old (found_of_chain (named_parent parents.now) locale.now)) }
+{
+    if !goes_on(alloc, parents, locale.as_bytes())? {
+        return Ok(());
+    }
+    found.add_fault(parent_line(
+        alloc,
+        locale,
+        "the chain of parents doesn't end",
+    )?)
+}
+
+// Returns whether a chain goes on after all the locales that are looked up.
+fn goes_on<'p>(
+    alloc: Global,
+    parents: &'p Parents<'_>,
+    locale: &'p [u8],
+) -> Result<bool, AllocError>
+    ensures { IfOk result (λ answer. answer
+        ≡ is_some (locale_at (short_next (named_parent parents.now)) locale.now MOST_LOCALES)) }
+{
+    let mut current = locale;
+    let mut steps = 0;
+    while steps < MOST_LOCALES {
+        let Some(next) = short_next(alloc, parents, current)? else {
+            return Ok(false);
+        };
+        current = next;
+        steps += 1;
+    }
+    Ok(true)
+}
+
+// Returns the next locale of a chain; a long one is the last.
+fn short_next<'p>(
+    alloc: Global,
+    parents: &'p Parents<'_>,
+    locale: &'p [u8],
+) -> Result<Option<&'p [u8]>, AllocError>
+    ensures { IfOk result (λ next. option_copied next ≡ short_next (named_parent parents.now) locale.now) }
+{
+    if locale.len() > MOST_NAME_BYTES {
+        return Ok(None);
+    }
+    let row = parents.row(alloc, locale)?;
+    Ok(next_locale(row, locale))
+}
+
+// Returns the line for a fault of a locale.
+fn parent_line(alloc: Global, locale: &str, fault: &str) -> Result<String, AllocError>
+    ensures { IfOk result (λ line. string_bytes line ≡ parent_line locale.now fault.now) }
+{
+    let name = name_text(alloc, locale)?;
+    format!(in alloc; "parents {}: {}", name.as_str(), fault)
+}

@@ -1,0 +1,23 @@
+-- Not a definition of the subject: what is told of the lines of a pattern, by how many come before them.
+use Rattle.std.specs.Prelude.{◌≡◌, ℕ, ◌+◌, ◌-◌, nat_lt, List, [], ◌∷◌, ◌++◌, length, take, if◌then◌else◌}
+use Rattle.message_pattern.specs.PatternParts.{Selector}
+use Rattle.message_report.specs.FoundInMessages.{Found, together}
+use Rattle.message_report.specs.MessagesReport.{most_compared, most_told}
+
+-- so many come before these
+abbrev pub told_lines : ℕ → List (List ℕ) → Found
+told_lines before lines = record {
+  lines = take (most_told - before) lines;
+  messages = 0;
+  forms = 0;
+  faults = length lines;
+}
+
+-- these lines were told, or counted
+pub record Tells (before : ℕ) (old : Found) (count : ℕ) (new : Found) (lines : List (List ℕ)) : Type 0 where
+  pub found : new ≡ together old (told_lines before lines)
+  pub counted : count ≡ before + length lines
+
+-- one selector more, unless there are many
+abbrev pub remembered : List Selector → Selector → List Selector
+remembered seen selector = if nat_lt (length seen) most_compared then seen ++ selector ∷ [] else seen

@@ -1,0 +1,202 @@
+//! What is wrong with the branches of a plural argument.
+
+ghost use Rattle.std.specs.Prelude.{◌≡◌, Some, map};
+ghost use Rattle.message_pattern.specs.PatternParts.{parts_view, selector_view};
+ghost use Rattle.message_report.specs.Inner.ArgumentViews.{argument_view};
+ghost use Rattle.message_report.specs.Inner.LanguageViews.{language_view};
+ghost use Rattle.message_report.specs.PatternBranches.{inside_of};
+ghost use Rattle.message_report.specs.PatternFaults.{branch_fault, branch_fault_text, category_fault, category_fault_if, category_named};
+ghost use Rattle.message_report.specs.PatternFaults.{missing_by, missing_fault, no_hash, numbers_of, selector_fault};
+ghost use Rattle.message_report.specs.Inner.ArgumentViews.{branching};
+
+use crate::argument::{Argument, has_branch, has_number, stands_in};
+use crate::category_numbers::TwoNumbers;
+use crate::form::{Form, name_of};
+use crate::language::Language;
+use icu_plurals::PluralCategory;
+use message_pattern::{Part, Selector};
+use std::fmt;
+
+// What is wrong with a branch of a plural argument.
+#[derive(Clone, Copy, Debug, PartialEq, Eq)]
+pub(crate) enum BranchFault {
+    // Its keyword is no category.
+    NoCategory,
+    // Its selector stands before it, too.
+    Twice,
+    // The language hasn't its category: no number chooses it.
+    Unused(PluralCategory),
+    // It doesn't say the number, though these two choose it.
+    NoHash(PluralCategory, u16, u16),
+    // There is none of the category. These are the two least numbers that would choose it, or one.
+    Missing(PluralCategory, u16, Option<u16>),
+}
+
+impl fmt::Display for BranchFault {
+    ghost output = { λ fault. Some (branch_fault_text fault) };
+
+    fn fmt<W: fmt::Write>(&self, f: &mut fmt::Formatter<W>) -> fmt::Result {
+        match *self {
+            BranchFault::NoCategory => f.write_str("not a category"),
+            BranchFault::Twice => f.write_str("stands twice"),
+            BranchFault::Unused(category) => write!(f, "no number is {}", name_of(category)),
+            BranchFault::NoHash(category, first, second) => {
+                write!(
+                    f,
+                    "no #, but {} and {} are {}",
+                    first,
+                    second,
+                    name_of(category)
+                )
+            }
+            BranchFault::Missing(category, first, Some(second)) => {
+                write!(
+                    f,
+                    "missing, but {} and {} are {}",
+                    first,
+                    second,
+                    name_of(category)
+                )
+            }
+            BranchFault::Missing(category, first, None) => {
+                write!(f, "missing, but {} is {}", first, name_of(category))
+            }
+        }
+    }
+}
+
+// Returns the two least numbers that choose the branch of a category.
+fn numbers_of(language: &Language, argument: Argument<'_>, category: PluralCategory) -> TwoNumbers
+    ensures { result ≡ numbers_of (language_view language.now) (argument_view argument.entry) category }
+{
+    language.numbers(category, argument.own_zero, argument.own_one)
+}
+
+// Returns that a category has no branch, if numbers would choose it.
+pub(crate) fn missing_fault(
+    language: &Language,
+    argument: Argument<'_>,
+    category: PluralCategory,
+) -> Option<BranchFault>
+    ensures { result ≡ missing_fault (language_view language.now) (argument_view argument.entry) category }
+{
+    if has_branch(Form::Category(category), argument.depth, argument.parts) {
+        return None;
+    }
+    if !language.has(category) {
+        return None;
+    }
+    missing_by(category, numbers_of(language, argument, category))
+}
+
+// Returns that a category of these numbers has no branch, if there are any.
+fn missing_by(category: PluralCategory, numbers: TwoNumbers) -> Option<BranchFault>
+    ensures { result ≡ missing_by category numbers.first numbers.second }
+{
+    let first = numbers.first?;
+    Some(BranchFault::Missing(category, first, numbers.second))
+}
+
+// Returns that a branch doesn't say the number, if two numbers choose it.
+fn no_hash(category: PluralCategory, numbers: TwoNumbers) -> Option<BranchFault>
+    ensures { result ≡ no_hash category numbers.first numbers.second }
+{
+    let first = numbers.first?;
+    let second = numbers.second?;
+    Some(BranchFault::NoHash(category, first, second))
+}
+
+// Returns the fault of a category's branch, from whose parts on these are.
+fn category_fault(
+    language: &Language,
+    argument: Argument<'_>,
+    parts: &[Part<'_>],
+    category: PluralCategory,
+) -> Option<BranchFault>
+    ensures { result ≡ category_fault (language_view language.now) (argument_view argument.entry)
+        (inside_of argument.entry.depth (parts_view parts.now)) category }
+{
+    if !language.has(category) {
+        return Some(BranchFault::Unused(category));
+    }
+    if argument.has_offset || has_number(argument.depth, argument.name, parts) {
+        return None;
+    }
+    no_hash(category, numbers_of(language, argument, category))
+}
+
+// Returns the category of a keyword.
+fn category_named(word: &[u8]) -> Option<PluralCategory>
+    ensures { result ≡ category_named word.now }
+{
+    if word == name_of(PluralCategory::Zero).as_bytes() {
+        return Some(PluralCategory::Zero);
+    }
+    if word == name_of(PluralCategory::One).as_bytes() {
+        return Some(PluralCategory::One);
+    }
+    if word == name_of(PluralCategory::Two).as_bytes() {
+        return Some(PluralCategory::Two);
+    }
+    if word == name_of(PluralCategory::Few).as_bytes() {
+        return Some(PluralCategory::Few);
+    }
+    if word == name_of(PluralCategory::Many).as_bytes() {
+        return Some(PluralCategory::Many);
+    }
+    if word == name_of(PluralCategory::Other).as_bytes() {
+        return Some(PluralCategory::Other);
+    }
+    None
+}
+
+// Returns the fault of the branch of a category, or that its keyword is none.
+fn category_fault_if(
+    language: &Language,
+    argument: Argument<'_>,
+    parts: &[Part<'_>],
+    category: Option<PluralCategory>,
+) -> Option<BranchFault>
+    ensures { result ≡ category_fault_if (language_view language.now) (argument_view argument.entry)
+        (inside_of argument.entry.depth (parts_view parts.now)) category }
+{
+    match category {
+        Some(category) => category_fault(language, argument, parts, category),
+        None => Some(BranchFault::NoCategory),
+    }
+}
+
+// Returns the fault of a selector that stands once, from the parts of whose branch on these are.
+fn selector_fault(
+    language: &Language,
+    argument: Argument<'_>,
+    selector: Selector<'_>,
+    parts: &[Part<'_>],
+) -> Option<BranchFault>
+    ensures { result ≡ selector_fault (language_view language.now) (argument_view argument.entry)
+        (selector_view selector.entry) (inside_of argument.entry.depth (parts_view parts.now)) }
+{
+    match selector {
+        Selector::Exactly(_) => None,
+        Selector::Keyword(word) => {
+            category_fault_if(language, argument, parts, category_named(word))
+        }
+    }
+}
+
+// Returns the fault of a branch behind these selectors, from whose parts on these are.
+pub(crate) fn branch_fault(
+    language: &Language,
+    argument: Argument<'_>,
+    before: &[Selector<'_>],
+    selector: Selector<'_>,
+    parts: &[Part<'_>],
+) -> Option<BranchFault>
+    ensures { result ≡ branch_fault (language_view language.now) (argument_view argument.entry)
+        (map selector_view before.now) (branching argument.entry.depth selector.entry parts.now) }
+{
+    if stands_in(selector, before) {
+        return Some(BranchFault::Twice);
+    }
+    selector_fault(language, argument, selector, parts)
+}
