@@ -3,6 +3,7 @@
 
 use document_report::arguments::is_argument;
 use document_report::run::run;
+use std::env::Env;
 use std::process::ExitCode;
 
 fn main(rt: HostRuntime) -> ExitCode {
