@@ -46,6 +46,22 @@ pub enum FormatError<'p> {
     Memory,
 }
 
+impl<'p> fmt::Display for FormatError<'p> {
+    ghost use Rattle.std.specs.Prelude.{Some};
+    ghost use Rattle.message_format.specs.FormatErrors.{format_error_text};
+
+    ghost output = { λ error. Some (format_error_text error) };
+
+    fn fmt<W: fmt::Write>(&self, f: &mut fmt::Formatter<W>) -> fmt::Result {
+        match self {
+            FormatError::Argument(fault, _) => write!(f, "{fault}"),
+            FormatError::Memory => f.write_str("out of memory"),
+        }
+    }
+}
+
+impl<'p> Error for FormatError<'p> {}
+
 impl<'p> From<AllocError> for FormatError<'p> {
     ghost use Rattle.std.specs.Prelude.{◌≡◌};
     ghost use Rattle.message_format.specs.declared.error.FormatError.TheVariants.{Memory};

@@ -2,6 +2,7 @@
 
 use crate::call::Call;
 use fixed_decimal::DecimalError;
+use message_format::{ArgumentFault, FormatError};
 use packed_list::{ListError, PackError};
 use plural_base::{
     DataError, ElementsPackError, JsonError, PluralCategory, RulesBytesError, RulesPackError,
@@ -86,6 +87,15 @@ const LANGUAGE_BYTES: [RulesBytesError; 4] = [
 
 const LANGUAGES: [RulesPackError; 2] = [RulesPackError::StartLimit, RulesPackError::Memory];
 
+const FORMATS: [FormatError<'static>; 6] = [
+    FormatError::Argument(ArgumentFault::Missing, b"n"),
+    FormatError::Argument(ArgumentFault::WrongKind, b"n"),
+    FormatError::Argument(ArgumentFault::NotANumber, b"n"),
+    FormatError::Argument(ArgumentFault::OverLimit, b"n"),
+    FormatError::Argument(ArgumentFault::CompactOffset, b"n"),
+    FormatError::Memory,
+];
+
 /// Makes the call of a kind of this file. Returns whether there is such a kind.
 pub fn make(kind: &str, call: &mut Call) -> bool {
     if kind != "error_texts" {
@@ -116,7 +126,7 @@ fn prints_of_texts(call: &mut Call, name: &str) -> bool {
     true
 }
 
-// Prints the errors of a type, if it is one of packed rules, elements and documents.
+// Prints the errors of a type, if it is one of packed rules, elements, documents and patterns.
 fn prints_of_packed(call: &mut Call, name: &str) -> bool {
     match name {
         "ListError" => print_each(call, &LISTS),
@@ -128,6 +138,7 @@ fn prints_of_packed(call: &mut Call, name: &str) -> bool {
         "RulesBytesError" => print_each(call, &LANGUAGE_BYTES),
         "RulesPackError" => print_each(call, &LANGUAGES),
         "DataError" => print_each(call, &[DataError::NotFound]),
+        "FormatError" => print_each(call, &FORMATS),
         _ => return false,
     }
     true
