@@ -2,11 +2,15 @@
 
 An argument is a number, which is a Number of a text such as -12.50, or a text."""
 import re
+import sys
 from dataclasses import dataclass
 from fractions import Fraction
 
 import exact
 import patterns
+
+# A number may have 32767 digits on each side of its point.
+sys.set_int_max_str_digits(0)
 
 # ---- where ICU4C differs
 
@@ -17,6 +21,12 @@ CHANGES = (WRITTEN, MISSING, DOUBLES)
 PATTERN = "Pattern"
 PLACES = 3
 DOUBLE_DIGITS = 17
+
+# ---- numbers (docs/NUMBERS.md)
+
+FORM = re.compile(r"[-+]?([0-9]*)(?:\.([0-9]+))?(?:c([0-9]{1,3}))?", re.ASCII)
+MOST_PLACES = 32767
+MOST_EXPONENT = 255
 
 
 class Refused(Exception):
@@ -32,7 +42,32 @@ class Number:
     text: str
 
     def value(self):
-        return Fraction(self.text)
+        significand, _, exponent = self.text.partition("c")
+        return Fraction(significand) * 10 ** int(exponent or 0)
+
+    def places(self):
+        """Returns how many fraction digits are written."""
+        return len(self.text.partition("c")[0].partition(".")[2])
+
+    def plain(self):
+        """Returns the text with a digit before the point, and without a plus."""
+        text = self.text.removeprefix("+")
+        sign = "-" if text.startswith("-") else ""
+        return sign + "0" + text.removeprefix("-") if text.removeprefix("-").startswith(".") else text
+
+    def fault(self, offset):
+        """Returns why no plural with this offset counts it, or None."""
+        found = FORM.fullmatch(self.text)
+        if not found or not (found[1] or found[2]):
+            return "NotANumber"
+        whole, fraction, exponent = len(found[1]), len(found[2] or ""), int(found[3] or 0)
+        if max(whole, fraction) > MOST_PLACES or exponent > MOST_EXPONENT:
+            return "OverLimit"
+        if offset is None:
+            return None
+        if exponent:
+            return "CompactOffset"
+        return "OverLimit" if len(offset) > MOST_PLACES or abs(self.value() - int(offset)) >= 10**MOST_PLACES else None
 
 
 def digits_text(value, places):
@@ -50,7 +85,7 @@ def less(number, offset, changes):
     if DOUBLES in changes:
         value = Fraction(float(number.value()) - float(offset))
         return Number(shortest(float(value)))
-    return Number(digits_text(number.value() - int(offset), len(number.text.partition(".")[2])))
+    return Number(digits_text(number.value() - int(offset), number.places()))
 
 
 def shortest(value):
@@ -82,8 +117,9 @@ class Language:
     ordinal: dict
 
     def category(self, kind, text, changes):
-        number = exact.exact_number(text)
+        number = exact.kept_number(text)
         if DOUBLES in changes:
+            number = exact.exact_number(text)
             for change in exact.ICU4C.values():
                 number = change(text, number)
         return exact.category(self.cardinal if kind == "plural" else self.ordinal, number)
@@ -143,21 +179,27 @@ class Speaker:
         branches, depth = self.branches(at), self.parts[at][0] + 1
         if kind == "select":
             return self.message(first(branches, found), depth, "#")
+        fault = found.fault(offset)
+        if fault:
+            raise Refused(fault, name)
         number = less(found, offset, self.changes)
         sign = written(number, self.changes)
         chosen = self.exactly(branches, found)
         if chosen is None:
-            chosen = first(branches, self.language.category(kind, sign, self.changes))
+            chosen = first(branches, self.language.category(kind, Number(sign).plain(), self.changes))
         return self.message(chosen, depth, sign)
 
     def exactly(self, branches, number):
         for selector, at in branches:
-            if selector[0] == "exactly" and self.value(selector[1]) == self.value(number.text):
+            if selector[0] == "exactly" and self.value(selector[1]) == self.value(number.text) and self.is_compared(selector[1]):
                 return at
         return None
 
     def value(self, text):
-        return float(text) if DOUBLES in self.changes else Fraction(text)
+        return float(text) if DOUBLES in self.changes else Number(text).value()
+
+    def is_compared(self, text):
+        return DOUBLES in self.changes or Number(text).fault(None) is None
 
 
 def first(branches, word):
