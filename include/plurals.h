@@ -17,7 +17,7 @@
  *     out is unchanged, so a call with out_len 0 asks for the length. After a fault out is unchanged. No byte 0 is
  *     written after a text.
  *     Which fault: that of the rules, else that of the elements, else that of the number. PLURALS_MEMORY may come in place
- *     of a fault of a rule's text or a document, and of the faults after it, and only if malloc or realloc has failed; the
+ *     of a fault of a rule's text, a document or a pattern, and of the faults after it, and only if malloc or realloc has failed; the
  *     same call may be made again then.
  *
  * Memory and ownership

@@ -5,5 +5,5 @@ pub mod Documents
 pub mod RangeTables
 pub mod ElementTexts
 pub mod ManyIntegers
-pub mod Arguments
-pub mod Patterns
+pub mod ReadArguments
+pub mod SaidPatterns

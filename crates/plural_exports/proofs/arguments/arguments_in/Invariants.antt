@@ -1,6 +1,6 @@
 use Rattle.std.proofs.Common.{length}
 use Rattle.message_format.specs.FormatArguments.{arguments_view}
-use Rattle.plural_exports.proofs.Arguments.{IsReadBefore}
+use Rattle.plural_exports.proofs.ReadArguments.{IsReadBefore}
 use Rattle.plural_exports.proofs.arguments.arguments_in.Given as goal
 
 -- what is left is read behind the arguments so far

@@ -1,8 +1,8 @@
 use Rattle.std.proofs.lemmas.Result.{err_from_is_err_and}
 use Rattle.plural_exports.specs.Inner.Conversions.{pattern_fault}
-use Rattle.plural_exports.proofs.Patterns.{pattern_refused}
+use Rattle.plural_exports.proofs.SaidPatterns.{pattern_refused}
 use Rattle.plural_exports.proofs.Steps.{handed_on}
-use Rattle.plural_exports.proofs.pattern_format.pattern_in.Goals as goal
+use Rattle.plural_exports.proofs.patterns.pattern_in.Goals as goal
 
 pub returns-in_err-parse : goal.returns-in_err-parse
 returns-in_err-parse c =

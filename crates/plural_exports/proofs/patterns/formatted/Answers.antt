@@ -3,9 +3,9 @@ use Rattle.std.proofs.lemmas.Result.{err_from_is_err_and}
 use Rattle.message_format.specs.FormatArguments.{arguments_view}
 use Rattle.message_format.specs.FormatMeaning.{Said}
 use Rattle.plural_exports.specs.Inner.Conversions.{format_fault}
-use Rattle.plural_exports.proofs.Patterns.{said_refused}
+use Rattle.plural_exports.proofs.SaidPatterns.{said_refused}
 use Rattle.plural_exports.proofs.Steps.{handed_on, passed_on}
-use Rattle.plural_exports.proofs.pattern_format.formatted.Goals as goal
+use Rattle.plural_exports.proofs.patterns.formatted.Goals as goal
 
 pub returns-in_err-cardinal : goal.returns-in_err-cardinal
 returns-in_err-cardinal c =
