@@ -17,7 +17,7 @@
  *     out is unchanged, so a call with out_len 0 asks for the length. After a fault out is unchanged. No byte 0 is
  *     written after a text.
  *     Which fault: that of the rules, else that of the elements, else that of the number. PLURALS_MEMORY may come in place
- *     of a fault of a rule's text or a document, and of the faults after it, and only if malloc or realloc has failed; the
+ *     of a fault of a rule's text, a document or a pattern, and of the faults after it, and only if malloc or realloc has failed; the
  *     same call may be made again then.
  *
  * Memory and ownership
@@ -30,7 +30,7 @@
  *     A pointer and the length after it are one slice: that many bytes can be read there, and in out written. A text needs
  *     no byte 0 at its end; if it has one, the length doesn't count it.
  *     In the installed library a pointer with length 0 is any pointer, also null, and is the empty text, the empty block
- *     or no room. In the archives that tools/archive prints no pointer is null: there that of "" goes with length 0. A
+ *     or no room; so are the two in a struct plurals_argument. In the archives that tools/archive prints no pointer is null: there that of "" goes with length 0. A
  *     length is at most that of one object, so below 2^63.
  *     out overlaps no other slice of the call. During a call no other thread writes to its slices, nor reads out.
  *     Everything else is checked: any bytes may be given as a text, a block or a number, and are refused by a fault where
@@ -38,8 +38,8 @@
  *
  * Stack
  *     The calls that read JSON, which are plurals_rules_from_document, plurals_ranges_from_document and
- *     plurals_elements_from_json, take at most 131072 bytes of stack, which JSON that is nested 127 deep needs, about 1 KB a
- *     level; deeper JSON is refused by PLURALS_JSON. All other calls take at most 4096 bytes of stack.
+ *     plurals_elements_from_json, and plurals_pattern_format take at most 131072 bytes of stack, which JSON that is nested 127
+ *     deep needs, about 1 KB a level; deeper JSON is refused by PLURALS_JSON. All other calls take at most 4096 bytes of stack.
  *     examples/c/run-stack runs each call with so much; no proof bounds it. It counts what malloc of glibc takes; it doesn't count
  *     what the loader takes where it binds a call at its first use.
  *
@@ -141,7 +141,45 @@ enum plurals_fault {
     PLURALS_DOCUMENT_RANGE_VALUE = -74, /* a range's value names no category */
     PLURALS_LOCALE = -75,               /* the locale isn't present among the rules of this type, or the ranges */
 
-    PLURALS_TABLE_LENGTH = -80 /* a table of categories isn't of PLURALS_TABLE_BYTES bytes */
+    PLURALS_TABLE_LENGTH = -80, /* a table of categories isn't of PLURALS_TABLE_BYTES bytes */
+
+    /* of a pattern's text: the first place where it doesn't go on as a pattern */
+    PLURALS_PATTERN_UNCLOSED = -90,          /* it ends in an argument or in a branch */
+    PLURALS_PATTERN_EXPECTED_NAME = -91,     /* no name after "{" */
+    PLURALS_PATTERN_BAD_NUMBER = -92,        /* the number of an argument begins with a zero, as {01} */
+    PLURALS_PATTERN_EXPECTED_END = -93,      /* neither "," nor "}" after the name */
+    PLURALS_PATTERN_EXPECTED_TYPE = -94,     /* no letters after the comma */
+    PLURALS_PATTERN_UNSUPPORTED_TYPE = -95,  /* a type other than plural, selectordinal and select */
+    PLURALS_PATTERN_EXPECTED_STYLE = -96,    /* no comma after the type */
+    PLURALS_PATTERN_EXPECTED_OFFSET = -97,   /* no digits after "offset:" */
+    PLURALS_PATTERN_EXPECTED_SELECTOR = -98, /* neither a selector nor "}" */
+    PLURALS_PATTERN_EXPECTED_VALUE = -99,    /* no number after "=" */
+    PLURALS_PATTERN_EXPECTED_BRANCH = -100,  /* no "{" after a selector */
+    PLURALS_PATTERN_MISSING_OTHER = -101,    /* an argument ends without a branch "other" */
+    PLURALS_PATTERN_TOO_DEEP = -102,         /* a branch is more than 32 deep */
+
+    /* of an argument where a pattern uses it; the last of an argument in itself */
+    PLURALS_ARGUMENT_MISSING = -110,        /* no argument has the name */
+    PLURALS_ARGUMENT_WRONG_KIND = -111,     /* a text where a number is counted, or a number where a text is compared */
+    PLURALS_ARGUMENT_NOT_A_NUMBER = -112,   /* the text of a number isn't one */
+    PLURALS_ARGUMENT_OVER_LIMIT = -113,     /* it writes one over a limit, or less its offset it is */
+    PLURALS_ARGUMENT_COMPACT_OFFSET = -114, /* a number with a compact exponent where there is an offset */
+    PLURALS_ARGUMENT_KIND = -115            /* the kind is neither PLURALS_NUMBER nor PLURALS_TEXT */
+};
+
+/* What an argument of a pattern is. */
+enum plurals_argument_kind {
+    PLURALS_NUMBER = 0, /* a number, as it is written */
+    PLURALS_TEXT = 1    /* a text */
+};
+
+/* An argument of a pattern: a value under a name. A pointer and the length after it are one slice. */
+struct plurals_argument {
+    const char *name;
+    size_t name_len;
+    const char *value;
+    size_t value_len;
+    uint32_t kind; /* PLURALS_NUMBER or PLURALS_TEXT */
 };
 
 /* How many bytes a table of categories has, and what a call that is given one returns of a number whose category it doesn't
@@ -250,6 +288,15 @@ int64_t plurals_element(const uint8_t *rules, size_t rules_len, const uint8_t *e
  * 1 GB. A message of 2^63 bytes or more has PLURALS_MEMORY. */
 int64_t plurals_message(const uint8_t *rules, size_t rules_len, const uint8_t *elements, size_t elements_len,
                         const char *number, size_t number_len, char *out, size_t out_len);
+
+/* Writes what a pattern of ICU's MessageFormat says (docs/PATTERNS.md) with these arguments; of two with one name the first
+ * counts. A plural takes its categories from the rules cardinal, a selectordinal from ordinal, which may be the block without
+ * bytes. Faults, in the order in which they are looked for: that of cardinal; of ordinal; of the pattern, by its first place;
+ * of the first argument whose name or value isn't UTF-8, or whose kind is unknown; of the argument that the pattern uses
+ * first. Allocates in proportion to the pattern, the arguments and the text. */
+int64_t plurals_pattern_format(const uint8_t *cardinal, size_t cardinal_len, const uint8_t *ordinal, size_t ordinal_len,
+                               const char *pattern, size_t pattern_len, const struct plurals_argument *arguments,
+                               size_t arguments_len, char *out, size_t out_len);
 
 /* ---- What follows is in the installed library alone, and isn't proved. None of it allocates. */
 

@@ -11,6 +11,7 @@
 #include <cstddef>
 #include <cstdint>
 #include <cstring>
+#include <initializer_list>
 #include <memory>
 #include <new>
 #include <optional>
@@ -332,6 +333,27 @@ private:
     }
     Bytes block_;
 };
+
+/* An argument of a pattern: a number, as it is written, or a text, under a name. */
+struct Argument : plurals_argument {
+    static Argument number(std::string_view name, std::string_view written) noexcept { return {name, written, PLURALS_NUMBER}; }
+    static Argument text(std::string_view name, std::string_view text) noexcept { return {name, text, PLURALS_TEXT}; }
+
+private:
+    Argument(std::string_view name, std::string_view value, std::uint32_t kind) noexcept
+        : plurals_argument{name.data(), name.size(), value.data(), value.size(), kind} {}
+};
+static_assert(sizeof(Argument) == sizeof(plurals_argument), "the arguments are an array of plurals_argument");
+
+/* Returns what a pattern of ICU's MessageFormat says with these arguments; selectordinal is by the second rules. */
+inline Result<Bytes> format(std::string_view pattern, std::initializer_list<Argument> arguments, const Rules &cardinal,
+                            const Rules &ordinal) noexcept {
+    return Bytes::written([&](std::uint8_t *out, std::size_t room) {
+        return plurals_pattern_format(cardinal.block().data(), cardinal.block().size(), ordinal.block().data(),
+                                      ordinal.block().size(), pattern.data(), pattern.size(), arguments.begin(),
+                                      arguments.size(), reinterpret_cast<char *>(out), room);
+    });
+}
 
 }  // namespace plurals
 

@@ -66,6 +66,27 @@ const char *plurals_fault_text(int64_t fault) {
     case PLURALS_DOCUMENT_RANGE_VALUE: return "the document has a range whose value names no category";
     case PLURALS_LOCALE: return "the document has no rules of the type, or no ranges, for the locale";
     case PLURALS_TABLE_LENGTH: return "the table of categories isn't of 236 bytes";
+
+    case PLURALS_PATTERN_UNCLOSED: return "the pattern: a brace isn't closed";
+    case PLURALS_PATTERN_EXPECTED_NAME: return "the pattern lacks the name of an argument";
+    case PLURALS_PATTERN_BAD_NUMBER: return "the pattern: the number of an argument begins with a zero";
+    case PLURALS_PATTERN_EXPECTED_END: return "the pattern lacks \",\" or \"}\"";
+    case PLURALS_PATTERN_EXPECTED_TYPE: return "the pattern lacks the type of an argument";
+    case PLURALS_PATTERN_UNSUPPORTED_TYPE: return "the pattern: a type is none of plural, selectordinal and select";
+    case PLURALS_PATTERN_EXPECTED_STYLE: return "the pattern lacks \",\" before the branches";
+    case PLURALS_PATTERN_EXPECTED_OFFSET: return "the pattern lacks the digits of an offset";
+    case PLURALS_PATTERN_EXPECTED_SELECTOR: return "the pattern lacks a selector";
+    case PLURALS_PATTERN_EXPECTED_VALUE: return "the pattern lacks a number after \"=\"";
+    case PLURALS_PATTERN_EXPECTED_BRANCH: return "the pattern lacks \"{\" after a selector";
+    case PLURALS_PATTERN_MISSING_OTHER: return "the pattern: an argument has no branch \"other\"";
+    case PLURALS_PATTERN_TOO_DEEP: return "the pattern: branches are nested too deep";
+
+    case PLURALS_ARGUMENT_MISSING: return "no argument has the name";
+    case PLURALS_ARGUMENT_WRONG_KIND: return "an argument is of the wrong kind";
+    case PLURALS_ARGUMENT_NOT_A_NUMBER: return "an argument isn't a number";
+    case PLURALS_ARGUMENT_OVER_LIMIT: return "an argument is over a limit";
+    case PLURALS_ARGUMENT_COMPACT_OFFSET: return "an offset from a compact number";
+    case PLURALS_ARGUMENT_KIND: return "the kind of an argument is neither number nor text";
     default: return NULL;
     }
 }

@@ -72,7 +72,7 @@ struct text {
     size_t length;
 };
 
-enum kind { RULES, ELEMENTS, NUMBER, RULE, DOCUMENT, ELEMENTS_JSON, LOCALE, TEXT_OF_ELEMENT, TEXT_OF_RULE, TABLE, KINDS };
+enum kind { RULES, ELEMENTS, NUMBER, PATTERN, NAME, VALUE, RULE, DOCUMENT, ELEMENTS_JSON, LOCALE, TEXT_OF_ELEMENT, TEXT_OF_RULE, TABLE, KINDS };
 
 /* Of each kind the good ones, which mistakes are made in. */
 static struct pool {
@@ -83,6 +83,9 @@ static struct pool {
 /* Of the kinds that are texts the bytes that they are made of. */
 static const char *const alphabets[KINDS] = {
     [NUMBER] = "0123456789+-.c",
+    [PATTERN] = "{}'#=,: nsm01plural select other",
+    [NAME] = "nsm01",
+    [VALUE] = "0123456789+-.cab",
     [RULE] = "nivwftce%=!,.~@ 0123456789andorinteger",
     [DOCUMENT] = "{}[]:,\"0123456789cardinlots ",
     [ELEMENTS_JSON] = "{}[]:,\"0123456789other one ",
@@ -157,6 +160,14 @@ static void fill_pools(void) {
     add_text(DOCUMENT, "{\"ranges\":{\"en\":{\"ranges\":{\"other--one\":\"few\"}}},\"ordinal\":{\"en\":{\"one\":\"n = 1\"}}}");
     add_text(DOCUMENT, "{\"ranges\":{\"en\":{\"ranges\":{\"other--none\":\"few\"}}}}");
     add_text(DOCUMENT, "{\"ranges\":{\"en\":{\"ranges\":{\"other--one\":\"fewer\"}}}}");
+    add_text(PATTERN, "{s} has {n, plural, =0 {no files} one {# file} other {# files}}.");
+    add_text(PATTERN, "{n, selectordinal, one {#st} two {#nd} few {#rd} other {#th}}");
+    add_text(PATTERN, "{s, select, a {{n, plural, offset:1 one {#} other {{m}}}} other {'{'#}}");
+    add_text(PATTERN, "I don't ''say'' '{it''s}' }#");
+    add_text(NAME, "n");
+    add_text(NAME, "s");
+    add_text(VALUE, "a");
+    add_text(VALUE, "");
     add_text(LOCALE, "en");
     add_text(LOCALE, "ru");
     add_text(TEXT_OF_ELEMENT, "{} items");
@@ -228,6 +239,26 @@ static void good_number(struct text *text) {
     if (below(3) == 0) append(text, ONE_OF("c0", "c1", "c2", "c3", "c6", "c17", "c18", "c255"));
 }
 
+static const char *any_name(void) { return ONE_OF("n", "s", "n", "s", "m", " n ", "0", "s\xe2\x80\x8f"); }
+
+/* A pattern, with arguments that are this deep at most. */
+static void good_pattern(struct text *text, int depth) {
+    while (below(3)) {
+        size_t way = depth ? below(8) : 0;
+        if (way < 4) append(text, ONE_OF("a ", "''", "'{'", "#", "'#'", "'}{'' '", "\xc3\xa9", "' ", "it's "));
+        else append(text, "{"), append(text, any_name());
+        if (way == 4) append(text, "}");
+        if (way < 5) continue;
+        append(text, way == 5 ? ",select," : ONE_OF(", plural ,", ",selectordinal,", ", Plural, "));
+        if (way > 5 && below(2)) append(text, ONE_OF("offset:1 ", " offset: 0", "offset:12 ", "offset:100000000000000000000 "));
+        while (below(4)) {
+            append(text, ONE_OF("one", "few ", "other ", "many", "two", "zero", "a", way == 5 ? "b" : "=0", way == 5 ? "" : "=1.50"));
+            append(text, "{"), good_pattern(text, depth - 1), append(text, "}");
+        }
+        append(text, " other{"), good_pattern(text, depth - 1), append(text, "}}");
+    }
+}
+
 /* The five rules of a locale, as JSON. */
 static void good_five(struct text *text) {
     append(text, "{\"other\":\"\"");
@@ -278,7 +309,10 @@ static void make_good(enum kind kind, struct text *text) {
     static uint8_t block[MODEL_BYTES];
     text->length = 0;
     if ((kind == RULE || kind == TEXT_OF_RULE) && below(3)) good_rule(text);
-    if (kind == NUMBER) good_number(text);
+    if (kind == NUMBER || (kind == VALUE && below(3))) good_number(text);
+    else if (kind == VALUE) append(text, ONE_OF("a", "one", "", "\xc3\xa9"));
+    if (kind == PATTERN) good_pattern(text, 3);
+    if (kind == NAME) append(text, ONE_OF("n", "s", "m", "0"));
     if (kind == DOCUMENT) good_document(text);
     if (kind == ELEMENTS_JSON) good_elements(text);
     if (kind == TABLE) good_table(text);
@@ -341,6 +375,9 @@ static uint8_t *place(size_t room, size_t length) { return below(2) ? rooms[room
 static uint64_t number, operands[6];
 enum { MANY = 600 };
 static uint8_t type;
+/* The kinds of two arguments, and how many there are. */
+static uint32_t kinds_of_arguments[2];
+static size_t arguments_len;
 
 /* A slice as a call's two arguments. */
 #define TEXT(k) (const char *)s[k].at, s[k].length
@@ -428,6 +465,16 @@ static int64_t message(const struct slice *s, uint8_t *out, size_t room) {
     return plurals_message(BLOCK(0), BLOCK(1), TEXT(2), (char *)out, room);
 }
 
+/* The arguments, whose names and values are the slices from the fourth on. */
+static const struct plurals_argument *arguments_of(const struct slice *s) {
+    static struct plurals_argument arguments[2];
+    for (size_t k = 0; k < 2; k++) arguments[k] = (struct plurals_argument){TEXT(3 + 2 * k), TEXT(4 + 2 * k), kinds_of_arguments[k]};
+    return arguments;
+}
+static int64_t pattern_format(const struct slice *s, uint8_t *out, size_t room) {
+    return plurals_pattern_format(BLOCK(0), BLOCK(1), TEXT(2), arguments_of(s), arguments_len, (char *)out, room);
+}
+
 /* The same by the model. */
 
 static int64_t model_of_document(const struct slice *s, uint8_t *out) { return model_rules_from_document(s[0], s[1], type, out); }
@@ -455,9 +502,13 @@ static int64_t model_of_json(const struct slice *s, uint8_t *out) { return model
 static int64_t model_of_element(const struct slice *s, uint8_t *out) { return model_element(s[0], s[1], s[2], out); }
 static int64_t model_of_message(const struct slice *s, uint8_t *out) { return model_message(s[0], s[1], s[2], out); }
 
+static int64_t model_of_pattern(const struct slice *s, uint8_t *out) {
+    return model_pattern_format(s[0], s[1], s[2], arguments_of(s), arguments_len, out);
+}
+
 /* Groups of faults, as bits. */
 enum { OF_MEMORY = 1, OF_UTF8 = 2, OF_TYPE = 4, OF_NUMBER = 8, OF_TEXT = 16, OF_RULES = 32, OF_PACKED_RULES = 64, OF_ELEMENTS = 128,
-       OF_PACKED_ELEMENTS = 256, OF_JSON = 512, OF_DOCUMENT = 1024, OF_BOUND = 2048, OF_TABLE = 4096 };
+       OF_PACKED_ELEMENTS = 256, OF_JSON = 512, OF_DOCUMENT = 1024, OF_BOUND = 2048, OF_TABLE = 4096, OF_PATTERN = 8192, OF_ARGUMENT = 16384 };
 
 static const struct export {
     const char *name;
@@ -494,6 +545,8 @@ static const struct export {
     {"plurals_elements_from_json", elements_from_json, model_of_json, -1, OF_MEMORY | OF_PACKED_ELEMENTS | OF_JSON, 1, {ELEMENTS_JSON}},
     {"plurals_element", element, model_of_element, -1, OF_MEMORY | OF_UTF8 | OF_RULES | OF_ELEMENTS | OF_NUMBER, 3, {RULES, ELEMENTS, NUMBER}},
     {"plurals_message", message, model_of_message, -1, OF_MEMORY | OF_UTF8 | OF_RULES | OF_ELEMENTS | OF_NUMBER, 3, {RULES, ELEMENTS, NUMBER}},
+    {"plurals_pattern_format", pattern_format, model_of_pattern, -1, OF_MEMORY | OF_UTF8 | OF_RULES | OF_PATTERN | OF_ARGUMENT, 7,
+     {RULES, RULES, PATTERN, NAME, VALUE, NAME, VALUE}},
 };
 enum { EXPORTS = sizeof exports / sizeof *exports };
 
@@ -553,6 +606,25 @@ static struct fault {
     FAULT(PLURALS_DOCUMENT_RANGE_VALUE, OF_DOCUMENT),
     FAULT(PLURALS_LOCALE, OF_DOCUMENT),
     FAULT(PLURALS_TABLE_LENGTH, OF_TABLE),
+    FAULT(PLURALS_PATTERN_UNCLOSED, OF_PATTERN),
+    FAULT(PLURALS_PATTERN_EXPECTED_NAME, OF_PATTERN),
+    FAULT(PLURALS_PATTERN_BAD_NUMBER, OF_PATTERN),
+    FAULT(PLURALS_PATTERN_EXPECTED_END, OF_PATTERN),
+    FAULT(PLURALS_PATTERN_EXPECTED_TYPE, OF_PATTERN),
+    FAULT(PLURALS_PATTERN_UNSUPPORTED_TYPE, OF_PATTERN),
+    FAULT(PLURALS_PATTERN_EXPECTED_STYLE, OF_PATTERN),
+    FAULT(PLURALS_PATTERN_EXPECTED_OFFSET, OF_PATTERN),
+    FAULT(PLURALS_PATTERN_EXPECTED_SELECTOR, OF_PATTERN),
+    FAULT(PLURALS_PATTERN_EXPECTED_VALUE, OF_PATTERN),
+    FAULT(PLURALS_PATTERN_EXPECTED_BRANCH, OF_PATTERN),
+    FAULT(PLURALS_PATTERN_MISSING_OTHER, OF_PATTERN),
+    FAULT(PLURALS_PATTERN_TOO_DEEP, OF_PATTERN),
+    FAULT(PLURALS_ARGUMENT_MISSING, OF_ARGUMENT),
+    FAULT(PLURALS_ARGUMENT_WRONG_KIND, OF_ARGUMENT),
+    FAULT(PLURALS_ARGUMENT_NOT_A_NUMBER, OF_ARGUMENT),
+    FAULT(PLURALS_ARGUMENT_OVER_LIMIT, OF_ARGUMENT),
+    FAULT(PLURALS_ARGUMENT_COMPACT_OFFSET, OF_ARGUMENT),
+    FAULT(PLURALS_ARGUMENT_KIND, OF_ARGUMENT),
 };
 enum { FAULTS = sizeof faults / sizeof *faults };
 
@@ -583,7 +655,7 @@ static void wrong(const char *what, int64_t result) {
     }
     printf("number %" PRIu64 ", type %d, refused allocation %" PRId64 ", operands", number, type, refused);
     for (int k = 0; k < 6; k++) printf(" %" PRIu64, operands[k]);
-    printf("\n");
+    printf(", %zu arguments of the kinds %" PRIu32 " and %" PRIu32 "\n", arguments_len, kinds_of_arguments[0], kinds_of_arguments[1]);
     exit(1);
 }
 
@@ -612,7 +684,9 @@ static void ask(size_t room, int64_t refuse) {
     if (result < 0) {
         struct fault *fault = fault_of(result);
         expect(fault && (export->faults & fault->group), "it is no fault of this call", result);
-        bool is_before_memory = fault->group & (OF_UTF8 | OF_TYPE | OF_NUMBER | OF_RULES | OF_ELEMENTS);
+        /* A pattern takes memory before its arguments are looked at. */
+        bool is_of_argument = export->ask == pattern_format && fault->group == OF_UTF8;
+        bool is_before_memory = !is_of_argument && fault->group & (OF_UTF8 | OF_TYPE | OF_NUMBER | OF_RULES | OF_ELEMENTS);
         expect(!is_before_memory || asked == 0, "it takes memory before this fault", result);
         fault->count++;
     } else {
@@ -670,6 +744,8 @@ static void run_case(void) {
     number = below(2) ? below(200) : next() >> below(64);
     for (int k = 0; k < 6; k++) operands[k] = below(2) ? below(12) : next() >> below(64);
     type = below(8) ? (uint8_t)below(2) : (uint8_t)next();
+    for (int k = 0; k < 2; k++) kinds_of_arguments[k] = below(16) ? (uint32_t)below(2) : (uint32_t)next();
+    arguments_len = below(8) ? 2 : below(2);
     run_slices();
 }
 
@@ -702,6 +778,9 @@ static const struct slice good[KINDS] = {
     [RULES] = BYTES("\1\0\1\2\0\15\0\xc1\0\0\0\0\1\0\0\0\1\0\0\0\xc2\0\0\0\0\0\0\0\0\0\0\0\0"),
     [ELEMENTS] = BYTES("\x80\10{} items\1\0\x10{} item"),
     [NUMBER] = BYTES("1"),
+    [PATTERN] = BYTES("{n, plural, one {# file} other {# files}}"),
+    [NAME] = BYTES("n"),
+    [VALUE] = BYTES("1"),
     [RULE] = BYTES("i = 1 and v = 0"),
     [DOCUMENT] = BYTES("{\"cardinal\":{\"en\":{\"one\":\"i = 1 and v = 0\"}},\"ordinal\":{\"en\":{}},\"ranges\":{\"en\":{\"ranges\":{}}}}"),
     [ELEMENTS_JSON] = BYTES("{\"other\":[0,\"{} items\"],\"one\":[0,\"{} item\"]}"),
@@ -710,6 +789,9 @@ static const struct slice good[KINDS] = {
     [TEXT_OF_RULE] = BYTES("i = 1 and v = 0"),
     [TABLE] = BYTES(ONES "\1\1\1\1\1\1\1\1"),
 };
+
+#define TWO "{n,plural,other{{n,plural,other{"
+#define EIGHT TWO TWO TWO TWO
 
 /* Inputs with their fault. */
 static const struct bad {
@@ -729,6 +811,12 @@ static const struct bad {
     {NUMBER, BYTES(""), -10}, {NUMBER, BYTES("x"), -10}, {NUMBER, BYTES("5."), -10}, {NUMBER, BYTES("."), -10}, {NUMBER, BYTES("+"), -10},
     {NUMBER, BYTES("1e6"), -10}, {NUMBER, BYTES("1c"), -10}, {NUMBER, BYTES("1c0256"), -10}, {NUMBER, BYTES("1\0"), -10},
     {NUMBER, BYTES("1c256"), -11}, {NUMBER, BYTES("1c999"), -11}, {NUMBER, BYTES("\xff"), -2}, {NUMBER, BYTES("1\xed\xa0\x80"), -2},
+    {PATTERN, BYTES("{"), -90}, {PATTERN, BYTES("{n, plural, other {'}"), -90}, {PATTERN, BYTES("{}"), -91}, {PATTERN, BYTES("{01}"), -92},
+    {PATTERN, BYTES("{n m}"), -93}, {PATTERN, BYTES("{n,}"), -94}, {PATTERN, BYTES("{n, number}"), -95}, {PATTERN, BYTES("{n,plural}"), -96},
+    {PATTERN, BYTES("{n,plural,offset:x}"), -97}, {PATTERN, BYTES("{n,plural,*}"), -98}, {PATTERN, BYTES("{n,select,=1{}other{}}"), -98},
+    {PATTERN, BYTES("{n,plural,=1.{}other{}}"), -99}, {PATTERN, BYTES("{n,plural,one}"), -100}, {PATTERN, BYTES("{n,plural,one{}}"), -101},
+    {PATTERN, BYTES(EIGHT EIGHT EIGHT EIGHT "{n,plural,other{"), -102},
+    {NAME, BYTES("\xff"), -2}, {VALUE, BYTES("\xff"), -2}, {VALUE, BYTES("1\xc3"), -2},
     {RULE, BYTES("i = 1 or"), -20}, {RULE, BYTES("i = 1 or @integer 1"), -20}, {RULE, BYTES("i = 1 and"), -21}, {RULE, BYTES("i 1"), -22},
     {RULE, BYTES("i % 010 = 1"), -22}, {RULE, BYTES("= 1"), -23}, {RULE, BYTES("i = 1 and or"), -23}, {RULE, BYTES("\ti = 1"), -23},
     {RULE, BYTES("i = "), -24}, {RULE, BYTES("i = 4294967296"), -24}, {RULE, BYTES("i % = 1"), -24}, {RULE, BYTES("@integer 1,"), -24},
@@ -755,6 +843,7 @@ enum { BAD = sizeof bad / sizeof *bad };
 
 static void set_good(void) {
     number = 1, type = 0;
+    kinds_of_arguments[0] = PLURALS_NUMBER, kinds_of_arguments[1] = PLURALS_TEXT, arguments_len = 2;
     for (int k = 0; k < export->slices; k++) set_slice(k, good[export->kinds[k]]);
 }
 
@@ -915,6 +1004,8 @@ static void try_categories(void) {
     run_by_hand(0, NO_BYTES);
 }
 
+#define ENGLISH BYTES("\1\0\1\2\0\15\0\xc1\0\0\0\0\1\0\0\0\1\0\0\0\xc2\0\0\0\0\0\0\0\0\0\0\0\0")
+
 /* Results in bytes: an export, its slices, and what it writes. */
 static const struct {
     const char *name;
@@ -952,13 +1043,52 @@ static const struct {
     {"plurals_message", {BYTES(""), BYTES("\0"), BYTES("1")}, BYTES("")},
     {"plurals_message", {BYTES("\1\0\1\2\0\15\0\xc1\0\0\0\0\1\0\0\0\1\0\0\0\xc2\0\0\0\0\0\0\0\0\0\0\0\0"),
                          BYTES("\x80\10{} items\1\0\x10{} item"), BYTES("-1")}, BYTES("-1 item")},
+    {"plurals_pattern_format", {ENGLISH, BYTES(""), BYTES("{s} has {n, plural, =0 {no files} one {# file} other {# files}}."), BYTES("n"), BYTES("0"), BYTES("s"), BYTES("Ann")}, BYTES("Ann has no files.")},
+    {"plurals_pattern_format", {ENGLISH, BYTES(""), BYTES("{s} has {n, plural, =0 {no files} one {# file} other {# files}}."), BYTES("n"), BYTES("1"), BYTES("s"), BYTES("Ann")}, BYTES("Ann has 1 file.")},
+    {"plurals_pattern_format", {ENGLISH, BYTES(""), BYTES("{s} has {n, plural, =0 {no files} one {# file} other {# files}}."), BYTES("n"), BYTES("1.0"), BYTES("s"), BYTES("Ann")}, BYTES("Ann has 1.0 files.")},
+    {"plurals_pattern_format", {ENGLISH, BYTES(""), BYTES("{n, plural, one {a} =1 {b} other {c}}"), BYTES("n"), BYTES("0.1c1"), BYTES("s"), BYTES("")}, BYTES("b")},
+    {"plurals_pattern_format", {ENGLISH, BYTES(""), BYTES("{n, plural, offset:1 =1 {you} one {you and # other} other {you and # others}}"), BYTES("n"), BYTES("3.50"), BYTES("s"), BYTES("")}, BYTES("you and 2.50 others")},
+    {"plurals_pattern_format", {ENGLISH, BYTES(""), BYTES("{n, plural, offset:1 =1 {you} one {you and # other} other {you and # others}}"), BYTES("n"), BYTES("2"), BYTES("s"), BYTES("")}, BYTES("you and 1 other")},
+    {"plurals_pattern_format", {ENGLISH, BYTES(""), BYTES("{n, plural, offset:2 other {#}}"), BYTES("n"), BYTES("0"), BYTES("s"), BYTES("")}, BYTES("-2")},
+    {"plurals_pattern_format", {ENGLISH, BYTES(""), BYTES("{n, plural, offset:100 other {#}}"), BYTES("n"), BYTES("+0099.9"), BYTES("s"), BYTES("")}, BYTES("-0.1")},
+    {"plurals_pattern_format", {ENGLISH, ENGLISH, BYTES("{n, selectordinal, one {#st} other {#th}}"), BYTES("n"), BYTES("1"), BYTES("s"), BYTES("")}, BYTES("1st")},
+    {"plurals_pattern_format", {ENGLISH, BYTES(""), BYTES("{n, selectordinal, one {#st} other {#th}}"), BYTES("n"), BYTES("1"), BYTES("s"), BYTES("")}, BYTES("1th")},
+    {"plurals_pattern_format", {ENGLISH, BYTES(""), BYTES("{s, select, a {A#} other {B}}{s}"), BYTES("n"), BYTES(" "), BYTES("s"), BYTES("a")}, BYTES("A#a")},
+    {"plurals_pattern_format", {ENGLISH, BYTES(""), BYTES("'{n}' I don''t }# '"), BYTES("n"), BYTES("1"), BYTES("s"), BYTES("")}, BYTES("{n} I don't }# '")},
+    {"plurals_pattern_format", {ENGLISH, BYTES(""), BYTES("{n, plural, other {# {s, select, other {#}} #}}"), BYTES("n"), BYTES("1"), BYTES("s"), BYTES("x")}, BYTES("1 # 1")},
 };
 
 static void try_written(void) {
     for (size_t row = 0; row < sizeof written / sizeof *written; row++) {
-        export = export_of(written[row].name), type = 0;
+        export = export_of(written[row].name);
+        set_good();
         for (int k = 0; k < export->slices; k++) set_slice(k, written[row].slices[k]);
         run_by_hand((int64_t)written[row].bytes.length, written[row].bytes);
+    }
+}
+
+/* Faults of arguments: a pattern, the number n or s of another kind, and the fault. */
+static const struct {
+    const char *pattern, *value;
+    uint32_t kind;
+    int fault;
+} uses[] = {
+    {"{m}", "1", 0, PLURALS_ARGUMENT_MISSING}, {"{m, select, other {}}{n, select, other {}}", "1", 0, PLURALS_ARGUMENT_MISSING},
+    {"{n, plural, other {}}", "1", 1, PLURALS_ARGUMENT_WRONG_KIND}, {"{n, select, other {}}{m}", "1", 0, PLURALS_ARGUMENT_WRONG_KIND},
+    {"{n, plural, other {}}", "1,000", 0, PLURALS_ARGUMENT_NOT_A_NUMBER}, {"{n, plural, other {}}", "", 0, PLURALS_ARGUMENT_NOT_A_NUMBER},
+    {"{n, plural, other {}}", "1c256", 0, PLURALS_ARGUMENT_OVER_LIMIT},
+    {"{n, plural, offset:1 other {}}", "1c1", 0, PLURALS_ARGUMENT_COMPACT_OFFSET},
+    {"{n}", "1", 2, PLURALS_ARGUMENT_KIND}, {"", "1", UINT32_MAX, PLURALS_ARGUMENT_KIND},
+};
+
+static void try_arguments(void) {
+    export = export_of("plurals_pattern_format");
+    for (size_t row = 0; row < sizeof uses / sizeof *uses; row++) {
+        set_good();
+        kinds_of_arguments[0] = uses[row].kind, arguments_len = 1;
+        set_slice(2, slice_of(uses[row].pattern)), set_slice(4, slice_of(uses[row].value));
+        run_by_hand(uses[row].fault, NO_BYTES);
+        set_slice(2, slice_of("{")), run_by_hand(PLURALS_PATTERN_UNCLOSED, NO_BYTES);
     }
 }
 
@@ -1065,6 +1195,7 @@ int main(int count, char **words) {
     try_numbers();
     try_wholes();
     try_written();
+    try_arguments();
     try_limits();
     expect_each_fault();
     printf("%10" PRIu64 " calls by hand\n", calls);

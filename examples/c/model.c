@@ -30,7 +30,7 @@ static size_t character(struct slice text) {
     return is_overlong || is_surrogate || is_above ? 0 : length;
 }
 
-static bool is_utf8(struct slice text) {
+bool model_is_utf8(struct slice text) {
     while (text.length > 0) {
         size_t length = character(text);
         if (length == 0) return false;
@@ -300,7 +300,7 @@ static int64_t write_rules(const struct slice texts[5], uint8_t *out) {
 int64_t model_rules_from_texts(const struct slice texts[5], uint8_t *out) {
     struct slice given[5];
     for (int k = 0; k < 5; k++)
-        if (!is_utf8(texts[k])) return PLURALS_UTF8;
+        if (!model_is_utf8(texts[k])) return PLURALS_UTF8;
     for (int k = 0; k < 5; k++) given[k] = texts[k].length ? texts[k] : (struct slice){NULL, 0};
     return write_rules(given, out);
 }
@@ -378,7 +378,7 @@ static int elements_fault(struct slice elements) {
     bool has_items = elements.at[0] >> 7;
     if (has_items && (elements.length < 2 || elements.length - 2 < elements.at[1])) return PLURALS_ELEMENTS_SHORT;
     if (elements.at[0] & 0x70) return PLURALS_ELEMENTS_PADDING;
-    if (!is_utf8(default_of(elements))) return PLURALS_ELEMENTS_DEFAULT_TEXT;
+    if (!model_is_utf8(default_of(elements))) return PLURALS_ELEMENTS_DEFAULT_TEXT;
     struct slice list = items_of(elements);
     int fault = list_fault(list);
     if (fault != LIST_FINE) return PLURALS_ELEMENTS_LIST_HEADER - fault;
@@ -386,7 +386,7 @@ static int elements_fault(struct slice elements) {
         struct slice item = item_of(list, k);
         if (item.length == 0) return PLURALS_ELEMENTS_ITEM_EMPTY;
         if (item.at[0] >> 4 > 6) return PLURALS_ELEMENTS_KEY;
-        if (!is_utf8(part(item, 1, item.length))) return PLURALS_ELEMENTS_ITEM_TEXT;
+        if (!model_is_utf8(part(item, 1, item.length))) return PLURALS_ELEMENTS_ITEM_TEXT;
     }
     return 0;
 }
@@ -411,7 +411,7 @@ static size_t digits_at(struct slice text, size_t at) {
 
 /* Reads a number into the places, and returns its fault, or 0. */
 static int read_number(struct slice text) {
-    if (!is_utf8(text)) return PLURALS_UTF8;
+    if (!model_is_utf8(text)) return PLURALS_UTF8;
     size_t at = text.length && (text.at[0] == '+' || text.at[0] == '-'), integer = at, integers = digits_at(text, at), fraction = 0;
     size_t fractions = 0;
     at += integers;
@@ -915,7 +915,7 @@ static const char *const parts[] = {"cardinal", "ordinal", "ranges"};
 
 /* Finds what a document has for a locale in one of its parts, and returns the fault, or 0. */
 static int find_locale(struct slice json, struct slice locale, const char *name, int *found) {
-    if (!is_utf8(locale)) return PLURALS_UTF8;
+    if (!model_is_utf8(locale)) return PLURALS_UTF8;
     int fault = read_json(json);
     if (fault) return fault;
     if (nodes[0].kind != OBJECT) return PLURALS_DOCUMENT_SHAPE;
@@ -1005,7 +1005,7 @@ int64_t model_elements_from_json(struct slice json, uint8_t *out) {
 int64_t model_elements_from_texts(const struct slice texts[8], uint8_t *out) {
     struct slice other = texts[0];
     for (int k = 0; k < 8; k++)
-        if (!is_utf8(texts[k])) return PLURALS_UTF8;
+        if (!model_is_utf8(texts[k])) return PLURALS_UTF8;
     items.count = items.length = 0;
     for (int key = 0; key < 7; key++) {
         struct slice text = texts[key + 1];

@@ -3,6 +3,8 @@
 #ifndef MODEL_H
 #define MODEL_H
 
+#include <plurals.h>
+#include <stdbool.h>
 #include <stddef.h>
 #include <stdint.h>
 
@@ -32,5 +34,9 @@ int64_t model_category(struct slice rules, struct slice number);
 int64_t model_is_exact(struct slice rules, struct slice number);
 int64_t model_sure_category(struct slice rules, struct slice number);
 int64_t model_is_read_whole(struct slice text);
+int64_t model_pattern_format(struct slice cardinal, struct slice ordinal, struct slice pattern, const struct plurals_argument *arguments,
+                             size_t count, uint8_t *out);
+
+bool model_is_utf8(struct slice text);
 
 #endif

@@ -30,6 +30,8 @@ int32_t __real_plurals_is_exact(const uint8_t *, size_t, const char *, size_t);
 int64_t __real_plurals_elements_from_json(const char *, size_t, uint8_t *, size_t);
 int64_t __real_plurals_element(const uint8_t *, size_t, const uint8_t *, size_t, const char *, size_t, char *, size_t);
 int64_t __real_plurals_message(const uint8_t *, size_t, const uint8_t *, size_t, const char *, size_t, char *, size_t);
+int64_t __real_plurals_pattern_format(const uint8_t *, size_t, const uint8_t *, size_t, const char *, size_t, const struct plurals_argument *,
+                                      size_t, char *, size_t);
 
 /* How many digits a number has before its point. */
 static size_t integers(const char *number, size_t length) {
@@ -189,5 +191,19 @@ int64_t __wrap_plurals_categories_of_integers(const uint8_t *rules, size_t rules
     int bug = planted();
     int64_t result = __real_plurals_categories_of_integers(rules, rules_len, numbers, numbers_len, out, out_len);
     if (bug == 32 && result > 512 && out_len >= 600) out[599] = out[0]; /* the last one isn't asked */
+    return result;
+}
+
+int64_t __wrap_plurals_pattern_format(const uint8_t *cardinal, size_t cardinal_len, const uint8_t *ordinal, size_t ordinal_len,
+                                      const char *pattern, size_t pattern_len, const struct plurals_argument *arguments,
+                                      size_t arguments_len, char *out, size_t out_len) {
+    int bug = planted();
+    if (bug == 33 && ordinal_len) ordinal = cardinal, ordinal_len = cardinal_len; /* ordinal numbers are by the cardinal rules */
+    if (bug == 34 && arguments_len == 2 && arguments[0].name_len == arguments[1].name_len
+        && !memcmp(arguments[0].name, arguments[1].name, arguments[0].name_len)) arguments++, arguments_len--; /* the last of a name counts */
+    int64_t result =
+        __real_plurals_pattern_format(cardinal, cardinal_len, ordinal, ordinal_len, pattern, pattern_len, arguments, arguments_len, out, out_len);
+    if (bug == 35 && result == PLURALS_ARGUMENT_WRONG_KIND) return PLURALS_ARGUMENT_NOT_A_NUMBER; /* two faults have one number */
+    if (bug == 36 && result > 1 && result <= (int64_t)out_len && out[0] == '-') out[0] = '+'; /* a sign is turned */
     return result;
 }

@@ -1,8 +1,8 @@
 /* Calls each export on a thread that has as much stack left as the header names, and no byte more: the page below can't be touched.
- * Prints how much of it each export has used. The inputs are those that take the most: JSON that is nested as deep as it may be, the
- * longest numbers, long rules, and blocks and texts of all kinds.
+ * Prints how much of it each export has used. The inputs are those that take the most: JSON and patterns that are nested as deep as
+ * they may be, the longest numbers, long rules, and blocks and texts of all kinds.
  *
- * The arguments are the bytes that the calls with JSON may take, and those of all others. */
+ * The arguments are the bytes that the calls with nested texts may take, and those of all others. */
 #define _GNU_SOURCE
 #include <alloca.h>
 #include <plurals.h>
@@ -50,11 +50,15 @@ static void is_read_whole(void) { result = plurals_is_read_whole(text, text_len)
 static void from_json(void) { result = plurals_elements_from_json(text, text_len, out, LONG); }
 static void element(void) { result = plurals_element(rules, rules_len, elements, elements_len, number, number_len, (char *)out, LONG); }
 static void message(void) { result = plurals_message(rules, rules_len, elements, elements_len, number, number_len, (char *)out, LONG); }
+static void pattern_format(void) {
+    struct plurals_argument argument = {"n", 1, number, number_len, PLURALS_NUMBER};
+    result = plurals_pattern_format(rules, rules_len, rules, rules_len, text, text_len, &argument, 1, (char *)out, LONG);
+}
 
 static const struct export {
     const char *name;
     void (*ask)(void);
-    bool is_json;
+    bool is_nested;
 } exports[] = {
     {"plurals_rules_from_document", from_document, true}, {"plurals_rules_from_texts", from_texts, false},
     {"plurals_check_rules", check_rules, false},          {"plurals_category_of_integer", category_of_integer, false},
@@ -65,7 +69,7 @@ static const struct export {
     {"plurals_ranges_from_document", ranges, true},       {"plurals_elements_from_texts", elements_from_texts, false},
     {"plurals_sure_category", sure_category, false},      {"plurals_is_read_whole", is_read_whole, false},
     {"plurals_table_of_rules", table_of_rules, false},    {"plurals_category_by_table", category_by_table, false},
-    {"plurals_categories_of_integers", categories_of_integers, false},
+    {"plurals_categories_of_integers", categories_of_integers, false}, {"plurals_pattern_format", pattern_format, true},
 };
 enum { EXPORTS = sizeof exports / sizeof *exports };
 
@@ -107,20 +111,20 @@ static void *run(void *nothing) {
     return nothing;
 }
 
-static size_t for_json, for_others;
+static size_t for_nested, for_others;
 
 static void try_export(const struct export *one) {
     pthread_t thread;
     pthread_attr_t how;
-    export = one, allowed = one->is_json ? for_json : for_others;
+    export = one, allowed = one->is_nested ? for_nested : for_others;
     if (pthread_attr_init(&how) || pthread_attr_setstack(&how, stack, STACK) || pthread_create(&thread, &how, run, NULL)
         || pthread_join(thread, NULL))
         abort();
 }
 
-static void try_all(bool json) {
+static void try_all(bool nested) {
     for (const struct export *one = exports; one < exports + EXPORTS; one++)
-        if (one->is_json == json) try_export(one);
+        if (one->is_nested == nested) try_export(one);
 }
 
 /* ---- the inputs */
@@ -161,6 +165,19 @@ static void try_numbers(void) {
     }
 }
 
+static void try_patterns(void) {
+    static const char *const inner[] = {"#", "{n}", "{n,plural,=1{}one{}other{#}}", "{n,plural,offset:1 =1{}other{#}}", "'{' {m}", "{n, x"};
+    for (size_t k = 0; k < sizeof inner / sizeof *inner; k++)
+        for (size_t depth = 0; depth < 34; depth++) {
+            size_t rest;
+            repeat(text, &text_len, "", "{n,plural,offset:99 other{", depth, inner[k]);
+            repeat(text + text_len, &rest, "", "}}", depth, "");
+            text_len += rest;
+            repeat(number, &number_len, "1", "", 0, ""), try_export(&exports[EXPORTS - 1]);
+            repeat(number, &number_len, "-", "9", 32766, ".5"), try_export(&exports[EXPORTS - 1]);
+        }
+}
+
 static void try_inputs(void) {
     static const struct { const char *front, *open, *inner, *close, *end; } nested[] = {
         {"{\"other\":[0,\"x\"],\"x\":", "[", "0", "]", "}"},      {"{\"other\":[0,\"x\"],\"x\":", "[[],[", "", "],0]", "}"},
@@ -180,17 +197,18 @@ static void try_inputs(void) {
     try_texts("n = 1", ",1", 8300, " and n = 1");
     try_texts("i = 1 @integer 1", ", 2~3", 10000, " @");
     try_texts("", "i = 1 and ", 3000, "");
+    try_patterns();
 }
 
 int main(int count, char **words) {
     if (count != 3) return 2;
-    for_json = strtoull(words[1], NULL, 10), for_others = strtoull(words[2], NULL, 10);
+    for_nested = strtoull(words[1], NULL, 10), for_others = strtoull(words[2], NULL, 10);
     stack = mmap(NULL, STACK, PROT_READ | PROT_WRITE, MAP_PRIVATE | MAP_ANONYMOUS, -1, 0);
     struct sigaction action = {.sa_handler = on_fault, .sa_flags = SA_ONSTACK};
     if (stack == MAP_FAILED || sigaction(SIGSEGV, &action, NULL)) abort();
     elements[0] = 0x80, elements_len = 4;
     try_inputs();
     for (size_t k = 0; k < EXPORTS; k++)
-        printf("%7zu of %6zu bytes  %s\n", used[k], exports[k].is_json ? for_json : for_others, exports[k].name);
+        printf("%7zu of %6zu bytes  %s\n", used[k], exports[k].is_nested ? for_nested : for_others, exports[k].name);
     return 0;
 }

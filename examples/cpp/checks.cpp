@@ -161,6 +161,26 @@ static void elements() {
     CHECK(Elements::from_texts(texts).fault().number() == PLURALS_UTF8);
 }
 
+static void patterns() {
+    using plurals::Argument;
+    Texts texts;
+    texts.one = "i = 1 and v = 0";
+    auto english = Rules::from_texts(texts);
+    auto ordinal = Rules::from_texts({});
+    constexpr std::string_view sent = "{name} sent {n, plural, =0 {no files} one {# file} other {# files}}.";
+    auto said = [&](std::string_view number) {
+        return plurals::format(sent, {Argument::text("name", "Ann"), Argument::number("n", number)}, *english, *ordinal);
+    };
+    CHECK(said("0")->view() == "Ann sent no files.");
+    CHECK(said("1")->view() == "Ann sent 1 file.");
+    CHECK(said("1.0")->view() == "Ann sent 1.0 files.");
+    CHECK(said("one").fault().number() == PLURALS_ARGUMENT_NOT_A_NUMBER);
+    CHECK(plurals::format("", {}, *english, *ordinal)->size() == 0);
+    CHECK(plurals::format("{n", {}, *english, *ordinal).fault().number() == PLURALS_PATTERN_UNCLOSED);
+    CHECK(plurals::format("{n}", {Argument::text("n", {})}, *english, *ordinal)->size() == 0);
+    CHECK(plurals::format("{n}", {Argument::text("m", "x")}, *english, *ordinal).fault().text() == "no argument has the name");
+}
+
 int main() {
     static_assert(PLURALS_VERSION_MAJOR == 0);
     CHECK(plurals_version() == std::string_view(PLURALS_VERSION));
@@ -173,6 +193,7 @@ int main() {
     many_integers();
     ranges();
     elements();
+    patterns();
     std::printf("%d failed\n", failed);
     return failed != 0;
 }

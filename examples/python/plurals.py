@@ -19,7 +19,7 @@ from enum import Enum
 from pathlib import Path
 from typing import Any, Iterable, Optional, Union
 
-__all__ = ["Category", "CategoryTable", "Elements", "Fault", "Number", "Ranges", "Rules", "is_read_whole", "text_of", "version"]
+__all__ = ["Category", "CategoryTable", "Elements", "Fault", "Number", "Ranges", "Rules", "Written", "format_pattern", "is_read_whole", "text_of", "version"]
 
 Number = Union[int, float, Decimal, str]
 _HERE = Path(__file__).resolve()
@@ -64,6 +64,16 @@ def _found() -> str:
     return ctypes.util.find_library("plurals") or "libplurals.so.0"
 
 
+class _Argument(ctypes.Structure):
+    _fields_ = [
+        ("name", ctypes.c_char_p),
+        ("name_len", ctypes.c_size_t),
+        ("value", ctypes.c_char_p),
+        ("value_len", ctypes.c_size_t),
+        ("kind", ctypes.c_uint32),
+    ]
+
+
 def _opened() -> ctypes.CDLL:
     library = ctypes.CDLL(_found())
     given = [ctypes.c_char_p, ctypes.c_size_t]
@@ -88,6 +98,7 @@ def _opened() -> ctypes.CDLL:
         "plurals_elements_from_texts": (ctypes.c_int64, [*given * 8, *given]),
         "plurals_element": (ctypes.c_int64, [*given * 3, *given]),
         "plurals_message": (ctypes.c_int64, [*given * 3, *given]),
+        "plurals_pattern_format": (ctypes.c_int64, [*given * 3, ctypes.POINTER(_Argument), ctypes.c_size_t, *given]),
         "plurals_category_name": (ctypes.c_char_p, [ctypes.c_int32]),
         "plurals_fault_text": (ctypes.c_char_p, [ctypes.c_int64]),
         "plurals_version": (ctypes.c_char_p, []),
@@ -326,3 +337,26 @@ class Elements:
 
     def _asked(self, export: Any, rules: Rules, number: Number) -> str:
         return _written(export, *_words((rules.block, self.block, _bytes(text_of(number))))).decode()
+
+
+class Written(str):
+    """The text of a number as an argument of a pattern, where another text is only compared: Written("1.50"), Written("1c6")."""
+
+
+def format_pattern(pattern: str, cardinal: Rules, ordinal: Optional[Rules] = None, **arguments: Number) -> str:
+    """Returns what a pattern of ICU's MessageFormat says (docs/PATTERNS.md). Without ordinal rules every number is other there.
+
+    A text is a text, unless it is Written; all others are numbers, as text_of writes them.
+
+    >>> english = Rules.of_locale("en")
+    >>> format_pattern("{who} has {n, plural, =0 {no files} one {# file} other {# files}}.", english, who="Ann", n=1)
+    'Ann has 1 file.'
+    """
+    given = [(_bytes(name), _bytes(text_of(value)), _is_text(value)) for name, value in arguments.items()]
+    passed = (_Argument * len(given))(*[(name, len(name), value, len(value), kind) for name, value, kind in given])
+    words = _words((cardinal.block, ordinal.block if ordinal else b"", _bytes(pattern)))
+    return _written(_library.plurals_pattern_format, *words, passed, len(given)).decode()
+
+
+def _is_text(value: Number) -> int:
+    return int(isinstance(value, str) and not isinstance(value, Written))

@@ -248,6 +248,19 @@ def test_ranges():
     assert fault.value.number == -75
 
 
+def test_patterns():
+    sent = "{who} sent {n, plural, =0 {no files} one {# file} other {# files}}."
+    texts = [plurals.format_pattern(sent, ENGLISH, who="Ann", n=number) for number in (0, 1, 2.5, Decimal("1.0"), plurals.Written("1"))]
+    assert texts == ["Ann sent no files.", "Ann sent 1 file.", "Ann sent 2.5 files.", "Ann sent 1.0 files.", "Ann sent 1 file."]
+    ordinal = "{n, selectordinal, one {#st} other {#th}}"
+    assert plurals.format_pattern(ordinal, ENGLISH, Rules.of_locale("en", ordinal=True), n=21) == "21st"
+    assert plurals.format_pattern(ordinal, ENGLISH, n=21) == "21th"
+    for pattern, number in (("{m}", -110), (ordinal, -111), ("{n", -90)):
+        with pytest.raises(Fault) as fault:
+            plurals.format_pattern(pattern, ENGLISH, n="21")
+        assert fault.value.number == number
+
+
 def test_byte_0_is_no_end():
     assert Elements('{"other":[0,"a\\u0000b"]}').text(ENGLISH, 1) == "a\0b"
     with pytest.raises(Fault):

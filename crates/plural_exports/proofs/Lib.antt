@@ -5,3 +5,5 @@ pub mod Documents
 pub mod RangeTables
 pub mod ElementTexts
 pub mod ManyIntegers
+pub mod ReadArguments
+pub mod SaidPatterns

@@ -17,9 +17,13 @@ use Rattle.icu_plurals.specs.declared.provider.rules.runtime.ast.RuleBytesError.
 use Rattle.icu_plurals.specs.declared.provider.rules.runtime.ast.RuleBytesError.TheVariants as packed
 use Rattle.icu_plurals.specs.declared.provider.rules.runtime.ast.RuleError.{RuleError}
 use Rattle.icu_plurals.specs.declared.provider.rules.runtime.ast.RuleError.TheVariants as rule
+use Rattle.message_format.specs.declared.error.ArgumentFault.{ArgumentFault}
+use Rattle.message_format.specs.declared.error.ArgumentFault.TheVariants as argument
+use Rattle.message_pattern.specs.declared.error.FaultKind.{FaultKind}
+use Rattle.message_pattern.specs.declared.error.FaultKind.TheVariants as pattern
 use Rattle.plural_exports.specs.declared.fault.Fault.{Fault}
 use Rattle.plural_exports.specs.declared.fault.Fault.TheVariants.{Memory, Utf8, RuleType, Number, OutsideBound, Text, Rules, RulesLimit, Elements, Json}
-use Rattle.plural_exports.specs.declared.fault.Fault.TheVariants.{Document, Locale, TableLength}
+use Rattle.plural_exports.specs.declared.fault.Fault.TheVariants.{Document, Locale, TableLength, Pattern, Argument, ArgumentKind}
 
 -- the negative of a number that isn't 0
 abbrev pub minus : ℕ → ℤ
@@ -98,6 +102,30 @@ json_number json.RangeValue = minus 74
 json_number (json.Pack fault) = packing_number fault
 json_number json.Memory = memory_number
 
+-- a text isn't a pattern
+abbrev pub pattern_number : FaultKind → ℤ
+pattern_number pattern.Unclosed = minus 90
+pattern_number pattern.ExpectedName = minus 91
+pattern_number pattern.BadNumber = minus 92
+pattern_number pattern.ExpectedEnd = minus 93
+pattern_number pattern.ExpectedType = minus 94
+pattern_number pattern.UnsupportedType = minus 95
+pattern_number pattern.ExpectedStyle = minus 96
+pattern_number pattern.ExpectedOffset = minus 97
+pattern_number pattern.ExpectedSelector = minus 98
+pattern_number pattern.ExpectedValue = minus 99
+pattern_number pattern.ExpectedBranch = minus 100
+pattern_number pattern.MissingOther = minus 101
+pattern_number pattern.TooDeep = minus 102
+
+-- a pattern can't be said with an argument
+abbrev pub argument_number : ArgumentFault → ℤ
+argument_number argument.Missing = minus 110
+argument_number argument.WrongKind = minus 111
+argument_number argument.NotANumber = minus 112
+argument_number argument.OverLimit = minus 113
+argument_number argument.CompactOffset = minus 114
+
 -- the number of a fault
 abbrev pub fault_number : Fault → ℤ
 fault_number Memory = memory_number
@@ -113,3 +141,6 @@ fault_number Json = minus 70
 fault_number (Document fault) = json_number fault
 fault_number Locale = minus 75
 fault_number TableLength = minus 80
+fault_number (Pattern kind) = pattern_number kind
+fault_number (Argument fault) = argument_number fault
+fault_number ArgumentKind = minus 115

@@ -6,6 +6,8 @@ pub mod GivenDocuments
 pub mod GivenRanges
 pub mod GivenElements
 pub mod NumberAnswers
+pub mod GivenArguments
+pub mod FormattedPatterns
 pub mod OperandAnswers
 pub mod RulesCategories
 pub mod TableAnswers

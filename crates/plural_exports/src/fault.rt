@@ -1,8 +1,8 @@
 //! Why an export has no result, and the numbers that tell it.
 
 ghost use Rattle.std.specs.Prelude.{◌≡◌};
-ghost use Rattle.plural_exports.specs.Faults.{block_number, decimal_number, elements_number, fault_number, json_number, packed_number, packing_number, parse_number, rule_number};
-ghost use Rattle.plural_exports.specs.Inner.Conversions.{decimal_fault, json_fault, pack_fault, text_fault};
+ghost use Rattle.plural_exports.specs.Faults.{argument_number, block_number, decimal_number, elements_number, fault_number, json_number, packed_number, packing_number, parse_number, pattern_number, rule_number};
+ghost use Rattle.plural_exports.specs.Inner.Conversions.{decimal_fault, format_fault, json_fault, pack_fault, pattern_fault, text_fault};
 ghost use Rattle.plural_exports.specs.declared.fault.Fault.TheVariants.{Elements, Rules};
 
 use icu_plurals::provider::rules::reference::ParseError;
@@ -11,6 +11,8 @@ use icu_plurals::{
     DecimalError, ElementsBytesError, ElementsPackError, JsonError, ListError, RulesBytesError,
     RulesPackError,
 };
+use message_format::{ArgumentFault, FormatError};
+use message_pattern::{FaultKind, PatternError};
 
 // Why there is no result. A fault of memory is always `Memory`, whatever it was wanted for.
 #[derive(Clone, Copy)]
@@ -41,6 +43,12 @@ pub(crate) enum Fault {
     Locale,
     // A table of categories has another length.
     TableLength,
+    // A text isn't a pattern.
+    Pattern(FaultKind),
+    // A pattern says nothing with the arguments, because of one of them.
+    Argument(ArgumentFault),
+    // An argument's kind is neither 0 nor 1.
+    ArgumentKind,
 }
 
 impl Fault {
@@ -62,6 +70,9 @@ impl Fault {
             Fault::Document(fault) => json_number(fault),
             Fault::Locale => -75,
             Fault::TableLength => -80,
+            Fault::Pattern(kind) => pattern_number(kind),
+            Fault::Argument(fault) => argument_number(fault),
+            Fault::ArgumentKind => -115,
         }
     }
 }
@@ -127,6 +138,28 @@ impl From<JsonError> for Fault {
             | JsonError::RangeValue
             | JsonError::Pack(_) => Fault::Document(error),
             JsonError::Memory => Fault::Memory,
+        }
+    }
+}
+
+impl From<PatternError> for Fault {
+    ghost from_gives = { λ error fault. fault ≡ pattern_fault error };
+
+    fn from(error: PatternError) -> Fault {
+        match error {
+            PatternError::Fault(kind, _) => Fault::Pattern(kind),
+            PatternError::Memory => Fault::Memory,
+        }
+    }
+}
+
+impl<'p> From<FormatError<'p>> for Fault {
+    ghost from_gives = { λ error fault. fault ≡ format_fault error };
+
+    fn from(error: FormatError<'p>) -> Fault {
+        match error {
+            FormatError::Argument(fault, _) => Fault::Argument(fault),
+            FormatError::Memory => Fault::Memory,
         }
     }
 }
@@ -239,5 +272,39 @@ fn json_number(fault: JsonError) -> i32
         JsonError::RangeValue => -74,
         JsonError::Pack(fault) => packing_number(fault),
         JsonError::Memory => MEMORY,
+    }
+}
+
+// The number of a text that isn't a pattern.
+fn pattern_number(kind: FaultKind) -> i32
+    ensures { result ≡ pattern_number kind }
+{
+    match kind {
+        FaultKind::Unclosed => -90,
+        FaultKind::ExpectedName => -91,
+        FaultKind::BadNumber => -92,
+        FaultKind::ExpectedEnd => -93,
+        FaultKind::ExpectedType => -94,
+        FaultKind::UnsupportedType => -95,
+        FaultKind::ExpectedStyle => -96,
+        FaultKind::ExpectedOffset => -97,
+        FaultKind::ExpectedSelector => -98,
+        FaultKind::ExpectedValue => -99,
+        FaultKind::ExpectedBranch => -100,
+        FaultKind::MissingOther => -101,
+        FaultKind::TooDeep => -102,
+    }
+}
+
+// The number of an argument that a pattern can't be said with.
+fn argument_number(fault: ArgumentFault) -> i32
+    ensures { result ≡ argument_number fault }
+{
+    match fault {
+        ArgumentFault::Missing => -110,
+        ArgumentFault::WrongKind => -111,
+        ArgumentFault::NotANumber => -112,
+        ArgumentFault::OverLimit => -113,
+        ArgumentFault::CompactOffset => -114,
     }
 }

@@ -2,6 +2,7 @@
 //! results and faults.
 #![tactic(auto)]
 
+mod arguments;
 mod block_categories;
 mod buffer;
 mod document;
@@ -13,6 +14,7 @@ mod integers;
 mod number_category;
 mod number_message;
 mod operands;
+mod patterns;
 mod ranges;
 mod rules;
 mod signed;
@@ -20,6 +22,7 @@ mod sure;
 mod table;
 mod whole;
 
+pub use arguments::GivenArgument;
 pub use block_categories::categories;
 pub use element_texts::elements_from_texts;
 pub use elements::{element, elements_from_json};
@@ -27,6 +30,7 @@ pub use integers::categories_of_integers;
 pub use number_category::{category, category_of_integer, is_exact};
 pub use number_message::message;
 pub use operands::category_of_operands;
+pub use patterns::pattern_format;
 pub use ranges::ranges_from_document;
 pub use rules::{check_rules, rules_from_document, rules_from_texts};
 pub use signed::category_of_signed_integer;

@@ -4,5 +4,6 @@
 
 mod integers;
 mod numbers;
+mod patterns;
 mod rules;
 mod texts;

@@ -1,8 +1,17 @@
 //! The calls of `plurals.h`, over slices. All that is unsafe is here.
 #![allow(unsafe_code)]
-use crate::{PluralsError, RawPluralOperands};
+use crate::{Argument, PluralsError, RawPluralOperands, Value};
 
 mod raw {
+    #[repr(C)]
+    pub struct Argument {
+        pub name: *const u8,
+        pub name_len: usize,
+        pub value: *const u8,
+        pub value_len: usize,
+        pub kind: u32,
+    }
+
     extern "C" {
         #[rustfmt::skip]
         pub fn plurals_rules_from_document(
@@ -42,6 +51,11 @@ mod raw {
         pub fn plurals_message(
             rules: *const u8, rules_len: usize, elements: *const u8, elements_len: usize, number: *const u8, number_len: usize,
             out: *mut u8, out_len: usize,
+        ) -> i64;
+        #[rustfmt::skip]
+        pub fn plurals_pattern_format(
+            cardinal: *const u8, cardinal_len: usize, ordinal: *const u8, ordinal_len: usize, pattern: *const u8, pattern_len: usize,
+            arguments: *const Argument, arguments_len: usize, out: *mut u8, out_len: usize,
         ) -> i64;
         pub fn plurals_fault_text(fault: i64) -> *const std::os::raw::c_char;
     }
@@ -166,6 +180,28 @@ pub fn message(rules: &[u8], elements: &[u8], number: &str) -> Result<Vec<u8>, P
         raw::plurals_message(
             rules.as_ptr(), rules.len(), elements.as_ptr(), elements.len(), number.as_ptr(), number.len(),
             out.as_mut_ptr(), out.len(),
+        )
+    });
+    found
+}
+
+fn argument(given: &Argument<'_>) -> raw::Argument {
+    let (value, kind) = match given.value {
+        Value::Number(number) => (number, 0),
+        Value::Text(text) => (text, 1),
+    };
+    let (name, name_len) = (given.name.as_ptr(), given.name.len());
+    raw::Argument { name, name_len, value: value.as_ptr(), value_len: value.len(), kind }
+}
+
+pub fn pattern_format(cardinal: &[u8], ordinal: &[u8], pattern: &str, given: &[Argument<'_>]) -> Result<Vec<u8>, PluralsError> {
+    // The texts that these point to live as long as `given`.
+    let arguments: Vec<_> = given.iter().map(argument).collect();
+    #[rustfmt::skip]
+    let found = written(|out| unsafe {
+        raw::plurals_pattern_format(
+            cardinal.as_ptr(), cardinal.len(), ordinal.as_ptr(), ordinal.len(), pattern.as_ptr(), pattern.len(),
+            arguments.as_ptr(), arguments.len(), out.as_mut_ptr(), out.len(),
         )
     });
     found

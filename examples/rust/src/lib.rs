@@ -288,3 +288,42 @@ impl Message {
         Ok(String::from_utf8(text).expect("the library writes UTF-8"))
     }
 }
+
+/// What an argument of a pattern is.
+#[derive(Clone, Copy, Debug, PartialEq, Eq)]
+pub enum Value<'a> {
+    /// A number, as it is written.
+    Number(&'a str),
+    /// A text.
+    Text(&'a str),
+}
+
+/// A value under a name.
+#[derive(Clone, Copy, Debug, PartialEq, Eq)]
+pub struct Argument<'a> {
+    /// The name, as it stands in the pattern.
+    pub name: &'a str,
+    /// What it is.
+    pub value: Value<'a>,
+}
+
+/// What a pattern of ICU's MessageFormat says with these arguments. A `plural` has its categories of the first rules, a
+/// `selectordinal` of the second.
+///
+/// ```
+/// use plurals::{Argument, PluralRules, Value, CLDR};
+/// let (cardinal, ordinal) = (PluralRules::try_new_cardinal(CLDR, "en")?, PluralRules::try_new_ordinal(CLDR, "en")?);
+/// let count = Argument { name: "count", value: Value::Number("1") };
+/// let pattern = "{count, plural, =0 {no files} one {# file} other {# files}}";
+/// assert_eq!(plurals::format_pattern(pattern, &[count], &cardinal, &ordinal)?, "1 file");
+/// # Ok::<(), plurals::PluralsError>(())
+/// ```
+pub fn format_pattern(
+    pattern: &str,
+    arguments: &[Argument<'_>],
+    cardinal: &PluralRules,
+    ordinal: &PluralRules,
+) -> Result<String, PluralsError> {
+    let text = ffi::pattern_format(&cardinal.block, &ordinal.block, pattern, arguments)?;
+    Ok(String::from_utf8(text).expect("the library writes UTF-8"))
+}

@@ -1,7 +1,7 @@
 //! Categories, operands and values by category, over the document of CLDR 41. What is expected comes from UTS 35 and CLDR's samples.
 use plurals::PluralCategory::{self, *};
 use plurals::{CategoryTable, PluralElements, PluralOperands, PluralRuleType, PluralRules, PluralRulesOptions, PluralRulesWithRanges, CLDR};
-use plurals::RawPluralOperands;
+use plurals::{format_pattern, Argument, RawPluralOperands, Value};
 
 fn cardinal(locale: &str) -> PluralRules {
     PluralRules::try_new_cardinal(CLDR, locale).unwrap()
@@ -206,6 +206,20 @@ fn documents_and_texts_are_refused_by_a_number() {
     assert_eq!((fault.number(), fault.to_string()), (-75, "the document has no rules of the type, or no ranges, for the locale".to_string()));
     assert_eq!(PluralRules::try_new_ordinal("{", "en").unwrap_err().number(), -70);
     assert_eq!(PluralRules::try_from_texts(["", "i 1", "", "", ""]).unwrap_err().number(), -22);
+}
+
+#[test]
+fn patterns_say_what_their_arguments_choose() {
+    let (cardinal, ordinal) = (cardinal("ru"), PluralRules::try_new_ordinal(CLDR, "en").unwrap());
+    let said = |pattern: &str, value: Value<'_>| format_pattern(pattern, &[Argument { name: "n", value }], &cardinal, &ordinal);
+    let files = "{n, plural, offset:1 =0 {нет} one {# файл} few {# файла} many {# файлов} other {# файла}}";
+    let texts = ["0", "2", "3", "6", "1.5"].map(|number| said(files, Value::Number(number)).unwrap());
+    assert_eq!(texts, ["нет", "1 файл", "2 файла", "5 файлов", "0.5 файла"]);
+    assert_eq!(said("{n, selectordinal, two {#nd} other {#th}}", Value::Number("22")).unwrap(), "22nd");
+    assert_eq!(said("{n, select, a {A} other {B}}", Value::Text("a")).unwrap(), "A");
+    assert_eq!(said("{m}", Value::Text("a")).unwrap_err().number(), -110);
+    assert_eq!(said("{n, number}", Value::Text("a")).unwrap_err().number(), -95);
+    assert_eq!(format_pattern("", &[], &cardinal, &ordinal).unwrap(), "");
 }
 
 #[test]

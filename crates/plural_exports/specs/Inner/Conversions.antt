@@ -8,8 +8,12 @@ use Rattle.icu_plurals.specs.declared.RulesPackError.{RulesPackError}
 use Rattle.icu_plurals.specs.declared.RulesPackError.TheVariants as packing
 use Rattle.icu_plurals.specs.declared.provider.rules.runtime.ast.RuleError.{RuleError}
 use Rattle.icu_plurals.specs.declared.provider.rules.runtime.ast.RuleError.TheVariants as rule
+use Rattle.message_format.specs.declared.error.FormatError.{FormatError}
+use Rattle.message_format.specs.declared.error.FormatError.TheVariants as format
+use Rattle.message_pattern.specs.declared.error.PatternError.{PatternError}
+use Rattle.message_pattern.specs.declared.error.PatternError.TheVariants as pattern
 use Rattle.plural_exports.specs.declared.fault.Fault.{Fault}
-use Rattle.plural_exports.specs.declared.fault.Fault.TheVariants.{Memory, Number, Text, RulesLimit, Document}
+use Rattle.plural_exports.specs.declared.fault.Fault.TheVariants.{Memory, Number, Text, RulesLimit, Document, Pattern, Argument}
 
 -- of a number's text
 abbrev pub decimal_fault : DecimalError → Fault
@@ -32,3 +36,13 @@ pack_fault packing.Memory = Memory
 abbrev pub json_fault : JsonError → Fault
 json_fault json.Memory = Memory
 json_fault refusal = Document refusal
+
+-- of a pattern's text
+abbrev pub pattern_fault : PatternError → Fault
+pattern_fault (pattern.Fault kind place) = Pattern kind
+pattern_fault pattern.Memory = Memory
+
+-- of a pattern with its arguments
+abbrev pub format_fault : FormatError → Fault
+format_fault (format.Argument fault name) = Argument fault
+format_fault format.Memory = Memory

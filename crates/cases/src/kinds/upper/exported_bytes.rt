@@ -3,6 +3,7 @@
 
 use crate::call::Call;
 use crate::kinds::upper::exports::{given_of, next_given};
+use plural_exports::GivenArgument;
 
 /// Makes the call of a kind of this file. Returns whether there is such a kind.
 pub fn make(kind: &str, call: &mut Call) -> bool {
@@ -16,6 +17,7 @@ pub fn make(kind: &str, call: &mut Call) -> bool {
         "exported_texts" => texts(call),
         "exported_element" => element(call),
         "exported_message" => message(call),
+        "exported_pattern" => pattern(call),
         _ => return false,
     }
     true
@@ -172,4 +174,40 @@ fn message(call: &mut Call) {
     let mut room = next_room(call);
     let told = plural_exports::message(call.alloc, &rules, &elements, &number, &mut room);
     print_text(call, told, &room);
+}
+
+// What a pattern says.
+fn pattern(call: &mut Call) {
+    let cardinal = call.bytes();
+    let ordinal = call.bytes();
+    let pattern = next_given(call);
+    let names = next_texts(call);
+    let values = next_texts(call);
+    let mut arguments = Vec::new(call.alloc);
+    add_arguments(call, &mut arguments, &names, &values);
+    let mut room = next_room(call);
+    let told = plural_exports::pattern_format(
+        call.alloc, &cardinal, &ordinal, &pattern, &arguments, &mut room,
+    );
+    print_text(call, told, &room);
+}
+
+// Adds the arguments of names and values, with the kinds of a list.
+fn add_arguments<'a>(
+    call: &mut Call,
+    arguments: &mut Vec<GivenArgument<'a>>,
+    names: &'a [Vec<u8>],
+    values: &'a [Vec<u8>],
+) {
+    for (index, kind) in call.list().iter().enumerate() {
+        let (Some(name), Some(value)) = (names.get(index), values.get(index)) else {
+            return call.not("as many names, values and kinds");
+        };
+        let argument = GivenArgument {
+            name,
+            value,
+            kind: call.number_of(kind) as u32,
+        };
+        call.add_item(arguments, argument);
+    }
 }

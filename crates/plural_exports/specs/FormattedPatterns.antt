@@ -1,0 +1,43 @@
+-- What a pattern says with its arguments, under the rules for cardinal and for ordinal numbers.
+-- Faults are looked for in this order: those of the rules, of the pattern, of the arguments in
+-- themselves, and of the arguments where the pattern uses them.
+--     IsFormatted cardinal ordinal pattern arguments answer      what is said
+use Rattle.std.specs.Prelude.{ℕ, List, Result, Ok, Err}
+use Rattle.icu_plurals.specs.FiveRules.{FiveRules}
+use Rattle.message_format.specs.FormatArguments.{Argument}
+use Rattle.message_format.specs.FormatMeaning.{Said, Faulty, PatternSays}
+use Rattle.message_format.specs.FormatSteps.{TwoRules}
+use Rattle.message_pattern.specs.PatternAnswers.{HasFault, IsPattern}
+use Rattle.message_pattern.specs.PatternParts.{Part}
+use Rattle.plural_exports.specs.declared.arguments.GivenArgument.{GivenArgument}
+use Rattle.plural_exports.specs.declared.fault.Fault.{Fault}
+use Rattle.plural_exports.specs.declared.fault.Fault.TheVariants as fault
+use Rattle.plural_exports.specs.GivenArguments.{AreArguments}
+use Rattle.plural_exports.specs.GivenBytes.{ReadsRules}
+use Rattle.plural_exports.specs.Results.{Then}
+
+-- the pattern that a text is, or its first fault; or memory ran out
+abbrev pub ReadsPatternText : List ℕ → Result (List Part) Fault → Type 0
+ReadsPatternText text (Ok parts) = IsPattern text parts
+ReadsPatternText text (Err (fault.Pattern kind)) = (place : ℕ) × HasFault text kind place
+ReadsPatternText text (Err fault.Memory) = Unit {0}
+ReadsPatternText text (Err _) = ⊥
+
+-- what the pattern says, or the first fault of an argument; or memory ran out
+abbrev pub IsSaid : TwoRules → List Part → List Argument → Result (List ℕ) Fault → Type 0
+IsSaid rules parts arguments (Ok text) = PatternSays arguments rules parts (Said text)
+IsSaid rules parts arguments (Err (fault.Argument kind)) =
+    (name : List ℕ) × PatternSays arguments rules parts (Faulty kind name)
+IsSaid rules parts arguments (Err fault.Memory) = Unit {0}
+IsSaid rules parts arguments (Err _) = ⊥
+
+-- both rules
+abbrev pub both : FiveRules → FiveRules → TwoRules
+both cardinal ordinal = record { cardinal = cardinal; ordinal = ordinal }
+
+abbrev pub IsFormatted : List ℕ → List ℕ → List ℕ → List GivenArgument → Result (List ℕ) Fault → Type 0
+IsFormatted cardinal ordinal pattern arguments =
+    Then (ReadsRules cardinal) (λ five.
+    Then (ReadsRules ordinal) (λ others.
+    Then (ReadsPatternText pattern) (λ parts.
+    Then (AreArguments arguments) (IsSaid (both five others) parts))))

@@ -1,0 +1,45 @@
+-- The arguments of a pattern, as they are passed: each a name, a number or a text, and which of both
+-- it is.
+--     AreArguments given answer      the arguments, or the first fault of one
+use Rattle.std.specs.Prelude.{◌≡◌, ◌⊎◌, ℕ, List, [], ◌∷◌, Option, Some, None, Result, Ok, Err}
+use Rattle.message_format.specs.FormatArguments.{Argument, Value, Number, Text}
+use Rattle.plural_exports.specs.declared.arguments.GivenArgument.{GivenArgument}
+use Rattle.plural_exports.specs.declared.fault.Fault.{Fault}
+use Rattle.plural_exports.specs.declared.fault.Fault.TheVariants.{Memory, ArgumentKind}
+use Rattle.plural_exports.specs.GivenBytes.{ReadsText}
+use Rattle.plural_exports.specs.Results.{Then}
+
+-- a text as a value: 0 is the kind of numbers, 1 that of texts
+abbrev pub value_of_kind : ℕ → List ℕ → Option Value
+value_of_kind 0 text = Some (Number text)
+value_of_kind 1 text = Some (Text text)
+value_of_kind _ text = None
+
+abbrev pub HasKind : ℕ → List ℕ → Result Value Fault → Type 0
+HasKind kind text (Ok value) = value_of_kind kind text ≡ Some value
+HasKind kind text (Err fault) = (value_of_kind kind text ≡ None) × (fault ≡ ArgumentKind)
+
+-- the argument of a name and a value
+abbrev pub IsNamed : List ℕ → Value → Result Argument Fault → Type 0
+IsNamed name value answer = answer ≡ Ok (record { name = name; value = value })
+
+-- the argument: its name, then the text of its value, then its kind
+abbrev pub ReadsArgument : GivenArgument → Result Argument Fault → Type 0
+ReadsArgument given =
+    Then (ReadsText given.name.now) (λ name.
+    Then (ReadsText given.value.now) (λ text.
+    Then (HasKind given.kind text) (IsNamed name)))
+
+-- an argument before others
+abbrev pub IsInFront : Argument → List Argument → Result (List Argument) Fault → Type 0
+IsInFront first others answer = answer ≡ Ok (first ∷ others)
+
+-- all arguments, one after another
+abbrev pub ReadsArguments : List GivenArgument → Result (List Argument) Fault → Type 0
+ReadsArguments [] answer = answer ≡ Ok []
+ReadsArguments (given ∷ rest) answer =
+    Then (ReadsArgument given) (λ first. Then (ReadsArguments rest) (IsInFront first)) answer
+
+-- the arguments, or the first fault; or memory ran out
+abbrev pub AreArguments : List GivenArgument → Result (List Argument) Fault → Type 0
+AreArguments given answer = ReadsArguments given answer ⊎ (answer ≡ Err Memory)
