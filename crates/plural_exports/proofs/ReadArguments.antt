@@ -1,13 +1,14 @@
 -- Arguments that are read one after another.
-use Rattle.std.proofs.Common.{◌≡◌, ◌⊎◌, ◌++◌, List, [], ◌∷◌, Result, Ok, Err, refl, subst, inl, inr}
-use Rattle.std.proofs.lemmas.List.{append-nil, append_assoc}
-use Rattle.message_format.specs.FormatArguments.{Argument}
+use Rattle.std.proofs.Common.{◌≡◌, ℕ, ◌-◌, ◌≤◌, ◌<◌, ◌++◌, List, [], ◌∷◌, map, length, take, drop, get_or, Result, Ok, Err, refl, subst, sym, ap, ◌∙◌, arith}
+use Rattle.std.proofs.lemmas.List.{append-nil, append_assoc, map-append, take_all}
+use Rattle.message_format.specs.declared.arguments.Argument as arguments
+use Rattle.message_format.specs.FormatArguments.{Argument, argument_view, arguments_view}
 use Rattle.plural_exports.specs.GivenArguments.{ReadsArgument, ReadsArguments}
 use Rattle.plural_exports.specs.declared.arguments.GivenArgument.{GivenArgument}
 use Rattle.plural_exports.specs.declared.fault.Fault.{Fault}
 
 -- what is read behind these
-pub behind : List Argument → Result (List Argument) Fault → Result (List Argument) Fault
+abbrev pub behind : List Argument → Result (List Argument) Fault → Result (List Argument) Fault
 behind read (Ok others) = Ok (read ++ others)
 behind read (Err fault) = Err fault
 
@@ -20,16 +21,35 @@ pub begins : (given : List GivenArgument) → IsReadBefore given [] given
 begins given (Ok others) is = is
 begins given (Err fault) is = is
 
-pub goes_on : (given : List GivenArgument) (read : List Argument) (first : GivenArgument) (rest : List GivenArgument) (x : Argument)
-    → ReadsArgument first (Ok x) → IsReadBefore given read (first ∷ rest) → IsReadBefore given (read ++ (x ∷ [])) rest
-goes_on given read first rest x one before (Ok others) is =
-    rw (append_assoc read (x ∷ []) others) (before (Ok (x ∷ others)) (Ok x, one, (Ok others, is, refl)))
-goes_on given read first rest x one before (Err fault) is = before (Err fault) (Ok x, one, (Err fault, is, refl))
+-- the arguments are the first one and the rest
+pub headed : (given : List GivenArgument) (d : GivenArgument) (n : ℕ) → 1 ≤ length given → n ≡ length given
+    → given ≡ get_or given 0 d ∷ take (n - 1) (drop 1 given)
+headed [] d n h e = absurd (omega arith)
+headed (g ∷ given) d n h e = ap (λ (l : List GivenArgument). g ∷ l) (sym (take_all (n - 1) given (omega arith)))
 
-pub ends : (given : List GivenArgument) (read : List Argument) → IsReadBefore given read [] → ReadsArguments given (Ok read)
-ends given read before =
+-- one argument more
+pub goes_on : (given : List GivenArgument) (read new : List arguments.Argument) (left rest : List GivenArgument) (first : GivenArgument) (x : arguments.Argument)
+    → left ≡ first ∷ rest → ReadsArgument first (Ok (argument_view x)) → new ≡ read ++ (x ∷ [])
+    → IsReadBefore given (arguments_view read) left → IsReadBefore given (arguments_view new) rest
+goes_on given read new left rest first x parts one pushed before (Ok others) is =
+    subst (λ (all : List Argument). ReadsArguments given (Ok all))
+    (sym (ap (λ (l : List arguments.Argument). arguments_view l ++ others) pushed ∙ ap (λ (l : List Argument). l ++ others) (map-append argument_view read (x ∷ []))
+      ∙ append_assoc (arguments_view read) (argument_view x ∷ []) others))
+    (before (Ok (argument_view x ∷ others))
+      (subst (λ (l : List GivenArgument). ReadsArguments l (Ok (argument_view x ∷ others))) (sym parts) (Ok (argument_view x), one, (Ok others, is, refl))))
+goes_on given read new left rest first x parts one pushed before (Err fault) is =
+    before (Err fault)
+    (subst (λ (l : List GivenArgument). ReadsArguments l (Err fault)) (sym parts) (Ok (argument_view x), one, (Err fault, is, refl)))
+
+-- no argument is left
+pub ends : (given : List GivenArgument) (read : List Argument) (left : List GivenArgument) → length left < 1 → IsReadBefore given read left
+    → ReadsArguments given (Ok read)
+ends given read [] few before =
     subst (λ (all : List Argument). ReadsArguments given (Ok all)) (append-nil read) (before (Ok []) refl)
+ends given read (first ∷ rest) few before = absurd (omega (arith, few))
 
-pub stops : (given : List GivenArgument) (read : List Argument) (first : GivenArgument) (rest : List GivenArgument) (fault : Fault)
-    → ReadsArgument first (Err fault) → IsReadBefore given read (first ∷ rest) → ReadsArguments given (Err fault)
-stops given read first rest fault one before = before (Err fault) (Err fault, one, refl)
+-- the first fault
+pub stops : (given : List GivenArgument) (read : List Argument) (left rest : List GivenArgument) (first : GivenArgument) (fault : Fault)
+    → left ≡ first ∷ rest → ReadsArgument first (Err fault) → IsReadBefore given read left → ReadsArguments given (Err fault)
+stops given read left rest first fault parts one before =
+    before (Err fault) (subst (λ (l : List GivenArgument). ReadsArguments l (Err fault)) (sym parts) (Err fault, one, refl))

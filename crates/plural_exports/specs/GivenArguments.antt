@@ -1,7 +1,7 @@
 -- The arguments of a pattern, as they are passed: each a name, a number or a text, and which of both
 -- it is.
 --     AreArguments given answer      the arguments, or the first fault of one
-use Rattle.std.specs.Prelude.{◌≡◌, ◌⊎◌, ℕ, List, [], ◌∷◌, Option, Some, None, Result, Ok, Err}
+use Rattle.std.specs.Prelude.{◌≡◌, ◌⊎◌, ◌==◌, if◌then◌else◌, ℕ, List, [], ◌∷◌, Result, Ok, Err}
 use Rattle.message_format.specs.FormatArguments.{Argument, Value, Number, Text}
 use Rattle.plural_exports.specs.declared.arguments.GivenArgument.{GivenArgument}
 use Rattle.plural_exports.specs.declared.fault.Fault.{Fault}
@@ -10,14 +10,11 @@ use Rattle.plural_exports.specs.GivenBytes.{ReadsText}
 use Rattle.plural_exports.specs.Results.{Then}
 
 -- a text as a value: 0 is the kind of numbers, 1 that of texts
-abbrev pub value_of_kind : ℕ → List ℕ → Option Value
-value_of_kind 0 text = Some (Number text)
-value_of_kind 1 text = Some (Text text)
-value_of_kind _ text = None
+abbrev pub value_of_kind : ℕ → List ℕ → Result Value Fault
+value_of_kind kind text = if kind == 0 then Ok (Number text) else (if kind == 1 then Ok (Text text) else Err ArgumentKind)
 
 abbrev pub HasKind : ℕ → List ℕ → Result Value Fault → Type 0
-HasKind kind text (Ok value) = value_of_kind kind text ≡ Some value
-HasKind kind text (Err fault) = (value_of_kind kind text ≡ None) × (fault ≡ ArgumentKind)
+HasKind kind text answer = answer ≡ value_of_kind kind text
 
 -- the argument of a name and a value
 abbrev pub IsNamed : List ℕ → Value → Result Argument Fault → Type 0

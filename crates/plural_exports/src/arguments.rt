@@ -32,10 +32,10 @@ pub(crate) fn arguments_in<'a>(
     let mut left = given;
     while let [first, rest @ ..] = left {
         let argument = argument_in(first)?;
-        if arguments.push(argument).is_err() {
-            return Err(Fault::Memory);
+        match arguments.push(argument) {
+            Ok(()) => left = rest,
+            Err(_) => return Err(Fault::Memory),
         }
-        left = rest;
     }
     Ok(arguments)
 }

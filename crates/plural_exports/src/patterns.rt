@@ -54,7 +54,7 @@ fn formatted(
         cardinal: &cardinal,
         ordinal: &ordinal,
     };
-    Ok(format(alloc, &pattern, &arguments, &rules)?)
+    Ok(format(alloc, &pattern, arguments.as_slice(), &rules)?)
 }
 
 // The pattern that a text is.

@@ -1,15 +1,13 @@
-use Rattle.std.proofs.Common.{ℤ, w64, rules, ◌≡◌, ℕ, ◌-◌, ◌^◌, ◌<◌, ◌≤◌, ◌++◌, List, Ok, Err, Result, length, drop, min, if◌then◌else◌, nat_le, pos, refl, subst, sym, ap, ◌∙◌, arith, ⊎_elim}
+use Rattle.std.proofs.Common.{ℤ, w64, ◌≡◌, ℕ, ◌<◌, ◌++◌, List, Ok, Err, Result, length, drop, min, if◌then◌else◌, pos, refl, subst, sym, ap, ◌∙◌, arith, ⊎_elim}
 use Rattle.std.proofs.lemmas.Bool.{cases_lt, le-leb, lt-leb}
 use Rattle.std.proofs.lemmas.Int.{to_z_pos}
 use Rattle.std.proofs.lemmas.Result.{err_from_is_err_and}
 use Rattle.icu_plurals.specs.Elements.{Elements, IsExactElement, IsKeptElement}
-use Rattle.icu_plurals.specs.FiveRules.{FiveRules}
 use Rattle.icu_plurals.specs.Inner.ElementsViews.{lent_elements}
-use Rattle.icu_plurals.specs.PackedElements.{PackedElements, PackedValue}
+use Rattle.icu_plurals.specs.PackedElements.{PackedValue}
 use Rattle.plural_message.specs.Messages.{IsMessageWith, IsWrittenTo}
-use Rattle.plural_exports.specs.GivenBytes.{ReadsElements, ReadsNumber, ReadsRules}
 use Rattle.plural_exports.specs.Inner.WrittenMessage.{GivesWritten}
-use Rattle.plural_exports.specs.NumberAnswers.{HasMessage, IsMessageFor}
+use Rattle.plural_exports.specs.NumberAnswers.{IsMessageFor}
 use Rattle.plural_exports.specs.Results.{filled}
 use Rattle.plural_exports.specs.declared.fault.Fault.{Fault}
 use Rattle.plural_exports.proofs.Steps.{passed_on}

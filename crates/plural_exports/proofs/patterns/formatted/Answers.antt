@@ -58,7 +58,7 @@ returns-in_err-format c =
         (
           Ok c.in_ok-pattern.pattern,
           c.in_ok-pattern.ensures,
-          (Ok arguments, c.in_ok-arguments.ensures, said_refused _ _ arguments e c.in_err-format.ensures),
+          (Ok arguments, c.in_ok-arguments.ensures, said_refused _ _ arguments e (rw c.as_slice.ensures.value at c.in_err-format.ensures)),
         ),
       ),
     )
@@ -74,7 +74,7 @@ returns c =
         (
           Ok c.in_ok-pattern.pattern,
           c.in_ok-pattern.ensures,
-          (Ok arguments, c.in_ok-arguments.ensures, c.in_ok-format.ensures.only (Said c.in_ok-format.field-0.items) refl),
+          (Ok arguments, c.in_ok-arguments.ensures, (rw c.as_slice.ensures.value at c.in_ok-format.ensures).only (Said c.in_ok-format.field-0.items) refl),
         ),
       ),
     )
