@@ -1,25 +1,21 @@
-//! Prints what a pattern of messages says of each of four numbers.
+//! Prints a message for each of four numbers.
 #![tactic(auto)]
 
-use icu_plurals::PluralRules;
-use icu_plurals::provider::PluralRulesData;
-use message_format::{Argument, Rules, Value, format};
-use message_pattern::Pattern;
+use icu_plurals::provider::{PluralElementsPackedCow, PluralRulesData};
+use icu_plurals::{PluralElements, PluralRules};
+use plural_message::Message;
 
 fn main(rt: HostRuntime) -> anyhow::Result<()> {
     let alloc = rt.alloc();
     let one = Some("i = 1 and v = 0");
     let data = PluralRulesData::from_texts(alloc, None, one, None, None, None)?;
-    let cardinal = &PluralRules::from_data(data);
-    let ordinal = cardinal;
-    let text = "{n, plural, =0 {no items} one {# item} other {# items}}";
-    let pattern = Pattern::parse(alloc, text.as_bytes())?;
+    let rules = PluralRules::from_data(data);
+    let texts = PluralElements::new("{} items").with_one_value(Some("{} item"));
+    let packed = PluralElementsPackedCow::from_elements(alloc, &texts)?;
+    let message = Message::new(packed.as_packed());
     for number in ["0", "1", "1.0", "2"] {
-        let name = "n";
-        let value = Value::Number(number);
-        let rules = Rules { cardinal, ordinal };
-        let said = format(alloc, &pattern, &[Argument { name, value }], &rules)?;
-        println!(rt; "{}", std::str::from_utf8(&said)?)?;
+        let text = message.format(alloc, number, &rules)?;
+        println!(rt; "{text}")?;
     }
     Ok(())
 }

@@ -1,32 +1,22 @@
 //! Messages with a number in them: the text for the number's plural category, with the number in
 //! the place of each `{}`.
 //!
-//! <!-- snippet crates/using/src/messages.rt: fn show_messages -->
+//! <!-- snippet crates/hello_plurals/src/main.rt: imports; fn main -->
 //! ```
-//! pub(crate) fn show_messages(
-//!     rt: &HostRuntime,
-//!     alloc: Global,
-//!     rules: &PluralRules<'_>,
-//! ) -> anyhow::Result<()> {
-//!     let texts = PluralElements::new("{} files were copied")
-//!         .with_one_value(Some("{} file was copied"))
-//!         .with_explicit_zero_value(Some("no file was copied"));
+//! use icu_plurals::provider::{PluralElementsPackedCow, PluralRulesData};
+//! use icu_plurals::{PluralElements, PluralRules};
+//! use plural_message::Message;
+//!
+//! fn main(rt: HostRuntime) -> anyhow::Result<()> {
+//!     let alloc = rt.alloc();
+//!     let one = Some("i = 1 and v = 0");
+//!     let data = PluralRulesData::from_texts(alloc, None, one, None, None, None)?;
+//!     let rules = PluralRules::from_data(data);
+//!     let texts = PluralElements::new("{} items").with_one_value(Some("{} item"));
 //!     let packed = PluralElementsPackedCow::from_elements(alloc, &texts)?;
 //!     let message = Message::new(packed.as_packed());
-//!     print_messages(rt, alloc, &message, rules)
-//! }
-//! ```
-//!
-//! <!-- snippet crates/using/src/messages.rt: fn print_messages -->
-//! ```
-//! fn print_messages(
-//!     rt: &HostRuntime,
-//!     alloc: Global,
-//!     message: &Message<'_>,
-//!     rules: &PluralRules<'_>,
-//! ) -> anyhow::Result<()> {
-//!     for number in ["0", "1", "1.5"] {
-//!         let text = message.format(alloc, number, rules)?;
+//!     for number in ["0", "1", "1.0", "2"] {
+//!         let text = message.format(alloc, number, &rules)?;
 //!         println!(rt; "{text}")?;
 //!     }
 //!     Ok(())
@@ -35,10 +25,12 @@
 //!
 //! prints
 //!
+//! <!-- snippet crates/hello_plurals/stdout -->
 //! ```text
-//! no file was copied
-//! 1 file was copied
-//! 1.5 files were copied
+//! 0 items
+//! 1 item
+//! 1.0 items
+//! 2 items
 //! ```
 #![tactic(auto)]
 
