@@ -34,9 +34,9 @@ pub goes_on : (given : List GivenArgument) (read new : List arguments.Argument) 
 goes_on given read new left rest first x parts one pushed before (Ok others) is =
     subst (λ (all : List Argument). ReadsArguments given (Ok all))
     (sym (ap (λ (l : List arguments.Argument). arguments_view l ++ others) pushed ∙ ap (λ (l : List Argument). l ++ others) (map-append argument_view read (x ∷ []))
-      ∙ append_assoc (arguments_view read) (argument_view x ∷ []) others))
+    ∙ append_assoc (arguments_view read) (argument_view x ∷ []) others))
     (before (Ok (argument_view x ∷ others))
-      (subst (λ (l : List GivenArgument). ReadsArguments l (Ok (argument_view x ∷ others))) (sym parts) (Ok (argument_view x), one, (Ok others, is, refl))))
+    (subst (λ (l : List GivenArgument). ReadsArguments l (Ok (argument_view x ∷ others))) (sym parts) (Ok (argument_view x), one, (Ok others, is, refl))))
 goes_on given read new left rest first x parts one pushed before (Err fault) is =
     before (Err fault)
     (subst (λ (l : List GivenArgument). ReadsArguments l (Err fault)) (sym parts) (Ok (argument_view x), one, (Err fault, is, refl)))

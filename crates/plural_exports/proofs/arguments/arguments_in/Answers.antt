@@ -17,7 +17,7 @@ returns-in_err-argument c =
     let left = c.loop-left.left.now in
     rw (passed_on c.from_residual.result e (err_from_is_err_and c.from_residual.result c.from_residual.ensures.1))
     (inl (stops c.args.given.now (arguments_view c.loop-left.arguments.items) left (take (length left - 1) (drop 1 left)) _ e
-      (headed left _ (length left) c.in-len1-up.len_at_least refl) c.in_err-argument.ensures c.loop-left.invariant))
+    (headed left _ (length left) c.in-len1-up.len_at_least refl) c.in_err-argument.ensures c.loop-left.invariant))
 
 pub loop-left-preserved : goal.loop-left-preserved
 loop-left-preserved c =
