@@ -4,6 +4,7 @@
 use crate::call::Call;
 use crate::kinds::upper::exports::{given_of, next_given};
 use plural_exports::GivenArgument;
+use serde_json::Value;
 
 /// Makes the call of a kind of this file. Returns whether there is such a kind.
 pub fn make(kind: &str, call: &mut Call) -> bool {
@@ -206,8 +207,18 @@ fn add_arguments<'a>(
         let argument = GivenArgument {
             name,
             value,
-            kind: call.number_of(kind) as u32,
+            kind: argument_kind(call, kind),
         };
         call.add_item(arguments, argument);
     }
+}
+
+// The kind of an argument, from 0 to 4294967295.
+fn argument_kind(call: &mut Call, kind: &Value) -> u32 {
+    let number = call.number_of(kind);
+    if number > 4294967295 {
+        call.not("a kind");
+        return 0;
+    }
+    number as u32
 }
