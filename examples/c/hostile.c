@@ -1154,7 +1154,34 @@ static void try_depth(int depth, int fault) {
     run_limit(fault ? fault : PLURALS_LOCALE);
 }
 
+/* A pattern with the number n, where the front ends in so many of a piece. */
+static void try_pattern(const char *front, const char *piece, int times, const char *end, const char *n, int fault) {
+    export = export_of("plurals_pattern_format");
+    set_good();
+    set_slice(2, repeated(front, piece, times, end)), set_slice(4, slice_of(n));
+    run_limit(fault);
+}
+
+static void try_patterns(void) {
+    static char longest[40000], less[40000];
+    char closing[100] = "#";
+    memset(longest, '9', 32767), memset(less, '9', 32768), less[0] = '-';
+    for (int depth = 1; depth <= 32; depth++) strcat(closing, "}}"), try_pattern("", "{n,plural,other{", depth, closing, "1", 0);
+    try_pattern("", "{n,plural,other{", 33, "", "1", PLURALS_PATTERN_TOO_DEEP);
+    try_pattern("{n,plural,offset:", "9", 32767, " other{#}}", "1", 0);
+    try_pattern("{n,plural,offset:", "0", 32768, " other{#}}", "1", PLURALS_ARGUMENT_OVER_LIMIT);
+    try_pattern("{n,plural,offset:1", "", 0, " other{#}}", longest, 0);
+    try_pattern("{n,plural,offset:0", "", 0, " other{#}}", less, 0);
+    try_pattern("{n,plural,offset:1", "", 0, " other{#}}", less, PLURALS_ARGUMENT_OVER_LIMIT);
+    try_pattern("{n,plural,=", "0", 32766, "1{same} other{#}}", "1.0", 0);
+    try_pattern("{n,plural,=", "0", 32767, "1{same} other{#}}", "1.0", 0);
+    longest[32767] = '9';
+    try_pattern("{n,plural,", "", 0, "other{}}", longest, PLURALS_ARGUMENT_OVER_LIMIT);
+    try_pattern("{n}", "", 0, "", longest, 0);
+}
+
 static void try_limits(void) {
+    try_patterns();
     try_rule(8191, " and n = 1", "", 0);
     try_rule(8192, " and n = 1", "", PLURALS_TEXT_START_LIMIT);
     try_rule(8190, "", "n = 2", 0);
