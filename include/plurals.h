@@ -293,7 +293,8 @@ int64_t plurals_message(const uint8_t *rules, size_t rules_len, const uint8_t *e
  * counts. A plural takes its categories from the rules cardinal, a selectordinal from ordinal, which may be the block without
  * bytes. Faults, in the order in which they are looked for: that of cardinal; of ordinal; of the pattern, by its first place;
  * of the first argument whose name or value isn't UTF-8, or whose kind is unknown; of the argument that the pattern uses
- * first. Allocates in proportion to the pattern, the arguments and the text. */
+ * first. Allocates in proportion to the pattern, the arguments and the text, which is held also where out has no room for
+ * it: 10000 times {n} and an n of 30000 bytes make 300 MB. */
 int64_t plurals_pattern_format(const uint8_t *cardinal, size_t cardinal_len, const uint8_t *ordinal, size_t ordinal_len,
                                const char *pattern, size_t pattern_len, const struct plurals_argument *arguments,
                                size_t arguments_len, char *out, size_t out_len);

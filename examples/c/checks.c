@@ -59,6 +59,18 @@ static void patterns(void) {
     }
 }
 
+static void pattern_of_the_page(void) {
+    uint8_t cardinal[64], *ordinal = NULL;
+    size_t ordinal_len = 0;
+    char out[64];
+    int64_t cardinal_len = plurals_rules_from_texts(NULL, 0, "i = 1 and v = 0", 15, NULL, 0, NULL, 0, NULL, 0, cardinal, sizeof cardinal);
+    struct plurals_argument arguments[] = {{"who", 3, "Ann", 3, PLURALS_TEXT}, {"n", 1, "1.0", 3, PLURALS_NUMBER}};
+    const char *pattern = "{who} sent {n, plural, one {# file} other {# files}}.";
+    int64_t length = plurals_pattern_format(cardinal, cardinal_len, ordinal, ordinal_len, pattern, strlen(pattern),
+                                            arguments, 2, out, sizeof out);
+    CHECK(length == 19 && !memcmp(out, "Ann sent 1.0 files.", 19));
+}
+
 /* Eight parameters, of which the compiler passes some in memory. */
 static void operands(void) {
     const char *one = "i % 10 = 1", *two = "v = 2", *few = "w = 3", *many = "f = 4 or t = 5 or c = 6";
@@ -180,6 +192,7 @@ static void names_and_texts(void) {
 int main(void) {
     null_with_length_0();
     patterns();
+    pattern_of_the_page();
     operands();
     tables();
     many();
