@@ -39,9 +39,9 @@
  * Stack
  *     The calls that read JSON, which are plurals_rules_from_document, plurals_ranges_from_document and
  *     plurals_elements_from_json, and plurals_pattern_format take at most 131072 bytes of stack, which JSON that is nested
- *     127 deep needs, about 1 KB a level; deeper JSON is refused by PLURALS_JSON. All other calls take at most 4096 bytes of
- *     stack. examples/c/run-stack runs each call with so much; no proof bounds it. It counts what malloc of glibc takes; it
- *     doesn't count what the loader takes where it binds a call at its first use.
+ *     127 deep needs, about 1 KB a level; deeper JSON is refused by PLURALS_JSON. All other calls take at most
+ *     4096 bytes of stack. examples/c/run-stack runs each call with so much; no proof bounds it. It counts what malloc of
+ *     glibc takes; it doesn't count what the loader takes where it binds a call at its first use.
  *
  * Threads
  *     Calls may run at once in any number of threads, also with the same blocks. No call is made from a signal handler, or
