@@ -17,8 +17,8 @@
  *     out is unchanged, so a call with out_len 0 asks for the length. After a fault out is unchanged. No byte 0 is
  *     written after a text.
  *     Which fault: that of the rules, else that of the elements, else that of the number. PLURALS_MEMORY may come in place
- *     of a fault of a rule's text, a document or a pattern, and of the faults after it, and only if malloc or realloc has failed; the
- *     same call may be made again then.
+ *     of a fault of a rule's text, a document or a pattern, and of the faults after it, and only if malloc or realloc has
+ *     failed; the same call may be made again then.
  *
  * Memory and ownership
  *     All bytes are the caller's, before and after a call. Nothing is kept between calls: no call has to be undone, and
@@ -30,18 +30,18 @@
  *     A pointer and the length after it are one slice: that many bytes can be read there, and in out written. A text needs
  *     no byte 0 at its end; if it has one, the length doesn't count it.
  *     In the installed library a pointer with length 0 is any pointer, also null, and is the empty text, the empty block
- *     or no room; so are the two in a struct plurals_argument. In the archives that tools/archive prints no pointer is null: there that of "" goes with length 0. A
- *     length is at most that of one object, so below 2^63.
+ *     or no room; so are the two in a struct plurals_argument. In the archives that tools/archive prints no pointer is null:
+ *     there that of "" goes with length 0. A length is at most that of one object, so below 2^63.
  *     out overlaps no other slice of the call. During a call no other thread writes to its slices, nor reads out.
  *     Everything else is checked: any bytes may be given as a text, a block or a number, and are refused by a fault where
  *     they are none.
  *
  * Stack
  *     The calls that read JSON, which are plurals_rules_from_document, plurals_ranges_from_document and
- *     plurals_elements_from_json, and plurals_pattern_format take at most 131072 bytes of stack, which JSON that is nested 127
- *     deep needs, about 1 KB a level; deeper JSON is refused by PLURALS_JSON. All other calls take at most 4096 bytes of stack.
- *     examples/c/run-stack runs each call with so much; no proof bounds it. It counts what malloc of glibc takes; it doesn't count
- *     what the loader takes where it binds a call at its first use.
+ *     plurals_elements_from_json, and plurals_pattern_format take at most 131072 bytes of stack, which JSON that is nested
+ *     127 deep needs, about 1 KB a level; deeper JSON is refused by PLURALS_JSON. All other calls take at most
+ *     4096 bytes of stack. examples/c/run-stack runs each call with so much; no proof bounds it. It counts what malloc of
+ *     glibc takes; it doesn't count what the loader takes where it binds a call at its first use.
  *
  * Threads
  *     Calls may run at once in any number of threads, also with the same blocks. No call is made from a signal handler, or
@@ -293,7 +293,8 @@ int64_t plurals_message(const uint8_t *rules, size_t rules_len, const uint8_t *e
  * counts. A plural takes its categories from the rules cardinal, a selectordinal from ordinal, which may be the block without
  * bytes. Faults, in the order in which they are looked for: that of cardinal; of ordinal; of the pattern, by its first place;
  * of the first argument whose name or value isn't UTF-8, or whose kind is unknown; of the argument that the pattern uses
- * first. Allocates in proportion to the pattern, the arguments and the text. */
+ * first. Allocates in proportion to the pattern, the arguments and the text, which is held also where out has no room for
+ * it: 10000 times {n} and an n of 30000 bytes make 300 MB. */
 int64_t plurals_pattern_format(const uint8_t *cardinal, size_t cardinal_len, const uint8_t *ordinal, size_t ordinal_len,
                                const char *pattern, size_t pattern_len, const struct plurals_argument *arguments,
                                size_t arguments_len, char *out, size_t out_len);

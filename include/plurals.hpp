@@ -345,14 +345,20 @@ private:
 };
 static_assert(sizeof(Argument) == sizeof(plurals_argument), "the arguments are an array of plurals_argument");
 
-/* Returns what a pattern of ICU's MessageFormat says with these arguments; selectordinal is by the second rules. */
-inline Result<Bytes> format(std::string_view pattern, std::initializer_list<Argument> arguments, const Rules &cardinal,
+/* Returns what a pattern of ICU's MessageFormat says with this many arguments; selectordinal is by the second rules. */
+inline Result<Bytes> format(std::string_view pattern, const Argument *arguments, std::size_t count, const Rules &cardinal,
                             const Rules &ordinal) noexcept {
     return Bytes::written([&](std::uint8_t *out, std::size_t room) {
         return plurals_pattern_format(cardinal.block().data(), cardinal.block().size(), ordinal.block().data(),
-                                      ordinal.block().size(), pattern.data(), pattern.size(), arguments.begin(),
-                                      arguments.size(), reinterpret_cast<char *>(out), room);
+                                      ordinal.block().size(), pattern.data(), pattern.size(), arguments, count,
+                                      reinterpret_cast<char *>(out), room);
     });
+}
+
+/* The same with the arguments between braces. */
+inline Result<Bytes> format(std::string_view pattern, std::initializer_list<Argument> arguments, const Rules &cardinal,
+                            const Rules &ordinal) noexcept {
+    return format(pattern, arguments.begin(), arguments.size(), cardinal, ordinal);
 }
 
 }  // namespace plurals

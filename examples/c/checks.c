@@ -33,6 +33,44 @@ static void null_with_length_0(void) {
     CHECK(plurals_message(NULL, 0, NULL, 0, "1", 1, NULL, 0) == PLURALS_ELEMENTS_EMPTY);
 }
 
+/* A pattern with many arguments, of which some are null: few are copied where the call stands, more are copied to memory. */
+static void patterns(void) {
+    const char *one = "i = 1", *pattern = "{a}{b}{n, plural, one {#} other {}}{s, select, other {.}}";
+    struct plurals_argument given[40];
+    uint8_t rules[64];
+    char out[64];
+    int64_t length = plurals_rules_from_texts(NULL, 0, one, strlen(one), NULL, 0, NULL, 0, NULL, 0, rules, sizeof rules);
+    CHECK(plurals_pattern_format(NULL, 0, NULL, 0, NULL, 0, NULL, 0, NULL, 0) == 0);
+    CHECK(plurals_pattern_format(NULL, 0, NULL, 0, "{", 1, NULL, 0, NULL, 0) == PLURALS_PATTERN_UNCLOSED);
+    CHECK(plurals_pattern_format(NULL, 0, rules, 1, "{", 1, NULL, 0, NULL, 0) == PLURALS_RULES_LIST_HEADER);
+    for (size_t count = 4; count <= 40; count++) {
+        for (size_t k = 0; k < count; k++) given[k] = (struct plurals_argument){NULL, 0, NULL, 0, PLURALS_TEXT};
+        given[0] = (struct plurals_argument){"a", 1, NULL, 0, PLURALS_NUMBER};
+        given[count - 3] = (struct plurals_argument){"b", 1, "x", 1, PLURALS_TEXT};
+        given[count - 2] = (struct plurals_argument){"n", 1, "1.5", 3, PLURALS_NUMBER};
+        given[count - 1] = (struct plurals_argument){"s", 1, NULL, 0, PLURALS_TEXT};
+        memset(out, 77, sizeof out);
+        CHECK(plurals_pattern_format(rules, (size_t)length, NULL, 0, pattern, strlen(pattern), given, count, NULL, 0) == 5);
+        CHECK(plurals_pattern_format(rules, (size_t)length, NULL, 0, pattern, strlen(pattern), given, count, out, 5) == 5);
+        CHECK(!memcmp(out, "x1.5.", 5) && out[5] == 77);
+        CHECK(plurals_pattern_format(rules, (size_t)length, NULL, 0, pattern, strlen(pattern), given, count - 1, out, 5) == PLURALS_ARGUMENT_MISSING);
+        given[count / 2].kind = 2;
+        CHECK(plurals_pattern_format(rules, (size_t)length, NULL, 0, pattern, strlen(pattern), given, count, out, 5) == PLURALS_ARGUMENT_KIND);
+    }
+}
+
+static void pattern_of_the_page(void) {
+    uint8_t cardinal[64], *ordinal = NULL;
+    size_t ordinal_len = 0;
+    char out[64];
+    int64_t cardinal_len = plurals_rules_from_texts(NULL, 0, "i = 1 and v = 0", 15, NULL, 0, NULL, 0, NULL, 0, cardinal, sizeof cardinal);
+    struct plurals_argument arguments[] = {{"who", 3, "Ann", 3, PLURALS_TEXT}, {"n", 1, "1.0", 3, PLURALS_NUMBER}};
+    const char *pattern = "{who} sent {n, plural, one {# file} other {# files}}.";
+    int64_t length = plurals_pattern_format(cardinal, cardinal_len, ordinal, ordinal_len, pattern, strlen(pattern),
+                                            arguments, 2, out, sizeof out);
+    CHECK(length == 19 && !memcmp(out, "Ann sent 1.0 files.", 19));
+}
+
 /* Eight parameters, of which the compiler passes some in memory. */
 static void operands(void) {
     const char *one = "i % 10 = 1", *two = "v = 2", *few = "w = 3", *many = "f = 4 or t = 5 or c = 6";
@@ -153,6 +191,8 @@ static void names_and_texts(void) {
 
 int main(void) {
     null_with_length_0();
+    patterns();
+    pattern_of_the_page();
     operands();
     tables();
     many();

@@ -1,5 +1,5 @@
-/* Prints the messages of some numbers, other "{} items", one "{} item", with English's rule for one, and the categories of the operands
- * of 1.0, of 1 by a table, and of three integers at once. */
+/* Prints the messages of some numbers, other "{} items", one "{} item", with English's rule for one, the categories of the operands
+ * of 1.0, of 1 by a table, and of three integers at once, and what a pattern says with three numbers. */
 #include <plurals.h>
 #include <stdio.h>
 #include <string.h>
@@ -31,5 +31,12 @@ int main(void) {
     printf("0, 1, 100:");
     for (size_t k = 0; k < sizeof categories; k++) printf(" %s", plurals_category_name(categories[k]));
     printf("\n");
+    const char *pattern = "{who} sent {n, plural, =0 {no files} one {# file} other {# files}}.", *counts[] = {"0", "1", "1.0"};
+    for (size_t k = 0; k < sizeof counts / sizeof *counts; k++) {
+        struct plurals_argument arguments[] = {{"who", 3, "Ann", 3, PLURALS_TEXT}, {"n", 1, counts[k], strlen(counts[k]), PLURALS_NUMBER}};
+        int64_t length = plurals_pattern_format(rules, (size_t)rules_len, NULL, 0, pattern, strlen(pattern), arguments, 2, message, sizeof message);
+        if (length < 0 || length > (int64_t)sizeof message) return 1;
+        printf("%.*s\n", (int)length, message);
+    }
     return 0;
 }

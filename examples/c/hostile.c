@@ -239,20 +239,20 @@ static void good_number(struct text *text) {
     if (below(3) == 0) append(text, ONE_OF("c0", "c1", "c2", "c3", "c6", "c17", "c18", "c255"));
 }
 
-static const char *any_name(void) { return ONE_OF("n", "s", "n", "s", "m", " n ", "0", "s\xe2\x80\x8f"); }
+static const char *any_name(void) { return ONE_OF("n", "s", "n", "s", "n", "s", "n", "s", "n", "m", " n ", "0", "s\xe2\x80\x8f"); }
 
 /* A pattern, with arguments that are this deep at most. */
 static void good_pattern(struct text *text, int depth) {
     while (below(3)) {
         size_t way = depth ? below(8) : 0;
         if (way < 4) append(text, ONE_OF("a ", "''", "'{'", "#", "'#'", "'}{'' '", "\xc3\xa9", "' ", "it's "));
-        else append(text, "{"), append(text, any_name());
+        else append(text, "{"), append(text, way > 5 && below(4) ? "n" : any_name());
         if (way == 4) append(text, "}");
         if (way < 5) continue;
         append(text, way == 5 ? ",select," : ONE_OF(", plural ,", ",selectordinal,", ", Plural, "));
         if (way > 5 && below(2)) append(text, ONE_OF("offset:1 ", " offset: 0", "offset:12 ", "offset:100000000000000000000 "));
         while (below(4)) {
-            append(text, ONE_OF("one", "few ", "other ", "many", "two", "zero", "a", way == 5 ? "b" : "=0", way == 5 ? "" : "=1.50"));
+            append(text, ONE_OF("one", "few ", "other ", "many", "two", "zero", "a", way == 5 ? "b" : "=0", way == 5 ? "other" : "=1.50"));
             append(text, "{"), good_pattern(text, depth - 1), append(text, "}");
         }
         append(text, " other{"), good_pattern(text, depth - 1), append(text, "}}");
@@ -339,14 +339,17 @@ static void make_good(enum kind kind, struct text *text) {
     }
 }
 
+static void make_whole(enum kind kind, struct text *text) {
+    if (below(2)) *text = pools[kind].texts[below(pools[kind].count)];
+    else make_good(kind, text);
+}
+
 static void make_text(enum kind kind, struct text *text) {
-    size_t way = below(10);
-    if (way == 0) {
+    if (below(10) == 0) {
         random_text(kind, text);
         return;
     }
-    if (way < 5) *text = pools[kind].texts[below(pools[kind].count)];
-    else make_good(kind, text);
+    make_whole(kind, text);
     for (size_t chance = 2; below(chance) == 0; chance++) spoil(kind, text);
 }
 
@@ -737,8 +740,11 @@ static void run_slices(void) {
 static void run_case(void) {
     static struct text text;
     export = &exports[below(EXPORTS)];
+    /* Half of the calls have mistakes in one slice at most. */
+    int alone = below(2) ? (int)below((size_t)export->slices) : MOST_SLICES;
     for (int k = 0; k < export->slices; k++) {
-        make_text(export->kinds[k], &text);
+        if (alone == MOST_SLICES || k == alone) make_text(export->kinds[k], &text);
+        else make_whole(export->kinds[k], &text);
         set_slice(k, (struct slice){text.bytes, text.length});
     }
     number = below(2) ? below(200) : next() >> below(64);
@@ -746,6 +752,10 @@ static void run_case(void) {
     type = below(8) ? (uint8_t)below(2) : (uint8_t)next();
     for (int k = 0; k < 2; k++) kinds_of_arguments[k] = below(16) ? (uint32_t)below(2) : (uint32_t)next();
     arguments_len = below(8) ? 2 : below(2);
+    if (export->ask == pattern_format && below(2)) {
+        set_slice(3, slice_of("n")), set_slice(5, slice_of("s"));
+        for (uint32_t k = 0; k < 2; k++) kinds_of_arguments[k] = k ? PLURALS_TEXT : PLURALS_NUMBER;
+    }
     run_slices();
 }
 
@@ -1154,7 +1164,34 @@ static void try_depth(int depth, int fault) {
     run_limit(fault ? fault : PLURALS_LOCALE);
 }
 
+/* A pattern with the number n, where the front ends in so many of a piece. */
+static void try_pattern(const char *front, const char *piece, int times, const char *end, const char *n, int fault) {
+    export = export_of("plurals_pattern_format");
+    set_good();
+    set_slice(2, repeated(front, piece, times, end)), set_slice(4, slice_of(n));
+    run_limit(fault);
+}
+
+static void try_patterns(void) {
+    static char longest[40000], less[40000];
+    char closing[100] = "#";
+    memset(longest, '9', 32767), memset(less, '9', 32768), less[0] = '-';
+    for (int depth = 1; depth <= 32; depth++) strcat(closing, "}}"), try_pattern("", "{n,plural,other{", depth, closing, "1", 0);
+    try_pattern("", "{n,plural,other{", 33, "", "1", PLURALS_PATTERN_TOO_DEEP);
+    try_pattern("{n,plural,offset:", "9", 32767, " other{#}}", "1", 0);
+    try_pattern("{n,plural,offset:", "0", 32768, " other{#}}", "1", PLURALS_ARGUMENT_OVER_LIMIT);
+    try_pattern("{n,plural,offset:1", "", 0, " other{#}}", longest, 0);
+    try_pattern("{n,plural,offset:0", "", 0, " other{#}}", less, 0);
+    try_pattern("{n,plural,offset:1", "", 0, " other{#}}", less, PLURALS_ARGUMENT_OVER_LIMIT);
+    try_pattern("{n,plural,=", "0", 32766, "1{same} other{#}}", "1.0", 0);
+    try_pattern("{n,plural,=", "0", 32767, "1{same} other{#}}", "1.0", 0);
+    longest[32767] = '9';
+    try_pattern("{n,plural,", "", 0, "other{}}", longest, PLURALS_ARGUMENT_OVER_LIMIT);
+    try_pattern("{n}", "", 0, "", longest, 0);
+}
+
 static void try_limits(void) {
+    try_patterns();
     try_rule(8191, " and n = 1", "", 0);
     try_rule(8192, " and n = 1", "", PLURALS_TEXT_START_LIMIT);
     try_rule(8190, "", "n = 2", 0);

@@ -7,7 +7,7 @@
 
 enum context { WHOLE, COUNTED, SELECTED };
 enum type { PLURAL, ORDINAL, SELECT, TYPES };
-enum { MOST_DEPTH = 32, SIGN_BYTES = 8192 };
+enum { MOST_DEPTH = 32, MOST_PLACES = 32767, SIGN_BYTES = 131072 };
 
 static struct slice text, rules[2];
 static size_t at;
@@ -184,7 +184,6 @@ static struct slice value_of(const struct plurals_argument *argument) {
 /* What chooses a branch: a number that is compared, and a keyword. */
 struct chooser {
     struct slice number;
-    bool is_counted;
     const char *keyword;
     size_t keyword_len;
 };
@@ -220,7 +219,7 @@ static int64_t branches(enum type type, size_t depth, const struct chooser *choo
         if (!is_next('{')) return failed(PLURALS_PATTERN_EXPECTED_BRANCH);
         at++;
         if (depth >= MOST_DEPTH) return PLURALS_PATTERN_TOO_DEEP;
-        if (!exactly && is_number && chooser && chooser->is_counted && is_equal(word, chooser->number)) exactly = at;
+        if (!exactly && is_number && chooser && !number_fault(word) && is_equal(word, chooser->number)) exactly = at;
         if (!named && !is_number && chooser && is_same(word, chooser->keyword, chooser->keyword_len)) named = at;
         if (!other && !is_number && is_same(word, "other", 5)) other = at;
         fault = message(type == SELECT ? SELECTED : COUNTED, depth + 1, word, false);
@@ -239,12 +238,14 @@ static int64_t choose(enum type type, struct slice name, const struct slice *off
     const struct plurals_argument *argument = argument_of(name);
     if (!argument) return PLURALS_ARGUMENT_MISSING;
     if ((argument->kind == PLURALS_TEXT) != (type == SELECT)) return PLURALS_ARGUMENT_WRONG_KIND;
-    *chooser = (struct chooser){value_of(argument), type != SELECT, argument->value, argument->value_len};
+    *chooser = (struct chooser){value_of(argument), argument->value, argument->value_len};
     if (type == SELECT) return 0;
     int64_t fault = number_fault(chooser->number);
     if (fault) return fault;
     if (offset && is_compact(chooser->number)) return PLURALS_ARGUMENT_COMPACT_OFFSET;
+    if (offset && offset->length > MOST_PLACES) return PLURALS_ARGUMENT_OVER_LIMIT;
     *sign = offset ? less(chooser->number, *offset, signs[depth]) : chooser->number;
+    if (number_fault(*sign)) return PLURALS_ARGUMENT_OVER_LIMIT;
     chooser->keyword = names[model_category(rules[type == ORDINAL], *sign)], chooser->keyword_len = strlen(chooser->keyword);
     return 0;
 }

@@ -175,6 +175,9 @@ static void patterns() {
     CHECK(said("1")->view() == "Ann sent 1 file.");
     CHECK(said("1.0")->view() == "Ann sent 1.0 files.");
     CHECK(said("one").fault().number() == PLURALS_ARGUMENT_NOT_A_NUMBER);
+    const Argument given[] = {Argument::text("name", "Bo"), Argument::number("n", "2"), Argument::number("n", "1")};
+    CHECK(plurals::format(sent, given, 3, *english, *ordinal)->view() == "Bo sent 2 files.");
+    CHECK(plurals::format(sent, given, 1, *english, *ordinal).fault().number() == PLURALS_ARGUMENT_MISSING);
     CHECK(plurals::format("", {}, *english, *ordinal)->size() == 0);
     CHECK(plurals::format("{n", {}, *english, *ordinal).fault().number() == PLURALS_PATTERN_UNCLOSED);
     CHECK(plurals::format("{n}", {Argument::text("n", {})}, *english, *ordinal)->size() == 0);

@@ -31,4 +31,13 @@ int main() {
     std::cout << "0, 1, 100:";
     for (auto category : categories) std::cout << ' ' << plurals::name(category);
     std::cout << '\n';
+    constexpr const char *pattern = "{who} sent {n, plural, =0 {no files} one {# file} other {# files}}.";
+    auto none = plurals::Rules::from_texts({});
+    if (!none) return 1;
+    using plurals::Argument;
+    for (const char *count : {"0", "1", "1.0"}) {
+        auto said = plurals::format(pattern, {Argument::text("who", "Ann"), Argument::number("n", count)}, *rules, *none);
+        if (!said) return 1;
+        std::cout << said->view() << '\n';
+    }
 }

@@ -13,3 +13,6 @@ for number in ("0", "1", "1.0", "2", "1c6", "-1", "x", "1c256"):
 print("i 1, v 1:", rules.category_of_operands(i=1, v=1))
 print("1 by a table:", plurals.CategoryTable(rules).category(1) or "ask the rules")
 print("0, 1, 100:", *rules.categories_of_integers([0, 1, 100]))
+pattern = "{who} sent {n, plural, =0 {no files} one {# file} other {# files}}."
+for count in (0, 1, plurals.Written("1.0")):
+    print(plurals.format_pattern(pattern, rules, who="Ann", n=count))

@@ -343,10 +343,10 @@ class Written(str):
     """The text of a number as an argument of a pattern, where another text is only compared: Written("1.50"), Written("1c6")."""
 
 
-def format_pattern(pattern: str, cardinal: Rules, ordinal: Optional[Rules] = None, **arguments: Number) -> str:
+def format_pattern(pattern: str, cardinal: Rules, ordinal: Optional[Rules] = None, /, **arguments: Number) -> str:
     """Returns what a pattern of ICU's MessageFormat says (docs/PATTERNS.md). Without ordinal rules every number is other there.
 
-    A text is a text, unless it is Written; all others are numbers, as text_of writes them.
+    A text is a text, unless it is Written; all others are numbers, as text_of writes them. Any name may be given, as **{"0": 1}.
 
     >>> english = Rules.of_locale("en")
     >>> format_pattern("{who} has {n, plural, =0 {no files} one {# file} other {# files}}.", english, who="Ann", n=1)
@@ -354,7 +354,7 @@ def format_pattern(pattern: str, cardinal: Rules, ordinal: Optional[Rules] = Non
     """
     given = [(_bytes(name), _bytes(text_of(value)), _is_text(value)) for name, value in arguments.items()]
     passed = (_Argument * len(given))(*[(name, len(name), value, len(value), kind) for name, value, kind in given])
-    words = _words((cardinal.block, ordinal.block if ordinal else b"", _bytes(pattern)))
+    words = _words((cardinal.block, ordinal.block if ordinal is not None else b"", _bytes(pattern)))
     return _written(_library.plurals_pattern_format, *words, passed, len(given)).decode()
 
 

@@ -255,6 +255,8 @@ def test_patterns():
     ordinal = "{n, selectordinal, one {#st} other {#th}}"
     assert plurals.format_pattern(ordinal, ENGLISH, Rules.of_locale("en", ordinal=True), n=21) == "21st"
     assert plurals.format_pattern(ordinal, ENGLISH, n=21) == "21th"
+    assert plurals.format_pattern("{0}{pattern}{ordinal}", ENGLISH, **{"0": "a", "pattern": "", "ordinal": -1.5}) == "a-1.5"
+    assert plurals.format_pattern("{n, plural, offset:1 other {#}}" * 200, ENGLISH, n=3) == "2" * 200
     for pattern, number in (("{m}", -110), (ordinal, -111), ("{n", -90)):
         with pytest.raises(Fault) as fault:
             plurals.format_pattern(pattern, ENGLISH, n="21")

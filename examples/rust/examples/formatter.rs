@@ -1,5 +1,5 @@
 //! Prints the messages of some numbers and some categories, as ../../c/formatter.c does.
-use plurals::{Message, PluralCategory, PluralRules, PluralsError, RawPluralOperands};
+use plurals::{format_pattern, Argument, Message, PluralCategory, PluralRules, PluralsError, RawPluralOperands, Value};
 
 fn main() -> Result<(), PluralsError> {
     let rules = PluralRules::try_from_texts(["", "i = 1 and v = 0", "", "", ""])?;
@@ -18,5 +18,12 @@ fn main() -> Result<(), PluralsError> {
     println!("1 by a table: {}", told.map_or("ask the rules", PluralCategory::as_str));
     let categories = rules.categories_for_integers(&[0, 1, 100]);
     println!("0, 1, 100: {}", categories.into_iter().map(PluralCategory::as_str).collect::<Vec<_>>().join(" "));
+    let pattern = "{who} sent {n, plural, =0 {no files} one {# file} other {# files}}.";
+    let none = PluralRules::try_from_texts([""; 5])?;
+    for count in ["0", "1", "1.0"] {
+        let who = Argument { name: "who", value: Value::Text("Ann") };
+        let count = Argument { name: "n", value: Value::Number(count) };
+        println!("{}", format_pattern(pattern, &[who, count], &rules, &none)?);
+    }
     Ok(())
 }
