@@ -9,5 +9,7 @@ pub mod AfterLemmas
 pub mod StreamLemmas
 -- answers to documents
 pub mod AnswerLemmas
+-- what is read of the rules, and that nothing is written
+pub mod TouchLemmas
 -- the lines of forms
 pub mod FormLemmas

@@ -1,11 +1,12 @@
 //! The answers to questions, over any readers and writer.
 
-ghost use Rattle.std.specs.Prelude.{◌≡◌, IfOk, List, ℕ};
-ghost use Rattle.form_commands.specs.FormsAnswers.{Answers, IsAnswered, IsAnsweredLines, IsChecked, IsListAnswer, IsNumbersAnswer, IsOneText, verdict_of_counts};
+ghost use Rattle.std.specs.Prelude.{◌≡◌, ◌≢◌, IfErr, IfOk, IsTrue, List, ℕ};
+ghost use Rattle.form_commands.specs.FormsAnswers.{Answers, IsAnswered, IsAnsweredLines, IsChecked, IsListAnswer, IsNumbersAnswer, IsOneText, rules_origin, verdict_of_counts};
+ghost use Rattle.form_commands.specs.FormsErrors.{is_of_rules};
 ghost use Rattle.form_commands.specs.Inner.FormsInputFaults.{refused_rules};
 ghost use Rattle.form_commands.specs.Inner.QuestionViews.{words_view};
 ghost use Rattle.form_commands.specs.Inner.RunSteps.{AnswersLines, Checks, GivesDocument, GivesValue, Reports, WritesAnswer};
-ghost use Rattle.plural_documents.specs.Inputs.{IsInput};
+ghost use Rattle.plural_documents.specs.Inputs.{IsInput, IsRead};
 ghost use Rattle.serde_json.specs.View.{view};
 
 use crate::error::{FormsError, LanguageError, Verdict};
@@ -32,8 +33,10 @@ pub fn list_forms<R: Read, W: Write>(
     rules: &mut R,
     writer: &mut W,
 ) -> Result<Verdict, FormsError>
-    ensures { (input : List ℕ) × IsInput (R.remaining rules.old) input
+    ensures answers { (input : List ℕ) × IsInput (R.remaining rules.old) input
         × IsAnswered (Answers (IsListAnswer part locale.now) part locale.now) input (W.contents writer.old) (W.contents writer.new) result }
+    ensures reads { IsRead rules_origin (R.remaining rules.old) (R.remaining rules.new) result }
+    ensures writes_nothing { IfErr result (λ e. e ≢ FormsError.Write → writer.new ≡ writer.old) }
 {
     match document_of(alloc, rules) {
         Ok(document) => write_answer(list_of(alloc, &document, part, locale), writer),
@@ -50,8 +53,10 @@ pub fn answer_numbers<R: Read, W: Write>(
     rules: &mut R,
     writer: &mut W,
 ) -> Result<Verdict, FormsError>
-    ensures { (input : List ℕ) × IsInput (R.remaining rules.old) input
+    ensures answers { (input : List ℕ) × IsInput (R.remaining rules.old) input
         × IsAnswered (Answers (IsNumbersAnswer (words_view numbers.now)) part locale.now) input (W.contents writer.old) (W.contents writer.new) result }
+    ensures reads { IsRead rules_origin (R.remaining rules.old) (R.remaining rules.new) result }
+    ensures writes_nothing { IfErr result (λ e. e ≢ FormsError.Write → writer.new ≡ writer.old) }
 {
     match document_of(alloc, rules) {
         Ok(document) => {
@@ -71,8 +76,11 @@ pub fn answer_lines<R: Read, N: Read, W: Write>(
     numbers: &mut N,
     writer: &mut W,
 ) -> Result<Verdict, FormsError>
-    ensures { (input : List ℕ) × IsInput (R.remaining rules.old) input
+    ensures answers { (input : List ℕ) × IsInput (R.remaining rules.old) input
         × IsAnsweredLines part locale.now input (N.remaining numbers.old) (N.remaining numbers.new) (W.contents writer.old) (W.contents writer.new) result }
+    ensures reads { IsRead rules_origin (R.remaining rules.old) (R.remaining rules.new) result }
+    ensures touches_nothing { IfErr result (λ e. IsTrue (is_of_rules e)
+        → (writer.new ≡ writer.old) × (numbers.new ≡ numbers.old)) }
 {
     match document_of(alloc, rules) {
         Ok(document) => lines_by(alloc, &document, part, locale, numbers, writer),
@@ -89,8 +97,10 @@ pub fn write_gettext<R: Read, W: Write>(
     rules: &mut R,
     writer: &mut W,
 ) -> Result<Verdict, FormsError>
-    ensures { (input : List ℕ) × IsInput (R.remaining rules.old) input
+    ensures answers { (input : List ℕ) × IsInput (R.remaining rules.old) input
         × IsAnswered (Answers IsOneText part locale.now) input (W.contents writer.old) (W.contents writer.new) result }
+    ensures reads { IsRead rules_origin (R.remaining rules.old) (R.remaining rules.new) result }
+    ensures writes_nothing { IfErr result (λ e. e ≢ FormsError.Write → writer.new ≡ writer.old) }
 {
     match document_of(alloc, rules) {
         Ok(document) => write_answer(gettext_of(alloc, &document, part, locale), writer),
@@ -105,8 +115,10 @@ pub fn check_files<R: Read, W: Write>(
     rules: &mut R,
     writer: &mut W,
 ) -> Result<Verdict, FormsError>
-    ensures { (input : List ℕ) × IsInput (R.remaining rules.old) input
+    ensures reports { (input : List ℕ) × IsInput (R.remaining rules.old) input
         × IsChecked files.now input (W.contents writer.old) (W.contents writer.new) result }
+    ensures reads { IsRead rules_origin (R.remaining rules.old) (R.remaining rules.new) result }
+    ensures writes_nothing { IfErr result (λ e. e ≢ FormsError.Write → writer.new ≡ writer.old) }
 {
     match document_of(alloc, rules) {
         Ok(document) => check_by(alloc, &document, files, writer),
@@ -121,7 +133,8 @@ fn check_by<W: Write>(
     files: &[MessageFile<'_>],
     writer: &mut W,
 ) -> Result<Verdict, FormsError>
-    ensures { Checks (view document.now) files.now (W.contents writer.old) (W.contents writer.new) result }
+    ensures checks { Checks (view document.now) files.now (W.contents writer.old) (W.contents writer.new) result }
+    ensures writes_nothing { IfErr result (λ e. e ≢ FormsError.Write → writer.new ≡ writer.old) }
 {
     match JsonProvider::from_value(alloc, document) {
         Ok(provider) => report_by(alloc, &provider, document, files, writer),
@@ -152,7 +165,8 @@ fn report_by<W: Write>(
     files: &[MessageFile<'_>],
     writer: &mut W,
 ) -> Result<Verdict, FormsError>
-    ensures { Reports (view document.now) provider.now files.now (W.contents writer.old) (W.contents writer.new) result }
+    ensures reports { Reports (view document.now) provider.now files.now (W.contents writer.old) (W.contents writer.new) result }
+    ensures writes_nothing { IfErr result (λ e. e ≢ FormsError.Write → writer.new ≡ writer.old) }
 {
     let source = FallbackProvider {
         provider,
@@ -184,7 +198,9 @@ fn lines_by<N: Read, W: Write>(
     numbers: &mut N,
     writer: &mut W,
 ) -> Result<Verdict, FormsError>
-    ensures { AnswersLines (view document.now) part locale.now (N.remaining numbers.old) (N.remaining numbers.new) (W.contents writer.old) (W.contents writer.new) result }
+    ensures lines { AnswersLines (view document.now) part locale.now (N.remaining numbers.old) (N.remaining numbers.new) (W.contents writer.old) (W.contents writer.new) result }
+    ensures touches_nothing { IfErr result (λ e. IsTrue (is_of_rules e)
+        → (writer.new ≡ writer.old) × (numbers.new ≡ numbers.old)) }
 {
     match language_of(alloc, document, part, locale) {
         Ok(Ok(language)) => answer_input(alloc, &language.rules, numbers, writer),
@@ -195,7 +211,8 @@ fn lines_by<N: Read, W: Write>(
 
 // Returns the document in a reader.
 fn document_of<R: Read>(alloc: Global, reader: &mut R) -> Result<Value, FormsError>
-    ensures { (input : List ℕ) × IsInput (R.remaining reader.old) input × GivesDocument input result }
+    ensures document { (input : List ℕ) × IsInput (R.remaining reader.old) input × GivesDocument input result }
+    ensures reads { IsRead rules_origin (R.remaining reader.old) (R.remaining reader.new) result }
 {
     match read_input(alloc, reader) {
         Ok(input) => value_of(alloc, input.as_slice()),
@@ -271,7 +288,8 @@ fn write_answer<W: Write>(
     answer: Result<Result<Printed, LanguageError>, AllocError>,
     writer: &mut W,
 ) -> Result<Verdict, FormsError>
-    ensures { WritesAnswer answer (W.contents writer.old) (W.contents writer.new) result }
+    ensures answer { WritesAnswer answer (W.contents writer.old) (W.contents writer.new) result }
+    ensures writes_nothing { IfErr result (λ e. e ≢ FormsError.Write → writer.new ≡ writer.old) }
 {
     match answer {
         Ok(Ok(printed)) => printed.write_to(writer),
