@@ -1,4 +1,5 @@
--- The JSON value of an input whose parts and locales are objects, or the first reason why it has none (docs/JSON.md).
+-- The JSON value of an input whose parts and locales are objects, or the first reason why it has
+-- none (docs/JSON.md).
 --     value_in input      the value, or the first fault
 --     members_at part value      the members of a part, by locale
 use Rattle.std.specs.Prelude.{ℕ, List, Option, Some, None, is_some, Bool, Result, Ok, Err, ⊤, codes}

@@ -13,7 +13,8 @@ use Rattle.document_report.specs.declared.report.Report.{Report}
 abbrev pub HasEach : {A : Type 0} → Part → Data → Rows A → Type 0
 HasEach part value rows = (locale : List ℕ) → IsTrue (has_locale part value locale) → IsTrue (is_some (found locale rows))
 
--- Each locale of the rules has rules of their type, and each one of the ranges has ranges, and cardinal rules for them.
+-- Each locale of the rules has rules of their type, and each one of the ranges has ranges, and
+-- cardinal rules for them.
 pub record HasAll (value : Data) (maps : Document) : Type 0 where
   pub cardinal : HasEach Cardinal value maps.cardinal
   pub ordinal : HasEach Ordinal value maps.ordinal

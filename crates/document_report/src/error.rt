@@ -52,8 +52,8 @@ impl From<InputError> for CheckError {
 }
 
 impl CheckError {
-    /// Returns the exit status of the program without a report, which is 2. With one it is that of the
-    /// [`Verdict`](crate::Verdict).
+    /// Returns the exit status of the program without a report, which is 2. With one it is that of
+    /// the [`Verdict`](crate::Verdict).
     pub fn status(&self) -> u8
         ensures { result ≡ status_of self.now }
     {

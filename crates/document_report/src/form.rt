@@ -1,4 +1,5 @@
-//! The form of a document: it has no float; it, its parts and the value of each locale in a part are objects.
+//! The form of a document: it has no float; it, its parts and the value of each locale in a part
+//! are objects.
 
 ghost use Rattle.std.specs.Prelude.{◌≡◌, is_some, option_map};
 ghost use Rattle.std.specs.Option.{option_and_then};

@@ -122,7 +122,8 @@ fn lacks_other(value: &Value) -> bool
     }
 }
 
-// Adds, category by category, a line if the value is no text, and the faults of the text; counts the texts.
+// Adds, category by category, a line if the value is no text, and the faults of the text; counts
+// the texts.
 fn add_texts(
     alloc: Global,
     part: Part,

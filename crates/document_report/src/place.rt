@@ -33,8 +33,9 @@ impl Part {
     }
 }
 
-/// The printed text of a locale's key: control characters of ASCII and the backslash as `\x` and two
-/// hexadecimal digits, and `\(300 bytes)` in place of a key that would print more than 64 bytes.
+/// The printed text of a locale's key: control characters of ASCII and the backslash as `\x` and
+/// two hexadecimal digits, and `\(300 bytes)` in place of a key that would print more than 64
+/// bytes.
 #[derive(Debug, Drop)]
 pub struct Locale {
     text: String,
