@@ -1,7 +1,7 @@
 -- The block of the rules of five texts. An empty text isn't a rule. Faults are looked for in this
 -- order: a text that isn't UTF-8, the first text that gives no rule, rules too long for a block.
 --     AreRulesFrom texts answer      the bytes of the block, or the fault
-use Rattle.std.specs.Prelude.{◌≡◌, ℕ, List, [], ◌∷◌, Option, Some, None, Result, Ok, Err, ⊤, IsTrue}
+use Rattle.std.specs.Prelude.{◌≡◌, ℕ, List, [], ◌∷◌, Option, Some, None, Result, Ok, Err, IsTrue}
 use Rattle.std.specs.Str.{IsUtf8}
 use Rattle.icu_plurals.specs.declared.PluralCategory.{PluralCategory}
 use Rattle.icu_plurals.specs.declared.provider.rules.runtime.ast.RuleError.TheVariants as rule
@@ -36,9 +36,10 @@ abbrev pub ReadsTexts : Five (List ℕ) → Result (Five (Option (List ℕ))) Fa
 ReadsTexts bytes (Ok texts) = AreUtf8 bytes × (texts ≡ texts_given bytes)
 ReadsTexts bytes (Err fault) = (fault ≡ Utf8) × ¬ (AreUtf8 bytes)
 
--- some text is the first that gives no rule, for this reason; or memory ran out
+-- some text is the first that gives no rule, for this reason; or memory ran out for a text, and all
+-- before it give rules
 abbrev pub IsTextsFault : Five (Option (List ℕ)) → Fault → Type 0
-IsTextsFault texts Memory = ⊤
+IsTextsFault texts Memory = (category : PluralCategory) × IsFirstRefused texts category rule.Memory
 IsTextsFault texts (Text rule.Memory) = ⊥
 IsTextsFault texts (Text fault) = (category : PluralCategory) × IsFirstRefused texts category fault
 IsTextsFault texts fault = ⊥
@@ -48,9 +49,9 @@ abbrev pub GiveRules : Five (Option (List ℕ)) → Result FiveRules Fault → T
 GiveRules texts (Ok rules) = AreRulesOf texts rules
 GiveRules texts (Err fault) = IsTextsFault texts fault
 
--- rules have no block: one would start after place 65535; or memory ran out
+-- rules have no block: one would start after place 65535; or none would, and memory ran out
 abbrev pub IsPackFault : FiveRules → Fault → Type 0
-IsPackFault rules Memory = ⊤
+IsPackFault rules Memory = ¬ (IsTrue (has_high_start (rule_items rules)))
 IsPackFault rules RulesLimit = IsTrue (has_high_start (rule_items rules))
 IsPackFault rules fault = ⊥
 

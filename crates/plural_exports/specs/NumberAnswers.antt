@@ -61,7 +61,8 @@ HasCategory rules x (Err fault) = ⊥
 abbrev pub IsCategoryOf : List ℕ → List ℕ → Result PluralCategory Fault → Type 0
 IsCategoryOf rules number = Then (ReadsRules rules) (λ five. Then (ReadsNumber number) (HasCategory five))
 
--- the category of the number itself, within the exactness bound of the rules; else that it is outside
+-- the category of the number itself, within the exactness bound of the rules; else that it is
+-- outside
 abbrev pub HasSureCategory : FiveRules → CompactNumber → Result PluralCategory Fault → Type 0
 HasSureCategory rules x (Ok category) =
     IsWithinBound x.significand.absolute x.exponent (moduli_of rules)
