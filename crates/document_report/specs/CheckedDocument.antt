@@ -11,11 +11,11 @@ use Rattle.serde_json.specs.Written.{has_float}
 use Rattle.plural_documents.specs.Inputs.{within_limit}
 use Rattle.plural_documents.specs.JsonTexts.{json_of}
 use Rattle.document_report.specs.Names.{name_text}
-use Rattle.document_report.specs.Parts.{part_name}
+use Rattle.plural_fallback.specs.LocalesJson.{part_name}
 use Rattle.document_report.specs.declared.error.CheckError.{CheckError}
 use Rattle.document_report.specs.declared.error.CheckError.TheVariants.{TooLong, Json, Float, NoObject}
-use Rattle.document_report.specs.declared.place.Part.{Part}
-use Rattle.document_report.specs.declared.place.Part.TheVariants.{Cardinal, Ordinal, Ranges}
+use Rattle.plural_fallback.specs.declared.locales.Part.{Part}
+use Rattle.plural_fallback.specs.declared.locales.Part.TheVariants.{Cardinal, Ordinal, Ranges}
 use Rattle.document_report.specs.declared.place.Place.TheVariants as place
 
 -- ---- One step after another: a fault of the first is the result

@@ -27,11 +27,11 @@ use Rattle.document_report.specs.CheckedDocument.{members_at, members_or_none, t
 use Rattle.document_report.specs.Found.{Found, nothing, one_fault, one_rule, together, IsFoundIn}
 use Rattle.document_report.specs.ParentFaults.{IsFoundInParents}
 use Rattle.document_report.specs.Names.{has_underscore, is_long_name, name_text}
-use Rattle.document_report.specs.Parts.{part_name}
+use Rattle.plural_fallback.specs.LocalesJson.{part_name}
 use Rattle.document_report.specs.declared.entry.EntryFault.{EntryFault}
 use Rattle.document_report.specs.declared.entry.EntryFault.TheVariants.{RangeKey, NoText, RangeValue, NoRule}
-use Rattle.document_report.specs.declared.place.Part.{Part}
-use Rattle.document_report.specs.declared.place.Part.TheVariants.{Cardinal, Ordinal, Ranges}
+use Rattle.plural_fallback.specs.declared.locales.Part.{Part}
+use Rattle.plural_fallback.specs.declared.locales.Part.TheVariants.{Cardinal, Ordinal, Ranges}
 use Rattle.document_report.specs.declared.report.Report.{Report}
 
 -- ---- The key of a locale

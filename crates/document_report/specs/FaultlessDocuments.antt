@@ -5,8 +5,8 @@ use Rattle.serde_json.specs.Data.{Data}
 use Rattle.icu_plurals.specs.DocumentJson.{Document, Rows, document_of_json, found}
 use Rattle.document_report.specs.CheckedDocument.{document_formed}
 use Rattle.document_report.specs.DocumentReport.{IsReportOf, has_locale}
-use Rattle.document_report.specs.declared.place.Part.{Part}
-use Rattle.document_report.specs.declared.place.Part.TheVariants.{Cardinal, Ordinal, Ranges}
+use Rattle.plural_fallback.specs.declared.locales.Part.{Part}
+use Rattle.plural_fallback.specs.declared.locales.Part.TheVariants.{Cardinal, Ordinal, Ranges}
 use Rattle.document_report.specs.declared.report.Report.{Report}
 
 -- each locale of the part is in the map

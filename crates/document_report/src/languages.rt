@@ -15,7 +15,7 @@ ghost use Rattle.serde_json.specs.View.{view};
 use crate::found::{Found, MemberCheck, add_members, sum};
 use crate::keys::{CategoryCheck, add_key, locale_line};
 use crate::names::name_text;
-use crate::place::Part;
+use plural_fallback::Part;
 use icu_plurals::PluralCategory;
 use icu_plurals::provider::RawPluralCategory;
 use plural_checker::{Fault, LanguageTexts, check_texts};
