@@ -9,7 +9,7 @@ use Rattle.icu_plurals.specs.FiveRules.{Five, FiveRules, five}
 use Rattle.icu_plurals.specs.ListBytes.{has_high_start}
 use Rattle.icu_plurals.specs.RulesBytes.{rule_items}
 use Rattle.plural_exports.specs.GivenTexts.{AreRulesFrom, AreUtf8, GiveRules, PackRules, ReadsTexts, text_given}
-use Rattle.plural_exports.specs.Inner.Conversions.{pack_fault}
+use Rattle.plural_exports.specs.Inner.Conversions.{rules_pack_fault}
 use Rattle.plural_exports.specs.Inner.GivenResults.{Gives}
 use Rattle.plural_exports.specs.declared.fault.Fault.{Fault}
 use Rattle.plural_exports.specs.declared.fault.Fault.TheVariants.{Utf8}
@@ -48,7 +48,7 @@ packed_texts bytes texts rules (Ok block) read given packed = (Ok texts, read, (
 packed_texts bytes texts rules (Err e) read given packed = (Ok texts, read, (Ok rules, given, packed))
 
 -- the fault of rules that can't be packed
-pub pack_refused : (rules : FiveRules) (e : RulesPackError) (r : Block) → r ≡ Err (pack_fault e)
+pub pack_refused : (rules : FiveRules) (e : RulesPackError) (r : Block) → r ≡ Err (rules_pack_fault e)
     → ◌≡◌ {A = Result (Vec ℕ Global) RulesPackError} (Err e) (Err packing.StartLimit) ↔ IsTrue (has_high_start (rule_items rules))
     → Gives bytes_of (PackRules rules) r
 pack_refused rules packing.StartLimit r is limit = rw is (limit.0 refl)

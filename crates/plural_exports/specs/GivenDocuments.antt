@@ -23,11 +23,11 @@ use Rattle.plural_exports.specs.declared.fault.Fault.{Fault}
 use Rattle.plural_exports.specs.declared.fault.Fault.TheVariants.{Memory, RuleType, Json, Document, Locale}
 
 -- 0 is cardinal and 1 ordinal
-abbrev pub type_of : ℕ → Result PluralRuleType Fault
-type_of n = if n == 0 then Ok Cardinal else (if n == 1 then Ok Ordinal else Err RuleType)
+abbrev pub type_numbered : ℕ → Result PluralRuleType Fault
+type_numbered n = if n == 0 then Ok Cardinal else (if n == 1 then Ok Ordinal else Err RuleType)
 
 abbrev pub ReadsType : ℕ → Result PluralRuleType Fault → Type 0
-ReadsType n answer = answer ≡ type_of n
+ReadsType n answer = answer ≡ type_numbered n
 
 -- the bytes aren't JSON; or there are some, and memory ran out
 abbrev pub IsJsonFault : List ℕ → Fault → Type 0

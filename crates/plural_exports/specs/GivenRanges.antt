@@ -46,9 +46,9 @@ HasRangesFor bytes locale =
     Then (ReadsJson bytes) (λ value. Then (MeansMaps value) (λ maps. HasRangesAt locale maps.ranges))
 
 -- their table; or memory ran out
-abbrev pub IsTableOf : PluralRanges → Result (List ℕ) Fault → Type 0
-IsTableOf ranges (Ok bytes) = bytes ≡ table_bytes ranges
-IsTableOf ranges (Err fault) = fault ≡ Memory
+abbrev pub IsRangeTable : PluralRanges → Result (List ℕ) Fault → Type 0
+IsRangeTable ranges (Ok bytes) = bytes ≡ table_bytes ranges
+IsRangeTable ranges (Err fault) = fault ≡ Memory
 
 abbrev pub AreRangesIn : List ℕ → List ℕ → Result (List ℕ) Fault → Type 0
-AreRangesIn bytes locale = Then (ReadsText locale) (λ text. Then (HasRangesFor bytes text) IsTableOf)
+AreRangesIn bytes locale = Then (ReadsText locale) (λ text. Then (HasRangesFor bytes text) IsRangeTable)

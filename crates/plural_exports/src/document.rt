@@ -3,7 +3,7 @@
 ghost use Rattle.std.specs.Prelude.{◌≡◌};
 ghost use Rattle.serde_json.specs.View.{view};
 ghost use Rattle.icu_plurals.specs.FiveRules.{rules_of};
-ghost use Rattle.plural_exports.specs.GivenDocuments.{HasRulesAt, MeansMaps, ReadsJson, rows_for, type_of};
+ghost use Rattle.plural_exports.specs.GivenDocuments.{HasRulesAt, MeansMaps, ReadsJson, rows_for, type_numbered};
 ghost use Rattle.plural_exports.specs.Inner.GivenResults.{Gives};
 
 use crate::fault::Fault;
@@ -15,7 +15,7 @@ use std::alloc::Global;
 
 // The type of a number.
 pub(crate) fn rule_type_of(number: u8) -> Result<PluralRuleType, Fault>
-    ensures { result ≡ type_of number }
+    ensures { result ≡ type_numbered number }
 {
     match number {
         0 => Ok(PluralRuleType::Cardinal),
