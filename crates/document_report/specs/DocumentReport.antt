@@ -1,7 +1,7 @@
--- The report of a document: what is found in the keys of its parts, then in its rules for cardinal
--- numbers, then in those for ordinal numbers, then in its ranges, then in its parents, and how many
--- locales it has (docs/JSON.md). The locales of a part are in the order of their bytes, and so are
--- the entries of a locale's ranges.
+-- The report of a document: what is found in the keys of its parts, in its rules for cardinal and
+-- then for ordinal numbers, in its ranges and in its parents, and how many locales it has
+-- (docs/JSON.md). The locales of a part are in the order of their bytes, and so are the entries of
+-- a locale's ranges.
 --     IsReportOf value report      this is the report of a document's value
 use Rattle.std.specs.Prelude.{◌≡◌, ◌≢◌, ℕ, ◌+◌, ◌&&◌, not, ◌-◌, ◌==◌, ◌||◌, ◌⊎◌, nat_lt, bytes_eq, List, [], ◌∷◌, ◌++◌, length, codes, count_by, filter, map, take}
 use Rattle.std.specs.Prelude.{Bool, true, IsTrue, IsFalse}
