@@ -1,7 +1,7 @@
 //! Why there is no report.
 
 ghost use Rattle.document_report.specs.CheckAnswer.{status_of};
-ghost use Rattle.document_report.specs.Inner.CheckInputFaults.{input_fault};
+ghost use Rattle.document_report.specs.Inner.CheckCalls.{input_fault};
 ghost use Rattle.std.specs.Prelude.{◌≡◌};
 
 use crate::place::Place;

@@ -3,8 +3,7 @@
 ghost use Rattle.std.specs.Prelude.{◌≡◌, ◌≢◌, Err, IfErr, IfOk, List, ℕ, IsFalse, IsTrue};
 ghost use Rattle.document_report.specs.CheckAnswer.{AnswersDocument, AnswersInput, IsAnswered, IsAnswerTo, check_origin};
 ghost use Rattle.document_report.specs.CheckedDocument.{value_in, value_of};
-ghost use Rattle.document_report.specs.Inner.CheckCalls.{Gives, GivesAfterReading};
-ghost use Rattle.document_report.specs.Inner.CheckViews.{answer_view};
+ghost use Rattle.document_report.specs.Inner.CheckCalls.{Gives, GivesAfterReading, answer_view};
 ghost use Rattle.document_report.specs.declared.error.CheckError.TheVariants.{Usage};
 ghost use Rattle.plural_documents.specs.Inputs.{IsInput, IsRead};
 ghost use Rattle.serde_json.specs.View.{view};
