@@ -17,8 +17,8 @@
  *     out is unchanged, so a call with out_len 0 asks for the length. After a fault out is unchanged. No byte 0 is
  *     written after a text.
  *     Which fault: that of the rules, else that of the elements, else that of the number. PLURALS_MEMORY may come in place
- *     of a fault of a rule's text, a document or a pattern, and of the faults after it, and only if malloc or realloc has
- *     failed; the same call may be made again then.
+ *     of a fault of a JSON text, a document, a rule's text or a pattern, and of the faults after it, and only if malloc or
+ *     realloc has failed; the same call may be made again then. docs/C.md tells which faults it never hides.
  *
  * Memory and ownership
  *     All bytes are the caller's, before and after a call. Nothing is kept between calls: no call has to be undone, and
@@ -88,7 +88,8 @@ enum plurals_type {
 /* Why a call returns no result. No fault tells a place. */
 enum plurals_fault {
     PLURALS_MEMORY = -1, /* out of memory: malloc or realloc has failed */
-    PLURALS_UTF8 = -2,   /* a rule's text, a locale or a number isn't UTF-8; for JSON that is PLURALS_JSON */
+    PLURALS_UTF8 = -2,   /* a text isn't UTF-8: of a rule, an element, a locale, a number or an argument; of JSON that is
+                            PLURALS_JSON, and a pattern may be any bytes */
     PLURALS_TYPE = -3,   /* the type of rules is neither PLURALS_CARDINAL nor PLURALS_ORDINAL */
 
     /* of a number's text */
@@ -292,9 +293,9 @@ int64_t plurals_message(const uint8_t *rules, size_t rules_len, const uint8_t *e
 /* Writes what a pattern of ICU's MessageFormat says (docs/PATTERNS.md) with these arguments; of two with one name the first
  * counts. A plural takes its categories from the rules cardinal, a selectordinal from ordinal, which may be the block without
  * bytes. Faults, in the order in which they are looked for: that of cardinal; of ordinal; of the pattern, by its first place;
- * of the first argument whose name or value isn't UTF-8, or whose kind is unknown; of the argument that the pattern uses
- * first. Allocates in proportion to the pattern, the arguments and the text, which is held also where out has no room for
- * it: 10000 times {n} and an n of 30000 bytes make 300 MB. */
+ * of the first argument whose name or value isn't UTF-8, or whose kind is unknown; of the first argument that the pattern,
+ * read from its front, can't use. Allocates in proportion to the pattern, the arguments and the text, which is held also
+ * where out has no room for it: 10000 times {n} and an n of 30000 bytes make 300 MB. */
 int64_t plurals_pattern_format(const uint8_t *cardinal, size_t cardinal_len, const uint8_t *ordinal, size_t ordinal_len,
                                const char *pattern, size_t pattern_len, const struct plurals_argument *arguments,
                                size_t arguments_len, char *out, size_t out_len);

@@ -7,16 +7,13 @@ use Rattle.serde_json.specs.Find.{as_null, as_object, get}
 use Rattle.serde_json.specs.Written.{has_float}
 use Rattle.document_report.specs.Names.{name_text}
 use Rattle.document_report.specs.CheckAnswer.{Answer, AnswersDocument, AnswersInput, IsAnswered, IsAnswerTo, check_origin}
-use Rattle.document_report.specs.CheckedDocument.{◌>>=◌, document_formed, document_with, has_form, locales_formed}
-use Rattle.document_report.specs.CheckedDocument.{object_formed, or_fault, part_formed, parts_formed, value_in, value_of}
-use Rattle.document_report.specs.Inner.CheckCalls.{Gives, GivesAfterReading, GivesFault}
-use Rattle.document_report.specs.Inner.CheckInputFaults.{input_fault}
-use Rattle.document_report.specs.Inner.CheckViews.{answer_view}
-use Rattle.document_report.specs.Parts.{part_name}
+use Rattle.document_report.specs.CheckedDocument.{document_formed, document_with, has_form, locales_formed, object_formed, or_fault, part_formed, parts_formed, value_in, value_of, ◌>>=◌}
+use Rattle.document_report.specs.Inner.CheckCalls.{Gives, GivesAfterReading, GivesFault, answer_view, input_fault}
+use Rattle.plural_fallback.specs.LocalesJson.{part_name}
 use Rattle.document_report.specs.declared.error.CheckError.{CheckError}
 use Rattle.document_report.specs.declared.error.CheckError.TheVariants.{Usage, Read, TooLong, Json, Float, NoObject, Write, Memory}
-use Rattle.document_report.specs.declared.place.Part.{Part}
-use Rattle.document_report.specs.declared.place.Part.TheVariants.{Cardinal, Ordinal, Ranges}
+use Rattle.plural_fallback.specs.declared.locales.Part.{Part}
+use Rattle.plural_fallback.specs.declared.locales.Part.TheVariants.{Cardinal, Ordinal, Ranges}
 use Rattle.document_report.specs.declared.place.Place.TheVariants as place
 use Rattle.document_report.specs.declared.report.Verdict.{Verdict}
 use Rattle.document_report.specs.declared.run.Answer.{Answer as CodeAnswer}

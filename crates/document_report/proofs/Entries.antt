@@ -10,7 +10,7 @@ use Rattle.icu_plurals.specs.Categories.{category_number, category_of, name_of}
 use Rattle.icu_plurals.specs.Ranges.{range_key, IsKeyOfText}
 use Rattle.plural_checker.specs.LanguageTexts.{SixTexts}
 use Rattle.document_report.specs.DocumentReport.{HasEntryFault, HasRangeFault, IsRangeText}
-use Rattle.document_report.specs.Inner.RangeParts.{category_numbered}
+use Rattle.document_report.specs.Inner.CheckCalls.{category_numbered}
 use Rattle.document_report.specs.declared.entry.EntryFault.{EntryFault}
 
 -- ---- The start and the end of a range

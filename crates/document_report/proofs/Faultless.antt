@@ -39,10 +39,10 @@ use Rattle.document_report.specs.DocumentReport.{found_under_all, has_locale, te
 use Rattle.document_report.specs.FaultlessDocuments.{FaultlessDocumentsAreTaken, HasAll}
 use Rattle.document_report.specs.Found.{Found, IsFoundIn}
 use Rattle.document_report.specs.Names.{name_text}
-use Rattle.document_report.specs.Parts.{part_name}
+use Rattle.plural_fallback.specs.LocalesJson.{part_name}
 use Rattle.document_report.specs.declared.error.CheckError.{CheckError}
-use Rattle.document_report.specs.declared.place.Part.{Part}
-use Rattle.document_report.specs.declared.place.Part.TheVariants.{Cardinal, Ordinal, Ranges}
+use Rattle.plural_fallback.specs.declared.locales.Part.{Part}
+use Rattle.plural_fallback.specs.declared.locales.Part.TheVariants.{Cardinal, Ordinal, Ranges}
 use Rattle.document_report.specs.declared.report.Report.{Report}
 use Rattle.document_report.proofs.FormedParts.{three_formed}
 

@@ -15,7 +15,7 @@ use Rattle.plural_checker.specs.declared.Fault.{Fault}
 use Rattle.document_report.specs.DocumentReport.{faults_of, found_told, found_under, found_under_all, no_text_line}
 use Rattle.document_report.specs.Found.{Found, nothing, one_fault, one_rule, together, IsFoundIn}
 use Rattle.document_report.specs.ReportText.{ended_line}
-use Rattle.document_report.specs.declared.place.Part.{Part}
+use Rattle.plural_fallback.specs.declared.locales.Part.{Part}
 use Rattle.document_report.specs.Inner.Additions.{Adds, lines_alone}
 
 -- adding nothing at the end changes nothing

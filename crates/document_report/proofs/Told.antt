@@ -14,7 +14,7 @@ use Rattle.plural_checker.specs.declared.Fault.{Fault}
 use Rattle.document_report.specs.DocumentReport.{fault_line, faults_of, found_told, most_told, rest_lines}
 use Rattle.document_report.specs.Found.{Found, nothing, together}
 use Rattle.document_report.specs.Inner.Additions.{lines_alone, told_after}
-use Rattle.document_report.specs.declared.place.Part.{Part}
+use Rattle.plural_fallback.specs.declared.locales.Part.{Part}
 use Rattle.document_report.proofs.FoundParts.{together_assoc}
 
 -- ---- Which faults are of a text

@@ -1,5 +1,6 @@
 -- The program's answer to its input, and what it reads and writes.
---     AnswersInput has_words input answer      the answer: a report's text with its verdict, or the first fault
+--     AnswersInput has_words input answer      the answer: a report's text with its verdict, or the
+--         first fault
 use Rattle.std.specs.Prelude.{◌≡◌, ℕ, ◌==◌, Bool, List, Option, Result, Ok, Err, if◌then◌else◌}
 use Rattle.std.specs.Io.KnownBytes.{Appends, Keeps}
 use Rattle.serde_json.specs.Data.{Data}
@@ -51,8 +52,9 @@ check_origin Write = from_writer
 check_origin Memory = from_memory
 check_origin fault = from_answer
 
--- The result, and what the writer took: the answer's text and nothing else, or a fault and nothing at all. Out of memory, a
--- failed read and a failed write come from outside; a failed write took a beginning of the text, and nothing else.
+-- The result, and what the writer took: the answer's text and nothing else, or a fault and nothing
+-- at all. Out of memory, a failed read and a failed write come from outside; a failed write took a
+-- beginning of the text, and nothing else.
 abbrev pub IsAnswered : (Result Answer CheckError → Type 0) → Option (List ℕ) → Option (List ℕ) → Result Verdict CheckError
     → Type 0
 IsAnswered IsAnswer old new (Ok verdict) =

@@ -1,4 +1,5 @@
--- The JSON value of an input whose parts and locales are objects, or the first reason why it has none (docs/JSON.md).
+-- The JSON value of an input whose parts and locales are objects, or the first reason why it has
+-- none (docs/JSON.md).
 --     value_in input      the value, or the first fault
 --     members_at part value      the members of a part, by locale
 use Rattle.std.specs.Prelude.{ℕ, List, Option, Some, None, is_some, Bool, Result, Ok, Err, ⊤, codes}
@@ -10,11 +11,11 @@ use Rattle.serde_json.specs.Written.{has_float}
 use Rattle.plural_documents.specs.Inputs.{within_limit}
 use Rattle.plural_documents.specs.JsonTexts.{json_of}
 use Rattle.document_report.specs.Names.{name_text}
-use Rattle.document_report.specs.Parts.{part_name}
+use Rattle.plural_fallback.specs.LocalesJson.{part_name}
 use Rattle.document_report.specs.declared.error.CheckError.{CheckError}
 use Rattle.document_report.specs.declared.error.CheckError.TheVariants.{TooLong, Json, Float, NoObject}
-use Rattle.document_report.specs.declared.place.Part.{Part}
-use Rattle.document_report.specs.declared.place.Part.TheVariants.{Cardinal, Ordinal, Ranges}
+use Rattle.plural_fallback.specs.declared.locales.Part.{Part}
+use Rattle.plural_fallback.specs.declared.locales.Part.TheVariants.{Cardinal, Ordinal, Ranges}
 use Rattle.document_report.specs.declared.place.Place.TheVariants as place
 
 -- ---- One step after another: a fault of the first is the result

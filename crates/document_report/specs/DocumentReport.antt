@@ -1,6 +1,7 @@
--- The report of a document: what is found in its rules for cardinal numbers, then in those for ordinal numbers, then in its
--- ranges, then in its parents, and how many locales it has (docs/JSON.md). The locales of a part are in the order of their
--- bytes, and so are the entries of a locale's ranges.
+-- The report of a document: what is found in the keys of its parts, in its rules for cardinal and
+-- then for ordinal numbers, in its ranges and in its parents, and how many locales it has
+-- (docs/JSON.md). The locales of a part are in the order of their bytes, and so are the entries of
+-- a locale's ranges.
 --     IsReportOf value report      this is the report of a document's value
 use Rattle.std.specs.Prelude.{◌≡◌, ◌≢◌, ℕ, ◌+◌, ◌&&◌, not, ◌-◌, ◌==◌, ◌||◌, ◌⊎◌, nat_lt, bytes_eq, List, [], ◌∷◌, ◌++◌, length, codes, count_by, filter, map, take}
 use Rattle.std.specs.Prelude.{Bool, true, IsTrue, IsFalse}
@@ -26,11 +27,11 @@ use Rattle.document_report.specs.CheckedDocument.{members_at, members_or_none, t
 use Rattle.document_report.specs.Found.{Found, nothing, one_fault, one_rule, together, IsFoundIn}
 use Rattle.document_report.specs.ParentFaults.{IsFoundInParents}
 use Rattle.document_report.specs.Names.{has_underscore, is_long_name, name_text}
-use Rattle.document_report.specs.Parts.{part_name}
+use Rattle.plural_fallback.specs.LocalesJson.{part_name}
 use Rattle.document_report.specs.declared.entry.EntryFault.{EntryFault}
 use Rattle.document_report.specs.declared.entry.EntryFault.TheVariants.{RangeKey, NoText, RangeValue, NoRule}
-use Rattle.document_report.specs.declared.place.Part.{Part}
-use Rattle.document_report.specs.declared.place.Part.TheVariants.{Cardinal, Ordinal, Ranges}
+use Rattle.plural_fallback.specs.declared.locales.Part.{Part}
+use Rattle.plural_fallback.specs.declared.locales.Part.TheVariants.{Cardinal, Ordinal, Ranges}
 use Rattle.document_report.specs.declared.report.Report.{Report}
 
 -- ---- The key of a locale
@@ -145,8 +146,9 @@ abbrev pub IsFoundInKey : Part → List ℕ → List ℕ → Data → Found → 
 IsFoundInKey part name key value found =
     (IsCategoryName key × (found ≡ nothing)) ⊎ ((¬ (IsCategoryName key)) × (found ≡ one_fault (category_line part name key)))
 
--- what is found in the rules of a locale: first in its key, then that it has no other; then category by category that the value
--- is no text, or the faults of the text; then the keys that name no category
+-- what is found in the rules of a locale: first in its key, then that it has no other; then
+-- category by category that the value is no text, or the faults of the text; then the keys that
+-- name no category
 abbrev pub IsFoundInRules : Part → List ℕ → Data → Found → Type 0
 IsFoundInRules part locale value found =
     (checked : Checked) × (others : Found) × AreFindingsOf (all_texts_in value) checked
@@ -166,7 +168,8 @@ abbrev pub IsRangeText : List ℕ → PluralCategory → PluralCategory → Type
 IsRangeText key start end =
     (first last : RawPluralCategory) × (key ≡ range_text first last) × (start ≡ category_of first) × (end ≡ category_of last)
 
--- the fault of a range's category, if it has one: the value must name other, or a category that has a cardinal rule
+-- the fault of a range's category, if it has one: the value must name other, or a category that has
+-- a cardinal rule
 abbrev pub HasValueFault : SixTexts → Data → Option EntryFault → Type 0
 HasValueFault texts value (Some RangeKey) = ⊥
 HasValueFault texts value (Some NoText) = as_str value ≡ None
@@ -176,7 +179,8 @@ HasValueFault texts value (Some (NoRule category)) = (as_str value ≡ Some (nam
 HasValueFault texts value None =
     (category : PluralCategory) × (as_str value ≡ Some (name_of category)) × IsTrue (has_rule texts category)
 
--- the fault of a range, if it has one: start and end must be other or have a cardinal rule, and then so must the value
+-- the fault of a range, if it has one: start and end must be other or have a cardinal rule, and
+-- then so must the value
 abbrev pub HasRangeFault : SixTexts → PluralCategory → PluralCategory → Data → Option EntryFault → Type 0
 HasRangeFault texts start end value fault =
     (IsFalse (has_rule texts start) × (fault ≡ Some (NoRule start)))
@@ -213,8 +217,8 @@ abbrev pub found_of_rules : List ℕ → Option Data → Found
 found_of_rules name None = one_fault (locale_line Ranges name (codes "no cardinal rules"))
 found_of_rules name (Some rules) = nothing
 
--- what is found in the ranges of a locale: first that its key is long, then that it has no cardinal rules, then the faults of its
--- entries
+-- what is found in the ranges of a locale: first in its key, then that it has no cardinal rules, then
+-- the faults of its entries
 abbrev pub IsFoundInRanges : Data → List ℕ → Data → Found → Type 0
 IsFoundInRanges document locale value found =
     let rules = value_of_locale (part_name Cardinal) locale document in
@@ -240,7 +244,8 @@ first_count part document = count_by (is_first_in part document) (keys_in (membe
 abbrev pub locale_count : Data → ℕ
 locale_count document = first_count Cardinal document + first_count Ordinal document + first_count Ranges document
 
--- a part that programs know: one that is checked, or one of the others that `tools/cldr-document` and messages have
+-- a part that programs know: one that is checked, or one of the others that `tools/cldr-document`
+-- and messages have
 abbrev pub is_part_name : List ℕ → Bool
 is_part_name key =
     bytes_eq key (part_name Cardinal) || bytes_eq key (part_name Ordinal) || bytes_eq key (part_name Ranges)

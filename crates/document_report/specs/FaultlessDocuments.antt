@@ -5,15 +5,16 @@ use Rattle.serde_json.specs.Data.{Data}
 use Rattle.icu_plurals.specs.DocumentJson.{Document, Rows, document_of_json, found}
 use Rattle.document_report.specs.CheckedDocument.{document_formed}
 use Rattle.document_report.specs.DocumentReport.{IsReportOf, has_locale}
-use Rattle.document_report.specs.declared.place.Part.{Part}
-use Rattle.document_report.specs.declared.place.Part.TheVariants.{Cardinal, Ordinal, Ranges}
+use Rattle.plural_fallback.specs.declared.locales.Part.{Part}
+use Rattle.plural_fallback.specs.declared.locales.Part.TheVariants.{Cardinal, Ordinal, Ranges}
 use Rattle.document_report.specs.declared.report.Report.{Report}
 
 -- each locale of the part is in the map
 abbrev pub HasEach : {A : Type 0} → Part → Data → Rows A → Type 0
 HasEach part value rows = (locale : List ℕ) → IsTrue (has_locale part value locale) → IsTrue (is_some (found locale rows))
 
--- Each locale of the rules has rules of their type, and each one of the ranges has ranges, and cardinal rules for them.
+-- Each locale of the rules has rules of their type, and each one of the ranges has ranges, and
+-- cardinal rules for them.
 pub record HasAll (value : Data) (maps : Document) : Type 0 where
   pub cardinal : HasEach Cardinal value maps.cardinal
   pub ordinal : HasEach Ordinal value maps.ordinal

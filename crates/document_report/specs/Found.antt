@@ -1,4 +1,5 @@
--- What is found: lines, how many faults there are, and how many rule texts and numbers were checked.
+-- What is found: lines, how many faults there are, and how many rule texts and numbers were
+-- checked.
 use Rattle.std.specs.Prelude.{◌≡◌, ℕ, ◌+◌, List, [], ◌∷◌, ◌++◌}
 use Rattle.serde_json.specs.Data.{Data, Members, no_members, member}
 

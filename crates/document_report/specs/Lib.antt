@@ -1,4 +1,3 @@
-pub mod Parts
 pub mod Names
 pub mod CheckedDocument
 pub mod Found

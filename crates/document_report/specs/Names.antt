@@ -1,10 +1,15 @@
--- How the names in a document are printed: the keys of its locales, of their texts and ranges.
+-- How the names and places in a document are printed: the keys of its locales, of their texts and
+-- ranges, and the places where an object is expected (docs/JSON.md).
 --     is_long_name name      the name has more than 255 bytes
 --     name_text name      what is printed for a name
+--     place_text place      what is printed for a place
 use Rattle.std.specs.Prelude.{ℕ, ◌/◌, ◌%◌, ◌==◌, nat_lt, Bool, not, ◌&&◌, if◌then◌else◌, List, [], ◌∷◌, ◌++◌, length, codes}
 use Rattle.std.specs.Char.{digit_char}
 use Rattle.std.specs.Fmt.{decimal}
 use Rattle.std.specs.List.{flat_map, list_any}
+use Rattle.document_report.specs.declared.place.Place.{Place}
+use Rattle.document_report.specs.declared.place.Place.TheVariants as place
+use Rattle.plural_fallback.specs.LocalesJson.{part_name}
 
 -- the most bytes of a name that isn't long
 abbrev pub most_name_bytes : ℕ
@@ -45,3 +50,9 @@ abbrev pub name_text : List ℕ → List ℕ
 name_text name =
     if is_long_name name then length_text name
     else (if nat_lt most_printed_bytes (length (escaped_text name)) then length_text name else escaped_text name)
+
+-- the text of a place; a locale has its printed name
+abbrev pub place_text : Place → List ℕ
+place_text place.Document = codes "document"
+place_text (place.Part part) = part_name part
+place_text (place.Locale part locale) = part_name part ++ codes " " ++ locale

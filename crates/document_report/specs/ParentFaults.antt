@@ -1,5 +1,7 @@
--- What is wrong with the parents of a document (docs/JSON.md): the part `parents` has for each locale the text of its parent.
---     IsFoundInParents document found      what is found there, in the order of the bytes of the locales' keys
+-- What is wrong with the parents of a document (docs/JSON.md): the part `parents` has for each
+-- locale the text of its parent.
+--     IsFoundInParents document found      what is found there, in the order of the bytes of the
+--         locales' keys
 use Rattle.std.specs.Prelude.{◌≡◌, ℕ, ◌||◌, List, ◌++◌, codes, Option, Some, None, is_some, if◌then◌else◌}
 use Rattle.std.specs.Option.{option_and_then}
 use Rattle.serde_json.specs.Data.{Data}

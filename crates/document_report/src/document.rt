@@ -6,13 +6,13 @@ ghost use Rattle.serde_json.specs.Find.{as_object, get};
 ghost use Rattle.serde_json.specs.View.{members_view, view};
 ghost use Rattle.document_report.specs.CheckedDocument.{or_fault, value_of};
 ghost use Rattle.document_report.specs.Inner.CheckCalls.{GivesValue};
-ghost use Rattle.document_report.specs.Parts.{part_name};
+ghost use Rattle.plural_fallback.specs.LocalesJson.{part_name};
 ghost use Rattle.document_report.specs.declared.error.CheckError.TheVariants.{Json};
 ghost use Rattle.plural_documents.specs.JsonTexts.{json_of};
 
 use crate::error::CheckError;
 use crate::form::check_document;
-use crate::place::Part;
+use plural_fallback::Part;
 use plural_documents::{JsonTextError, json_value};
 use serde_json::{Map, Value};
 use std::alloc::Global;

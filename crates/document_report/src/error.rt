@@ -1,7 +1,7 @@
 //! Why there is no report.
 
 ghost use Rattle.document_report.specs.CheckAnswer.{status_of};
-ghost use Rattle.document_report.specs.Inner.CheckInputFaults.{input_fault};
+ghost use Rattle.document_report.specs.Inner.CheckCalls.{input_fault};
 ghost use Rattle.std.specs.Prelude.{◌≡◌};
 
 use crate::place::Place;
@@ -52,8 +52,8 @@ impl From<InputError> for CheckError {
 }
 
 impl CheckError {
-    /// Returns the exit status of the program without a report, which is 2. With one it is that of the
-    /// [`Verdict`](crate::Verdict).
+    /// Returns the exit status of the program without a report, which is 2. With one it is that of
+    /// the [`Verdict`](crate::Verdict).
     pub fn status(&self) -> u8
         ensures { result ≡ status_of self.now }
     {

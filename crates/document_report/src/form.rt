@@ -1,4 +1,5 @@
-//! The form of a document: it has no float; it, its parts and the value of each locale in a part are objects.
+//! The form of a document: it has no float; it, its parts and the value of each locale in a part
+//! are objects.
 
 ghost use Rattle.std.specs.Prelude.{◌≡◌, is_some, option_map};
 ghost use Rattle.std.specs.Option.{option_and_then};
@@ -8,13 +9,14 @@ ghost use Rattle.document_report.specs.CheckedDocument.{document_formed, has_for
 ghost use Rattle.document_report.specs.CheckedDocument.{parts_formed, table_in};
 ghost use Rattle.document_report.specs.Inner.CheckCalls.{GivesFault, GivesValue};
 ghost use Rattle.document_report.specs.Names.{name_text};
-ghost use Rattle.document_report.specs.Parts.{part_name};
+ghost use Rattle.plural_fallback.specs.LocalesJson.{part_name};
 ghost use Rattle.document_report.specs.declared.error.CheckError.TheVariants.{NoObject};
 ghost use Rattle.document_report.specs.declared.place.Place.TheVariants as place;
 
 use crate::error::CheckError;
-use crate::place::{Locale, Part, Place};
+use crate::place::{Locale, Place};
 use plural_base::holds_float;
+use plural_fallback::Part;
 use serde_json::{Map, Value};
 use std::alloc::Global;
 

@@ -15,7 +15,7 @@ ghost use Rattle.serde_json.specs.View.{view};
 use crate::found::{Found, MemberCheck, add_members, sum};
 use crate::keys::{CategoryCheck, add_key, locale_line};
 use crate::names::name_text;
-use crate::place::Part;
+use plural_fallback::Part;
 use icu_plurals::PluralCategory;
 use icu_plurals::provider::RawPluralCategory;
 use plural_checker::{Fault, LanguageTexts, check_texts};
@@ -122,7 +122,8 @@ fn lacks_other(value: &Value) -> bool
     }
 }
 
-// Adds, category by category, a line if the value is no text, and the faults of the text; counts the texts.
+// Adds, category by category, a line if the value is no text, and the faults of the text; counts
+// the texts.
 fn add_texts(
     alloc: Global,
     part: Part,

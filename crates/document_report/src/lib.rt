@@ -20,5 +20,6 @@ pub mod run;
 mod tables;
 
 pub use error::CheckError;
-pub use place::{Locale, Part, Place};
+pub use place::{Locale, Place};
+pub use plural_fallback::Part;
 pub use report::Verdict;

@@ -7,7 +7,7 @@ ghost use Rattle.serde_json.specs.View.{members_view, view};
 
 use crate::document::{members_of, value_at};
 use crate::found::sum;
-use crate::place::Part;
+use plural_fallback::Part;
 use serde_json::{Map, Value};
 use std::alloc::AllocError;
 

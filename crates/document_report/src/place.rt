@@ -1,40 +1,17 @@
-//! The parts of a document, and the places where an object is expected.
+//! The places where an object is expected in a document.
 
 ghost use Rattle.std.specs.Prelude.{◌≡◌, Some, IfOk};
-ghost use Rattle.document_report.specs.Names.{name_text};
-ghost use Rattle.document_report.specs.Parts.{part_name, place_text};
+ghost use Rattle.document_report.specs.Names.{name_text, place_text};
 
 use crate::names::name_text;
+use plural_fallback::Part;
 use std::alloc::{AllocError, Global};
 use std::fmt;
 use std::marker::Model;
 
-/// A part of a document.
-#[derive(Clone, Copy, Debug, PartialEq, Eq)]
-pub enum Part {
-    /// `cardinal`: rules for cardinal numbers, by locale.
-    Cardinal,
-    /// `ordinal`: rules for ordinal numbers, by locale.
-    Ordinal,
-    /// `ranges`: categories of ranges, by locale.
-    Ranges,
-}
-
-impl Part {
-    /// Returns the part's key in a document.
-    pub fn as_str(self) -> &'static str
-        ensures { result.now ≡ part_name self }
-    {
-        match self {
-            Part::Cardinal => "cardinal",
-            Part::Ordinal => "ordinal",
-            Part::Ranges => "ranges",
-        }
-    }
-}
-
-/// The printed text of a locale's key: control characters of ASCII and the backslash as `\x` and two
-/// hexadecimal digits, and `\(300 bytes)` in place of a key that would print more than 64 bytes.
+/// The printed text of a locale's key: control characters of ASCII and the backslash as `\x` and
+/// two hexadecimal digits, and `\(300 bytes)` in place of a key that would print more than 64
+/// bytes.
 #[derive(Debug, Drop)]
 pub struct Locale {
     text: String,

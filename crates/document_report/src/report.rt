@@ -16,7 +16,7 @@ use crate::keys::PartCheck;
 use crate::languages::LanguageCheck;
 use crate::locales::locale_count;
 use crate::parents::add_parents;
-use crate::place::Part;
+use plural_fallback::Part;
 use crate::tables::TableCheck;
 use serde_json::Value;
 use std::alloc::{AllocError, Global};

@@ -3,8 +3,7 @@
 ghost use Rattle.std.specs.Prelude.{◌≡◌, ◌≢◌, Err, IfErr, IfOk, List, ℕ, IsFalse, IsTrue};
 ghost use Rattle.document_report.specs.CheckAnswer.{AnswersDocument, AnswersInput, IsAnswered, IsAnswerTo, check_origin};
 ghost use Rattle.document_report.specs.CheckedDocument.{value_in, value_of};
-ghost use Rattle.document_report.specs.Inner.CheckCalls.{Gives, GivesAfterReading};
-ghost use Rattle.document_report.specs.Inner.CheckViews.{answer_view};
+ghost use Rattle.document_report.specs.Inner.CheckCalls.{Gives, GivesAfterReading, answer_view};
 ghost use Rattle.document_report.specs.declared.error.CheckError.TheVariants.{Usage};
 ghost use Rattle.plural_documents.specs.Inputs.{IsInput, IsRead};
 ghost use Rattle.serde_json.specs.View.{view};
@@ -28,16 +27,17 @@ pub(crate) struct Answer {
 ///
 /// The input is read to its end, or to the first byte past the limit, as a JSON document: rules of
 /// locales for cardinal and for ordinal numbers, and categories of ranges (UTS 35 Part 3, Language
-/// Plural Rules). The report has a line for each fault: in the texts of rules and in their samples, as
-/// reported by `plural_checker`, and in the entries of ranges; and then a line with the counts of
-/// locales, rule texts, numbers and faults. It takes memory.
+/// Plural Rules). The report has a line for each fault: in the texts of rules and in their samples,
+/// as reported by `plural_checker`, and in the entries of ranges; and then a line with the counts
+/// of locales, rule texts, numbers and faults. It allocates.
 ///
-/// The errors, in the order in which they are checked: [`CheckError::Usage`] if there are arguments;
-/// [`CheckError::Read`] if the reader failed, [`CheckError::TooLong`] above 4194304 bytes,
-/// [`CheckError::Json`] if the input is no JSON text, [`CheckError::Float`] if it has a float, and
-/// [`CheckError::NoObject`] if the document, one of its parts or the value of a locale is no
-/// object; [`CheckError::Write`] if the writer failed; [`CheckError::Memory`] if memory ran out.
-/// After an error nothing was written, except by a failed write, which took a beginning of the report.
+/// The errors, in the order in which they are checked: [`CheckError::Usage`] if there are
+/// arguments; [`CheckError::Read`] if the reader failed, [`CheckError::TooLong`] above 4194304
+/// bytes, [`CheckError::Json`] if the input is no JSON text, [`CheckError::Float`] if it has a
+/// float, and [`CheckError::NoObject`] if the document, one of its parts or the value of a locale
+/// is no object; [`CheckError::Write`] if the writer failed; [`CheckError::Memory`] if memory ran
+/// out. After an error nothing was written, except by a failed write, which took a beginning of the
+/// report.
 pub fn run<R: Read, W: Write>(
     alloc: Global,
     has_words: bool,

@@ -13,7 +13,7 @@ use crate::found::{Found, MemberCheck, add_members};
 use crate::keys::{add_key, locale_line};
 use crate::languages::texts_of;
 use crate::names::name_text;
-use crate::place::Part;
+use plural_fallback::Part;
 use plural_checker::LanguageTexts;
 use serde_json::Value;
 use std::alloc::{AllocError, Global};

@@ -21,7 +21,8 @@ IsInput (Some left) input = input ≡ left
 abbrev pub within_limit : {A E : Type 0} → E → (List ℕ → Result A E) → List ℕ → Result A E
 within_limit fault value input = if nat_lt most_bytes (length input) then Err fault else value input
 
--- the bytes are the input, which isn't too long; an error is from the reader, for the length, or out of memory
+-- the bytes are the input, which isn't too long; an error is from the reader, for the length, or
+-- out of memory
 abbrev pub GivesInput : Option (List ℕ) → Result (Vec ℕ Global) InputError → Type 0
 GivesInput left (Ok bytes) = IsInput left bytes.items × (length bytes.items ≤ most_bytes)
 GivesInput left (Err TooLong) = (input : List ℕ) × IsInput left input × (most_bytes < length input)
@@ -30,8 +31,8 @@ GivesInput left (Err Memory) = ⊤
 
 -- ---- Where a fault comes from
 
--- of a program: from a reader that failed, an input that is too long, a writer that failed, a lack of memory; or it is the answer
--- to the words and the input
+-- of a program: from a reader that failed, an input that is too long, a writer that failed, a lack
+-- of memory; or it is the answer to the words and the input
 pub data Origin : Type 0 where
   from_reader : Origin
   from_length : Origin
@@ -54,8 +55,8 @@ IsReadToEnd old new = (bytes : List ℕ) × Consumes old new bytes × IsAtEnd ne
 abbrev pub IsReadUpTo : Option (List ℕ) → Option (List ℕ) → Type 0
 IsReadUpTo old new = (bytes : List ℕ) × Consumes old new bytes × (length bytes ≤ most_bytes + 1)
 
--- after a fault of this origin: all of the input; if it is too long, one byte more than the limit; if the reader failed or memory
--- ran out, some of these
+-- after a fault of this origin: all of the input; if it is too long, one byte more than the limit;
+-- if the reader failed or memory ran out, some of these
 abbrev pub IsReadAfter : Origin → Option (List ℕ) → Option (List ℕ) → Type 0
 IsReadAfter from_reader old new = IsReadUpTo old new
 IsReadAfter from_memory old new = IsReadUpTo old new

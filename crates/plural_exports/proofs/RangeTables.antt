@@ -2,7 +2,7 @@
 use Rattle.std.proofs.Common.{◌≡◌, List, ℕ, Ok, Err, refl}
 use Rattle.icu_plurals.specs.declared.provider.PluralRanges.{PluralRanges}
 use Rattle.plural_exports.specs.GivenBytes.{ReadsText}
-use Rattle.plural_exports.specs.GivenRanges.{AreRangesIn, HasRangesFor, IsTableOf}
+use Rattle.plural_exports.specs.GivenRanges.{AreRangesIn, HasRangesFor, IsRangeTable}
 use Rattle.plural_exports.specs.Inner.GivenResults.{Gives}
 use Rattle.plural_exports.specs.declared.fault.Fault.{Fault}
 use Rattle.plural_exports.proofs.Texts.{Block, bytes_of}
@@ -19,7 +19,7 @@ refused_ranges bytes locale text e r is read h = rw is (Ok text, read, (Err e, h
 
 -- its ranges become a table, or memory runs out
 pub given_table : (bytes locale text : List ℕ) (ranges : PluralRanges) (r : Block)
-    → ReadsText locale (Ok text) → HasRangesFor bytes text (Ok ranges) → Gives bytes_of (IsTableOf ranges) r
+    → ReadsText locale (Ok text) → HasRangesFor bytes text (Ok ranges) → Gives bytes_of (IsRangeTable ranges) r
     → Gives bytes_of (AreRangesIn bytes locale) r
 given_table bytes locale text ranges (Ok table) read given is = (Ok text, read, (Ok ranges, given, is))
 given_table bytes locale text ranges (Err e) read given is = (Ok text, read, (Ok ranges, given, is))

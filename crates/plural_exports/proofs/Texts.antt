@@ -1,10 +1,15 @@
 -- The block of the rules of five texts.
-use Rattle.std.proofs.Common.{◌≡◌, List, ℕ, Option, Result, Ok, Err, refl}
+use Rattle.std.proofs.Common.{◌≡◌, ◌↔◌, List, ℕ, Option, Result, Ok, Err, IsTrue, refl}
 use Rattle.std.specs.Prelude.{Vec}
 use Rattle.std.specs.Str.{IsUtf8}
 use Rattle.std.specs.declared.alloc.Global.{Global}
+use Rattle.icu_plurals.specs.declared.RulesPackError.{RulesPackError}
+use Rattle.icu_plurals.specs.declared.RulesPackError.TheVariants as packing
 use Rattle.icu_plurals.specs.FiveRules.{Five, FiveRules, five}
+use Rattle.icu_plurals.specs.ListBytes.{has_high_start}
+use Rattle.icu_plurals.specs.RulesBytes.{rule_items}
 use Rattle.plural_exports.specs.GivenTexts.{AreRulesFrom, AreUtf8, GiveRules, PackRules, ReadsTexts, text_given}
+use Rattle.plural_exports.specs.Inner.Conversions.{rules_pack_fault}
 use Rattle.plural_exports.specs.Inner.GivenResults.{Gives}
 use Rattle.plural_exports.specs.declared.fault.Fault.{Fault}
 use Rattle.plural_exports.specs.declared.fault.Fault.TheVariants.{Utf8}
@@ -41,3 +46,11 @@ pub packed_texts : (bytes : Five (List ℕ)) (texts : Five (Option (List ℕ))) 
     → Gives bytes_of (AreRulesFrom bytes) r
 packed_texts bytes texts rules (Ok block) read given packed = (Ok texts, read, (Ok rules, given, packed))
 packed_texts bytes texts rules (Err e) read given packed = (Ok texts, read, (Ok rules, given, packed))
+
+-- the fault of rules that can't be packed
+pub pack_refused : (rules : FiveRules) (e : RulesPackError) (r : Block) → r ≡ Err (rules_pack_fault e)
+    → ◌≡◌ {A = Result (Vec ℕ Global) RulesPackError} (Err e) (Err packing.StartLimit) ↔ IsTrue (has_high_start (rule_items rules))
+    → Gives bytes_of (PackRules rules) r
+pack_refused rules packing.StartLimit r is limit = rw is (limit.0 refl)
+pack_refused rules packing.Memory r is limit =
+    rw is (λ high. (let same : ◌≡◌ {A = Result (Vec ℕ Global) RulesPackError} (Err packing.Memory) (Err packing.StartLimit) = limit.1 high in absurd cc))

@@ -1,7 +1,7 @@
 -- What a pattern says with its arguments, under the rules for cardinal and for ordinal numbers.
 -- Faults are looked for in this order: those of the rules, of the pattern, of the arguments in
 -- themselves, and of the arguments where the pattern uses them.
---     IsFormatted cardinal ordinal pattern arguments answer      what is said
+--     IsPatternFormatted cardinal ordinal pattern arguments answer      what is said
 use Rattle.std.specs.Prelude.{ℕ, List, Result, Ok, Err}
 use Rattle.icu_plurals.specs.FiveRules.{FiveRules}
 use Rattle.message_format.specs.FormatArguments.{Argument}
@@ -32,12 +32,12 @@ IsSaid rules parts arguments (Err fault.Memory) = Unit {0}
 IsSaid rules parts arguments (Err _) = ⊥
 
 -- both rules
-abbrev pub both : FiveRules → FiveRules → TwoRules
-both cardinal ordinal = record { cardinal = cardinal; ordinal = ordinal }
+abbrev pub rules_of_both : FiveRules → FiveRules → TwoRules
+rules_of_both cardinal ordinal = record { cardinal = cardinal; ordinal = ordinal }
 
-abbrev pub IsFormatted : List ℕ → List ℕ → List ℕ → List GivenArgument → Result (List ℕ) Fault → Type 0
-IsFormatted cardinal ordinal pattern arguments =
+abbrev pub IsPatternFormatted : List ℕ → List ℕ → List ℕ → List GivenArgument → Result (List ℕ) Fault → Type 0
+IsPatternFormatted cardinal ordinal pattern arguments =
     Then (ReadsRules cardinal) (λ five.
     Then (ReadsRules ordinal) (λ others.
     Then (ReadsPatternText pattern) (λ parts.
-    Then (AreArguments arguments) (IsSaid (both five others) parts))))
+    Then (AreArguments arguments) (IsSaid (rules_of_both five others) parts))))

@@ -1,6 +1,6 @@
--- The arguments of a pattern, as they are passed: each a name, a number or a text, and which of both
--- it is.
---     AreArguments given answer      the arguments, or the first fault of one
+-- The arguments of a pattern, as they are passed: each a name, a number or a text, and which of
+-- both it is.
+--     AreArguments given answer      the arguments, or the first fault of one in itself
 use Rattle.std.specs.Prelude.{◌≡◌, ◌⊎◌, ◌==◌, if◌then◌else◌, ℕ, List, [], ◌∷◌, Result, Ok, Err}
 use Rattle.message_format.specs.FormatArguments.{Argument, Value, Number, Text}
 use Rattle.plural_exports.specs.declared.arguments.GivenArgument.{GivenArgument}
@@ -31,12 +31,9 @@ ReadsArgument given =
 abbrev pub IsInFront : Argument → List Argument → Result (List Argument) Fault → Type 0
 IsInFront first others answer = answer ≡ Ok (first ∷ others)
 
--- all arguments, one after another
-abbrev pub ReadsArguments : List GivenArgument → Result (List Argument) Fault → Type 0
-ReadsArguments [] answer = answer ≡ Ok []
-ReadsArguments (given ∷ rest) answer =
-    Then (ReadsArgument given) (λ first. Then (ReadsArguments rest) (IsInFront first)) answer
-
--- the arguments, or the first fault; or memory ran out
+-- all arguments, one after another, or the first fault; or memory ran out for one that has none, as
+-- those before it have none
 abbrev pub AreArguments : List GivenArgument → Result (List Argument) Fault → Type 0
-AreArguments given answer = ReadsArguments given answer ⊎ (answer ≡ Err Memory)
+AreArguments [] answer = answer ≡ Ok []
+AreArguments (given ∷ rest) answer =
+    Then (ReadsArgument given) (λ first all. Then (AreArguments rest) (IsInFront first) all ⊎ (all ≡ Err Memory)) answer

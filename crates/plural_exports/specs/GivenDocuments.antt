@@ -5,9 +5,10 @@
 --         locale isn't present, rules too long
 --     AreElementsIn json answer      the packed bytes. Faults: those of the JSON text, of the
 --         elements
-use Rattle.std.specs.Prelude.{◌≡◌, ℕ, ◌<◌, List, length, ◌==◌, if◌then◌else◌, Some, None, Result, Ok, Err, ⊤}
+use Rattle.std.specs.Prelude.{◌≡◌, ℕ, ◌<◌, List, length, ◌==◌, if◌then◌else◌, is_some, Some, None, Result, Ok, Err, IsFalse, IsTrue}
 use Rattle.serde_json.specs.Data.{Data}
-use Rattle.icu_plurals.specs.declared.JsonError.{JsonError}
+use Rattle.serde_json.specs.Find.{as_object}
+use Rattle.serde_json.specs.Written.{has_float}
 use Rattle.icu_plurals.specs.declared.PluralRuleType.{PluralRuleType}
 use Rattle.icu_plurals.specs.declared.PluralRuleType.TheVariants.{Cardinal, Ordinal}
 use Rattle.icu_plurals.specs.DocumentJson.{Document as Maps, Rows, document_of_json, found}
@@ -22,11 +23,11 @@ use Rattle.plural_exports.specs.declared.fault.Fault.{Fault}
 use Rattle.plural_exports.specs.declared.fault.Fault.TheVariants.{Memory, RuleType, Json, Document, Locale}
 
 -- 0 is cardinal and 1 ordinal
-abbrev pub type_of : ℕ → Result PluralRuleType Fault
-type_of n = if n == 0 then Ok Cardinal else (if n == 1 then Ok Ordinal else Err RuleType)
+abbrev pub type_numbered : ℕ → Result PluralRuleType Fault
+type_numbered n = if n == 0 then Ok Cardinal else (if n == 1 then Ok Ordinal else Err RuleType)
 
 abbrev pub ReadsType : ℕ → Result PluralRuleType Fault → Type 0
-ReadsType n answer = answer ≡ type_of n
+ReadsType n answer = answer ≡ type_numbered n
 
 -- the bytes aren't JSON; or there are some, and memory ran out
 abbrev pub IsJsonFault : List ℕ → Fault → Type 0
@@ -38,17 +39,6 @@ IsJsonFault bytes fault = ⊥
 abbrev pub ReadsJson : List ℕ → Result Data Fault → Type 0
 ReadsJson bytes (Ok value) = json_of bytes ≡ Some value
 ReadsJson bytes (Err fault) = IsJsonFault bytes fault
-
--- a value that is refused, for this reason; or memory ran out
-abbrev pub IsRefusedAs : {A : Type 0} → Result A JsonError → Fault → Type 0
-IsRefusedAs meant Memory = ⊤
-IsRefusedAs meant (Document refusal) = meant ≡ Err refusal
-IsRefusedAs meant fault = ⊥
-
--- what a value means, or its refusal
-abbrev pub Means : {A : Type 0} → Result A JsonError → Result A Fault → Type 0
-Means meant (Ok x) = meant ≡ Ok x
-Means meant (Err fault) = IsRefusedAs meant fault
 
 -- ---- Rules
 
@@ -62,10 +52,21 @@ abbrev pub HasRulesAt : List ℕ → Rows FiveRules → Result FiveRules Fault �
 HasRulesAt locale rows (Ok rules) = found locale rows ≡ Some rules
 HasRulesAt locale rows (Err fault) = (found locale rows ≡ None) × (fault ≡ Locale)
 
+-- why a value means no maps; or it is an object without a float, and memory ran out
+abbrev pub IsMapsFault : Data → Fault → Type 0
+IsMapsFault value Memory = IsFalse (has_float value) × IsTrue (is_some (as_object value))
+IsMapsFault value (Document refusal) = document_of_json value ≡ Err refusal
+IsMapsFault value fault = ⊥
+
+-- the maps that a value means
+abbrev pub MeansMaps : Data → Result Maps Fault → Type 0
+MeansMaps value (Ok maps) = document_of_json value ≡ Ok maps
+MeansMaps value (Err fault) = IsMapsFault value fault
+
 -- the rules of a type that a JSON text has for a locale
 abbrev pub HasRulesFor : List ℕ → List ℕ → PluralRuleType → Result FiveRules Fault → Type 0
 HasRulesFor bytes locale type =
-    Then (ReadsJson bytes) (λ value. Then (Means (document_of_json value)) (λ maps. HasRulesAt locale (rows_for type maps)))
+    Then (ReadsJson bytes) (λ value. Then (MeansMaps value) (λ maps. HasRulesAt locale (rows_for type maps)))
 
 -- the block of these rules
 abbrev pub AreRulesIn : List ℕ → List ℕ → ℕ → Result (List ℕ) Fault → Type 0
@@ -74,6 +75,17 @@ AreRulesIn bytes locale n =
 
 -- ---- Elements
 
+-- why a value means no elements; or it means some, and memory ran out
+abbrev pub IsElementsRefusal : Data → Fault → Type 0
+IsElementsRefusal value Memory = (elements : PackedElements) × (packed_of_json value ≡ Ok elements)
+IsElementsRefusal value (Document refusal) = packed_of_json value ≡ Err refusal
+IsElementsRefusal value fault = ⊥
+
+-- the elements that a value means
+abbrev pub MeansElements : Data → Result PackedElements Fault → Type 0
+MeansElements value (Ok elements) = packed_of_json value ≡ Ok elements
+MeansElements value (Err fault) = IsElementsRefusal value fault
+
 -- the bytes of elements
 abbrev pub AreBytesOf : PackedElements → Result (List ℕ) Fault → Type 0
 AreBytesOf elements (Ok bytes) = ElementsBytes elements bytes
@@ -81,7 +93,7 @@ AreBytesOf elements (Err fault) = ⊥
 
 -- the elements of a JSON text
 abbrev pub HasElements : List ℕ → Result PackedElements Fault → Type 0
-HasElements bytes = Then (ReadsJson bytes) (λ value. Means (packed_of_json value))
+HasElements bytes = Then (ReadsJson bytes) MeansElements
 
 -- their bytes
 abbrev pub AreElementsIn : List ℕ → Result (List ℕ) Fault → Type 0

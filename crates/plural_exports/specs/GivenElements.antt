@@ -1,6 +1,6 @@
--- The packed bytes of the elements of eight texts (docs/ELEMENTS.md, docs/FORMATS.md). A text beside
--- that of other isn't an element if it is empty. Faults are looked for in this order: a text isn't
--- UTF-8, elements that can't be packed.
+-- The packed bytes of the elements of eight texts (docs/ELEMENTS.md, docs/FORMATS.md). A text
+-- beside that of other isn't an element if it is empty. Faults are looked for in this order: a text
+-- isn't UTF-8, elements that can't be packed.
 --     AreElementsFrom texts answer      the bytes, or the fault
 use Rattle.std.specs.Prelude.{◌≡◌, ℕ, List, Option, Some, option_map, Result, Ok, Err}
 use Rattle.std.specs.Str.{IsUtf8}

@@ -9,10 +9,10 @@ use Rattle.icu_plurals.specs.declared.PluralCategory.{PluralCategory}
 use Rattle.icu_plurals.specs.declared.PluralCategory.TheVariants.{Zero, One, Two, Few, Many, Other}
 use Rattle.icu_plurals.specs.declared.provider.PluralRanges.{PluralRanges}
 use Rattle.icu_plurals.specs.Categories.{place_of}
-use Rattle.icu_plurals.specs.DocumentJson.{Rows, document_of_json, found}
+use Rattle.icu_plurals.specs.DocumentJson.{Rows, found}
 use Rattle.icu_plurals.specs.Ranges.{resolved}
 use Rattle.plural_exports.specs.GivenBytes.{ReadsText}
-use Rattle.plural_exports.specs.GivenDocuments.{Means, ReadsJson}
+use Rattle.plural_exports.specs.GivenDocuments.{MeansMaps, ReadsJson}
 use Rattle.plural_exports.specs.Results.{Then}
 use Rattle.plural_exports.specs.declared.fault.Fault.{Fault}
 use Rattle.plural_exports.specs.declared.fault.Fault.TheVariants.{Memory, Locale}
@@ -43,12 +43,12 @@ HasRangesAt locale rows (Err fault) = (found locale rows ≡ None) × (fault ≡
 -- the ranges that a JSON text has for a locale
 abbrev pub HasRangesFor : List ℕ → List ℕ → Result PluralRanges Fault → Type 0
 HasRangesFor bytes locale =
-    Then (ReadsJson bytes) (λ value. Then (Means (document_of_json value)) (λ maps. HasRangesAt locale maps.ranges))
+    Then (ReadsJson bytes) (λ value. Then (MeansMaps value) (λ maps. HasRangesAt locale maps.ranges))
 
 -- their table; or memory ran out
-abbrev pub IsTableOf : PluralRanges → Result (List ℕ) Fault → Type 0
-IsTableOf ranges (Ok bytes) = bytes ≡ table_bytes ranges
-IsTableOf ranges (Err fault) = fault ≡ Memory
+abbrev pub IsRangeTable : PluralRanges → Result (List ℕ) Fault → Type 0
+IsRangeTable ranges (Ok bytes) = bytes ≡ table_bytes ranges
+IsRangeTable ranges (Err fault) = fault ≡ Memory
 
 abbrev pub AreRangesIn : List ℕ → List ℕ → Result (List ℕ) Fault → Type 0
-AreRangesIn bytes locale = Then (ReadsText locale) (λ text. Then (HasRangesFor bytes text) IsTableOf)
+AreRangesIn bytes locale = Then (ReadsText locale) (λ text. Then (HasRangesFor bytes text) IsRangeTable)

@@ -1,7 +1,9 @@
--- The block of the rules of five texts. An empty text isn't a rule. Faults are looked for in this
--- order: a text that isn't UTF-8, the first text that gives no rule, rules too long for a block.
+-- The block of the rules of five texts, and whether a text is a rule from its first byte to its last.
+-- An empty text isn't a rule. Faults are looked for in this order: a text that isn't UTF-8, the first
+-- text that gives no rule, rules too long for a block.
 --     AreRulesFrom texts answer      the bytes of the block, or the fault
-use Rattle.std.specs.Prelude.{◌≡◌, ℕ, List, [], ◌∷◌, Option, Some, None, Result, Ok, Err, ⊤, IsTrue}
+--     IsWholeness text answer      whether the text is a rule as a whole
+use Rattle.std.specs.Prelude.{◌≡◌, ◌↔◌, ℕ, Bool, List, [], ◌∷◌, Option, Some, None, Result, Ok, Err, IsTrue}
 use Rattle.std.specs.Str.{IsUtf8}
 use Rattle.icu_plurals.specs.declared.PluralCategory.{PluralCategory}
 use Rattle.icu_plurals.specs.declared.provider.rules.runtime.ast.RuleError.TheVariants as rule
@@ -9,6 +11,7 @@ use Rattle.icu_plurals.specs.FiveRules.{Five, FiveRules, five}
 use Rattle.icu_plurals.specs.ListBytes.{has_high_start}
 use Rattle.icu_plurals.specs.RuleTexts.{AreRulesOf, IsFirstRefused}
 use Rattle.icu_plurals.specs.RulesBytes.{RulesBytes, rule_items}
+use Rattle.icu_plurals.specs.Samples.{TextIsRule}
 use Rattle.plural_exports.specs.Results.{Then}
 use Rattle.plural_exports.specs.declared.fault.Fault.{Fault}
 use Rattle.plural_exports.specs.declared.fault.Fault.TheVariants.{Memory, Utf8, Text, RulesLimit}
@@ -36,9 +39,10 @@ abbrev pub ReadsTexts : Five (List ℕ) → Result (Five (Option (List ℕ))) Fa
 ReadsTexts bytes (Ok texts) = AreUtf8 bytes × (texts ≡ texts_given bytes)
 ReadsTexts bytes (Err fault) = (fault ≡ Utf8) × ¬ (AreUtf8 bytes)
 
--- some text is the first that gives no rule, for this reason; or memory ran out
+-- some text is the first that gives no rule, for this reason; or memory ran out for a text, and all
+-- before it give rules
 abbrev pub IsTextsFault : Five (Option (List ℕ)) → Fault → Type 0
-IsTextsFault texts Memory = ⊤
+IsTextsFault texts Memory = (category : PluralCategory) × IsFirstRefused texts category rule.Memory
 IsTextsFault texts (Text rule.Memory) = ⊥
 IsTextsFault texts (Text fault) = (category : PluralCategory) × IsFirstRefused texts category fault
 IsTextsFault texts fault = ⊥
@@ -48,9 +52,9 @@ abbrev pub GiveRules : Five (Option (List ℕ)) → Result FiveRules Fault → T
 GiveRules texts (Ok rules) = AreRulesOf texts rules
 GiveRules texts (Err fault) = IsTextsFault texts fault
 
--- rules have no block: one would start after place 65535; or memory ran out
+-- rules have no block: one would start after place 65535; or none would, and memory ran out
 abbrev pub IsPackFault : FiveRules → Fault → Type 0
-IsPackFault rules Memory = ⊤
+IsPackFault rules Memory = ¬ (IsTrue (has_high_start (rule_items rules)))
 IsPackFault rules RulesLimit = IsTrue (has_high_start (rule_items rules))
 IsPackFault rules fault = ⊥
 
@@ -62,3 +66,9 @@ PackRules rules (Err fault) = IsPackFault rules fault
 -- the block of the rules of five texts
 abbrev pub AreRulesFrom : Five (List ℕ) → Result (List ℕ) Fault → Type 0
 AreRulesFrom texts = Then (ReadsTexts texts) (λ given. Then (GiveRules given) PackRules)
+
+-- ---- One text
+
+abbrev pub IsWholeness : List ℕ → Result Bool Fault → Type 0
+IsWholeness text (Ok whole) = IsTrue whole ↔ TextIsRule text
+IsWholeness text (Err fault) = fault ≡ Memory

@@ -8,10 +8,7 @@ pub mod GivenElements
 pub mod NumberAnswers
 pub mod GivenArguments
 pub mod FormattedPatterns
-pub mod OperandAnswers
 pub mod RulesCategories
 pub mod TableAnswers
-pub mod IntegersAnswers
-pub mod WholeTexts
 -- not definitions of the subject
 pub mod Inner

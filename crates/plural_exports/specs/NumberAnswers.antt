@@ -1,20 +1,24 @@
 -- What a number has under a block of rules, and under elements. Faults are looked for in this
 -- order: those of the rules, of the elements, of the number.
+--     IsCategoryOfOperands rules operands answer      the category of six operands
 --     IsCategoryOfInteger rules n answer      the category of an integer
+--     AreCategoriesOfIntegers rules numbers answer      the number of the category of each integer,
+--         in their order
 --     IsCategoryOf rules number answer      the category of the number that a text writes
 --     IsSureCategoryOf rules number answer      this category within the exactness bound
 --     IsExactnessOf rules number answer      whether this category is exact
 --     IsElementOf rules elements number answer      the text of the element that the number chooses
 --     IsMessageFor rules elements number answer      this text with the number's in the place of
 --         each `{}`
-use Rattle.std.specs.Prelude.{◌≡◌, ◌↔◌, ℕ, ◌≤◌, ◌^◌, ℤ, pos, List, length, Bool, true, false, IsTrue, Result, Ok, Err}
+use Rattle.std.specs.Prelude.{◌≡◌, ◌↔◌, ℕ, ◌≤◌, ◌^◌, ℤ, pos, List, length, map, Bool, true, false, IsTrue, Result, Ok, Err}
 use Rattle.icu_plurals.specs.declared.PluralCategory.{PluralCategory}
 use Rattle.icu_plurals.specs.declared.PluralCategory.TheVariants.{Zero, One, Two, Few, Many, Other}
+use Rattle.icu_plurals.specs.CategoryTables.{integer_entry}
 use Rattle.icu_plurals.specs.DecimalChoice.{IsExactChoice, IsKeptChoice}
 use Rattle.icu_plurals.specs.Elements.{IsExactElement, IsKeptElement}
 use Rattle.icu_plurals.specs.Exactness.{IsWithinBound}
 use Rattle.icu_plurals.specs.FiveRules.{FiveRules, first_category, moduli_of}
-use Rattle.icu_plurals.specs.Operands.{of_whole}
+use Rattle.icu_plurals.specs.Operands.{Operands, of_whole}
 use Rattle.icu_plurals.specs.PackedElements.{PackedElements, PackedValue, elements_of}
 use Rattle.icu_plurals.specs.PackedTruth.{packed_truth}
 use Rattle.icu_plurals.specs.Written.{CompactNumber}
@@ -42,13 +46,25 @@ truth_number false = pos 0
 
 -- ---- Categories
 
--- The category of an integer by its operands, of which nothing is cut.
-abbrev pub HasIntegerCategory : ℕ → FiveRules → Result PluralCategory Fault → Type 0
-HasIntegerCategory n rules (Ok category) = category ≡ first_category (packed_truth (of_whole n)) rules
-HasIntegerCategory n rules (Err fault) = ⊥
+-- The first category whose rule is present and true of the operands, else other.
+abbrev pub HasOperandsCategory : Operands → FiveRules → Result PluralCategory Fault → Type 0
+HasOperandsCategory operands rules (Ok category) = category ≡ first_category (packed_truth operands) rules
+HasOperandsCategory operands rules (Err fault) = ⊥
 
+abbrev pub IsCategoryOfOperands : List ℕ → Operands → Result PluralCategory Fault → Type 0
+IsCategoryOfOperands rules operands = Then (ReadsRules rules) (HasOperandsCategory operands)
+
+-- The category of an integer by its operands, of which nothing is cut.
 abbrev pub IsCategoryOfInteger : List ℕ → ℕ → Result PluralCategory Fault → Type 0
-IsCategoryOfInteger rules n = Then (ReadsRules rules) (HasIntegerCategory n)
+IsCategoryOfInteger rules n = IsCategoryOfOperands rules (of_whole n)
+
+-- the categories of many integers, a byte each
+abbrev pub HaveCategories : List ℕ → FiveRules → Result (List ℕ) Fault → Type 0
+HaveCategories numbers rules (Ok bytes) = bytes ≡ map (integer_entry rules) numbers
+HaveCategories numbers rules (Err fault) = ⊥
+
+abbrev pub AreCategoriesOfIntegers : List ℕ → List ℕ → Result (List ℕ) Fault → Type 0
+AreCategoriesOfIntegers rules numbers = Then (ReadsRules rules) (HaveCategories numbers)
 
 -- The category of a number: the one that its kept operands choose, and within the exactness bound
 -- that of the number itself (docs/EXACTNESS.md).
@@ -61,7 +77,8 @@ HasCategory rules x (Err fault) = ⊥
 abbrev pub IsCategoryOf : List ℕ → List ℕ → Result PluralCategory Fault → Type 0
 IsCategoryOf rules number = Then (ReadsRules rules) (λ five. Then (ReadsNumber number) (HasCategory five))
 
--- the category of the number itself, within the exactness bound of the rules; else that it is outside
+-- the category of the number itself, within the exactness bound of the rules; else that it is
+-- outside
 abbrev pub HasSureCategory : FiveRules → CompactNumber → Result PluralCategory Fault → Type 0
 HasSureCategory rules x (Ok category) =
     IsWithinBound x.significand.absolute x.exponent (moduli_of rules)

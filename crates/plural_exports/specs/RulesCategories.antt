@@ -1,5 +1,6 @@
 -- The categories that a number may have under a block of rules, one bit each.
---     AreCategoriesOf rules answer      those that have a rule, and other, or the fault of the rules
+--     AreCategoriesOf rules answer      those that have a rule, and other, or the fault of the
+--         rules
 --     bits_number categories      the sum of their bits
 use Rattle.std.specs.Prelude.{◌≡◌, ℕ, ℤ, pos, List, sum_by, Result, Ok, Err}
 use Rattle.icu_plurals.specs.declared.PluralCategory.{PluralCategory}

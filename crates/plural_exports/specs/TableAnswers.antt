@@ -1,9 +1,9 @@
 -- The table of the categories of integers under a block of rules (docs/FORMATS.md), and what such a
 -- table tells.
 --     AreTableFor rules answer      a table of the rules, or their fault
---     IsToldByTable table n answer      what bytes tell of an integer; if they are a table of rules,
---         that is the category that the rules choose, or that they are asked, which isn't told of a
---         number below 128
+--     IsToldByTable table n answer      what bytes tell of an integer; if they are a table of
+--         rules, that is the category that the rules choose, or that they are asked, which isn't
+--         told of a number below 128
 use Rattle.std.specs.Prelude.{◌≡◌, ℕ, ◌≤◌, ℤ, pos, List, length, Option, Some, None, MatchOption, Result, Ok, Err}
 use Rattle.icu_plurals.specs.declared.PluralCategory.{PluralCategory}
 use Rattle.icu_plurals.specs.CategoryTables.{IsTableOf, TableTells}

@@ -2,9 +2,8 @@
 
 ghost use Rattle.std.specs.Prelude.{◌≡◌};
 ghost use Rattle.serde_json.specs.View.{view};
-ghost use Rattle.icu_plurals.specs.DocumentJson.{document_of_json};
 ghost use Rattle.icu_plurals.specs.FiveRules.{rules_of};
-ghost use Rattle.plural_exports.specs.GivenDocuments.{HasRulesAt, Means, ReadsJson, rows_for, type_of};
+ghost use Rattle.plural_exports.specs.GivenDocuments.{HasRulesAt, MeansMaps, ReadsJson, rows_for, type_numbered};
 ghost use Rattle.plural_exports.specs.Inner.GivenResults.{Gives};
 
 use crate::fault::Fault;
@@ -16,7 +15,7 @@ use std::alloc::Global;
 
 // The type of a number.
 pub(crate) fn rule_type_of(number: u8) -> Result<PluralRuleType, Fault>
-    ensures { result ≡ type_of number }
+    ensures { result ≡ type_numbered number }
 {
     match number {
         0 => Ok(PluralRuleType::Cardinal),
@@ -38,7 +37,7 @@ pub(crate) fn value_in(alloc: Global, bytes: &[u8]) -> Result<Value, Fault>
 
 // The maps that a JSON value means.
 pub(crate) fn maps_in(alloc: Global, value: &Value) -> Result<JsonProvider, Fault>
-    ensures { Means (document_of_json (view value.now)) result }
+    ensures { MeansMaps (view value.now) result }
 {
     Ok(JsonProvider::from_value(alloc, value)?)
 }

@@ -1,8 +1,7 @@
 //! Packed elements: from JSON, and the one that a number chooses.
 
 ghost use Rattle.serde_json.specs.View.{view};
-ghost use Rattle.icu_plurals.specs.ElementsJson.{packed_of_json};
-ghost use Rattle.plural_exports.specs.GivenDocuments.{AreElementsIn, HasElements, Means};
+ghost use Rattle.plural_exports.specs.GivenDocuments.{AreElementsIn, HasElements, MeansElements};
 ghost use Rattle.plural_exports.specs.Inner.GivenResults.{Gives};
 ghost use Rattle.plural_exports.specs.NumberAnswers.{IsElementOf};
 ghost use Rattle.plural_exports.specs.Results.{Written};
@@ -56,7 +55,7 @@ fn elements_of(alloc: Global, json: &[u8]) -> Result<PluralElementsPackedCow<'st
 
 // The elements of a JSON value.
 fn packed_elements(alloc: Global, value: &Value) -> Result<PluralElementsPackedCow<'static>, Fault>
-    ensures { Means (packed_of_json (view value.now)) result }
+    ensures { MeansElements (view value.now) result }
 {
     Ok(PluralElementsPackedCow::from_json(alloc, value)?)
 }

@@ -2,7 +2,7 @@
 
 ghost use Rattle.std.specs.Prelude.{◌≡◌};
 ghost use Rattle.plural_exports.specs.Faults.{argument_number, block_number, decimal_number, elements_number, fault_number, json_number, packed_number, packing_number, parse_number, pattern_number, rule_number};
-ghost use Rattle.plural_exports.specs.Inner.Conversions.{decimal_fault, format_fault, json_fault, pack_fault, pattern_fault, text_fault};
+ghost use Rattle.plural_exports.specs.Inner.Conversions.{decimal_fault, format_fault, json_fault, rules_pack_fault, pattern_fault, text_fault};
 ghost use Rattle.plural_exports.specs.declared.fault.Fault.TheVariants.{Elements, Rules};
 
 use icu_plurals::provider::rules::reference::ParseError;
@@ -108,7 +108,7 @@ impl From<RulesBytesError> for Fault {
 }
 
 impl From<RulesPackError> for Fault {
-    ghost from_gives = { λ error fault. fault ≡ pack_fault error };
+    ghost from_gives = { λ error fault. fault ≡ rules_pack_fault error };
 
     fn from(error: RulesPackError) -> Fault {
         match error {

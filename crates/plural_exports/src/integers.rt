@@ -5,8 +5,8 @@ ghost use Rattle.icu_plurals.specs.CategoryTables.{integer_entry};
 ghost use Rattle.icu_plurals.specs.FiveRules.{first_category};
 ghost use Rattle.icu_plurals.specs.Operands.{of_whole};
 ghost use Rattle.icu_plurals.specs.PackedTruth.{packed_truth};
-ghost use Rattle.plural_exports.specs.IntegersAnswers.{AreCategoriesOfIntegers};
-ghost use Rattle.plural_exports.specs.Inner.Choosers.{chooser_rules};
+ghost use Rattle.plural_exports.specs.NumberAnswers.{AreCategoriesOfIntegers};
+ghost use Rattle.plural_exports.specs.Inner.GivenResults.{chooser_rules};
 ghost use Rattle.plural_exports.specs.Results.{Written, filled};
 
 use crate::given::rules_in;

@@ -1,6 +1,6 @@
 //! The message of a number.
 
-ghost use Rattle.plural_exports.specs.Inner.WrittenMessage.{GivesWritten};
+ghost use Rattle.plural_exports.specs.Inner.GivenResults.{GivesWritten};
 ghost use Rattle.plural_exports.specs.NumberAnswers.{IsMessageFor};
 ghost use Rattle.plural_exports.specs.Results.{Written};
 

@@ -1,7 +1,6 @@
 //! The category of six operands.
 
-ghost use Rattle.plural_exports.specs.NumberAnswers.{category_number};
-ghost use Rattle.plural_exports.specs.OperandAnswers.{IsCategoryOfOperands};
+ghost use Rattle.plural_exports.specs.NumberAnswers.{IsCategoryOfOperands, category_number};
 ghost use Rattle.plural_exports.specs.Results.{Answered};
 
 use crate::fault::Fault;

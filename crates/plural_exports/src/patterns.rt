@@ -1,6 +1,6 @@
 //! What a pattern says.
 
-ghost use Rattle.plural_exports.specs.FormattedPatterns.{IsFormatted, ReadsPatternText};
+ghost use Rattle.plural_exports.specs.FormattedPatterns.{IsPatternFormatted, ReadsPatternText};
 ghost use Rattle.plural_exports.specs.Inner.GivenResults.{Gives};
 ghost use Rattle.plural_exports.specs.Results.{Written};
 
@@ -28,7 +28,7 @@ pub fn pattern_format(
     arguments: &[GivenArgument<'_>],
     out: &mut [u8],
 ) -> i64
-    ensures { Written (IsFormatted cardinal.now ordinal.now pattern.now arguments.now) out.old out.new result }
+    ensures { Written (IsPatternFormatted cardinal.now ordinal.now pattern.now arguments.now) out.old out.new result }
 {
     match formatted(alloc, cardinal, ordinal, pattern, arguments) {
         Ok(text) => put(&text, out),
@@ -44,7 +44,7 @@ fn formatted(
     pattern: &[u8],
     arguments: &[GivenArgument<'_>],
 ) -> Result<Vec<u8>, Fault>
-    ensures { Gives (λ text. text.items) (IsFormatted cardinal.now ordinal.now pattern.now arguments.now) result }
+    ensures { Gives (λ text. text.items) (IsPatternFormatted cardinal.now ordinal.now pattern.now arguments.now) result }
 {
     let cardinal = rules_in(cardinal)?;
     let ordinal = rules_in(ordinal)?;

@@ -2,7 +2,7 @@
 
 ghost use Rattle.std.specs.Prelude.{◌≡◌};
 ghost use Rattle.icu_plurals.specs.Categories.{place_of};
-ghost use Rattle.plural_exports.specs.GivenRanges.{AreRangesIn, HasRangesAt, HasRangesFor, IsTableOf, range_number, table_row};
+ghost use Rattle.plural_exports.specs.GivenRanges.{AreRangesIn, HasRangesAt, HasRangesFor, IsRangeTable, range_number, table_row};
 ghost use Rattle.plural_exports.specs.Inner.GivenResults.{Gives};
 ghost use Rattle.plural_exports.specs.Results.{Written};
 
@@ -60,7 +60,7 @@ fn ranges_for(maps: &JsonProvider, locale: &str) -> Result<PluralRanges, Fault>
 
 // The rows of all starts, one after another.
 fn table_of(alloc: Global, ranges: &PluralRanges) -> Result<Vec<u8>, Fault>
-    ensures { Gives (λ table. table.items) (IsTableOf ranges.now) result }
+    ensures { Gives (λ table. table.items) (IsRangeTable ranges.now) result }
 {
     let rows = [
         row_of(ranges, PluralCategory::Zero),

@@ -3,7 +3,7 @@
 ghost use Rattle.std.specs.Prelude.{◌≡◌};
 ghost use Rattle.plural_exports.specs.NumberAnswers.{truth_number};
 ghost use Rattle.plural_exports.specs.Results.{Answered};
-ghost use Rattle.plural_exports.specs.WholeTexts.{IsWholeness};
+ghost use Rattle.plural_exports.specs.GivenTexts.{IsWholeness};
 
 use crate::fault::Fault;
 use icu_plurals::provider::rules::reference;

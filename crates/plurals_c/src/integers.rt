@@ -1,9 +1,7 @@
 //! The categories of integers and of operands.
 
 ghost use Rattle.std.specs.Prelude.{nat_abs};
-ghost use Rattle.plural_exports.specs.IntegersAnswers.{AreCategoriesOfIntegers};
-ghost use Rattle.plural_exports.specs.NumberAnswers.{IsCategoryOfInteger, category_number};
-ghost use Rattle.plural_exports.specs.OperandAnswers.{IsCategoryOfOperands};
+ghost use Rattle.plural_exports.specs.NumberAnswers.{AreCategoriesOfIntegers, IsCategoryOfInteger, IsCategoryOfOperands, category_number};
 ghost use Rattle.plural_exports.specs.Results.{Answered, Written};
 ghost use Rattle.plural_exports.specs.TableAnswers.{AreTableFor, IsToldByTable, told_number};
 

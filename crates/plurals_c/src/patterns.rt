@@ -1,6 +1,6 @@
 //! What patterns say.
 
-ghost use Rattle.plural_exports.specs.FormattedPatterns.{IsFormatted};
+ghost use Rattle.plural_exports.specs.FormattedPatterns.{IsPatternFormatted};
 ghost use Rattle.plural_exports.specs.Results.{Written};
 
 use plural_exports::GivenArgument;
@@ -23,7 +23,7 @@ pub extern "C" fn plurals_pattern_format(
     arguments: &[GivenArgument<'_>],
     out: &mut [u8],
 ) -> i64
-    ensures { Written (IsFormatted cardinal.now ordinal.now pattern.now arguments.now) out.old out.new result }
+    ensures { Written (IsPatternFormatted cardinal.now ordinal.now pattern.now arguments.now) out.old out.new result }
 {
     plural_exports::pattern_format(alloc, cardinal, ordinal, pattern, arguments, out)
 }

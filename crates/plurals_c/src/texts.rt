@@ -4,7 +4,7 @@ ghost use Rattle.plural_exports.specs.GivenDocuments.{AreElementsIn};
 ghost use Rattle.plural_exports.specs.GivenElements.{AreElementsFrom, eight};
 ghost use Rattle.plural_exports.specs.NumberAnswers.{IsElementOf, IsMessageFor, truth_number};
 ghost use Rattle.plural_exports.specs.Results.{Answered, Written};
-ghost use Rattle.plural_exports.specs.WholeTexts.{IsWholeness};
+ghost use Rattle.plural_exports.specs.GivenTexts.{IsWholeness};
 
 use std::alloc::Global;
 

@@ -1,5 +1,5 @@
-//! Growth that is refused, writers that fail, traits and paths at concrete types, and the examples of the pages: a file for each
-//! crate and subject.
+//! Growth that is refused, writers that fail, traits and paths at concrete types, and the examples
+//! of the pages: a file for each crate and subject.
 
 mod assertion;
 mod fixed_decimal_examples;

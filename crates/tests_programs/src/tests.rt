@@ -2,6 +2,10 @@
 //! readers and writers.
 
 mod assertion;
+mod awaits;
 mod commands;
+mod input;
+mod line;
 mod pieces;
 mod report;
+mod taking;

@@ -1,5 +1,5 @@
-//! Seven small callers of `icu_plurals`, `plural_message`, `message_report` and `message_format`, each
-//! proved from their public contracts alone.
+//! Seven small callers of `icu_plurals`, `plural_message`, `message_report` and `message_format`,
+//! each proved from their public contracts alone.
 #![tactic(auto)]
 
 mod compact_units;

@@ -9,7 +9,8 @@ use message_report::{MessageFile, ReportError, RulesOfLocales};
 use serde_json::Value;
 use std::alloc::Global;
 
-/// Returns whether a document of messages has no fault under the rules of its locales. It allocates.
+/// Returns whether a document of messages has no fault under the rules of its locales. It
+/// allocates.
 pub fn is_complete<S: RulesOfLocales>(
     alloc: Global,
     source: &S,

@@ -3,7 +3,7 @@ use Rattle.std.specs.Prelude.{◌≡◌, ℕ, List, [], ◌∷◌, nat_lt, if◌
 use Rattle.plural_checker.specs.declared.Fault.{Fault}
 use Rattle.document_report.specs.DocumentReport.{fault_line, most_told}
 use Rattle.document_report.specs.Found.{Found, together}
-use Rattle.document_report.specs.declared.place.Part.{Part}
+use Rattle.plural_fallback.specs.declared.locales.Part.{Part}
 
 -- what was found has grown by something of this kind
 abbrev pub Adds : (Found → Type 0) → Found → Found → Type 0

@@ -1,10 +1,33 @@
--- Not a definition of the subject: the results of private calls.
-use Rattle.std.specs.Prelude.{◌≡◌, Result, Ok, Err, ⊤}
+-- Not a definition of the subject: the results of private calls, the values of private types, and
+-- the start and the end of a range's byte.
+use Rattle.std.specs.Prelude.{◌≡◌, ℕ, ◌==◌, if◌then◌else◌, Result, Ok, Err, ⊤, string_bytes}
+use Rattle.icu_plurals.specs.declared.PluralCategory.{PluralCategory}
+use Rattle.icu_plurals.specs.declared.PluralCategory.TheVariants.{Zero, One, Two, Few, Many, Other}
+use Rattle.plural_documents.specs.declared.InputError.{InputError}
+use Rattle.plural_documents.specs.declared.InputError.TheVariants as cause
 use Rattle.document_report.specs.CheckAnswer.{Answer}
-use Rattle.document_report.specs.Inner.CheckViews.{answer_view}
 use Rattle.document_report.specs.declared.error.CheckError.{CheckError}
-use Rattle.document_report.specs.declared.error.CheckError.TheVariants.{Read, Write, Memory}
+use Rattle.document_report.specs.declared.error.CheckError.TheVariants.{Read, TooLong, Write, Memory}
 use Rattle.document_report.specs.declared.run.Answer.{Answer as CodeAnswer}
+
+-- ---- Values
+
+-- the answer, with the bytes of its text
+abbrev pub answer_view : CodeAnswer → Answer
+answer_view answer = record { text = string_bytes answer.text; verdict = answer.verdict }
+
+-- the fault that an error of the input becomes
+abbrev pub input_fault : InputError → CheckError
+input_fault cause.Read = Read
+input_fault cause.TooLong = TooLong
+input_fault cause.Memory = Memory
+
+-- the category of a number in a range's byte
+abbrev pub category_numbered : ℕ → PluralCategory
+category_numbered number =
+    if number == 1 then Zero
+    else (if number == 2 then One
+    else (if number == 3 then Two else (if number == 4 then Few else (if number == 5 then Many else Other))))
 
 -- ---- Results
 

@@ -1,4 +1,5 @@
--- Not a definition of the subject: how the parents of a document are found by the names of their locales.
+-- Not a definition of the subject: how the parents of a document are found by the names of their
+-- locales.
 use Rattle.std.specs.Prelude.{ℕ, List, Bool, Option, Some, None, option_map, bytes_eq, map, codes, if◌then◌else◌}
 use Rattle.std.specs.Prelude.{option_and_then, Vec}
 use Rattle.std.specs.BTreeMap.{BTreeMap, get_by}

@@ -28,9 +28,9 @@ text_fault rule.StartLimit = Text rule.StartLimit
 text_fault rule.Memory = Memory
 
 -- of rules that are packed
-abbrev pub pack_fault : RulesPackError → Fault
-pack_fault packing.StartLimit = RulesLimit
-pack_fault packing.Memory = Memory
+abbrev pub rules_pack_fault : RulesPackError → Fault
+rules_pack_fault packing.StartLimit = RulesLimit
+rules_pack_fault packing.Memory = Memory
 
 -- of a JSON value
 abbrev pub json_fault : JsonError → Fault

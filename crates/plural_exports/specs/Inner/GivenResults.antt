@@ -1,9 +1,14 @@
--- Not a definition of the subject: what private calls return.
-use Rattle.std.specs.Prelude.{◌≡◌, ℕ, List, Option, Result, Ok, Err}
+-- Not a definition of the subject: what private calls return, and the rules of what chooses the
+-- categories of integers.
+use Rattle.std.specs.Prelude.{◌≡◌, ℕ, ℤ, List, Option, Result, Ok, Err}
 use Rattle.std.specs.Str.{IsUtf8}
+use Rattle.icu_plurals.specs.FiveRules.{FiveRules}
 use Rattle.plural_exports.specs.GivenTexts.{text_given}
+use Rattle.plural_exports.specs.Results.{IsToldWritten}
 use Rattle.plural_exports.specs.declared.fault.Fault.{Fault}
 use Rattle.plural_exports.specs.declared.fault.Fault.TheVariants.{Utf8}
+use Rattle.plural_exports.specs.declared.integers.Chooser.{Chooser}
+use Rattle.plural_exports.specs.declared.integers.Chooser.TheVariants.{Rules, Tables}
 
 -- the result, with its value seen so
 abbrev pub Gives : {A B : Type 0} → (A → B) → (Result B Fault → Type 0) → Result A Fault → Type 0
@@ -14,3 +19,14 @@ Gives seen Is (Err fault) = Is (Err fault)
 abbrev pub ReadsGiven : List ℕ → Result (Option (List ℕ)) Fault → Type 0
 ReadsGiven bytes (Ok text) = IsUtf8 bytes × (text ≡ text_given bytes)
 ReadsGiven bytes (Err fault) = (fault ≡ Utf8) × ¬ (IsUtf8 bytes)
+
+-- some bytes are right, which were written and whose length is the result; or a fault is, and
+-- nothing was written
+abbrev pub GivesWritten : (Result (List ℕ) Fault → Type 0) → List ℕ → List ℕ → Result ℤ Fault → Type 0
+GivesWritten Is old new (Ok told) = (bytes : List ℕ) × Is (Ok bytes) × IsToldWritten old new told (Ok bytes)
+GivesWritten Is old new (Err fault) = Is (Err fault) × (new ≡ old)
+
+-- the rules of what chooses
+abbrev pub chooser_rules : Chooser → FiveRules
+chooser_rules (Rules rules) = rules
+chooser_rules (Tables tables) = tables

@@ -1,4 +1,5 @@
-//! Growth of numbers that may be refused: these run under `rt try --test --fail-alloc N` for each N, and with memory too.
+//! Growth of numbers that may be refused: these run under `rt try --test --fail-alloc N` for each
+//! N, and with memory too.
 
 use crate::tests::assertion::holds;
 use fixed_decimal::{CompactDecimal, Decimal, DecimalError, UnsignedDecimal};

@@ -1,4 +1,5 @@
-//! Elements by category: which values closures are called with, how often, and what an error leaves; clones.
+//! Elements by category: which values closures are called with, how often, and what an error
+//! leaves; clones.
 
 use crate::tests::assertion::holds;
 use icu_plurals::PluralElements;
@@ -235,7 +236,8 @@ fn each_value_is_cloned_once(rt: HostRuntime) -> Result<(), Fail> {
     Ok(())
 }
 
-// At most one growth is refused: out of memory is returned at most once, and the call made again succeeds.
+// At most one growth is refused: out of memory is returned at most once, and the call made again
+// succeeds.
 #[test]
 fn growth_of_clones_of_elements_may_be_refused(rt: HostRuntime) {
     let Ok(source) = lists(rt.alloc()).or_else(|_| lists(rt.alloc())) else {

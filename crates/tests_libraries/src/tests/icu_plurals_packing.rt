@@ -115,7 +115,8 @@ fn growth_of_bytes_may_be_refused(rt: HostRuntime) {
     holds!(rt; refused <= 1);
 }
 
-// If a growth is refused, packing and copying return out of memory; called again with memory, they succeed.
+// If a growth is refused, packing and copying return out of memory; called again with memory, they
+// succeed.
 #[test]
 fn growth_of_owned_elements_may_be_refused(rt: HostRuntime) -> Result<(), Fail> {
     let texts = welsh();

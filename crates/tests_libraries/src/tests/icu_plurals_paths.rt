@@ -1,4 +1,5 @@
-//! Types, traits, laws and functions at their paths in `icu_plurals`: one that isn't there isn't found, so this isn't compiled.
+//! Types, traits, laws and functions at their paths in `icu_plurals`: one that isn't there isn't
+//! found, so this isn't compiled.
 
 pub use icu_plurals::laws::{
     elements_read_again, kept_element_is_exact, one_encoding_of_elements, one_list_of_tokens,

@@ -1,5 +1,6 @@
-//! Growth that is refused in reading, writing and cloning rules, documents and ranges. Each function makes a call and returns
-//! whether its result is the wanted one, or `None` if memory ran out.
+//! Growth that is refused in reading, writing and cloning rules, documents and ranges. Each
+//! function makes a call and returns whether its result is the wanted one, or `None` if memory ran
+//! out.
 
 use crate::tests::assertion::holds;
 use plural_base::*;

@@ -1,5 +1,5 @@
-//! Growth that is refused in what the library for C exports. At most one is refused in a test: out of
-//! memory, -1, is returned at most once, and the calls made again succeed.
+//! Growth that is refused in what the library for C exports. At most one is refused in a test: out
+//! of memory, -1, is returned at most once, and the calls made again succeed.
 
 use crate::tests::assertion::holds;
 use plural_exports::*;

@@ -35,7 +35,8 @@ fn a_message_is_written_into_a_buffer_that_has_room(rt: HostRuntime) -> Result<(
     Ok(())
 }
 
-// At most one growth is refused: out of memory is returned at most once, and the call made again succeeds.
+// At most one growth is refused: out of memory is returned at most once, and the call made again
+// succeeds.
 #[test]
 fn growth_of_a_message_may_be_refused(rt: HostRuntime) -> Result<(), Fail> {
     let one = "i = 1 and v = 0";

@@ -1,4 +1,5 @@
-//! Each allocation fails in turn: these run under `rt try --test --fail-alloc N` for each N, and with memory too.
+//! Each allocation fails in turn: these run under `rt try --test --fail-alloc N` for each N, and
+//! with memory too.
 
 use crate::tests::assertion::holds;
 use crate::tests::plural_reference_rules::{BENGALI_ONE, FRENCH_MANY, RUSSIAN_FEW};

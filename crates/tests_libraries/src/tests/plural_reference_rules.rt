@@ -1,4 +1,5 @@
-//! Rules of CLDR as printed: Russian few, Bengali ordinal one, and French many, whose samples are compact numbers, some of them long.
+//! Rules of CLDR as printed: Russian few, Bengali ordinal one, and French many, whose samples are
+//! compact numbers, some of them long.
 
 pub(crate) const RUSSIAN_FEW: &str =
     "v = 0 and i % 10 = 2..4 and i % 100 != 12..14 @integer 2~4, 22~24, 32~34, 42~44, 52~54, 62, 102, 1002, …";

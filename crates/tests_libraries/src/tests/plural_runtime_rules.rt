@@ -6,7 +6,8 @@ use std::alloc::Global;
 use std::fmt;
 use std::fmt::Write;
 
-// Rules of CLDR with the bytes of their conditions: Bengali's ordinal one, Russian's few and French many.
+// Rules of CLDR with the bytes of their conditions: Bengali's ordinal one, Russian's few and French
+// many.
 const CLDR_RULES: [(&str, &[u8], &str); 3] = [
     (
         "n = 1,5,7,8,9,10 @integer 1, 5, 7~10 ",
@@ -108,7 +109,8 @@ impl<'t> Write for Refusing<'t> {
     }
 }
 
-// Printing stops at the refused piece, and what was taken begins the text. No text here has 100 pieces.
+// Printing stops at the refused piece, and what was taken begins the text. No text here has 100
+// pieces.
 #[test]
 fn printing_stops_at_the_refused_piece(rt: HostRuntime) {
     for (_, bytes, text) in CLDR_RULES {

@@ -1,5 +1,5 @@
-//! An assertion for tests: it prints its condition and the row of a table, and is proved in a fraction of the time that
-//! `assert_eq!` takes.
+//! An assertion for tests: it prints its condition and the row of a table, and is proved in a
+//! fraction of the time that `assert_eq!` takes.
 
 ghost use Rattle.std.specs.Prelude.{IsTrue};
 

@@ -14,8 +14,8 @@ mod tables;
 mod writers;
 
 use crate::tests::assertion::holds;
-use crate::tests::commands::inputs::Input;
 use crate::tests::commands::tables::{gives, is_told, row_gives, table_holds};
+use crate::tests::input::Input;
 use icu_plurals::{ElementsPackError, JsonError};
 use plural_commands::RunError;
 

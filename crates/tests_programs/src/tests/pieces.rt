@@ -3,7 +3,8 @@
 use std::io;
 use std::io::{Read, Write};
 
-// What a reader has left, or what a writer still expects: it accepts these bytes and no others. A call moves at most this many.
+// What a reader has left, or what a writer still expects: it accepts these bytes and no others. A
+// call moves at most this many.
 #[derive(Drop)]
 pub(crate) struct Pieces<'t> {
     left: &'t [u8],

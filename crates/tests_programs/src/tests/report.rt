@@ -9,8 +9,8 @@ mod words;
 mod writers;
 
 use crate::tests::assertion::holds;
+use crate::tests::input::Input;
 use crate::tests::report::answers::{gives, is_told};
-use crate::tests::report::inputs::Input;
 use document_report::CheckError;
 
 const USAGE: &str = "2: usage: plurals_check < DOCUMENT\n";

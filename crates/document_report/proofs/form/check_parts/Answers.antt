@@ -3,8 +3,8 @@ use Rattle.std.proofs.lemmas.Result.{err_from_is_err_and}
 use Rattle.serde_json.specs.Find.{get}
 use Rattle.serde_json.specs.View.{view}
 use Rattle.document_report.specs.CheckedDocument.{◌>>=◌, part_formed}
-use Rattle.document_report.specs.Parts.{part_name}
-use Rattle.document_report.specs.declared.place.Part.TheVariants.{Cardinal, Ordinal, Ranges}
+use Rattle.plural_fallback.specs.LocalesJson.{part_name}
+use Rattle.plural_fallback.specs.declared.locales.Part.TheVariants.{Cardinal, Ordinal, Ranges}
 use Rattle.document_report.proofs.CheckFaults.{handed_on, of_second, refused_first}
 use Rattle.document_report.proofs.form.check_parts.Goals as goal
 

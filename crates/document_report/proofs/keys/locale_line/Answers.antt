@@ -1,7 +1,7 @@
 use Rattle.std.proofs.Common.{◌≡◌, ℕ, List, ◌++◌, codes, string_bytes, ap, sym, ◌∙◌}
 use Rattle.std.proofs.lemmas.Result.{IfOk-weaker}
 use Rattle.document_report.specs.DocumentReport.{locale_line}
-use Rattle.document_report.specs.Parts.{part_name}
+use Rattle.plural_fallback.specs.LocalesJson.{part_name}
 use Rattle.document_report.proofs.LineTexts.{five}
 use Rattle.document_report.proofs.keys.locale_line.Goals as goal
 

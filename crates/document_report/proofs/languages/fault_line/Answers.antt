@@ -2,7 +2,7 @@ use Rattle.std.proofs.Common.{◌≡◌, ℕ, List, ◌++◌, codes, string_byte
 use Rattle.std.proofs.lemmas.Result.{IfOk-weaker}
 use Rattle.plural_checker.specs.PluralCheckerErrors.{fault_text}
 use Rattle.document_report.specs.DocumentReport.{fault_line}
-use Rattle.document_report.specs.Parts.{part_name}
+use Rattle.plural_fallback.specs.LocalesJson.{part_name}
 use Rattle.document_report.proofs.LineTexts.{five}
 use Rattle.document_report.proofs.languages.fault_line.Goals as goal
 

@@ -3,7 +3,7 @@ use Rattle.std.specs.Fmt.{decimal}
 use Rattle.std.proofs.lemmas.Result.{IfOk-weaker}
 use Rattle.icu_plurals.specs.Categories.{name_of}
 use Rattle.document_report.specs.DocumentReport.{rest_line}
-use Rattle.document_report.specs.Parts.{part_name}
+use Rattle.plural_fallback.specs.LocalesJson.{part_name}
 use Rattle.document_report.proofs.LineTexts.{eight}
 use Rattle.document_report.proofs.languages.rest_line.Goals as goal
 

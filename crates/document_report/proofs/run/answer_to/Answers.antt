@@ -1,7 +1,7 @@
 use Rattle.std.proofs.lemmas.Result.{err_from_is_err_and}
 use Rattle.serde_json.specs.View.{view}
 use Rattle.document_report.specs.CheckedDocument.{value_of}
-use Rattle.document_report.specs.Inner.CheckViews.{answer_view}
+use Rattle.document_report.specs.Inner.CheckCalls.{answer_view}
 use Rattle.document_report.proofs.CheckFaults.{handed_on}
 use Rattle.document_report.proofs.CheckReadings.{document_answered, document_refused}
 use Rattle.document_report.proofs.run.answer_to.Goals as goal

@@ -1,7 +1,7 @@
 use Rattle.std.proofs.lemmas.Result.{err_from_is_err_and}
 use Rattle.document_report.specs.CheckAnswer.{AnswersDocument}
 use Rattle.document_report.specs.CheckedDocument.{value_of}
-use Rattle.document_report.specs.Inner.CheckInputFaults.{input_fault}
+use Rattle.document_report.specs.Inner.CheckCalls.{input_fault}
 use Rattle.document_report.proofs.CheckFaults.{handed_on}
 use Rattle.document_report.proofs.CheckReadings.{answer_not_long, no_input, of_all, read_on, to_the_end}
 use Rattle.document_report.proofs.run.answer_to_reader.Goals as goal

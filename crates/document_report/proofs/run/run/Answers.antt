@@ -2,7 +2,7 @@ use Rattle.std.proofs.Common.{Ok, Err, refl, rules}
 use Rattle.std.proofs.lemmas.Result.{err_from_is_err_and}
 use Rattle.document_report.specs.CheckAnswer.{AnswersDocument, AnswersInput}
 use Rattle.document_report.specs.CheckedDocument.{value_in}
-use Rattle.document_report.specs.Inner.CheckViews.{answer_view}
+use Rattle.document_report.specs.Inner.CheckCalls.{answer_view}
 use Rattle.document_report.proofs.CheckFaults.{handed_on}
 use Rattle.document_report.proofs.CheckReadings.{implied, kept, not_written, with_words, without_words}
 use Rattle.plural_documents.proofs.InputLemmas.{some_input}

@@ -1,7 +1,7 @@
 use Rattle.std.proofs.Common.{◌<◌, ◌∙◌, ap, arith, length, length-set}
 use Rattle.icu_plurals.specs.Categories.{place_of}
 use Rattle.icu_plurals.specs.CategoryTables.{integer_entry}
-use Rattle.plural_exports.specs.Inner.Choosers.{chooser_rules}
+use Rattle.plural_exports.specs.Inner.GivenResults.{chooser_rules}
 use Rattle.plural_exports.proofs.ManyIntegers.{all_written, behind_more, front_more}
 use Rattle.plural_exports.proofs.integers.write_categories.Goals as goal
 

@@ -1,7 +1,7 @@
 use Rattle.std.proofs.Common.{◌≡◌, length, take, drop}
 use Rattle.std.specs.Prelude.{map}
 use Rattle.icu_plurals.specs.CategoryTables.{integer_entry}
-use Rattle.plural_exports.specs.Inner.Choosers.{chooser_rules}
+use Rattle.plural_exports.specs.Inner.GivenResults.{chooser_rules}
 use Rattle.plural_exports.proofs.integers.write_categories.Given as goal
 
 abbrev pub invariant-loop-k : goal.invariant-loop-k

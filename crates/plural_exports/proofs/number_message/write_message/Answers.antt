@@ -6,7 +6,7 @@ use Rattle.icu_plurals.specs.Elements.{Elements, IsExactElement, IsKeptElement}
 use Rattle.icu_plurals.specs.Inner.ElementsViews.{lent_elements}
 use Rattle.icu_plurals.specs.PackedElements.{PackedValue}
 use Rattle.plural_message.specs.Messages.{IsMessageWith, IsWrittenTo}
-use Rattle.plural_exports.specs.Inner.WrittenMessage.{GivesWritten}
+use Rattle.plural_exports.specs.Inner.GivenResults.{GivesWritten}
 use Rattle.plural_exports.specs.NumberAnswers.{IsMessageFor}
 use Rattle.plural_exports.specs.Results.{filled}
 use Rattle.plural_exports.specs.declared.fault.Fault.{Fault}

@@ -2,7 +2,8 @@
 
 use crate::tests::commands::tables::table_holds;
 
-// The cardinal rules of Arabic, Polish and Russian, the ordinal ones of Bengali, ranges of Arabic and elements of Russian.
+// The cardinal rules of Arabic, Polish and Russian, the ordinal ones of Bengali, ranges of Arabic
+// and elements of Russian.
 const CLDR: &str = r#"{"cardinal":{
 "ar":{"zero":"n = 0 @integer 0 @decimal 0.0, 0.00, 0.000, 0.0000",
  "one":"n = 1 @integer 1 @decimal 1.0, 1.00, 1.000, 1.0000",

@@ -141,7 +141,8 @@ fn elements_stand_between_the_maps_and_the_locale(rt: HostRuntime) {
     documents_hold(&rt, rt.alloc(), &lines, table)
 }
 
-// Returns what `select` and `message` give for a text of this many `x` for other, and also `y` for one if `end` has it.
+// Returns what `select` and `message` give for a text of this many `x` for other, and also `y` for
+// one if `end` has it.
 fn long_default_gives(
     rt: &impl Abort,
     alloc: Global,

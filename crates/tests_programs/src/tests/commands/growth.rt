@@ -6,8 +6,9 @@ use crate::tests::commands::tables::{gives, row_gives};
 use std::alloc::Global;
 use std::process::Abort;
 
-// Checks that each row of the table gives, with the command, the line that follows it. If a growth is refused, the call runs out
-// of memory and writes nothing, and the same words over the same input then give the line.
+// Checks that each row of the table gives, with the command, the line that follows it. If a growth
+// is refused, the call runs out of memory and writes nothing, and the same words over the same
+// input then give the line.
 fn table_holds_again(rt: &impl Abort, alloc: Global, command: &str, table: &str) {
     for row in table.split("$ ").skip(1) {
         let (words, answer) = row.split_once('\n').unwrap_or((row, ""));

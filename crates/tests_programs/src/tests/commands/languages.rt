@@ -1,8 +1,8 @@
 //! Conditions from CLDR, against the categories that its samples show.
 
 use crate::tests::assertion::holds;
-use crate::tests::commands::inputs::Input;
 use crate::tests::commands::tables::gives;
+use crate::tests::input::Input;
 use std::alloc::{AllocError, Global};
 use std::test::Fail;
 

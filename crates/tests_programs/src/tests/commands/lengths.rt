@@ -1,8 +1,8 @@
 //! Long words, lines and inputs: none is told as out of memory for its length.
 
 use crate::tests::assertion::holds;
-use crate::tests::commands::inputs::Input;
 use crate::tests::commands::tables::gives;
+use crate::tests::input::Input;
 use std::alloc::{AllocError, Global};
 use std::test::Fail;
 

@@ -2,70 +2,13 @@
 
 use crate::tests::assertion::holds;
 use crate::tests::commands::documents::DOCUMENT;
+use crate::tests::taking::Taking;
 use plural_commands::RunError;
 use plural_commands::run::run;
 use std::alloc::Global;
-use std::io;
-use std::io::Write;
 
-// A writer that takes one byte per call, `left` times. Then it refuses each call, or takes no byte. Its first calls are
-// interrupted. It records the calls after one that took nothing, and the flushes.
-#[derive(Drop)]
-struct Taking {
-    left: usize,
-    refuses: bool,
-    interrupts: usize,
-    failed: bool,
-    further: usize,
-    flushed: bool,
-}
-
-impl Write for Taking {
-    fn write(&mut self, buf: &[u8]) -> io::Result<usize> {
-        if self.failed {
-            self.further = self.further.saturating_add(1);
-        }
-        if self.interrupts > 0 {
-            self.interrupts -= 1;
-            return Err(io::Error::from(io::ErrorKind::Interrupted));
-        }
-        if self.left > 0 {
-            self.left -= 1;
-            return Ok(buf.len().min(1));
-        }
-        self.failed = true;
-        if self.refuses {
-            return Err(io::Error::from(io::ErrorKind::BrokenPipe));
-        }
-        Ok(0)
-    }
-
-    fn flush(&mut self) -> io::Result<()> {
-        self.flushed = true;
-        Ok(())
-    }
-}
-
-impl Taking {
-    // Returns a writer that takes this many bytes, and then refuses or takes none.
-    fn some(left: usize, refuses: bool) -> Taking {
-        Taking {
-            left,
-            refuses,
-            interrupts: 2,
-            failed: false,
-            further: 0,
-            flushed: false,
-        }
-    }
-
-    // Whether it was left alone after a call that took nothing, and wasn't flushed.
-    fn is_left_alone(&self) -> bool {
-        self.further == 0 && !self.flushed
-    }
-}
-
-// Returns whether the words over the document are answered as a writer that takes this many bytes lets them.
+// Returns whether the words over the document are answered as a writer that takes this many bytes
+// lets them.
 fn stops_after(alloc: Global, words: &[&str], left: usize, refuses: bool, succeeds: bool) -> bool {
     let mut input = DOCUMENT;
     let mut writer = Taking::some(left, refuses);
@@ -108,6 +51,6 @@ fn a_fault_touches_no_writer(rt: HostRuntime) {
         let mut input = DOCUMENT;
         let mut writer = Taking::some(0, true);
         holds!(rt; run(rt.alloc(), words, &mut input, &mut writer).is_err(), at words.len());
-        holds!(rt; writer.interrupts == 2 && !writer.failed && !writer.flushed, at words.len());
+        holds!(rt; writer.is_untouched(), at words.len());
     }
 }

@@ -6,8 +6,8 @@ use crate::tests::report::documents::UNFORMED;
 use std::alloc::Global;
 use std::process::Abort;
 
-// Checks that the document gives the answer, also if one growth is refused: then one call runs out of memory and writes nothing,
-// and the other gives the answer.
+// Checks that the document gives the answer, also if one growth is refused: then one call runs out
+// of memory and writes nothing, and the other gives the answer.
 fn holds_again(rt: &impl Abort, alloc: Global, document: &str, answer: &str) {
     let mut reader = document.as_bytes();
     let first = gives(alloc, false, &mut reader, answer);

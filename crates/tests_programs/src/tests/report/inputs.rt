@@ -1,12 +1,8 @@
 //! Long inputs, and readers that fail.
 
 use crate::tests::assertion::holds;
+use crate::tests::input::{Input, MOST};
 use crate::tests::report::answers::gives;
-use std::io;
-use std::io::Read;
-
-// The most bytes that an input may have.
-const MOST: usize = 4_194_304;
 
 // A document without faults, and its report.
 const DOCUMENT: &[u8] =
@@ -14,63 +10,9 @@ const DOCUMENT: &[u8] =
 
 const REPORT: &str = "locales: 1, rules: 2, numbers: 17, faults: 0\n";
 
-// A reader of a text and then this many spaces, which ends or fails after them; its first calls are interrupted.
-// It records how often it failed.
-#[derive(Drop)]
-pub(crate) struct Input<'a> {
-    text: &'a [u8],
-    spaces: usize,
-    fails: bool,
-    interrupts: usize,
-    failures: usize,
-}
-
-impl<'a> Read for Input<'a> {
-    fn read(&mut self, buf: &mut [u8]) -> io::Result<usize> {
-        if self.interrupts > 0 {
-            self.interrupts -= 1;
-            return Err(io::Error::from(io::ErrorKind::Interrupted));
-        }
-        if !self.text.is_empty() {
-            return self.text.read(buf);
-        }
-        if self.spaces == 0 && self.fails {
-            self.failures = self.failures.saturating_add(1);
-            return Err(io::Error::from(io::ErrorKind::BrokenPipe));
-        }
-        let count = buf.len().min(self.spaces);
-        buf[..count].fill(b' ');
-        self.spaces -= count;
-        Ok(count)
-    }
-}
-
-impl<'a> Input<'a> {
-    // Returns a reader of the text, or one that fails at each call if there is none.
-    pub(crate) fn of(text: Option<&'a [u8]>) -> Input<'a> {
-        Input {
-            text: text.unwrap_or(b""),
-            spaces: 0,
-            fails: text.is_none(),
-            interrupts: 0,
-            failures: 0,
-        }
-    }
-
-    pub(crate) fn failing() -> Input<'static> {
-        Input::of(None)
-    }
-}
-
 // Returns the document with spaces up to a length.
 fn document_up_to(length: usize, fails: bool) -> Input<'static> {
-    Input {
-        text: DOCUMENT,
-        spaces: length.saturating_sub(DOCUMENT.len()),
-        fails,
-        interrupts: 0,
-        failures: 0,
-    }
+    Input::up_to(DOCUMENT, length, fails)
 }
 
 #[test]

@@ -6,8 +6,8 @@ use document_report::run::run;
 use std::alloc::{AllocError, Global};
 use std::test::Fail;
 
-// Returns a document of a locale and 2000 members that are no part of it, and its report, which has a line of 64 bytes for
-// each of them.
+// Returns a document of a locale and 2000 members that are no part of it, and its report, which has
+// a line of 64 bytes for each of them.
 fn document_and_report(alloc: Global) -> Result<(String, String), AllocError> {
     let mut document = String::from_str(alloc, r#"{"cardinal":{"a":{"other":""}}"#)?;
     let mut report = String::new(alloc);
