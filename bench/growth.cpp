@@ -54,6 +54,12 @@ std::function<int64_t()> call_of(const std::string& name, const std::string& inp
     if (name == "ranges") return [&] { return plurals_ranges_from_document(input.data(), input.size(), "a0", 2, room.data(), room.size()); };
     if (name == "elements") return [&] { return elements_of(input, room); };
     if (name == "json") return [&] { return plurals_elements_from_json(input.data(), input.size(), room.data(), room.size()); };
+    if (name == "pattern")
+        return [&] {
+            const plurals_argument count = {"n", 1, "2", 1, PLURALS_NUMBER};
+            return plurals_pattern_format(english.data(), english.size(), nullptr, 0, input.data(), input.size(), &count, 1,
+                                          reinterpret_cast<char*>(room.data()), room.size());
+        };
     if (name != "message") fail("no call is named " + name);
     elements = block_of(elements_of, input);
     return [&] {

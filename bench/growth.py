@@ -20,6 +20,10 @@ def repeated(piece):
     return lambda size: (piece * (size // len(piece) + 1))[:size]
 
 
+def joined_within(piece, front, end):
+    return lambda size: front + piece * ((size - len(front) - len(end)) // len(piece)) + end
+
+
 ONE = {"one": "i = 1 and v = 0 @integer 1"}
 RANGES = {"ranges": {"one-other": "other", "other-one": "one"}}
 PLACES, RELATIONS, LOCALES, BYTES = 32767, 100000, 10000, 4194304
@@ -44,6 +48,12 @@ ROWS = {
     "a message of text": (BYTES, "message", repeated("text, ")),
     "a message of numbers": (BYTES, "message", repeated("{} ")),
     "a message of opening braces": (BYTES, "message", repeated("{")),
+    "a pattern of text": (BYTES, "pattern", repeated("text, ")),
+    "a pattern of arguments": (BYTES, "pattern", joined_within("{n}", "", "")),
+    "a pattern of plurals": (BYTES, "pattern", joined_within("{n,plural,one{}other{#}}", "", "")),
+    "a pattern of differences": (BYTES, "pattern", joined_within("{n,plural,offset:1 one{#}other{}}", "", "")),
+    "a pattern of one plural's numbers": (BYTES, "pattern", joined_within("=3{}", "{n,plural,", "other{}}")),
+    "a pattern in 32 branches": (BYTES, "pattern", joined_within("''", "{n,plural,other{" * 32, "}}" * 32)),
 }
 
 

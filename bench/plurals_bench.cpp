@@ -11,6 +11,8 @@
 #include <libintl.h>
 #include <locale.h>
 #include <plurals.h>
+#include <unicode/messagepattern.h>
+#include <unicode/msgfmt.h>
 #include <unicode/numberformatter.h>
 #include <unicode/plurrule.h>
 #include <valgrind/callgrind.h>
@@ -159,6 +161,65 @@ icu::UnicodeString select_text(const icu::PluralRules& rules, const icu::number:
     return found;
 }
 
+// ---- messages
+
+// A pattern of a language, and ICU4C's locale whose numbers have the digits 0 to 9.
+struct Message {
+    std::string language, locale, pattern;
+};
+
+const std::vector<Message> kMessages = {
+    {"en", "en", "{name} sent {count, plural, =0 {no files} one {# file} other {# files}}."},
+    {"ru", "ru", "{name}: {count, plural, =0 {нет файлов} one {# файл} few {# файла} many {# файлов} other {# файла}}."},
+    {"pl", "pl", "{name}: {count, plural, =0 {brak plików} one {# plik} few {# pliki} many {# plików} other {# pliku}}."},
+    {"ar", "ar@numbers=latn",
+     "{name}: {count, plural, =0 {لا ملفات} one {ملف واحد} two {ملفان} few {# ملفات} many {# ملفًا} other {# ملف}}."},
+};
+
+constexpr int kCounts = 256;
+
+// The texts of 0 to 255.
+const std::vector<std::string>& counts() {
+    static std::vector<std::string> found;
+    for (int number = int(found.size()); number < kCounts; number++) found.push_back(std::to_string(number));
+    return found;
+}
+
+int64_t said_by_library(const Language& language, const Message& it, const std::string& count, char* out, size_t room) {
+    const plurals_argument arguments[] = {{"name", 4, "Ann", 3, PLURALS_TEXT}, {"count", 5, count.data(), count.size(), PLURALS_NUMBER}};
+    return plurals_pattern_format(language.block.data(), language.block.size(), nullptr, 0, it.pattern.data(), it.pattern.size(), arguments, 2,
+                                  out, room);
+}
+
+// Reads the pattern, in which there is an argument that isn't given.
+int64_t read_by_library(const Language& language, const Message& it) {
+    return plurals_pattern_format(language.block.data(), language.block.size(), nullptr, 0, it.pattern.data(), it.pattern.size(), nullptr, 0,
+                                  nullptr, 0);
+}
+
+std::unique_ptr<icu::MessageFormat> read_by_icu4c(const Message& it) {
+    UErrorCode status = U_ZERO_ERROR;
+    auto found = std::make_unique<icu::MessageFormat>(icu::UnicodeString::fromUTF8(it.pattern), icu::Locale(it.locale.c_str()), status);
+    if (U_FAILURE(status)) fail("ICU4C doesn't read " + it.pattern);
+    return found;
+}
+
+icu::UnicodeString said_by_icu4c(const icu::MessageFormat& format, int32_t count) {
+    static const icu::UnicodeString names[] = {u"name", u"count"};
+    UErrorCode status = U_ZERO_ERROR;
+    icu::Formattable values[] = {icu::Formattable(icu::UnicodeString(u"Ann")), icu::Formattable(count)};
+    icu::UnicodeString found;
+    format.format(names, values, 2, found, status);
+    if (U_FAILURE(status)) fail("ICU4C says nothing of " + std::to_string(count));
+    return found;
+}
+
+const Language& language_of(const std::vector<Language>& all, const Message& message) {
+    for (const auto& it : all)
+        if (it.name == message.language) return it;
+    fail("there are no rules of " + message.language);
+}
+
 // ---- agreement
 
 int category_number(const icu::UnicodeString& keyword) {
@@ -196,6 +257,26 @@ void check_others(const Language& it, Agreement& found) {
     }
 }
 
+// Compares the texts of messages; returns how many differ.
+int check_messages(const std::vector<Language>& all) {
+    int compared = 0, different = 0;
+    char room[1024];
+    for (const auto& it : kMessages) {
+        auto format = read_by_icu4c(it);
+        for (int count = 0; count < kCounts; count++) {
+            int64_t length = said_by_library(language_of(all, it), it, counts()[size_t(count)], room, sizeof room);
+            std::string ours(room, length < 0 ? 0 : size_t(length)), theirs;
+            said_by_icu4c(*format, count).toUTF8String(theirs);
+            compared++;
+            if (ours == theirs) continue;
+            different++;
+            std::cerr << it.language << " " << count << ": " << ours << " by the library, " << theirs << " by ICU4C\n";
+        }
+    }
+    std::cout << compared << " messages, " << different << " differ\n";
+    return different;
+}
+
 int check(const std::vector<Language>& all) {
     Agreement found;
     for (const auto& it : all) {
@@ -212,7 +293,7 @@ int check(const std::vector<Language>& all) {
     }
     for (const auto& it : all) check_others(it, found);
     std::cout << "ICU4C " U_ICU_VERSION ": " << found.compared << " categories, " << found.different << " differ\n";
-    return found.different ? 1 : 0;
+    return (check_messages(all) != 0 || found.different) ? 1 : 0;
 }
 
 // ---- rows
@@ -316,6 +397,40 @@ std::vector<Row> rows(const std::vector<Language>& all) {
     return found;
 }
 
+// Rows of messages.
+std::vector<Row> with_messages(std::vector<Row> all, const std::vector<Language>& languages) {
+    static char room[1024];
+    for (const auto& it : kMessages) {
+        const Language& language = language_of(languages, it);
+        auto text = std::make_shared<icu::UnicodeString>(icu::UnicodeString::fromUTF8(it.pattern));
+        auto library = [&language, &it] { return long(read_by_library(language, it)); };
+        auto icu4c = [text] {
+            UErrorCode status = U_ZERO_ERROR;
+            return long(icu::MessagePattern(*text, nullptr, status).countParts());
+        };
+        all.push_back({"a pattern read, " + it.language, 1, library, icu4c});
+    }
+    for (bool is_read : {true, false}) {
+        for (const auto& it : kMessages) {
+            const Language& language = language_of(languages, it);
+            std::shared_ptr<icu::MessageFormat> format = read_by_icu4c(it);
+            int most = is_read ? kCounts : 16;
+            auto library = [&language, &it, most] {
+                long sum = 0;
+                for (int count = 0; count < most; count++) sum += said_by_library(language, it, counts()[size_t(count)], room, sizeof room);
+                return sum;
+            };
+            auto icu4c = [format, is_read, most, &it] {
+                long sum = 0;
+                for (int count = 0; count < most; count++) sum += said_by_icu4c(is_read ? *format : *read_by_icu4c(it), count).length();
+                return sum;
+            };
+            all.push_back({std::string("a message, ") + (is_read ? "" : "read anew by both, ") + it.language, size_t(most), library, icu4c});
+        }
+    }
+    return all;
+}
+
 // Adds the sides that take no rules to the rows of integers.
 std::vector<Row> with_others(std::vector<Row> all, const std::vector<Language>& languages) {
     static const std::vector<int32_t> whole = integers();
@@ -411,7 +526,7 @@ int main(int count, char** words) {
     for (const auto& it : all)
         if (!bindtextdomain(it.name.c_str(), words[3])) fail("gettext takes no folder of catalogues");
     if (word == "check") return check(all);
-    if (word == "time") return time_rows(with_others(rows(all), all));
-    if (word == "count") return count_rows(with_others(rows(all), all));
+    if (word == "time") return time_rows(with_messages(with_others(rows(all), all), all));
+    if (word == "count") return count_rows(with_messages(with_others(rows(all), all), all));
     fail("the first word is check, time or count");
 }

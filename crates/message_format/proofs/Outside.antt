@@ -1,6 +1,7 @@
 -- Digits outside the written places are 0.
-use Rattle.std.proofs.Common.{◌≡◌, ◌⊎◌, ◌≤◌, ℕ, zero, suc, ℤ, pos, negsuc, ◌+ℤ◌, ◌<ℤ◌, ◌≤ℤ◌, neg_ℤ, Bool, true, false, List, [], ◌∷◌, length, reverse, get_or, refl, sym, ap, subst, ◌∙◌, inl, inr, arith}
+use Rattle.std.proofs.Common.{◌≡◌, ◌⊎◌, ◌↔◌, ◌≤◌, ◌<◌, ℕ, zero, suc, ℤ, pos, negsuc, ◌+ℤ◌, ◌<ℤ◌, ◌≤ℤ◌, neg_ℤ, Bool, true, false, List, [], ◌∷◌, length, reverse, get_or, refl, sym, ap, subst, ◌∙◌, inl, inr, arith}
 use lib.Signed.{lt_z}
+use Rattle.std.specs.Bool.{IsTrue}
 use Rattle.std.proofs.lemmas.Int.{ints}
 use Rattle.std.proofs.lemmas.List.{length-reverse}
 use Rattle.fixed_decimal.specs.Places.{Places, digit_at}
@@ -65,3 +66,40 @@ one_more x y power next k before here e h =
       | inl l ↦ before k l
       | inr l ↦ let same : power ≡ k = omega (arith, ints) in subst (λ (i : ℤ). digit_of x i ≡ digit_of y i) same here
     ]
+
+-- ---- the span of the digits other than 0
+
+-- the digits below one power more are 0
+pub zeros_below_next : (x : CompactNumber) (power next k : ℤ) → ((k : ℤ) → k <ℤ power → digit_of x k ≡ 0) → digit_of x power ≡ 0
+    → next ≡ power +ℤ pos 1 → k <ℤ next → digit_of x k ≡ 0
+zeros_below_next x power next k before here e h =
+    elim (split k power) [
+      | inl l ↦ before k l
+      | inr l ↦ let same : power ≡ k = omega (arith, ints) in subst (λ (i : ℤ). digit_of x i ≡ 0) same here
+    ]
+
+-- the digits between the highest one so far and one power more are 0
+pub zeros_between : (x : CompactNumber) (top power next k : ℤ) → ((k : ℤ) → top <ℤ k → k <ℤ power → digit_of x k ≡ 0) → digit_of x power ≡ 0
+    → next ≡ power +ℤ pos 1 → top <ℤ k → k <ℤ next → digit_of x k ≡ 0
+zeros_between x top power next k between here e l h =
+    elim (split k power) [
+      | inl m ↦ between k l m
+      | inr m ↦ let same : power ≡ k = omega (arith, ints) in subst (λ (i : ℤ). digit_of x i ≡ 0) same here
+    ]
+
+-- none is between a power and the next
+pub none_between : (x : CompactNumber) (power next k : ℤ) → next ≡ power +ℤ pos 1 → power <ℤ k → k <ℤ next → digit_of x k ≡ 0
+none_between x power next k e l h = absurd (omega (arith, ints))
+
+-- where the digits below a power are 0, and those from it on, all are
+pub none_other : (x : CompactNumber) (low high end k : ℤ) → IsZeroOutside x low high → high <ℤ end → ((k : ℤ) → k <ℤ end → digit_of x k ≡ 0) → digit_of x k ≡ 0
+none_other x low high end k h l before =
+    elim (split k end) [
+      | inl e ↦ before k e
+      | inr e ↦ h.above k (omega (arith, ints))
+    ]
+
+-- a digit above those of the other number
+pub not_same : (x y : CompactNumber) (low high k : ℤ) → IsZeroOutside y low high → high <ℤ k → 0 < digit_of x k → IsTrue false ↔ HaveSameDigits x y
+not_same x y low high k h l positive =
+    (λ t. let e : false ≡ true = t in cc, λ same. let e = same k in let z = h.above k l in absurd (omega (arith, e, z)))

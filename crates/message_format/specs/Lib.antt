@@ -5,6 +5,7 @@ pub mod FormatOffsets
 pub mod FormatBranches
 pub mod FormatSteps
 pub mod FormatMeaning
+pub mod FormatLaws
 pub mod FormatErrors
 -- not definitions of the subject
 pub mod Inner

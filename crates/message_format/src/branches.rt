@@ -5,7 +5,7 @@ ghost use Rattle.message_pattern.specs.PatternParts.{parts_view, selector_view};
 ghost use Rattle.message_format.specs.FormatBranches.{branches_of, behind_end, is_keyword, branch_of_keyword, branch_or_other, IsBranchOfValue, IsBranchOfNumber};
 ghost use Rattle.message_format.specs.Inner.FormatViews.{any_parts};
 
-use crate::numbers::equals;
+use crate::numbers::{equals, span_of};
 use fixed_decimal::CompactDecimal;
 use message_pattern::{Part, Piece, Selector};
 use plural_base::PluralRules;
@@ -90,13 +90,14 @@ fn branch_of_value<'s, 'p>(
     ensures branch { IfOk result (λ found. IsBranchOfValue number.now (branches_of depth (parts_view parts.now)) (any_parts found)) }
     ensures shorter { IfOk result (λ found. IfSome found (λ x. length x.now ≤ length parts.now)) }
 {
+    let span = span_of(number);
     let mut left = parts;
     while let [part, rest @ ..] = left {
         if part.depth <= depth {
             let Piece::Branch(selector) = part.piece else {
                 return Ok(None);
             };
-            if equals(alloc, number, selector)? {
+            if equals(alloc, number, span, selector)? {
                 return Ok(Some(rest));
             }
         }

@@ -14,6 +14,9 @@ use fixed_decimal::laws::texts_write_one_number;
 use message_pattern::{Part, Pattern};
 use std::alloc::Global;
 
+// How many bytes of the text there is room for at first.
+const ROOM: usize = 64;
+
 // Formats the message at the front of the parts.
 fn message<'s, 'p: 's>(
     alloc: Global,
@@ -66,7 +69,10 @@ pub fn format<'p>(
 {
     // A text writes one number at most, so it has one category.
     texts_write_one_number();
-    let mut said = Vec::new(alloc);
+    let mut said = match Vec::with_capacity(alloc, ROOM) {
+        Ok(said) => said,
+        Err(_) => return Err(FormatError::Memory),
+    };
     message(alloc, arguments, rules, b"", pattern.parts(), &mut said)?;
     Ok(said)
 }

@@ -6,6 +6,7 @@ mod branches;
 mod difference;
 mod error;
 mod formatting;
+pub mod laws;
 mod numbers;
 mod offsets;
 mod steps;

@@ -1,11 +1,11 @@
 //! Numbers of the same value.
 
-ghost use Rattle.std.specs.Prelude.{◌≡◌, ◌↔◌, ◌≤ℤ◌, ◌-ℤ◌, ℤ, ℕ, pos, neg_ℤ, IsTrue, IfOk};
+ghost use Rattle.std.specs.Prelude.{◌≡◌, ◌↔◌, ◌<◌, ◌<ℤ◌, ◌≤ℤ◌, ◌-ℤ◌, ℤ, ℕ, pos, neg_ℤ, IsTrue, IfOk, IfSome, IfNone};
 ghost use Rattle.message_pattern.specs.PatternParts.{selector_view};
 ghost use Rattle.fixed_decimal.specs.Places.{digit_at};
 ghost use Rattle.message_format.specs.FormatBranches.{Equals, EqualsWritten};
 ghost use Rattle.message_format.specs.FormatNumbers.{digit_of, HaveSameDigits, IsBelowZero, HaveSameValue};
-ghost use Rattle.message_format.specs.Inner.FormatViews.{IsZeroOutside};
+ghost use Rattle.message_format.specs.Inner.FormatViews.{IsZeroOutside, IsSpanOf};
 
 use fixed_decimal::laws::texts_write_one_number;
 use fixed_decimal::{CompactDecimal, DecimalError, Sign, UnsignedDecimal};
@@ -48,13 +48,76 @@ fn digit_of(number: &CompactDecimal, power: i32) -> u8
     digit_at(digits, power - i32::from(number.exponent()))
 }
 
-// Whether the digits are the same at each power of ten.
-fn has_same_digits(number: &CompactDecimal, other: &CompactDecimal) -> bool
-    ensures { IsTrue result ↔ HaveSameDigits number.now other.now }
+// The powers of ten of a number's lowest and highest digit other than 0.
+#[derive(Clone, Copy)]
+pub(crate) struct Span {
+    low: i32,
+    high: i32,
+}
+
+// The span of a number without such a digit.
+const NO_DIGIT: Span = Span {
+    low: 33023,
+    high: -32768,
+};
+
+// The lowest power of ten whose digit isn't 0.
+fn lowest_digit(number: &CompactDecimal) -> Option<i32>
+    ensures below { IfSome result (λ low. (k : ℤ) → k <ℤ low → digit_of number.now k ≡ 0) }
+    ensures digit { IfSome result (λ low. 0 < digit_of number.now low) }
+    ensures least { IfSome result (λ low. neg_ℤ (pos 32767) ≤ℤ low) }
+    ensures none { IfNone result ((k : ℤ) → digit_of number.now k ≡ 0) }
 {
     let (low, high) = powers_of(number);
+    for power in low..high + 1 {
+        if digit_of(number, power) != 0 {
+            return Some(power);
+        }
+    }
+    None
+}
+
+// The highest power of ten whose digit isn't 0: this one, or one above it.
+fn highest_digit(number: &CompactDecimal, low: i32) -> i32
+    requires least { neg_ℤ (pos 32767) ≤ℤ low }
+    requires digit { 0 < digit_of number.now low }
+    ensures above { (k : ℤ) → result <ℤ k → digit_of number.now k ≡ 0 }
+    ensures digit { 0 < digit_of number.now result }
+{
+    let (_, high) = powers_of(number);
+    let mut top = low;
+    for power in low..high + 1 {
+        if digit_of(number, power) != 0 {
+            top = power;
+        }
+    }
+    top
+}
+
+// The span of a number's digits other than 0.
+pub(crate) fn span_of(number: &CompactDecimal) -> Span
+    ensures { IsSpanOf number.now result.low result.high }
+{
+    match lowest_digit(number) {
+        Some(low) => Span {
+            low,
+            high: highest_digit(number, low),
+        },
+        None => NO_DIGIT,
+    }
+}
+
+// Whether the digits are the same at each power of ten. It looks at those of the other number, and
+// at no more.
+fn has_same_digits(number: &CompactDecimal, span: Span, other: &CompactDecimal) -> bool
+    requires { IsSpanOf number.now span.low span.high }
+    ensures { IsTrue result ↔ HaveSameDigits number.now other.now }
+{
     let (other_low, other_high) = powers_of(other);
-    for power in low.min(other_low)..high.max(other_high) + 1 {
+    if other_high < span.high {
+        return false;
+    }
+    for power in span.low.min(other_low)..other_high + 1 {
         if digit_of(number, power) != digit_of(other, power) {
             return false;
         }
@@ -72,18 +135,21 @@ fn is_below_zero(number: &CompactDecimal) -> bool
 }
 
 // Whether the numbers have the same value.
-fn has_same_value(number: &CompactDecimal, other: &CompactDecimal) -> bool
+fn has_same_value(number: &CompactDecimal, span: Span, other: &CompactDecimal) -> bool
+    requires { IsSpanOf number.now span.low span.high }
     ensures { IsTrue result ↔ HaveSameValue number.now other.now }
 {
-    is_below_zero(number) == is_below_zero(other) && has_same_digits(number, other)
+    is_below_zero(number) == is_below_zero(other) && has_same_digits(number, span, other)
 }
 
 // Whether a text writes a number of the same value.
 fn equals_written(
     alloc: Global,
     number: &CompactDecimal,
+    span: Span,
     written: &[u8],
 ) -> Result<bool, AllocError>
+    requires { IsSpanOf number.now span.low span.high }
     ensures { IfOk result (λ same. IsTrue same ↔ EqualsWritten number.now written.now) }
 {
     // Another number that the text writes would be the same.
@@ -92,7 +158,7 @@ fn equals_written(
         return Ok(false);
     };
     match CompactDecimal::from_str(alloc, text) {
-        Ok(other) => Ok(has_same_value(number, &other)),
+        Ok(other) => Ok(has_same_value(number, span, &other)),
         Err(DecimalError::Syntax) => Ok(false),
         Err(DecimalError::Limit) => Ok(false),
         Err(DecimalError::Memory) => Err(AllocError),
@@ -103,12 +169,14 @@ fn equals_written(
 pub(crate) fn equals(
     alloc: Global,
     number: &CompactDecimal,
+    span: Span,
     selector: Selector<'_>,
 ) -> Result<bool, AllocError>
+    requires { IsSpanOf number.now span.low span.high }
     ensures { IfOk result (λ same. IsTrue same ↔ Equals number.now (selector_view selector.entry)) }
 {
     match selector {
-        Selector::Exactly(written) => equals_written(alloc, number, written),
+        Selector::Exactly(written) => equals_written(alloc, number, span, written),
         Selector::Keyword(_) => Ok(false),
     }
 }

@@ -14,18 +14,21 @@ pub(crate) enum Class {
     Unquoted,
 }
 
+#[inline(always)]
 fn is_digit(byte: u8) -> bool
     ensures { result ≡ is_digit byte }
 {
     b'0' <= byte && byte <= b'9'
 }
 
+#[inline(always)]
 fn is_letter(byte: u8) -> bool
     ensures { result ≡ is_letter byte }
 {
     b'A' <= byte && byte <= b'Z' || b'a' <= byte && byte <= b'z'
 }
 
+#[inline(always)]
 fn is_in(class: Class, byte: u8) -> bool
     ensures { result ≡ is_in class byte }
 {
@@ -55,6 +58,7 @@ fn white_width(text: &[u8]) -> usize
 }
 
 // A byte of the class begins the text; in a name white space doesn't.
+#[inline(always)]
 fn begins(class: Class, text: &[u8]) -> bool
     ensures { result ≡ begins class text.now }
 {
@@ -68,6 +72,7 @@ fn begins(class: Class, text: &[u8]) -> bool
 }
 
 // What follows the longest front of the class.
+#[inline(always)]
 fn behind_run(class: Class, text: &[u8]) -> &[u8]
     ensures rest { result.now ≡ behind_run class text.now }
     ensures shorter { length result.now ≤ length text.now }
@@ -83,6 +88,7 @@ fn behind_run(class: Class, text: &[u8]) -> &[u8]
 }
 
 // The longest front of the class, and what follows it.
+#[inline(always)]
 pub(crate) fn split_run(class: Class, text: &[u8]) -> (&[u8], &[u8])
     ensures front { result.0.now ≡ run class text.now }
     ensures rest { result.1.now ≡ behind_run class text.now }

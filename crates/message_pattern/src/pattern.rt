@@ -14,6 +14,9 @@ use crate::text::Context;
 use std::alloc::{AllocError, Global};
 use std::marker::Model;
 
+// How many parts there is room for at first.
+const ROOM: usize = 16;
+
 /// A pattern of messages: the flat list of its parts, which borrow from the text.
 #[derive(Debug, Drop)]
 pub struct Pattern<'p> {
@@ -37,7 +40,10 @@ impl<'p> Pattern<'p> {
     pub fn parse(alloc: Global, text: &'p [u8]) -> Result<Pattern<'p>, PatternError>
         ensures { AnswersExactly text.now result }
     {
-        let mut parts = Vec::new(alloc);
+        let mut parts = match Vec::with_capacity(alloc, ROOM) {
+            Ok(parts) => parts,
+            Err(_) => return Err(PatternError::Memory),
+        };
         match message(Context::Whole, 0, text, &mut parts) {
             Ok(_) => Ok(Pattern { parts }),
             Err(error) => Err(pattern_error(text, error)),

@@ -1,5 +1,5 @@
 -- What private functions return, without where it lies in memory.
-use Rattle.std.specs.Prelude.{◌≡◌, ◌≤◌, ◌<ℤ◌, ℤ, ℕ, List, Vec, length, Option, Some, None, Result, Ok, Err}
+use Rattle.std.specs.Prelude.{◌≡◌, ◌≤◌, ◌<◌, ◌<ℤ◌, ◌≤ℤ◌, ℤ, pos, neg_ℤ, ℕ, List, Vec, length, Option, Some, None, Result, Ok, Err}
 use Rattle.std.specs.Borrow.{Bor}
 use Rattle.std.specs.declared.alloc.Global.{Global}
 use Rattle.fixed_decimal.specs.Written.{CompactNumber}
@@ -67,3 +67,10 @@ outcome_of (Err error.Memory) = None
 pub record IsZeroOutside (x : CompactNumber) (low high : ℤ) : Type 0 where
   pub below : (k : ℤ) → k <ℤ low → digit_of x k ≡ 0
   pub above : (k : ℤ) → high <ℤ k → digit_of x k ≡ 0
+
+-- the digits other than 0 are from the one power of ten to the other, and if there is one, the other's
+-- digit is
+pub record IsSpanOf (x : CompactNumber) (low high : ℤ) : Type 0 where
+  pub outside : IsZeroOutside x low high
+  pub least : neg_ℤ (pos 32767) ≤ℤ low
+  pub top : neg_ℤ (pos 32767) ≤ℤ high → 0 < digit_of x high

@@ -1,0 +1,10 @@
+use Rattle.std.proofs.Common.{◌≡◌, ℤ, ◌<ℤ◌, ◌≤ℤ◌, neg_ℤ, pos}
+use Rattle.message_format.specs.FormatNumbers.{digit_of}
+use Rattle.message_format.proofs.numbers.lowest_digit.Given as goal
+
+-- the digits below this power of ten are 0
+abbrev pub invariant-loop-power : goal.invariant-loop-power
+invariant-loop-power l = record {
+  zeros : (k : ℤ) → k <ℤ l.power → digit_of l.number k ≡ 0;
+  low : neg_ℤ (pos 32767) ≤ℤ l.power;
+}
