@@ -2,6 +2,7 @@
 pub mod Scan
 pub mod Reader
 pub mod SampleReader
+pub mod PlainSamples
 pub mod RuleReader
 pub mod OperandReader
 pub mod ShortTexts

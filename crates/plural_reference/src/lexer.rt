@@ -47,6 +47,14 @@ impl<'l> Lexer<'l> {
     {
         Lexer { rest: text }
     }
+
+    // The bytes whose tokens remain.
+    #[inline]
+    pub(crate) fn rest(&self) -> &'l [u8]
+        ensures { tokens_of result.now ≡ self.now }
+    {
+        self.rest
+    }
 }
 
 impl<'l> Iterator for Lexer<'l> {

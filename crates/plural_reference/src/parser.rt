@@ -1,5 +1,6 @@
 //! Reading rules (UTS 35 Part 3, Plural Rules Syntax).
 
+mod plain;
 mod samples;
 mod sink;
 mod whole;
@@ -20,7 +21,7 @@ use crate::ast::{
 };
 use crate::error::{ParseError, ReadError};
 use crate::lexer::Lexer;
-use crate::parser::sink::{Kept, LeftOut};
+use crate::parser::sink::Kept;
 use crate::sequence::Sequence;
 use crate::token::Token;
 use std::alloc::{AllocError, Global};
@@ -83,7 +84,7 @@ pub fn parse_without_samples(alloc: Global, text: &[u8]) -> Result<Condition, Re
 {
     let mut parser = Parser::new(text);
     let condition = parser.condition(alloc)?;
-    parser.samples::<LeftOut>(alloc)?;
+    parser.leave_samples_out(alloc)?;
     Ok(condition)
 }
 

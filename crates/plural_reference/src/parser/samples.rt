@@ -1,14 +1,18 @@
 //! Reading the samples of rules (UTS 35 Part 3, Samples).
 
-ghost use Rattle.std.specs.Prelude.{◌≡◌, ◌≤◌, ◌∷◌, [], Some, None, Err, OnOk, false, List, ℕ, length, string_bytes, MatchBool, MatchOption, MatchResult};
+ghost use Rattle.std.specs.Prelude.{◌≡◌, ◌≤◌, ◌∷◌, [], Some, None, Err, OnOk, false, List, ℕ, length, string_bytes, IfSome, IsTrue, MatchBool, MatchOption, MatchResult};
 ghost use Rattle.plural_reference.specs.declared.error.ParseError.TheVariants.{ExpectedValue};
+ghost use Rattle.plural_reference.specs.declared.token.Token.TheVariants.{At};
 ghost use Rattle.plural_reference.specs.Lexer.{first};
 ghost use Rattle.plural_reference.specs.Reading.{IsAnswer};
 ghost use Rattle.plural_reference.specs.Samples.{IsExponentMark, has_exponent, sample_fault, token_text};
 ghost use Rattle.plural_reference.specs.Inner.SampleReader.{after_sections, run_samples, IsStored, ReadsStored, TakesText, NoDigits, NoMark, NoType, type_token, joined_list, ReadsDigits, ReadsNumber, ReadsExponent, ReadsSample, ReadsRange, ReadsSampleList, ReadsAllSamples, FailsInSample, FailsAtSample, FailsAtRange, FailsAtList};
+ghost use Rattle.plural_reference.specs.Inner.PlainSamples.{AreLists, HasSamples};
+ghost use Rattle.plural_reference.specs.Inner.Scan.{tokens_of};
 
 use super::Parser;
-use super::sink::Sink;
+use super::plain::are_plain;
+use super::sink::{LeftOut, Sink};
 use crate::ast::{DecimalValue, Operand, SampleList, SampleRange, Samples};
 use crate::error::{ParseError, ReadError};
 use crate::sequence::Sequence;
@@ -23,6 +27,38 @@ enum SampleType {
 }
 
 impl<'p> Parser<'p> {
+    // Reads the samples, and leaves them out: most of them by their bytes.
+    pub(super) fn leave_samples_out(&mut self, alloc: Global) -> Result<(), ReadError>
+        ensures { IsAnswer (λ _. HasSamples self.old) (λ e. run_samples (after_sections []) self.old ≡ Err e) result }
+    {
+        if self.is_before_plain_samples() {
+            return Ok(());
+        }
+        self.samples::<LeftOut>(alloc)?;
+        Ok(())
+    }
+
+    // Whether nothing but plain samples remains.
+    fn is_before_plain_samples(&self) -> bool
+        ensures { IsTrue result → AreLists self.now }
+    {
+        match self.behind_at() {
+            Some(text) if are_plain(text) => true,
+            _ => false,
+        }
+    }
+
+    // The bytes behind At, if it is the next token.
+    #[inline]
+    fn behind_at(&self) -> Option<&[u8]>
+        ensures { IfSome result (λ text. self.now ≡ At ∷ tokens_of text.now) }
+    {
+        match &self.ahead {
+            Some(Token::At) => Some(self.lexer.rest()),
+            _ => None,
+        }
+    }
+
     // samples = (At (Integer | Decimal) list)*
     pub(super) fn samples<S: Sink>(&mut self, alloc: Global) -> Result<Option<Samples>, ReadError>
         ensures { IsAnswer

@@ -11,15 +11,15 @@ returns-in_err-condition c =
     (passes_on _ _ c.in_err-condition.field-0.0 c.in_err-condition.ensures
     (λ kind q. condition_fault _ kind q)))
 
-pub returns-in_err-samples : goal.returns-in_err-samples
-returns-in_err-samples c =
-    let p = err_from_is_err_and c.from_residual-in_err-samples.result c.from_residual-in_err-samples.ensures.1 in
+pub returns-in_err-leave_samples_out : goal.returns-in_err-leave_samples_out
+returns-in_err-leave_samples_out c =
+    let p = err_from_is_err_and c.from_residual-in_err-leave_samples_out.result c.from_residual-in_err-leave_samples_out.ensures.1 in
     rw (p.1, p.2)
     (without_samples_refuses _ _ _ c.new-parser.ensures
-    (passes_on _ _ c.in_err-samples.field-0.0 c.in_err-samples.ensures
+    (passes_on _ _ c.in_err-leave_samples_out.field-0.0 c.in_err-leave_samples_out.ensures
     (λ kind q. samples_fault _ _ _ kind c.in_ok-condition.ensures q)))
 
 pub returns : goal.returns
 returns c =
-    let s = c.in_ok-samples.ensures in
-    without_samples_answers _ _ _ _ (record { condition = _; samples = s.0 }) c.new-parser.ensures c.in_ok-condition.ensures s.2
+    let s = c.in_ok-leave_samples_out.ensures in
+    without_samples_answers _ _ _ s.1 (record { condition = _; samples = s.0 }) c.new-parser.ensures c.in_ok-condition.ensures s.2
