@@ -12,8 +12,8 @@ ghost use Rattle.plural_documents.specs.JsonTexts.{json_of};
 
 use crate::error::CheckError;
 use crate::form::check_document;
-use plural_fallback::Part;
 use plural_documents::{JsonTextError, json_value};
+use plural_fallback::Part;
 use serde_json::{Map, Value};
 use std::alloc::Global;
 

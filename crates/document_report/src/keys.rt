@@ -8,8 +8,8 @@ ghost use Rattle.document_report.specs.Names.{name_text};
 
 use crate::found::{Found, MemberCheck};
 use crate::names::{has_underscore, is_long_name, name_text};
-use plural_fallback::Part;
 use icu_plurals::PluralCategory;
+use plural_fallback::Part;
 use serde_json::Value;
 use std::alloc::{AllocError, Global};
 

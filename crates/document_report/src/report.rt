@@ -16,8 +16,8 @@ use crate::keys::PartCheck;
 use crate::languages::LanguageCheck;
 use crate::locales::locale_count;
 use crate::parents::add_parents;
-use plural_fallback::Part;
 use crate::tables::TableCheck;
+use plural_fallback::Part;
 use serde_json::Value;
 use std::alloc::{AllocError, Global};
 

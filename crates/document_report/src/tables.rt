@@ -13,8 +13,8 @@ use crate::found::{Found, MemberCheck, add_members};
 use crate::keys::{add_key, locale_line};
 use crate::languages::texts_of;
 use crate::names::name_text;
-use plural_fallback::Part;
 use plural_checker::LanguageTexts;
+use plural_fallback::Part;
 use serde_json::Value;
 use std::alloc::{AllocError, Global};
 

@@ -1,6 +1,6 @@
 -- A byte for each of many integers, written at the front of a buffer.
 use Rattle.std.proofs.Common.{◌≡◌, ℕ, ◌+◌, ◌<◌, ◌≤◌, List, [], ◌∷◌, ◌++◌, length, take, drop, get_or, sym, ◌∙◌, ap, subst, arith}
-use Rattle.std.specs.Prelude.{map, slice_set, nat_le, if◌then◌else◌}
+use Rattle.std.specs.Prelude.{map, slice_set, if◌then◌else◌}
 use Rattle.std.proofs.Math.Seq.{take-length}
 use Rattle.std.proofs.lemmas.Bool.{le-leb, lt-leb}
 use Rattle.std.proofs.lemmas.List.{drop-drop, drop-set-lt, length-map, map-append, take-append-drop, take_more, take_more_set}

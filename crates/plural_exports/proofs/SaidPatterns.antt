@@ -1,5 +1,5 @@
 -- Patterns that are read, and said.
-use Rattle.std.proofs.Common.{◌≡◌, ℕ, List, Option, Some, None, Result, Ok, Err, refl}
+use Rattle.std.proofs.Common.{◌≡◌, ℕ, List, Result, Err, refl}
 use Rattle.message_format.specs.declared.error.FormatError.{FormatError}
 use Rattle.message_format.specs.declared.error.FormatError.TheVariants as format
 use Rattle.message_format.specs.FormatArguments.{Argument}
