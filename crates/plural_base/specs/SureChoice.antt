@@ -46,11 +46,19 @@ IsSure texts number =
 abbrev pub AreTaken : Five (Option (List ℕ)) → Type 0
 AreTaken texts = (rules : FiveRules) × AreRulesOf texts rules
 
--- why the text gives no number: a text of at most 16 bytes allocates nothing
+-- the text writes no number
+abbrev pub WritesNone : List ℕ → Type 0
+WritesNone text = (x : CompactNumber) → ¬ (WritesCompact text x)
+
+-- the text writes a number that is over the limits
+abbrev pub WritesOver : List ℕ → Type 0
+WritesOver text = (x : CompactNumber) × WritesCompact text x × IsCompactOverLimit x
+
+-- why the text gives no number: out of memory hides no other fault, and a text of at most 16 bytes allocates nothing
 abbrev pub IsNumberFault : List ℕ → DecimalError → Type 0
-IsNumberFault text number_fault.Syntax = (x : CompactNumber) → ¬ (WritesCompact text x)
-IsNumberFault text number_fault.Limit = (x : CompactNumber) × WritesCompact text x × IsCompactOverLimit x
-IsNumberFault text number_fault.Memory = 16 < length text
+IsNumberFault text number_fault.Syntax = WritesNone text
+IsNumberFault text number_fault.Limit = WritesOver text
+IsNumberFault text number_fault.Memory = ¬ (WritesNone text) × ¬ (WritesOver text) × (16 < length text)
 
 -- The first text that gives no rule; else the number's; else that the number is outside the bound.
 abbrev pub HasSureFault : Five (Option (List ℕ)) → List ℕ → SureCategoryError → Type 0

@@ -151,6 +151,12 @@ within_leaves_memory one text x number_fault.Limit within is =
     absurd (within_is_not_over x within.1 within.2 (subst IsCompactOverLimit same is.2))
 within_leaves_memory one text x number_fault.Memory within is = refl
 
+-- out of memory is no other fault
+not_syntax : {A : Type 0} → ◌≡◌ {A = Result A DecimalError} (Err number_fault.Memory) (Err number_fault.Syntax) → ⊥
+not_syntax same = absurd cc
+not_limit : {A : Type 0} → ◌≡◌ {A = Result A DecimalError} (Err number_fault.Memory) (Err number_fault.Limit) → ⊥
+not_limit same = absurd cc
+
 -- the fault of a refused text
 pub refused_number : {A : Type 0} (text : List ℕ) (error : DecimalError)
     → (◌≡◌ {A = Result A DecimalError} (Err error) (Err number_fault.Syntax)) ↔ ((x : CompactNumber) → ¬ (WritesCompact text x))
@@ -160,7 +166,8 @@ pub refused_number : {A : Type 0} (text : List ℕ) (error : DecimalError)
     → IsNumberFault text error
 refused_number text number_fault.Syntax syntax limit short = syntax.0 refl
 refused_number text number_fault.Limit syntax limit short = limit.0 refl
-refused_number text number_fault.Memory syntax limit short = lt_of_not-le (λ few. short few refl)
+refused_number text number_fault.Memory syntax limit short =
+    (λ none. absurd (not_syntax (syntax.1 none)), λ over. absurd (not_limit (limit.1 over)), lt_of_not-le (λ few. short few refl))
 
 -- a text has one fault, but for memory
 one_number_fault : (text : List ℕ) (found fault : DecimalError) → IsNumberFault text found → IsNumberFault text fault
