@@ -11,3 +11,9 @@ pub mod StreamLemmas
 pub mod AnswerLemmas
 -- the lines of forms
 pub mod FormLemmas
+-- notes of keys
+pub mod NoteLemmas
+-- the line for gettext
+pub mod ConditionValues
+pub mod JoinLemmas
+pub mod GettextLemmas

@@ -21,6 +21,7 @@ use Rattle.plural_fallback.specs.LocalesJson.{keys_under, parent_in, part_name}
 use Rattle.plural_fallback.specs.declared.locales.Part.{Part}
 use Rattle.serde_json.specs.Data.{Data}
 use Rattle.form_commands.specs.FormLines.{IsFormList}
+use Rattle.form_commands.specs.GettextLines.{IsGettextLine}
 use Rattle.form_commands.specs.InputLines.{lines_of}
 use Rattle.form_commands.specs.Languages.{IsLanguageOf}
 use Rattle.form_commands.specs.NumberAnswers.{AreLineAnswers, AreNumberAnswers}
@@ -42,9 +43,9 @@ IsDocumentIn input document = (length input ≤ most_bytes) × (json_of input �
 abbrev pub IsListAnswer : Part → List ℕ → code.Language → PrintedText → Type 0
 IsListAnswer part locale language printed = (text : List ℕ) × IsFormList part locale language text × (printed ≡ only_text text)
 
--- one text, without a fault
-abbrev pub IsOneText : code.Language → PrintedText → Type 0
-IsOneText language printed = (text : List ℕ) × (printed ≡ only_text text)
+-- the line for gettext
+abbrev pub IsGettextAnswer : code.Language → PrintedText → Type 0
+IsGettextAnswer language printed = (text : List ℕ) × IsGettextLine language.rules text × (printed ≡ only_text text)
 
 -- a line for each word of a list
 abbrev pub IsNumbersAnswer : List (List ℕ) → code.Language → PrintedText → Type 0

@@ -1,10 +1,11 @@
 //! The answers to questions, over any readers and writer.
 
-ghost use Rattle.std.specs.Prelude.{◌≡◌, IfOk, List, ℕ};
-ghost use Rattle.form_commands.specs.FormsAnswers.{Answers, IsAnswered, IsAnsweredLines, IsChecked, IsListAnswer, IsNumbersAnswer, IsOneText, verdict_of_counts};
+ghost use Rattle.std.specs.Prelude.{◌≡◌, [], IfOk, List, ℕ};
+ghost use Rattle.form_commands.specs.FormsAnswers.{Answers, IsAnswered, IsAnsweredLines, IsChecked, IsGettextAnswer, IsListAnswer, IsNumbersAnswer, verdict_of_counts};
 ghost use Rattle.form_commands.specs.Inner.FormsInputFaults.{refused_rules};
 ghost use Rattle.form_commands.specs.Inner.QuestionViews.{words_view};
 ghost use Rattle.form_commands.specs.Inner.RunSteps.{AnswersLines, Checks, GivesDocument, GivesValue, Reports, WritesAnswer};
+ghost use Rattle.form_commands.specs.KeyNotes.{AreFileNotes, AreNoted, IsNote};
 ghost use Rattle.plural_documents.specs.Inputs.{IsInput};
 ghost use Rattle.serde_json.specs.View.{view};
 
@@ -12,6 +13,7 @@ use crate::error::{FormsError, LanguageError, Verdict};
 use crate::gettext::gettext_line;
 use crate::language::language_of;
 use crate::list::list_text;
+use crate::note::{note_of, notes_of, write_notes};
 use crate::number::numbers_text;
 use crate::printed::Printed;
 use crate::stream::answer_input;
@@ -41,47 +43,62 @@ pub fn list_forms<R: Read, W: Write>(
     }
 }
 
-/// Writes a line for each of the numbers: its category, or why it has none.
-pub fn answer_numbers<R: Read, W: Write>(
+/// Writes a line for each of the numbers: its category, or why it has none; and then, in the notes,
+/// the key of the rules, if that isn't the locale.
+pub fn answer_numbers<R: Read, W: Write, E: Write>(
     alloc: Global,
     part: Part,
     locale: &str,
     numbers: &[&str],
     rules: &mut R,
     writer: &mut W,
+    notes: &mut E,
 ) -> Result<Verdict, FormsError>
     ensures { (input : List ℕ) × IsInput (R.remaining rules.old) input
-        × IsAnswered (Answers (IsNumbersAnswer (words_view numbers.now)) part locale.now) input (W.contents writer.old) (W.contents writer.new) result }
+        × IsAnswered (Answers (IsNumbersAnswer (words_view numbers.now)) part locale.now) input (W.contents writer.old) (W.contents writer.new) result
+        × AreNoted (λ document note. IsNote document [] part locale.now note) input (E.contents notes.old) (E.contents notes.new) result }
 {
-    match document_of(alloc, rules) {
-        Ok(document) => {
-            let answer = categories_of(alloc, &document, part, locale, numbers);
-            write_answer(answer, writer)
-        }
-        Err(error) => Err(error),
-    }
+    let document = match document_of(alloc, rules) {
+        Ok(document) => document,
+        Err(error) => return Err(error),
+    };
+    let Ok(note) = note_of(alloc, &document, part, locale) else {
+        return Err(FormsError::Memory);
+    };
+    let answer = categories_of(alloc, &document, part, locale, numbers);
+    let answer = write_answer(answer, writer);
+    write_notes(answer, note.as_str(), notes)
 }
 
-/// Writes a line for each line of the numbers: its category, or why it has none.
-pub fn answer_lines<R: Read, N: Read, W: Write>(
+/// Writes a line for each line of the numbers: its category, or why it has none; and then, in the
+/// notes, the key of the rules, if that isn't the locale.
+pub fn answer_lines<R: Read, N: Read, W: Write, E: Write>(
     alloc: Global,
     part: Part,
     locale: &str,
     rules: &mut R,
     numbers: &mut N,
     writer: &mut W,
+    notes: &mut E,
 ) -> Result<Verdict, FormsError>
     ensures { (input : List ℕ) × IsInput (R.remaining rules.old) input
-        × IsAnsweredLines part locale.now input (N.remaining numbers.old) (N.remaining numbers.new) (W.contents writer.old) (W.contents writer.new) result }
+        × IsAnsweredLines part locale.now input (N.remaining numbers.old) (N.remaining numbers.new) (W.contents writer.old) (W.contents writer.new) result
+        × AreNoted (λ document note. IsNote document [] part locale.now note) input (E.contents notes.old) (E.contents notes.new) result }
 {
-    match document_of(alloc, rules) {
-        Ok(document) => lines_by(alloc, &document, part, locale, numbers, writer),
-        Err(error) => Err(error),
-    }
+    let document = match document_of(alloc, rules) {
+        Ok(document) => document,
+        Err(error) => return Err(error),
+    };
+    let Ok(note) = note_of(alloc, &document, part, locale) else {
+        return Err(FormsError::Memory);
+    };
+    let answer = lines_by(alloc, &document, part, locale, numbers, writer);
+    write_notes(answer, note.as_str(), notes)
 }
 
 /// Writes how gettext's files number the forms that whole numbers of a language have: a line of the
-/// kind of `Plural-Forms`.
+/// kind of `Plural-Forms`. Its expression has the place of a number's form as its value
+/// ([`crate::laws::forms_are_chosen`]).
 pub fn write_gettext<R: Read, W: Write>(
     alloc: Global,
     part: Part,
@@ -90,7 +107,7 @@ pub fn write_gettext<R: Read, W: Write>(
     writer: &mut W,
 ) -> Result<Verdict, FormsError>
     ensures { (input : List ℕ) × IsInput (R.remaining rules.old) input
-        × IsAnswered (Answers IsOneText part locale.now) input (W.contents writer.old) (W.contents writer.new) result }
+        × IsAnswered (Answers IsGettextAnswer part locale.now) input (W.contents writer.old) (W.contents writer.new) result }
 {
     match document_of(alloc, rules) {
         Ok(document) => write_answer(gettext_of(alloc, &document, part, locale), writer),
@@ -98,20 +115,28 @@ pub fn write_gettext<R: Read, W: Write>(
     }
 }
 
-/// Writes the report of files of messages: a line for each fault, and one with the counts.
-pub fn check_files<R: Read, W: Write>(
+/// Writes the report of files of messages: a line for each fault, and one with the counts; and then,
+/// in the notes, the key of the rules of each locale, if that isn't the locale.
+pub fn check_files<R: Read, W: Write, E: Write>(
     alloc: Global,
     files: &[MessageFile<'_>],
     rules: &mut R,
     writer: &mut W,
+    notes: &mut E,
 ) -> Result<Verdict, FormsError>
     ensures { (input : List ℕ) × IsInput (R.remaining rules.old) input
-        × IsChecked files.now input (W.contents writer.old) (W.contents writer.new) result }
+        × IsChecked files.now input (W.contents writer.old) (W.contents writer.new) result
+        × AreNoted (λ document note. AreFileNotes document files.now note) input (E.contents notes.old) (E.contents notes.new) result }
 {
-    match document_of(alloc, rules) {
-        Ok(document) => check_by(alloc, &document, files, writer),
-        Err(error) => Err(error),
-    }
+    let document = match document_of(alloc, rules) {
+        Ok(document) => document,
+        Err(error) => return Err(error),
+    };
+    let Ok(found) = notes_of(alloc, &document, files) else {
+        return Err(FormsError::Memory);
+    };
+    let answer = check_by(alloc, &document, files, writer);
+    write_notes(answer, found.as_str(), notes)
 }
 
 // Writes the report of files of messages under the rules of a document.
@@ -239,11 +264,11 @@ fn gettext_of(
     part: Part,
     locale: &str,
 ) -> Result<Result<Printed, LanguageError>, AllocError>
-    ensures { IfOk result (λ answer. Answers IsOneText part locale.now (view document.now) answer) }
+    ensures { IfOk result (λ answer. Answers IsGettextAnswer part locale.now (view document.now) answer) }
 {
     match language_of(alloc, document, part, locale)? {
         Ok(language) => {
-            let text = gettext_line(alloc, &language)?;
+            let text = gettext_line(alloc, language.value)?;
             Ok(Ok(Printed::of(text)))
         }
         Err(error) => Ok(Err(error)),

@@ -1,5 +1,5 @@
 use Rattle.serde_json.specs.View.{view}
-use Rattle.form_commands.specs.FormsAnswers.{Answers, IsOneText}
+use Rattle.form_commands.specs.FormsAnswers.{Answers, IsGettextAnswer}
 use Rattle.form_commands.proofs.AnswerLemmas.{document_answered, no_answer}
 use Rattle.form_commands.proofs.run.write_gettext.Goals as goal
 
@@ -8,7 +8,7 @@ returns-in-Ok g c =
     let d = c.in-Ok.ensures in (
       d.0,
       d.1,
-      document_answered (Answers IsOneText c.args.part c.args.locale.now) d.0 (view c.in-Ok.document)
+      document_answered (Answers IsGettextAnswer c.args.part c.args.locale.now) d.0 (view c.in-Ok.document)
           (g.W.Write.contents c.args.writer.now) (g.W.Write.contents c.write_answer.new.writer) c.gettext_of.result c.write_answer.result
           d.2 c.gettext_of.ensures c.write_answer.ensures,
     )
@@ -18,5 +18,5 @@ returns-in-Err g c =
     let d = c.in-Err.ensures in (
       d.0,
       d.1,
-      no_answer (Answers IsOneText c.args.part c.args.locale.now) d.0 (g.W.Write.contents c.args.writer.now) c.in-Err.error d.2,
+      no_answer (Answers IsGettextAnswer c.args.part c.args.locale.now) d.0 (g.W.Write.contents c.args.writer.now) c.in-Err.error d.2,
     )
