@@ -2,6 +2,7 @@
 use Rattle.std.proofs.Common.{◌≡◌, ℕ, zero, suc, ◌+◌, ◌==◌, List, [], ◌∷◌, ◌++◌, map, Bool, true, false, refl, sym, ap, ◌∙◌, arith}
 use Rattle.std.specs.Prelude.{◌&&◌, ◌||◌, not, nat_lt, nat_le, ◌%◌, flat_map, filter, if◌then◌else◌}
 use Rattle.std.specs.List.{list_all, list_any}
+use Rattle.std.proofs.Math.Nat.{zero-mod}
 use Rattle.std.proofs.lemmas.Bool.Decides.{nat_tests}
 use Rattle.std.proofs.lemmas.List.Folds.{list_all-append}
 use Rattle.icu_plurals.specs.Operands.{of_whole}
@@ -107,9 +108,12 @@ atoms_under_value : (n modulus : ℕ) (operator : Operator) (ranges : List (ℕ 
 atoms_under_value n modulus Eq ranges = in_ranges_value n modulus ranges
 atoms_under_value n modulus NotEq ranges = all_outside n modulus ranges
 
+zero_by : (b : Bool) (modulus : ℕ) → (if b then 0 else (0 % modulus)) ≡ 0
+zero_by true modulus = refl
+zero_by false modulus = zero-mod modulus
+
 zero_rem : (modulus : ℕ) → remainder modulus 0 ≡ 0
-zero_rem zero = refl
-zero_rem (suc modulus) = let none : 0 % suc modulus ≡ 0 = omega arith in none
+zero_rem modulus = zero_by (modulus == 0) modulus
 
 of_others : (operator : Operator) (modulus : ℕ) (ranges : List (ℕ × ℕ))
     → under operator (is_in_ranges ranges (remainder modulus 0)) ≡ (under operator (is_in_ranges ranges 0) && true)

@@ -11,8 +11,8 @@ use Rattle.icu_plurals.specs.PackedRelations.{PackedRelation}
 use Rattle.icu_plurals.specs.PackedTruth.{packed_truth}
 use Rattle.icu_plurals.specs.declared.PluralCategory.{PluralCategory}
 use Rattle.icu_plurals.specs.declared.PluralCategory.TheVariants.{Zero, One, Two, Few, Many, Other}
+use Rattle.icu_plurals.specs.Json.{Stands}
 use Rattle.icu_plurals.specs.RulesJson.{rules_of_json}
-use Rattle.icu_plurals.specs.declared.JsonError.{JsonError}
 use Rattle.plural_checker.specs.WholeNumbers.{IsLeastFrom}
 use Rattle.plural_fallback.specs.declared.locales.Part.{Part}
 use Rattle.serde_json.specs.Data.{Data}
@@ -285,5 +285,5 @@ pub found_language : (document : Data) (part : Part) (locale : List ℕ) (langua
 found_language document part locale language (inl found) = found.2.2
 found_language document part locale language (inr none) = absurd (cc none.2)
 
-pub one_ok : {x y : FiveRules} → Ok {E = JsonError} x ≡ Ok y → x ≡ y
-one_ok e = cc
+pub one_rules : (value : Stands FiveRules) (x y : FiveRules) → value ≡ Ok x → value ≡ Ok y → x ≡ y
+one_rules value x y first second = cc

@@ -147,9 +147,9 @@ pub cut_at_or : (done : List (List PackedRelation)) (group : List PackedRelation
     → Joins (codes " || ") (group_texts (group ∷ [])) old_ended new_ended → IsGroup [] new_current → AreCut done group old_ended old_current
     → AreCut (done ++ group ∷ []) [] new_ended new_current
 cut_at_or done group old_ended new_ended old_current new_current joins new is = record {
-  ended = subst (λ (p : List (List ℕ)). AreJoined (codes " || ") p new_ended) (sym (more_texts done group))
-      (joins (group_texts done) is.ended);
-  current = new;
+  are_ended = subst (λ (p : List (List ℕ)). AreJoined (codes " || ") p new_ended) (sym (more_texts done group))
+      (joins (group_texts done) is.are_ended);
+  is_current = new;
 }
 
 -- relations at the front of the first group
@@ -200,7 +200,7 @@ none_taken relations ended current none empty = record {
   done = [];
   group = [];
   cut = sym (glued_none relations);
-  are = record { ended = none; current = empty };
+  are = record { are_ended = none; is_current = empty };
 }
 
 pub one_more_taken : (relations left after : List PackedRelation) (r : PackedRelation) (ended new_ended : Joined) (current mid_current new_current : Group)
@@ -216,7 +216,7 @@ one_more_taken relations left after r ended new_ended current mid_current new_cu
       group = begun_before r.and_or t.group ++ r ∷ [];
       cut = t.cut ∙ ap (λ (l : List PackedRelation). t.done ++ glued t.group (groups l)) is
           ∙ cut_further r.and_or t.done t.group r (groups after);
-      are = record { ended = c.ended; current = adds (begun_before r.and_or t.group) c.current };
+      are = record { are_ended = c.are_ended; is_current = adds (begun_before r.and_or t.group) c.is_current };
     }
 
 -- the texts of all groups
@@ -230,4 +230,4 @@ all_taken relations left ended new_ended current none t ends =
     ∙ ap (λ (g : List PackedRelation). t.done ++ g ∷ []) (append-nil t.group) in
     subst (λ (p : List (List ℕ)). AreJoined (codes " || ") p new_ended)
     (sym (ap group_texts last ∙ more_texts t.done t.group))
-    (ends t.group t.are.current (group_texts t.done) t.are.ended)
+    (ends t.group t.are.is_current (group_texts t.done) t.are.are_ended)

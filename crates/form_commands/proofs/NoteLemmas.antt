@@ -1,7 +1,8 @@
 -- Notes of keys, one after the other, and after an answer.
 use Rattle.std.proofs.Common.{◌≡◌, ℕ, ◌+◌, ◌<◌, List, [], ◌∷◌, ◌++◌, length, get_or, drop, Option, Result, Ok, Err, inl, inr, refl, sym, ap, subst, ◌∙◌, append_assoc, add-one, arith, String, Global}
-use Rattle.std.specs.Prelude.{Bool, true, false, Some, if◌then◌else◌}
+use Rattle.std.specs.Prelude.{Bool, true, false, not, Some}
 use Rattle.std.specs.Io.KnownBytes.{Appends}
+use Rattle.std.proofs.KnownBytes.{Keeps-refl}
 use Rattle.std.proofs.Math.Seq.{drop-cons}
 use Rattle.std.proofs.lemmas.List.{append-nil}
 use Rattle.message_report.specs.MessagesReportText.{report_text}
@@ -13,19 +14,22 @@ use Rattle.serde_json.specs.View.{members_view}
 use Rattle.serde_json.specs.declared.Value.{Value}
 use Rattle.form_commands.specs.FormsAnswers.{IsAnswered, IsAnsweredLines, IsChecked, IsDocumentIn}
 use Rattle.form_commands.specs.InputLines.{lines_of}
-use Rattle.form_commands.specs.Inner.NoteSteps.{Notes}
+use Rattle.form_commands.specs.Inner.NoteSteps.{Notes, NotesAfter, Writes}
+use Rattle.form_commands.specs.Inner.RunSteps.{AnswersLines, Checks}
 use Rattle.form_commands.specs.Inner.PrintedSteps.{Grows}
 use Rattle.form_commands.specs.KeyNotes.{AreFileNotes, AreLocaleNotes, AreMemberNotes, AreNoted, IsFileNote, has_members}
 use Rattle.form_commands.specs.PrintedTexts.{PrintedText}
 use Rattle.form_commands.specs.declared.error.FormsError.{FormsError}
+use Rattle.form_commands.specs.declared.error.FormsError.TheVariants.{Memory}
 use Rattle.form_commands.specs.declared.error.LanguageError.{LanguageError}
 use Rattle.form_commands.specs.declared.error.Verdict.{Verdict}
+use Rattle.form_commands.proofs.AnswerLemmas.{document_answered, lines_answered, report_checked}
 
 -- ---- The locales of a document
 
 -- whether an object has members
 pub some_there : (entries : List (String Global × Value)) (is_empty : Bool) → (length entries ≡ 0 → is_empty ≡ true)
-    → (is_empty ≡ true → length entries ≡ 0) → (if is_empty then false else true) ≡ has_members (Some (members_view entries))
+    → (is_empty ≡ true → length entries ≡ 0) → not is_empty ≡ has_members (Some (members_view entries))
 some_there [] is_empty from to = rw (from refl) refl
 some_there (entry ∷ entries) true from to = absurd (omega (arith, to refl))
 some_there (entry ∷ entries) false from to = refl
@@ -78,6 +82,11 @@ files_end document all left first now none so_far =
     let whole = subst (λ (left : List MessageFile). FilesLeft document left all now first) none so_far [] refl in
     (whole.0, whole.1, sym (append-nil now) ∙ whole.2)
 
+-- what is appended to nothing
+pub from_nothing : (Is : List ℕ → Type 0) (old new : List ℕ) → old ≡ [] → Grows Is old new → Is new
+from_nothing Is old new none grown =
+    subst Is (ap (λ (t : List ℕ). t ++ grown.0) (sym none) ∙ sym grown.2) grown.1
+
 -- ---- After an answer
 
 -- all of a text is a part of it
@@ -122,3 +131,51 @@ check_noted files input notes old new before after (Ok verdict) result a (inr w)
     let r = a.1 in
     rw w.0 (r.0, r.1, r.2, r.3, (r.4.0, r.4.1, whole_part old new (report_text r.4.0) r.4.3))
 check_noted files input notes old new before after (Err error) result a w = rw w.0 a
+
+-- ---- The answers to a document, with their notes
+
+pub printed_noted : (IsAnswer : Data → Result PrintedText LanguageError → Type 0) (AreNotes : Data → List ℕ → Type 0) (input : List ℕ)
+    (document : Data) (old new before after : Option (List ℕ)) (result : Result Verdict FormsError) → IsDocumentIn input document
+    → NotesAfter (Writes (IsAnswer document) old new) (AreNotes document) before after result
+    → IsAnswered IsAnswer input old new result × AreNoted AreNotes input before after result
+printed_noted IsAnswer AreNotes input document old new before after result given (inl n) = (
+  answer_noted IsAnswer input n.1 old new before after n.0 result
+      (document_answered IsAnswer input document old new n.2.0 n.0 given n.2.1 n.2.2) n.4,
+  noted AreNotes input document n.1 before after n.0 result given n.3 n.4,
+)
+printed_noted IsAnswer AreNotes input document old new before after result given (inr n) = (
+  rw n.1 (document_answered IsAnswer input document old new n.0.0 (Err Memory) given n.0.1 n.0.2),
+  rw n.1 (inl n.2),
+)
+
+pub lines_noted_by : (part : Part) (locale : List ℕ) (AreNotes : Data → List ℕ → Type 0) (input : List ℕ) (document : Data)
+    (taken left old new before after : Option (List ℕ)) (result : Result Verdict FormsError) → IsDocumentIn input document
+    → NotesAfter (AnswersLines document part locale taken left old new) (AreNotes document) before after result
+    → IsAnsweredLines part locale input taken left old new result × AreNoted AreNotes input before after result
+lines_noted_by part locale AreNotes input document taken left old new before after result given (inl n) = (
+  lines_noted part locale input n.1 taken left old new before after n.0 result
+      (lines_answered part locale input document taken left old new n.0 given n.2) n.4,
+  noted AreNotes input document n.1 before after n.0 result given n.3 n.4,
+)
+lines_noted_by part locale AreNotes input document taken left old new before after result given (inr n) = (
+  rw n.1 (lines_answered part locale input document taken left old new (Err Memory) given n.0),
+  rw n.1 (inl n.2),
+)
+
+pub report_noted : (files : List MessageFile) (AreNotes : Data → List ℕ → Type 0) (input : List ℕ) (document : Data)
+    (old new before after : Option (List ℕ)) (result : Result Verdict FormsError) → IsDocumentIn input document
+    → NotesAfter (Checks document files old new) (AreNotes document) before after result
+    → IsChecked files input old new result × AreNoted AreNotes input before after result
+report_noted files AreNotes input document old new before after result given (inl n) = (
+  check_noted files input n.1 old new before after n.0 result (report_checked files input document old new n.0 given n.2) n.4,
+  noted AreNotes input document n.1 before after n.0 result given n.3 n.4,
+)
+report_noted files AreNotes input document old new before after result given (inr n) = (
+  rw n.1 (report_checked files input document old new (Err Memory) given n.0),
+  rw n.1 (inl n.2),
+)
+
+-- without a document there are none
+pub none_noted : (AreNotes : Data → List ℕ → Type 0) (input : List ℕ) (old : Option (List ℕ)) (error : FormsError)
+    → AreNoted AreNotes input old old (Err error)
+none_noted AreNotes input old error = inl (Keeps-refl old)

@@ -39,7 +39,7 @@ IsNote document place part locale note =
 abbrev pub has_members : Option Members → Bool
 has_members None = false
 has_members (Some no_members) = false
-has_members (Some (member key value members)) = true
+has_members (Some (member key value others)) = true
 
 abbrev pub has_some : List ℕ → Data → Bool
 has_some name value = has_members (option_and_then as_object (get name value))

@@ -1,6 +1,6 @@
 //! The condition of a rule at whole numbers, as an expression of C over `n`.
 
-ghost use Rattle.std.specs.Prelude.{◌≡◌, ◌<◌, ◌∷◌, [], ◌++◌, List, ℕ, Some, IfOk, OnOk, codes, length, map, slice_get, string_bytes};
+ghost use Rattle.std.specs.Prelude.{◌≡◌, ◌<◌, ◌&&◌, ◌∷◌, [], ◌++◌, List, ℕ, Some, IfOk, OnOk, codes, length, map, slice_get, string_bytes};
 ghost use Rattle.std.specs.Fmt.{decimal};
 ghost use Rattle.icu_plurals.specs.Truth.{is_in_ranges, under};
 ghost use Rattle.icu_plurals.specs.PackedRelations.{PackedRelation};
@@ -86,9 +86,16 @@ impl Group {
             return push_relation(alloc, relation, &mut self.atoms);
         }
         let is_true = is_true_of_zero(relation);
-        self.is_possible = self.is_possible && is_true;
+        self.is_possible = both(self.is_possible, is_true);
         Ok(())
     }
+}
+
+// Returns whether both are true.
+fn both(first: bool, second: bool) -> bool
+    ensures { result ≡ (first && second) }
+{
+    first && second
 }
 
 // Returns whether an operand of a whole number is the number; the others are 0.

@@ -3,6 +3,7 @@
 ghost use Rattle.std.specs.Prelude.{◌≡◌, [], IfOk, List, ℕ};
 ghost use Rattle.form_commands.specs.FormsAnswers.{Answers, IsAnswered, IsAnsweredLines, IsChecked, IsGettextAnswer, IsListAnswer, IsNumbersAnswer, verdict_of_counts};
 ghost use Rattle.form_commands.specs.Inner.FormsInputFaults.{refused_rules};
+ghost use Rattle.form_commands.specs.Inner.NoteSteps.{NotesAfter, Writes};
 ghost use Rattle.form_commands.specs.Inner.QuestionViews.{words_view};
 ghost use Rattle.form_commands.specs.Inner.RunSteps.{AnswersLines, Checks, GivesDocument, GivesValue, Reports, WritesAnswer};
 ghost use Rattle.form_commands.specs.KeyNotes.{AreFileNotes, AreNoted, IsNote};
@@ -58,16 +59,33 @@ pub fn answer_numbers<R: Read, W: Write, E: Write>(
         × IsAnswered (Answers (IsNumbersAnswer (words_view numbers.now)) part locale.now) input (W.contents writer.old) (W.contents writer.new) result
         × AreNoted (λ document note. IsNote document [] part locale.now note) input (E.contents notes.old) (E.contents notes.new) result }
 {
-    let document = match document_of(alloc, rules) {
-        Ok(document) => document,
-        Err(error) => return Err(error),
-    };
-    let Ok(note) = note_of(alloc, &document, part, locale) else {
-        return Err(FormsError::Memory);
-    };
-    let answer = categories_of(alloc, &document, part, locale, numbers);
-    let answer = write_answer(answer, writer);
-    write_notes(answer, note.as_str(), notes)
+    match document_of(alloc, rules) {
+        Ok(document) => numbers_by(alloc, &document, part, locale, numbers, writer, notes),
+        Err(error) => Err(error),
+    }
+}
+
+// Writes the lines of numbers by the rules of a document, and the note of the key.
+fn numbers_by<W: Write, E: Write>(
+    alloc: Global,
+    document: &Value,
+    part: Part,
+    locale: &str,
+    numbers: &[&str],
+    writer: &mut W,
+    notes: &mut E,
+) -> Result<Verdict, FormsError>
+    ensures { NotesAfter (Writes (Answers (IsNumbersAnswer (words_view numbers.now)) part locale.now (view document.now)) (W.contents writer.old) (W.contents writer.new))
+        (IsNote (view document.now) [] part locale.now) (E.contents notes.old) (E.contents notes.new) result }
+{
+    match note_of(alloc, document, part, locale) {
+        Ok(note) => {
+            let written = categories_of(alloc, document, part, locale, numbers);
+            let answer = write_answer(written, writer);
+            write_notes(answer, note.as_str(), notes)
+        }
+        Err(_) => Err(FormsError::Memory),
+    }
 }
 
 /// Writes a line for each line of the numbers: its category, or why it has none; and then, in the
@@ -85,33 +103,75 @@ pub fn answer_lines<R: Read, N: Read, W: Write, E: Write>(
         × IsAnsweredLines part locale.now input (N.remaining numbers.old) (N.remaining numbers.new) (W.contents writer.old) (W.contents writer.new) result
         × AreNoted (λ document note. IsNote document [] part locale.now note) input (E.contents notes.old) (E.contents notes.new) result }
 {
-    let document = match document_of(alloc, rules) {
-        Ok(document) => document,
-        Err(error) => return Err(error),
-    };
-    let Ok(note) = note_of(alloc, &document, part, locale) else {
-        return Err(FormsError::Memory);
-    };
-    let answer = lines_by(alloc, &document, part, locale, numbers, writer);
-    write_notes(answer, note.as_str(), notes)
+    match document_of(alloc, rules) {
+        Ok(document) => noted_lines(alloc, &document, part, locale, numbers, writer, notes),
+        Err(error) => Err(error),
+    }
+}
+
+// Writes the answers to the lines of the numbers by the rules of a document, and the note of the key.
+fn noted_lines<N: Read, W: Write, E: Write>(
+    alloc: Global,
+    document: &Value,
+    part: Part,
+    locale: &str,
+    numbers: &mut N,
+    writer: &mut W,
+    notes: &mut E,
+) -> Result<Verdict, FormsError>
+    ensures { NotesAfter (AnswersLines (view document.now) part locale.now (N.remaining numbers.old) (N.remaining numbers.new) (W.contents writer.old) (W.contents writer.new))
+        (IsNote (view document.now) [] part locale.now) (E.contents notes.old) (E.contents notes.new) result }
+{
+    match note_of(alloc, document, part, locale) {
+        Ok(note) => {
+            let answer = lines_by(alloc, document, part, locale, numbers, writer);
+            write_notes(answer, note.as_str(), notes)
+        }
+        Err(_) => Err(FormsError::Memory),
+    }
 }
 
 /// Writes how gettext's files number the forms that whole numbers of a language have: a line of the
-/// kind of `Plural-Forms`. Its expression has the place of a number's form as its value
+/// kind of `Plural-Forms`; and then, in the notes, the key of the rules, if that isn't the locale. The
+/// line's expression has the place of a number's form as its value
 /// ([`crate::laws::forms_are_chosen`]).
-pub fn write_gettext<R: Read, W: Write>(
+pub fn write_gettext<R: Read, W: Write, E: Write>(
     alloc: Global,
     part: Part,
     locale: &str,
     rules: &mut R,
     writer: &mut W,
+    notes: &mut E,
 ) -> Result<Verdict, FormsError>
     ensures { (input : List ℕ) × IsInput (R.remaining rules.old) input
-        × IsAnswered (Answers IsGettextAnswer part locale.now) input (W.contents writer.old) (W.contents writer.new) result }
+        × IsAnswered (Answers IsGettextAnswer part locale.now) input (W.contents writer.old) (W.contents writer.new) result
+        × AreNoted (λ document note. IsNote document [] part locale.now note) input (E.contents notes.old) (E.contents notes.new) result }
 {
     match document_of(alloc, rules) {
-        Ok(document) => write_answer(gettext_of(alloc, &document, part, locale), writer),
+        Ok(document) => gettext_by(alloc, &document, part, locale, writer, notes),
         Err(error) => Err(error),
+    }
+}
+
+// Writes the line for gettext by the rules of a document, and the note of the key.
+fn gettext_by<W: Write, E: Write>(
+    alloc: Global,
+    document: &Value,
+    part: Part,
+    locale: &str,
+    writer: &mut W,
+    notes: &mut E,
+) -> Result<Verdict, FormsError>
+    ensures { NotesAfter (Writes (Answers IsGettextAnswer part locale.now (view document.now)) (W.contents writer.old) (W.contents writer.new))
+        (IsNote (view document.now) [] part locale.now) (E.contents notes.old) (E.contents notes.new) result }
+{
+    match note_of(alloc, document, part, locale) {
+        Ok(note) => {
+            let written = gettext_of(alloc, document, part, locale);
+            let answer = write_answer(written, writer);
+            write_notes(answer, note.as_str(), notes)
+        }
+        Err(_) => Err(FormsError::Memory),
     }
 }
 
@@ -128,15 +188,30 @@ pub fn check_files<R: Read, W: Write, E: Write>(
         × IsChecked files.now input (W.contents writer.old) (W.contents writer.new) result
         × AreNoted (λ document note. AreFileNotes document files.now note) input (E.contents notes.old) (E.contents notes.new) result }
 {
-    let document = match document_of(alloc, rules) {
-        Ok(document) => document,
-        Err(error) => return Err(error),
-    };
-    let Ok(found) = notes_of(alloc, &document, files) else {
-        return Err(FormsError::Memory);
-    };
-    let answer = check_by(alloc, &document, files, writer);
-    write_notes(answer, found.as_str(), notes)
+    match document_of(alloc, rules) {
+        Ok(document) => noted_files(alloc, &document, files, writer, notes),
+        Err(error) => Err(error),
+    }
+}
+
+// Writes the report of files of messages under the rules of a document, and the notes of the keys.
+fn noted_files<W: Write, E: Write>(
+    alloc: Global,
+    document: &Value,
+    files: &[MessageFile<'_>],
+    writer: &mut W,
+    notes: &mut E,
+) -> Result<Verdict, FormsError>
+    ensures { NotesAfter (Checks (view document.now) files.now (W.contents writer.old) (W.contents writer.new))
+        (AreFileNotes (view document.now) files.now) (E.contents notes.old) (E.contents notes.new) result }
+{
+    match notes_of(alloc, document, files) {
+        Ok(found) => {
+            let answer = check_by(alloc, document, files, writer);
+            write_notes(answer, found.as_str(), notes)
+        }
+        Err(_) => Err(FormsError::Memory),
+    }
 }
 
 // Writes the report of files of messages under the rules of a document.

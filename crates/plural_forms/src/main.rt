@@ -64,13 +64,15 @@ fn list(rt: &HostRuntime, wanted: Wanted<'_>) -> Result<Verdict, Failure> {
 // Writes how gettext's files number the forms of a language.
 fn gettext(rt: &HostRuntime, wanted: Wanted<'_>) -> Result<Verdict, Failure> {
     let alloc = rt.alloc();
-    let (part, locale, mut output) = (wanted.part, wanted.locale, rt.stdout());
+    let (part, locale, mut output, mut notes) =
+        (wanted.part, wanted.locale, rt.stdout(), rt.stderr());
     let Some(name) = rules_name(rt, wanted.file)? else {
-        let answer = write_gettext(alloc, part, locale, &mut rt.stdin(), &mut output);
+        let mut input = rt.stdin();
+        let answer = write_gettext(alloc, part, locale, &mut input, &mut output, &mut notes);
         return Failure::of_input(answer);
     };
     let mut file = open(rt, &name)?;
-    let answer = write_gettext(alloc, part, locale, &mut file, &mut output);
+    let answer = write_gettext(alloc, part, locale, &mut file, &mut output, &mut notes);
     Failure::of_file(name, answer)
 }
 

@@ -33,8 +33,8 @@ group_texts groups = map (λ all. and_text (map atom_text all)) (conditions_of_g
 
 -- the groups that have ended, and the one that is open
 pub record AreCut (done : List (List PackedRelation)) (group : List PackedRelation) (ended : Joined) (current : Group) : Type 0 where
-  pub ended : AreJoined (codes " || ") (group_texts done) ended
-  pub current : IsGroup group current
+  pub are_ended : AreJoined (codes " || ") (group_texts done) ended
+  pub is_current : IsGroup group current
 
 -- those before a relation
 abbrev pub ended_before : AndOr → List (List PackedRelation) → List PackedRelation → List (List PackedRelation)

@@ -83,15 +83,16 @@ fn forms_lines(call: &mut Call) {
 // The line for gettext.
 fn forms_gettext(call: &mut Call) {
     let (rules, locale) = (call.text(), call.text());
-    let mut text = Vec::new(call.alloc);
+    let (mut text, mut notes) = (Vec::new(call.alloc), Vec::new(call.alloc));
     let answer = write_gettext(
         call.alloc,
         Part::Cardinal,
         locale.as_str(),
         &mut rules.as_bytes(),
         &mut text,
+        &mut notes,
     );
-    print_answer(call, text.as_slice(), answer);
+    print_noted(call, text.as_slice(), notes.as_slice(), answer);
 }
 
 // The report of two files of messages.

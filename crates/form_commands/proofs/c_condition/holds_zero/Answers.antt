@@ -1,5 +1,7 @@
-use Rattle.std.proofs.Common.{sym, ◌∙◌}
+use Rattle.std.proofs.Common.{◌≡◌, ℕ, List, [], drop, arith, ap, sym, ◌∙◌}
+use Rattle.std.proofs.lemmas.List.{drop_all}
 use Rattle.icu_plurals.specs.RuleViews.{lent_relation}
+use Rattle.icu_plurals.specs.Truth.{is_in_ranges}
 use Rattle.form_commands.proofs.JoinLemmas.{holds_here, holds_later}
 use Rattle.form_commands.proofs.c_condition.holds_zero.Goals as goal
 
@@ -14,4 +16,7 @@ loop-place-preserved c =
     c.loop-place.invariant ∙ holds_later ranges c.loop-place.place c.range_at-start.result c.range_at-start.ensures c.if-start-eq0.false
 
 pub returns : goal.returns
-returns c = ?
+returns c =
+    let ranges = (lent_relation c.args.relation.now).meaning.ranges in
+    let none : drop c.loop-place.place ranges ≡ [] = drop_all c.loop-place.place ranges (omega arith) in
+    sym (c.loop-place.invariant ∙ ap (λ (rs : List (ℕ × ℕ)). is_in_ranges rs 0) none)

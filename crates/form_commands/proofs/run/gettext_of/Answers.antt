@@ -1,7 +1,9 @@
 use Rattle.std.proofs.Common.{string_bytes, sym, subst, ◌∙◌}
 use Rattle.icu_plurals.specs.FiveRules.{FiveRules}
+use Rattle.icu_plurals.specs.RulesJson.{rules_of_json}
+use Rattle.serde_json.specs.View.{view}
 use Rattle.form_commands.specs.GettextLines.{IsGettextLine}
-use Rattle.form_commands.proofs.GettextLemmas.{found_language, one_ok}
+use Rattle.form_commands.proofs.GettextLemmas.{found_language, one_rules}
 use Rattle.form_commands.proofs.run.gettext_of.Goals as goal
 
 pub returns-in_ok-text-in-Ok : goal.returns-in_ok-text-in-Ok
@@ -13,7 +15,9 @@ returns-in_ok-text-in-Ok c =
       answered,
       (
         text,
-        subst (λ (rules : FiveRules). IsGettextLine rules text) (one_ok (sym line.1 ∙ found_language _ _ _ c.in-Ok.language answered)) line.2,
+        subst (λ (rules : FiveRules). IsGettextLine rules text) 
+        (one_rules (rules_of_json (view c.in-Ok.language.value.now)) line.0 c.in-Ok.language.rules line.1
+        (found_language (view c.args.document.now) c.args.part c.args.locale.now c.in-Ok.language answered)) line.2,
         c.of.ensures,
       ),
     )
