@@ -9,6 +9,7 @@ use Rattle.message_report.specs.MessagesReportText.{report_text}
 use Rattle.message_report.specs.declared.file.MessageFile.{MessageFile}
 use Rattle.plural_documents.specs.Outputs.{IsPartWritten}
 use Rattle.plural_fallback.specs.declared.locales.Part.{Part}
+use Rattle.plural_fallback.specs.declared.locales.Part.TheVariants.{Cardinal, Ordinal}
 use Rattle.serde_json.specs.Data.{Data, Members, no_members, member}
 use Rattle.serde_json.specs.View.{members_view}
 use Rattle.serde_json.specs.declared.Value.{Value}
@@ -17,7 +18,7 @@ use Rattle.form_commands.specs.InputLines.{lines_of}
 use Rattle.form_commands.specs.Inner.NoteSteps.{Notes, NotesAfter, Writes}
 use Rattle.form_commands.specs.Inner.RunSteps.{AnswersLines, Checks}
 use Rattle.form_commands.specs.Inner.PrintedSteps.{Grows}
-use Rattle.form_commands.specs.KeyNotes.{AreFileNotes, AreLocaleNotes, AreMemberNotes, AreNoted, IsFileNote, has_members}
+use Rattle.form_commands.specs.KeyNotes.{AreFileNotes, AreLocaleNotes, AreMemberNotes, AreNoted, IsFileNote, IsNote, IsNoteIf, has_members, is_asked}
 use Rattle.form_commands.specs.PrintedTexts.{PrintedText}
 use Rattle.form_commands.specs.declared.error.FormsError.{FormsError}
 use Rattle.form_commands.specs.declared.error.FormsError.TheVariants.{Memory}
@@ -33,6 +34,17 @@ pub some_there : (entries : List (String Global × Value)) (is_empty : Bool) →
 some_there [] is_empty from to = rw (from refl) refl
 some_there (entry ∷ entries) true from to = absurd (omega (arith, to refl))
 some_there (entry ∷ entries) false from to = refl
+
+-- the notes for cardinal numbers, and then those for ordinal ones
+pub two_notes : (document : Data) (place locale : List ℕ) (value : Data) (old mid new : List ℕ)
+    → Grows (IsNoteIf (is_asked Cardinal value) (IsNote document place Cardinal locale)) old mid
+    → Grows (IsNoteIf (is_asked Ordinal value) (IsNote document place Ordinal locale)) mid new
+    → Grows (AreLocaleNotes document place locale value) old new
+two_notes document place locale value old mid new a b = (
+  a.0 ++ b.0,
+  (a.0, b.0, a.1, b.1, refl),
+  b.2 ∙ ap (λ (t : List ℕ). t ++ b.0) a.2 ∙ append_assoc old a.0 b.0,
+)
 
 -- with the notes of the members that are left, the notes of all are complete
 abbrev pub MembersLeft : Data → List ℕ → Members → Members → List ℕ → List ℕ → Type 0
