@@ -1,7 +1,7 @@
 -- The values of conditions at whole numbers.
-use Rattle.std.proofs.Common.{◌≡◌, ℕ, zero, suc, ◌+◌, ◌==◌, List, [], ◌∷◌, ◌++◌, map, Bool, true, false, refl, sym, ap, ◌∙◌, arith}
-use Rattle.std.specs.Prelude.{◌&&◌, ◌||◌, not, nat_lt, nat_le, ◌%◌, flat_map, filter, if◌then◌else◌}
-use Rattle.std.specs.List.{list_all, list_any}
+use Rattle.std.proofs.Common.{◌≡◌, ℕ, ◌==◌, List, [], ◌∷◌, map, Bool, true, false, refl, sym, ap, ◌∙◌, arith}
+use Rattle.std.specs.Prelude.{◌&&◌, ◌||◌, not, nat_lt, nat_le, ◌%◌, filter, if◌then◌else◌}
+use Rattle.std.specs.List.{list_all}
 use Rattle.std.proofs.Math.Nat.{zero-mod}
 use Rattle.std.proofs.lemmas.Bool.Decides.{nat_tests}
 use Rattle.std.proofs.lemmas.List.Folds.{list_all-append}
@@ -13,8 +13,8 @@ use Rattle.icu_plurals.specs.declared.provider.rules.reference.ast.Operator.{Ope
 use Rattle.icu_plurals.specs.declared.provider.rules.reference.ast.Operator.TheVariants.{Eq, NotEq}
 use Rattle.icu_plurals.specs.PackedRelations.{PackedRelation, groups}
 use Rattle.icu_plurals.specs.PackedTruth.{is_true_at, packed_truth}
-use Rattle.form_commands.specs.CExpressions.{Atom, Comparison, above, at_least, at_most, atom_value, below, bracketed, comparison_value, compared, condition_value, equal, unequal}
-use Rattle.form_commands.specs.RuleConditions.{ConditionsAreRules, comparison, atoms_of, atoms_of_group, atoms_under, condition_of, conditions_of_groups, in_ranges, inside, is_of_number, is_possible, outside}
+use Rattle.form_commands.specs.CExpressions.{Comparison, above, at_least, at_most, atom_value, below, bracketed, comparison_value, compared, equal, unequal}
+use Rattle.form_commands.specs.RuleConditions.{ConditionsAreRules, comparison, atoms_of, atoms_of_group, atoms_under, conditions_of_groups, in_ranges, inside, is_of_number, is_possible, outside}
 
 -- ---- A range
 

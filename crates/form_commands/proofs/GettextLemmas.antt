@@ -1,11 +1,11 @@
 -- The line for gettext.
-use Rattle.std.proofs.Common.{◌≡◌, ℕ, suc, ◌+◌, ◌-◌, ◌<◌, ◌≤◌, List, [], ◌∷◌, ◌++◌, length, drop, get_or, Bool, true, false, inl, inr, refl, sym, ap, subst, ◌∙◌, append_assoc, arith, add-one}
-use Rattle.std.specs.Prelude.{◌⊎◌, ◌||◌, MatchBool, Option, Some, None, Result, Ok, Err, codes, is_some, slice_get, if◌then◌else◌}
+use Rattle.std.proofs.Common.{◌≡◌, ℕ, suc, ◌+◌, ◌<◌, ◌≤◌, List, [], ◌∷◌, ◌++◌, length, drop, get_or, Bool, true, false, inl, inr, refl, sym, ap, subst, ◌∙◌, append_assoc, arith, add-one}
+use Rattle.std.specs.Prelude.{◌⊎◌, ◌||◌, MatchBool, Option, Some, None, Ok, codes, is_some, slice_get, if◌then◌else◌}
 use Rattle.std.specs.Fmt.{decimal}
 use Rattle.std.proofs.Math.Seq.{drop-cons}
 use Rattle.std.proofs.lemmas.Bool.{true≢false}
 use Rattle.std.proofs.lemmas.List.{append-nil, length-drop}
-use Rattle.icu_plurals.specs.FiveRules.{FiveRules, categories_of, first_category, listed, passes}
+use Rattle.icu_plurals.specs.FiveRules.{FiveRules, categories_of, listed, passes}
 use Rattle.icu_plurals.specs.Operands.{of_whole}
 use Rattle.icu_plurals.specs.PackedRelations.{PackedRelation}
 use Rattle.icu_plurals.specs.PackedTruth.{packed_truth}

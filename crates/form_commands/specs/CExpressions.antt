@@ -5,7 +5,6 @@
 --     choice_text place conditions      conditions, each with `?` and its place, and the last place
 --     choice_value place n conditions      the place of the first condition that isn't 0, else the last one
 use Rattle.std.specs.Prelude.{ℕ, ◌+◌, ◌==◌, List, [], ◌∷◌, ◌++◌, map, flat_map, codes, Bool, not, nat_lt, nat_le, if◌then◌else◌}
-use Rattle.std.specs.List.{list_all, list_any}
 use Rattle.std.specs.Fmt.{decimal}
 use Rattle.icu_plurals.specs.Truth.{remainder, some_group}
 

@@ -1,6 +1,6 @@
 //! How gettext's files number the forms of a language.
 
-ghost use Rattle.std.specs.Prelude.{◌≡◌, ◌⊎◌, ◌||◌, ◌++◌, ◌∷◌, [], IfOk, OnOk, Ok, MatchBool, codes, string_bytes};
+ghost use Rattle.std.specs.Prelude.{◌≡◌, ◌<◌, ◌⊎◌, ◌||◌, Some, length, slice_get, ◌++◌, ◌∷◌, [], IfOk, OnOk, Ok, MatchBool, codes, string_bytes};
 ghost use Rattle.std.specs.Fmt.{decimal};
 ghost use Rattle.std.specs.Option.{option_copied};
 ghost use Rattle.icu_plurals.specs.FiveRules.{FiveRules, categories_of, rules_of};
@@ -127,12 +127,20 @@ fn choice_text(
     let mut text = String::new(alloc);
     let last = forms.len().saturating_sub(1);
     for place in 0..last {
-        let choice = choice_of(alloc, five, forms[place], place)?;
+        let choice = choice_of(alloc, five, form_at(forms, place), place)?;
         text.push_str(choice.as_str())?;
     }
     let end = format!(in alloc; "{last}")?;
     text.push_str(end.as_str())?;
     Ok(text)
+}
+
+// Returns the form at a place.
+fn form_at(forms: &[PluralCategory], place: usize) -> PluralCategory
+    requires { place < length forms.now }
+    ensures { slice_get forms.now place ≡ Some result }
+{
+    forms[place]
 }
 
 // Returns the choice of a place by the condition of its category.

@@ -1,5 +1,5 @@
 -- Not a definition of the subject: what is appended, piece by piece.
-use Rattle.std.specs.Prelude.{◌≡◌, ℕ, List, [], ◌∷◌, ◌++◌, map, filter, codes, Bool, true, false, string_bytes}
+use Rattle.std.specs.Prelude.{◌≡◌, ℕ, List, [], ◌∷◌, ◌++◌, map, codes, Bool, true, false, string_bytes}
 use Rattle.std.specs.List.{list_all}
 use Rattle.icu_plurals.specs.PackedRelations.{PackedRelation}
 use Rattle.icu_plurals.specs.declared.provider.rules.runtime.ast.AndOr.{AndOr}

@@ -1,6 +1,6 @@
-use Rattle.std.proofs.Common.{◌≡◌, ℕ, List, [], ◌∷◌, ◌++◌, codes, map, length, ap, sym, subst, ◌∙◌, string_bytes}
+use Rattle.std.proofs.Common.{◌≡◌, ℕ, List, [], ◌∷◌, ◌++◌, codes, map, length, ap, sym, subst, ◌∙◌}
 use Rattle.icu_plurals.specs.RuleViews.{lent_relation}
-use Rattle.form_commands.specs.CExpressions.{Atom, Comparison, and_text, atom_text, bracketed, comparison_text, or_text}
+use Rattle.form_commands.specs.CExpressions.{Comparison, and_text, atom_text, bracketed, comparison_text, or_text}
 use Rattle.form_commands.specs.Inner.ConditionSteps.{Joins}
 use Rattle.form_commands.specs.RuleConditions.{in_ranges, inside}
 use Rattle.form_commands.proofs.JoinLemmas.{at_ok, compared_texts, several, single}
@@ -26,7 +26,7 @@ returns c =
     several meaning.modulus meaning.ranges (λ one. c.if-len-eq1.false (c.len.ensures ∙ one)) in
     let inner = or_text (map (λ (all : List Comparison). and_text (map comparison_text all)) (map (inside meaning.modulus) meaning.ranges)) in
     let text : c.as_str.result.now ≡ codes "(" ++ (inner ++ codes ")") =
-    c.as_str.ensures.value ∙ c.in_ok-listed.ensures ∙ ap (λ (t : List ℕ). codes "(" ++ (t ++ codes ")")) c.in_ok-ranges.ensures in
+    c.as_str.ensures.value ∙ c.in_ok-listed.ensures.ok ∙ ap (λ (t : List ℕ). codes "(" ++ (t ++ codes ")")) c.in_ok-ranges.ensures in
     at_ok {P = Joins (codes " && ") (c.as_str.result.now ∷ []) c.args.atoms.now c.push.new.self}
     {Q = Joins (codes " && ") (map atom_text (in_ranges meaning.modulus meaning.ranges)) c.args.atoms.now c.push.new.self}
     c.push.result

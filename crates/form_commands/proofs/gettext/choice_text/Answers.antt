@@ -1,4 +1,5 @@
-use Rattle.std.proofs.Common.{◌≡◌, ℕ, ◌+◌, ◌≤◌, ◌++◌, length, drop, arith, string_bytes, sym, subst, ◌∙◌}
+use Rattle.std.proofs.Common.{◌≡◌, ℕ, ◌+◌, ◌≤◌, ◌++◌, length, drop, arith, string_bytes, subst, ◌∙◌}
+use Rattle.std.proofs.lemmas.Option.{get_or_from_slice_get}
 use Rattle.icu_plurals.specs.FiveRules.{rules_of}
 use Rattle.form_commands.specs.CExpressions.{choice_text}
 use Rattle.form_commands.specs.GettextLines.{conditions_of}
@@ -7,9 +8,10 @@ use Rattle.form_commands.proofs.gettext.choice_text.Goals as goal
 
 pub loop-place-preserved : goal.loop-place-preserved
 loop-place-preserved c =
-    let form = c.index-forms-place.result in
+    let form = c.form_at.result in
     choice_grown (rules_of c.args.five.now) c.args.forms.now c.loop-place.place form (string_bytes c.loop-place.text) c.as_str.result.now
-    (string_bytes c.push_str.new.self) (omega arith) (sym c.index-forms-place.is) c.loop-place.invariant
+    (string_bytes c.push_str.new.self) (omega arith) 
+    (get_or_from_slice_get c.args.forms.now c.loop-place.place form form c.form_at.ensures) c.loop-place.invariant
     (c.as_str.ensures.value ∙ c.in_ok-choice.ensures) c.in_ok-push_str.ensures.bytes
 
 pub returns : goal.returns

@@ -1,4 +1,4 @@
-use Rattle.std.proofs.Common.{[], ℕ, List, Err, inl, inr, refl, sym, subst, string_bytes}
+use Rattle.std.proofs.Common.{[], Err, inl, inr, refl, sym, subst}
 use Rattle.std.proofs.KnownBytes.{Keeps-refl}
 use Rattle.serde_json.specs.View.{view}
 use Rattle.form_commands.specs.KeyNotes.{IsNote}

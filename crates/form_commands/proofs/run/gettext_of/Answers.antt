@@ -1,4 +1,4 @@
-use Rattle.std.proofs.Common.{string_bytes, sym, subst, ◌∙◌}
+use Rattle.std.proofs.Common.{string_bytes, subst}
 use Rattle.icu_plurals.specs.FiveRules.{FiveRules}
 use Rattle.icu_plurals.specs.RulesJson.{rules_of_json}
 use Rattle.serde_json.specs.View.{view}
