@@ -9,7 +9,11 @@ pub mod AfterLemmas
 pub mod StreamLemmas
 -- answers to documents
 pub mod AnswerLemmas
--- what is read of the rules, and that nothing is written
-pub mod TouchLemmas
 -- the lines of forms
 pub mod FormLemmas
+-- notes of keys
+pub mod NoteLemmas
+-- the line for gettext
+pub mod ConditionValues
+pub mod JoinLemmas
+pub mod GettextLemmas

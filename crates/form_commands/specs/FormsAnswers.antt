@@ -4,7 +4,6 @@
 --     IsAnswered IsAnswer input old new result      what a writer took, and the result
 --     IsAnsweredLines part locale input before left old new result      the same for the lines of another input
 --     IsChecked files input old new result      the same for files of messages
---     rules_origin fault      where a fault comes from; `IsRead` says what was read of the rules by then
 use Rattle.std.specs.Prelude.{◌≡◌, ◌⊎◌, ℕ, ◌<◌, ◌≤◌, ◌==◌, List, ◌++◌, length, Option, Some, None, Result, Ok, Err, if◌then◌else◌}
 use Rattle.std.specs.Io.KnownBytes.{Appends, Consumes, IsAtEnd, Keeps}
 use Rattle.icu_plurals.specs.DocumentJson.{Document, document_of_json, found}
@@ -15,13 +14,14 @@ use Rattle.message_report.specs.declared.counts.Counts.{Counts}
 use Rattle.message_report.specs.declared.error.ReportError.{ReportError}
 use Rattle.message_report.specs.declared.error.ReportError.TheVariants as report
 use Rattle.message_report.specs.declared.file.MessageFile.{MessageFile}
-use Rattle.plural_documents.specs.Inputs.{Origin, from_reader, from_length, from_writer, from_memory, from_answer, most_bytes}
+use Rattle.plural_documents.specs.Inputs.{most_bytes}
 use Rattle.plural_documents.specs.JsonTexts.{json_of}
 use Rattle.plural_documents.specs.Outputs.{IsPartWritten}
 use Rattle.plural_fallback.specs.LocalesJson.{keys_under, parent_in, part_name}
 use Rattle.plural_fallback.specs.declared.locales.Part.{Part}
 use Rattle.serde_json.specs.Data.{Data}
 use Rattle.form_commands.specs.FormLines.{IsFormList}
+use Rattle.form_commands.specs.GettextLines.{IsGettextLine}
 use Rattle.form_commands.specs.InputLines.{lines_of}
 use Rattle.form_commands.specs.Languages.{IsLanguageOf}
 use Rattle.form_commands.specs.NumberAnswers.{AreLineAnswers, AreNumberAnswers}
@@ -43,9 +43,9 @@ IsDocumentIn input document = (length input ≤ most_bytes) × (json_of input �
 abbrev pub IsListAnswer : Part → List ℕ → code.Language → PrintedText → Type 0
 IsListAnswer part locale language printed = (text : List ℕ) × IsFormList part locale language text × (printed ≡ only_text text)
 
--- one text, without a fault
-abbrev pub IsOneText : code.Language → PrintedText → Type 0
-IsOneText language printed = (text : List ℕ) × (printed ≡ only_text text)
+-- the line for gettext
+abbrev pub IsGettextAnswer : code.Language → PrintedText → Type 0
+IsGettextAnswer language printed = (text : List ℕ) × IsGettextLine language.rules text × (printed ≡ only_text text)
 
 -- a line for each word of a list
 abbrev pub IsNumbersAnswer : List (List ℕ) → code.Language → PrintedText → Type 0
@@ -76,19 +76,6 @@ IsAnswered IsAnswer input old new (Err Write) =
     (document : Data) × (printed : PrintedText) × IsDocumentIn input document × IsAnswer document (Ok printed)
     × IsPartWritten old new printed.text
 IsAnswered IsAnswer input old new (Err Memory) = Keeps old new
-
--- ---- What is read of the rules
-
--- the numbers are another input, which is read after the rules
-abbrev pub rules_origin : FormsError → Origin
-rules_origin Rules = from_reader
-rules_origin TooLong = from_length
-rules_origin Json = from_answer
-rules_origin (Refused error) = from_answer
-rules_origin (Language error) = from_answer
-rules_origin Numbers = from_answer
-rules_origin Write = from_writer
-rules_origin Memory = from_memory
 
 -- ---- The lines of another input
 

@@ -5,3 +5,5 @@ pub mod PrintedSteps
 pub mod RunSteps
 pub mod LineSteps
 pub mod StreamSteps
+pub mod NoteSteps
+pub mod ConditionSteps

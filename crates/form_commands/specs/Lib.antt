@@ -6,9 +6,14 @@ pub mod FormLines
 pub mod PrintedTexts
 pub mod NumberAnswers
 pub mod InputLines
+-- the line for gettext
+pub mod CExpressions
+pub mod RuleConditions
+pub mod GettextLines
 -- errors and statuses
 pub mod FormsErrors
 -- answers, and what is read and written
 pub mod FormsAnswers
+pub mod KeyNotes
 -- not definitions of the subject
 pub mod Inner

@@ -1,121 +1,165 @@
 //! The condition of a rule at whole numbers, as an expression of C over `n`.
 
-use icu_plurals::provider::rules::runtime::ast::{
-    AndOr, Operand, Polarity, RangeOrValue, Relation, Rule,
-};
+ghost use Rattle.std.specs.Prelude.{◌≡◌, ◌<◌, ◌&&◌, ◌∷◌, [], ◌++◌, List, ℕ, Some, IfOk, OnOk, codes, length, map, slice_get, string_bytes};
+ghost use Rattle.std.specs.Fmt.{decimal};
+ghost use Rattle.icu_plurals.specs.Truth.{is_in_ranges, under};
+ghost use Rattle.icu_plurals.specs.PackedRelations.{PackedRelation};
+ghost use Rattle.icu_plurals.specs.RuleKinds.{tree_operand_of};
+ghost use Rattle.icu_plurals.specs.RuleViews.{lent_relation};
+ghost use Rattle.form_commands.specs.CExpressions.{and_text, atom_text, comparison_text, condition_text, or_text, term_text};
+ghost use Rattle.form_commands.specs.RuleConditions.{atoms_under, condition_of, in_ranges, inside, is_of_number, outside};
+ghost use Rattle.form_commands.specs.Inner.ConditionSteps.{AreCut, IsGroup, Joins, begun_before, ended_before, group_texts};
+
+use crate::joined::Joined;
+use icu_plurals::provider::rules::runtime::ast::{AndOr, Operand, Polarity, RangeOrValue, Relation, Rule};
 use std::alloc::{AllocError, Global};
 
-// The groups that have ended, joined by `||`; and the open one, joined by `&&`, and whether it is false of all whole numbers.
+// The relations of a group, and whether a whole number may have all.
 #[derive(Drop)]
-struct Groups {
-    ended: String,
-    open: String,
-    is_false: bool,
+pub(crate) struct Group {
+    atoms: Joined,
+    is_possible: bool,
 }
 
 // Returns the condition of a rule. Relations that are true of all whole numbers are left out, and so are groups that have one that
 // is false of all.
-pub(crate) fn condition_text(alloc: Global, rule: &Rule<'_>) -> Result<String, AllocError> {
-    let mut groups = Groups {
-        ended: String::new(alloc),
-        open: String::new(alloc),
-        is_false: false,
-    };
+pub(crate) fn condition_text(alloc: Global, rule: &Rule<'_>) -> Result<String, AllocError>
+    ensures { IfOk result (λ text. string_bytes text ≡ condition_text (condition_of rule.now)) }
+{
+    let mut ended = Joined::new(alloc);
+    let mut current = Group::new(alloc);
     for item in rule.iter() {
         let relation = item.as_relation();
-        if relation.and_or() == AndOr::Or {
-            groups.end()?;
-        }
-        groups.add(alloc, &relation)?;
+        cut_before(alloc, relation.and_or(), &mut ended, &mut current)?;
+        current.add(alloc, &relation)?;
     }
-    groups.end()?;
-    if groups.ended.is_empty() {
-        groups.ended.push_str("0")?;
-    }
-    Ok(groups.ended)
+    current.end(&mut ended)?;
+    String::from_str(alloc, ended.or_text())
 }
 
-impl Groups {
-    // Ends the open group, and opens another one.
-    fn end(&mut self) -> Result<(), AllocError> {
-        if !self.is_false {
-            if !self.ended.is_empty() {
-                self.ended.push_str(" || ")?;
-            }
-            if self.open.is_empty() {
-                self.ended.push_str("1")?;
-            } else {
-                self.ended.push_str(self.open.as_str())?;
-            }
-        }
-        self.open.clear();
-        self.is_false = false;
-        Ok(())
-    }
-
-    // Adds a relation to the open group.
-    fn add(&mut self, alloc: Global, relation: &Relation<'_>) -> Result<(), AllocError> {
-        if is_of_number(relation.operand()) {
-            if !self.open.is_empty() {
-                self.open.push_str(" && ")?;
-            }
-            push_relation(alloc, relation, &mut self.open)
-        } else {
-            if holds_zero(relation) != (relation.polarity() == Polarity::Positive) {
-                self.is_false = true;
-            }
+// At Or the open group ends, and another one begins.
+fn cut_before(
+    alloc: Global,
+    and_or: AndOr,
+    ended: &mut Joined,
+    current: &mut Group,
+) -> Result<(), AllocError>
+    ensures { OnOk result ((done : List (List PackedRelation)) (group : List PackedRelation) → AreCut done group ended.old current.old
+        → AreCut (ended_before and_or done group) (begun_before and_or group) ended.new current.new) }
+{
+    match and_or {
+        AndOr::And => Ok(()),
+        AndOr::Or => {
+            current.end(ended)?;
+            *current = Group::new(alloc);
             Ok(())
         }
     }
 }
 
+impl Group {
+    // No relation.
+    fn new(alloc: Global) -> Group
+        ensures { IsGroup [] result }
+    {
+        Group {
+            atoms: Joined::new(alloc),
+            is_possible: true,
+        }
+    }
+
+    // Appends the text of the group, if a whole number may have all its relations.
+    fn end(&self, ended: &mut Joined) -> Result<(), AllocError>
+        ensures { OnOk result ((group : List PackedRelation) → IsGroup group self.now → Joins (codes " || ") (group_texts (group ∷ [])) ended.old ended.new) }
+    {
+        if self.is_possible {
+            ended.push(" || ", self.atoms.and_text())?;
+        }
+        Ok(())
+    }
+
+    // Adds a relation.
+    fn add(&mut self, alloc: Global, relation: &Relation<'_>) -> Result<(), AllocError>
+        ensures { OnOk result ((group : List PackedRelation) → IsGroup group self.old → IsGroup (group ++ lent_relation relation.now ∷ []) self.new) }
+    {
+        if is_of_number(relation.operand()) {
+            return push_relation(alloc, relation, &mut self.atoms);
+        }
+        let is_true = is_true_of_zero(relation);
+        self.is_possible = both(self.is_possible, is_true);
+        Ok(())
+    }
+}
+
+// Returns whether both are true.
+fn both(first: bool, second: bool) -> bool
+    ensures { result ≡ (first && second) }
+{
+    first && second
+}
+
 // Returns whether an operand of a whole number is the number; the others are 0.
-fn is_of_number(operand: Operand) -> bool {
+fn is_of_number(operand: Operand) -> bool
+    ensures { result ≡ is_of_number (tree_operand_of operand) }
+{
     match operand {
         Operand::N | Operand::I => true,
         Operand::V | Operand::W | Operand::F | Operand::T | Operand::C | Operand::E => false,
     }
 }
 
+// Returns whether a relation is true of 0.
+fn is_true_of_zero(relation: &Relation<'_>) -> bool
+    ensures { let meaning = (lent_relation relation.now).meaning in result ≡ under meaning.operator (is_in_ranges meaning.ranges 0) }
+{
+    let is_in = holds_zero(relation);
+    match relation.polarity() {
+        Polarity::Positive => is_in,
+        Polarity::Negative => !is_in,
+    }
+}
+
 // Returns whether the list of a relation holds 0.
-fn holds_zero(relation: &Relation<'_>) -> bool {
+fn holds_zero(relation: &Relation<'_>) -> bool
+    ensures { result ≡ is_in_ranges (lent_relation relation.now).meaning.ranges 0 }
+{
     for place in 0..relation.len() {
-        if let Some(RangeOrValue::Range(0, _) | RangeOrValue::Value(0)) = relation.range(place) {
+        let (start, _) = range_at(relation, place);
+        if start == 0 {
             return true;
         }
     }
     false
 }
 
+// Returns both ends of the range at a place.
+fn range_at(relation: &Relation<'_>, place: usize) -> (u32, u32)
+    requires { place < length (lent_relation relation.now).meaning.ranges }
+    ensures { slice_get (lent_relation relation.now).meaning.ranges place ≡ Some result }
+{
+    match relation.range(place) {
+        Some(RangeOrValue::Range(start, end)) => (start, end),
+        Some(RangeOrValue::Value(value)) => (value, value),
+        None => unreachable!(),
+    }
+}
+
 // Appends a relation of the number.
-fn push_relation(
-    alloc: Global,
-    relation: &Relation<'_>,
-    text: &mut String,
-) -> Result<(), AllocError> {
-    let term = term_of(alloc, relation.modulo())?;
-    let is_positive = relation.polarity() == Polarity::Positive;
-    let is_listed = is_positive && relation.len() > 1;
-    if is_listed {
-        text.push_str("(")?;
+fn push_relation(alloc: Global, relation: &Relation<'_>, atoms: &mut Joined) -> Result<(), AllocError>
+    ensures { let meaning = (lent_relation relation.now).meaning in
+        OnOk result (Joins (codes " && ") (map atom_text (atoms_under meaning.operator meaning.modulus meaning.ranges)) atoms.old atoms.new) }
+{
+    let term = term_text(alloc, relation.modulo())?;
+    match relation.polarity() {
+        Polarity::Positive => push_in_ranges(alloc, term.as_str(), relation, atoms),
+        Polarity::Negative => push_outside(alloc, term.as_str(), relation, atoms),
     }
-    for place in 0..relation.len() {
-        if place > 0 {
-            text.push_str(if is_positive { " || " } else { " && " })?;
-        }
-        if let Some(range) = relation.range(place) {
-            let comparison = comparison_of(alloc, term.as_str(), is_positive, range)?;
-            text.push_str(comparison.as_str())?;
-        }
-    }
-    if is_listed {
-        text.push_str(")")?;
-    }
-    Ok(())
 }
 
 // Returns the number, or its remainder.
-fn term_of(alloc: Global, modulus: u32) -> Result<String, AllocError> {
+fn term_text(alloc: Global, modulus: u32) -> Result<String, AllocError>
+    ensures { IfOk result (λ text. string_bytes text ≡ term_text modulus) }
+{
     if modulus == 0 {
         String::from_str(alloc, "n")
     } else {
@@ -123,23 +167,121 @@ fn term_of(alloc: Global, modulus: u32) -> Result<String, AllocError> {
     }
 }
 
-// Returns that a term is in a range, or that it isn't.
-fn comparison_of(
+// Appends that a term is in one of the ranges.
+fn push_in_ranges(
     alloc: Global,
     term: &str,
-    is_in: bool,
-    range: RangeOrValue,
-) -> Result<String, AllocError> {
-    match (is_in, range) {
-        (true, RangeOrValue::Value(value)) => format!(in alloc; "{term} == {value}"),
-        (false, RangeOrValue::Value(value)) => format!(in alloc; "{term} != {value}"),
-        (true, RangeOrValue::Range(0, end)) => format!(in alloc; "{term} <= {end}"),
-        (false, RangeOrValue::Range(0, end)) => format!(in alloc; "{term} > {end}"),
-        (true, RangeOrValue::Range(start, end)) => {
-            format!(in alloc; "{term} >= {start} && {term} <= {end}")
-        }
-        (false, RangeOrValue::Range(start, end)) => {
-            format!(in alloc; "({term} < {start} || {term} > {end})")
-        }
+    relation: &Relation<'_>,
+    atoms: &mut Joined,
+) -> Result<(), AllocError>
+    requires { term.now ≡ term_text (lent_relation relation.now).meaning.modulus }
+    ensures { let meaning = (lent_relation relation.now).meaning in
+        OnOk result (Joins (codes " && ") (map atom_text (in_ranges meaning.modulus meaning.ranges)) atoms.old atoms.new) }
+{
+    if relation.len() == 1 {
+        return push_inside(alloc, term, range_at(relation, 0), atoms);
     }
+    let ranges = ranges_text(alloc, term, relation)?;
+    let listed = format!(in alloc; "({ranges})")?;
+    atoms.push(" && ", listed.as_str())
+}
+
+// Returns that a term is in one of the ranges.
+fn ranges_text(alloc: Global, term: &str, relation: &Relation<'_>) -> Result<String, AllocError>
+    requires { term.now ≡ term_text (lent_relation relation.now).meaning.modulus }
+    ensures { let meaning = (lent_relation relation.now).meaning in
+        IfOk result (λ text. string_bytes text ≡ or_text (map (λ all. and_text (map comparison_text all)) (map (inside meaning.modulus) meaning.ranges))) }
+{
+    let mut texts = Joined::new(alloc);
+    for place in 0..relation.len() {
+        let text = inside_text(alloc, term, range_at(relation, place))?;
+        texts.push(" || ", text.as_str())?;
+    }
+    String::from_str(alloc, texts.or_text())
+}
+
+// Returns that a term is in a range.
+fn inside_text(alloc: Global, term: &str, range: (u32, u32)) -> Result<String, AllocError>
+    ensures { (modulus : ℕ) → term.now ≡ term_text modulus → IfOk result (λ text. string_bytes text ≡ and_text (map comparison_text (inside modulus range))) }
+{
+    let mut texts = Joined::new(alloc);
+    push_inside(alloc, term, range, &mut texts)?;
+    String::from_str(alloc, texts.and_text())
+}
+
+// Appends that a term is in a range.
+fn push_inside(
+    alloc: Global,
+    term: &str,
+    range: (u32, u32),
+    atoms: &mut Joined,
+) -> Result<(), AllocError>
+    ensures { (modulus : ℕ) → term.now ≡ term_text modulus
+        → OnOk result (Joins (codes " && ") (map comparison_text (inside modulus range)) atoms.old atoms.new) }
+{
+    let (start, end) = range;
+    if start == end {
+        return push_comparison(alloc, term, " == ", start, atoms);
+    }
+    if start == 0 {
+        return push_comparison(alloc, term, " <= ", end, atoms);
+    }
+    push_comparison(alloc, term, " >= ", start, atoms)?;
+    push_comparison(alloc, term, " <= ", end, atoms)
+}
+
+// Appends a comparison.
+fn push_comparison(
+    alloc: Global,
+    term: &str,
+    sign: &str,
+    number: u32,
+    atoms: &mut Joined,
+) -> Result<(), AllocError>
+    ensures { OnOk result (Joins (codes " && ") ((term.now ++ sign.now ++ decimal number) ∷ []) atoms.old atoms.new) }
+{
+    let text = comparison_text(alloc, term, sign, number)?;
+    atoms.push(" && ", text.as_str())
+}
+
+// Returns a comparison.
+fn comparison_text(alloc: Global, term: &str, sign: &str, number: u32) -> Result<String, AllocError>
+    ensures { IfOk result (λ text. string_bytes text ≡ term.now ++ sign.now ++ decimal number) }
+{
+    format!(in alloc; "{term}{sign}{number}")
+}
+
+// Appends that a term is outside all ranges.
+fn push_outside(
+    alloc: Global,
+    term: &str,
+    relation: &Relation<'_>,
+    atoms: &mut Joined,
+) -> Result<(), AllocError>
+    requires { term.now ≡ term_text (lent_relation relation.now).meaning.modulus }
+    ensures { let meaning = (lent_relation relation.now).meaning in
+        OnOk result (Joins (codes " && ") (map atom_text (map (outside meaning.modulus) meaning.ranges)) atoms.old atoms.new) }
+{
+    for place in 0..relation.len() {
+        let text = outside_text(alloc, term, range_at(relation, place))?;
+        atoms.push(" && ", text.as_str())?;
+    }
+    Ok(())
+}
+
+// Returns that a term is outside a range.
+fn outside_text(alloc: Global, term: &str, range: (u32, u32)) -> Result<String, AllocError>
+    ensures { (modulus : ℕ) → term.now ≡ term_text modulus
+        → IfOk result (λ text. string_bytes text ≡ atom_text (outside modulus range)) }
+{
+    let (start, end) = range;
+    if start == end {
+        return comparison_text(alloc, term, " != ", start);
+    }
+    if start == 0 {
+        return comparison_text(alloc, term, " > ", end);
+    }
+    let below = comparison_text(alloc, term, " < ", start)?;
+    let above = comparison_text(alloc, term, " > ", end)?;
+    format!(in alloc; "({below} || {above})")
 }

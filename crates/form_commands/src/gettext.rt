@@ -1,98 +1,185 @@
 //! How gettext's files number the forms of a language.
 
+ghost use Rattle.std.specs.Prelude.{◌≡◌, ◌<◌, ◌⊎◌, ◌||◌, Some, length, slice_get, ◌++◌, ◌∷◌, [], IfOk, OnOk, Ok, MatchBool, codes, string_bytes};
+ghost use Rattle.std.specs.Fmt.{decimal};
+ghost use Rattle.std.specs.Option.{option_copied};
+ghost use Rattle.icu_plurals.specs.FiveRules.{FiveRules, categories_of, rules_of};
+ghost use Rattle.icu_plurals.specs.RulesJson.{rules_of_json};
+ghost use Rattle.plural_checker.specs.WholeNumbers.{HasWhole};
+ghost use Rattle.form_commands.specs.CExpressions.{choice_text, condition_text};
+ghost use Rattle.form_commands.specs.GettextLines.{AreFormsOf, HasForm, IsGettextLine, SomeHas, condition_if, conditions_of, line_text, rule_for, tried_powers};
+ghost use Rattle.serde_json.specs.View.{view};
+
 use crate::c_condition::condition_text;
-use crate::language::Language;
 use icu_plurals::provider::PluralRulesData;
 use icu_plurals::provider::rules::runtime::ast::Rule;
 use icu_plurals::{PluralCategory, PluralOperands, PluralRules};
 use plural_checker::least_from;
+use serde_json::Value;
 use std::alloc::{AllocError, Global};
 
-// Returns the line for a language: how many forms it has, and an expression of C for the one that `n` takes.
-pub(crate) fn gettext_line(alloc: Global, language: &Language<'_>) -> Result<String, AllocError> {
-    let Ok(data) = PluralRulesData::from_json(alloc, language.value) else {
-        return Err(AllocError);
-    };
-    let mut forms = Vec::new(alloc);
-    let mut categories = language.rules.categories();
-    while let Some(category) = categories.next() {
-        if is_of_whole_numbers(&language.rules, category) {
-            forms.push(category)?;
-        }
+// Returns the line for the rules that a JSON value has: how many forms there are, and an expression of C for the one that `n` takes.
+pub(crate) fn gettext_line(alloc: Global, value: &Value) -> Result<String, AllocError>
+    ensures { IfOk result (λ text. (rules : FiveRules) × (rules_of_json (view value.now) ≡ Ok rules) × IsGettextLine rules (string_bytes text)) }
+{
+    match PluralRulesData::from_json(alloc, value) {
+        Ok(rules) => line_of(alloc, &rules),
+        Err(_) => Err(AllocError),
     }
-    let expression = expression_of(alloc, &data, forms.as_slice())?;
-    let count = forms.len();
+}
+
+// Returns the line for rules.
+fn line_of(alloc: Global, five: &PluralRulesData<'_>) -> Result<String, AllocError>
+    ensures { IfOk result (λ text. IsGettextLine (rules_of five.now) (string_bytes text)) }
+{
+    let rules = PluralRules::from_data(five.as_borrowed());
+    let forms = forms_of(alloc, &rules)?;
+    let expression = choice_text(alloc, five, forms.as_slice())?;
+    line_text(alloc, forms.len(), expression.as_str())
+}
+
+// Returns the line for a count of forms and an expression.
+fn line_text(alloc: Global, count: usize, expression: &str) -> Result<String, AllocError>
+    ensures { IfOk result (λ text. string_bytes text ≡ line_text count expression.now) }
+{
     format!(in alloc; "Plural-Forms: nplurals={count}; plural=({expression});\n")
 }
 
-// Returns whether a whole number below 10000, or a power of ten up to the ninth, has a category.
-fn is_of_whole_numbers(rules: &PluralRules<'_>, category: PluralCategory) -> bool {
-    if least_from(rules, category, 0).is_some() {
-        return true;
+// Returns the categories that have a form, in their order.
+fn forms_of(alloc: Global, rules: &PluralRules<'_>) -> Result<Vec<PluralCategory>, AllocError>
+    ensures { IfOk result (λ forms. AreFormsOf rules.now (categories_of rules.now) forms.items) }
+{
+    let mut forms = Vec::new(alloc);
+    let mut categories = rules.categories();
+    while let Some(category) = categories.next() {
+        push_form(rules, category, &mut forms)?;
     }
-    let powers = [
-        10_000u32,
-        100_000,
-        1_000_000,
-        10_000_000,
-        100_000_000,
-        1_000_000_000,
-    ];
-    for power in powers {
-        if rules.category_for(PluralOperands::from(power)) == category {
-            return true;
-        }
-    }
-    false
+    Ok(forms)
 }
 
-// Returns the expression of the place of a number's category among these, in their order. The last has all numbers that are left.
-fn expression_of(
-    alloc: Global,
-    data: &PluralRulesData<'_>,
-    forms: &[PluralCategory],
-) -> Result<String, AllocError> {
-    let mut text = String::new(alloc);
-    let mut place = 0usize;
-    let mut rest = forms;
-    while let [category, after @ ..] = rest {
-        if !after.is_empty() {
-            push_choice(alloc, rule_of(data, *category), place, &mut text)?;
-            place = place.saturating_add(1);
-        }
-        rest = after;
-    }
-    let last = format!(in alloc; "{place}")?;
-    text.push_str(last.as_str())?;
-    Ok(text)
-}
-
-// Appends the choice of a place by the condition of its rule.
-fn push_choice(
-    alloc: Global,
-    rule: Option<&Rule<'_>>,
-    place: usize,
-    text: &mut String,
-) -> Result<(), AllocError> {
-    if let Some(rule) = rule {
-        let condition = condition_text(alloc, rule)?;
-        let choice = format!(in alloc; "{condition} ? {place} : ")?;
-        text.push_str(choice.as_str())?;
+// Appends a category, if it has a form.
+fn push_form(
+    rules: &PluralRules<'_>,
+    category: PluralCategory,
+    forms: &mut Vec<PluralCategory>,
+) -> Result<(), AllocError>
+    ensures { OnOk result ((HasForm rules.now category × (forms.new.items ≡ forms.old.items ++ category ∷ []))
+        ⊎ (¬ (HasForm rules.now category) × (forms.new.items ≡ forms.old.items))) }
+{
+    if has_form(rules, category) {
+        forms.push(category)?;
     }
     Ok(())
 }
 
-// Returns the rule of a category. Other has none.
-fn rule_of<'a, 'data>(
-    data: &'a PluralRulesData<'data>,
+// Returns whether a category has a form.
+fn has_form(rules: &PluralRules<'_>, category: PluralCategory) -> bool
+    ensures { MatchBool result (HasForm rules.now category) (¬ (HasForm rules.now category)) }
+{
+    if least_from(rules, category, 0).is_some() {
+        return true;
+    }
+    has_power(rules, category)
+}
+
+// Returns whether a power of ten that is tried has a category.
+fn has_power(rules: &PluralRules<'_>, category: PluralCategory) -> bool
+    ensures { MatchBool result (SomeHas rules.now category tried_powers) (¬ (SomeHas rules.now category tried_powers)) }
+{
+    let fourth = has_whole(rules, category, 10_000);
+    let fifth = has_whole(rules, category, 100_000);
+    let sixth = has_whole(rules, category, 1_000_000);
+    let seventh = has_whole(rules, category, 10_000_000);
+    let eighth = has_whole(rules, category, 100_000_000);
+    let ninth = has_whole(rules, category, 1_000_000_000);
+    some_of(fourth, fifth, sixth, seventh, eighth, ninth)
+}
+
+// Returns whether one of six is true.
+fn some_of(
+    fourth: bool,
+    fifth: bool,
+    sixth: bool,
+    seventh: bool,
+    eighth: bool,
+    ninth: bool,
+) -> bool
+    ensures { result ≡ (((((fourth || fifth) || sixth) || seventh) || eighth) || ninth) }
+{
+    fourth || fifth || sixth || seventh || eighth || ninth
+}
+
+// Returns whether a whole number has a category.
+fn has_whole(rules: &PluralRules<'_>, category: PluralCategory, number: u32) -> bool
+    ensures { MatchBool result (HasWhole rules.now category number) (¬ (HasWhole rules.now category number)) }
+{
+    rules.category_for(PluralOperands::from(number)) == category
+}
+
+// Returns the expression of the place of a number's category among these, in their order. The last has all numbers that are left.
+fn choice_text(
+    alloc: Global,
+    five: &PluralRulesData<'_>,
+    forms: &[PluralCategory],
+) -> Result<String, AllocError>
+    ensures { IfOk result (λ text. string_bytes text ≡ choice_text 0 (conditions_of (rules_of five.now) forms.now)) }
+{
+    let mut text = String::new(alloc);
+    let last = forms.len().saturating_sub(1);
+    for place in 0..last {
+        let choice = choice_of(alloc, five, form_at(forms, place), place)?;
+        text.push_str(choice.as_str())?;
+    }
+    let end = format!(in alloc; "{last}")?;
+    text.push_str(end.as_str())?;
+    Ok(text)
+}
+
+// Returns the form at a place.
+fn form_at(forms: &[PluralCategory], place: usize) -> PluralCategory
+    requires { place < length forms.now }
+    ensures { slice_get forms.now place ≡ Some result }
+{
+    forms[place]
+}
+
+// Returns the choice of a place by the condition of its category.
+fn choice_of(
+    alloc: Global,
+    five: &PluralRulesData<'_>,
     category: PluralCategory,
-) -> Option<&'a Rule<'data>> {
+    place: usize,
+) -> Result<String, AllocError>
+    ensures { IfOk result (λ text. string_bytes text
+        ≡ condition_text (condition_if (rule_for (rules_of five.now) category)) ++ (codes " ? " ++ (decimal place ++ codes " : "))) }
+{
+    let condition = condition_for(alloc, rule_for(five, category))?;
+    format!(in alloc; "{condition} ? {place} : ")
+}
+
+// Returns the condition of a rule, or 0 without one.
+fn condition_for(alloc: Global, rule: Option<&Rule<'_>>) -> Result<String, AllocError>
+    ensures { IfOk result (λ text. string_bytes text ≡ condition_text (condition_if (option_copied rule.entry))) }
+{
+    match rule {
+        Some(rule) => condition_text(alloc, rule),
+        None => String::from_str(alloc, "0"),
+    }
+}
+
+// Returns the rule of a category. Other has none.
+fn rule_for<'a, 'data>(
+    five: &'a PluralRulesData<'data>,
+    category: PluralCategory,
+) -> Option<&'a Rule<'data>>
+    ensures { option_copied result ≡ rule_for (rules_of five.now) category }
+{
     match category {
-        PluralCategory::Zero => data.zero.as_ref(),
-        PluralCategory::One => data.one.as_ref(),
-        PluralCategory::Two => data.two.as_ref(),
-        PluralCategory::Few => data.few.as_ref(),
-        PluralCategory::Many => data.many.as_ref(),
+        PluralCategory::Zero => five.zero.as_ref(),
+        PluralCategory::One => five.one.as_ref(),
+        PluralCategory::Two => five.two.as_ref(),
+        PluralCategory::Few => five.few.as_ref(),
+        PluralCategory::Many => five.many.as_ref(),
         PluralCategory::Other => None,
     }
 }

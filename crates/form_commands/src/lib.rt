@@ -4,9 +4,12 @@
 mod c_condition;
 mod error;
 mod gettext;
+mod joined;
 mod language;
+pub mod laws;
 mod list;
 mod name;
+mod note;
 mod number;
 mod printed;
 mod question;

@@ -1,18 +1,20 @@
 //! The answers to questions, over any readers and writer.
 
-ghost use Rattle.std.specs.Prelude.{◌≡◌, ◌≢◌, IfErr, IfOk, IsTrue, List, ℕ};
-ghost use Rattle.form_commands.specs.FormsAnswers.{Answers, IsAnswered, IsAnsweredLines, IsChecked, IsListAnswer, IsNumbersAnswer, IsOneText, rules_origin, verdict_of_counts};
-ghost use Rattle.form_commands.specs.FormsErrors.{is_of_rules};
+ghost use Rattle.std.specs.Prelude.{◌≡◌, [], IfOk, List, ℕ};
+ghost use Rattle.form_commands.specs.FormsAnswers.{Answers, IsAnswered, IsAnsweredLines, IsChecked, IsGettextAnswer, IsListAnswer, IsNumbersAnswer, verdict_of_counts};
 ghost use Rattle.form_commands.specs.Inner.FormsInputFaults.{refused_rules};
+ghost use Rattle.form_commands.specs.Inner.NoteSteps.{NotesAfter, Writes};
 ghost use Rattle.form_commands.specs.Inner.QuestionViews.{words_view};
 ghost use Rattle.form_commands.specs.Inner.RunSteps.{AnswersLines, Checks, GivesDocument, GivesValue, Reports, WritesAnswer};
-ghost use Rattle.plural_documents.specs.Inputs.{IsInput, IsRead};
+ghost use Rattle.form_commands.specs.KeyNotes.{AreFileNotes, AreNoted, IsNote};
+ghost use Rattle.plural_documents.specs.Inputs.{IsInput};
 ghost use Rattle.serde_json.specs.View.{view};
 
 use crate::error::{FormsError, LanguageError, Verdict};
 use crate::gettext::gettext_line;
 use crate::language::language_of;
 use crate::list::list_text;
+use crate::note::{note_of, notes_of, write_notes};
 use crate::number::numbers_text;
 use crate::printed::Printed;
 use crate::stream::answer_input;
@@ -33,10 +35,8 @@ pub fn list_forms<R: Read, W: Write>(
     rules: &mut R,
     writer: &mut W,
 ) -> Result<Verdict, FormsError>
-    ensures answers { (input : List ℕ) × IsInput (R.remaining rules.old) input
+    ensures { (input : List ℕ) × IsInput (R.remaining rules.old) input
         × IsAnswered (Answers (IsListAnswer part locale.now) part locale.now) input (W.contents writer.old) (W.contents writer.new) result }
-    ensures reads { IsRead rules_origin (R.remaining rules.old) (R.remaining rules.new) result }
-    ensures writes_nothing { IfErr result (λ e. e ≢ FormsError.Write → writer.new ≡ writer.old) }
 {
     match document_of(alloc, rules) {
         Ok(document) => write_answer(list_of(alloc, &document, part, locale), writer),
@@ -44,85 +44,173 @@ pub fn list_forms<R: Read, W: Write>(
     }
 }
 
-/// Writes a line for each of the numbers: its category, or why it has none.
-pub fn answer_numbers<R: Read, W: Write>(
+/// Writes a line for each of the numbers: its category, or why it has none; and then, in the notes,
+/// the key of the rules, if that isn't the locale.
+pub fn answer_numbers<R: Read, W: Write, E: Write>(
     alloc: Global,
     part: Part,
     locale: &str,
     numbers: &[&str],
     rules: &mut R,
     writer: &mut W,
+    notes: &mut E,
 ) -> Result<Verdict, FormsError>
-    ensures answers { (input : List ℕ) × IsInput (R.remaining rules.old) input
-        × IsAnswered (Answers (IsNumbersAnswer (words_view numbers.now)) part locale.now) input (W.contents writer.old) (W.contents writer.new) result }
-    ensures reads { IsRead rules_origin (R.remaining rules.old) (R.remaining rules.new) result }
-    ensures writes_nothing { IfErr result (λ e. e ≢ FormsError.Write → writer.new ≡ writer.old) }
+    ensures { (input : List ℕ) × IsInput (R.remaining rules.old) input
+        × IsAnswered (Answers (IsNumbersAnswer (words_view numbers.now)) part locale.now) input (W.contents writer.old) (W.contents writer.new) result
+        × AreNoted (λ document note. IsNote document [] part locale.now note) input (E.contents notes.old) (E.contents notes.new) result }
 {
     match document_of(alloc, rules) {
-        Ok(document) => {
-            let answer = categories_of(alloc, &document, part, locale, numbers);
-            write_answer(answer, writer)
-        }
+        Ok(document) => numbers_by(alloc, &document, part, locale, numbers, writer, notes),
         Err(error) => Err(error),
     }
 }
 
-/// Writes a line for each line of the numbers: its category, or why it has none.
-pub fn answer_lines<R: Read, N: Read, W: Write>(
+// Writes the lines of numbers by the rules of a document, and the note of the key.
+fn numbers_by<W: Write, E: Write>(
+    alloc: Global,
+    document: &Value,
+    part: Part,
+    locale: &str,
+    numbers: &[&str],
+    writer: &mut W,
+    notes: &mut E,
+) -> Result<Verdict, FormsError>
+    ensures { NotesAfter (Writes (Answers (IsNumbersAnswer (words_view numbers.now)) part locale.now (view document.now)) (W.contents writer.old) (W.contents writer.new))
+        (IsNote (view document.now) [] part locale.now) (E.contents notes.old) (E.contents notes.new) result }
+{
+    match note_of(alloc, document, part, locale) {
+        Ok(note) => {
+            let written = categories_of(alloc, document, part, locale, numbers);
+            let answer = write_answer(written, writer);
+            write_notes(answer, note.as_str(), notes)
+        }
+        Err(_) => Err(FormsError::Memory),
+    }
+}
+
+/// Writes a line for each line of the numbers: its category, or why it has none; and then, in the
+/// notes, the key of the rules, if that isn't the locale.
+pub fn answer_lines<R: Read, N: Read, W: Write, E: Write>(
     alloc: Global,
     part: Part,
     locale: &str,
     rules: &mut R,
     numbers: &mut N,
     writer: &mut W,
+    notes: &mut E,
 ) -> Result<Verdict, FormsError>
-    ensures answers { (input : List ℕ) × IsInput (R.remaining rules.old) input
-        × IsAnsweredLines part locale.now input (N.remaining numbers.old) (N.remaining numbers.new) (W.contents writer.old) (W.contents writer.new) result }
-    ensures reads { IsRead rules_origin (R.remaining rules.old) (R.remaining rules.new) result }
-    ensures touches_nothing { IfErr result (λ e. IsTrue (is_of_rules e)
-        → (writer.new ≡ writer.old) × (numbers.new ≡ numbers.old)) }
+    ensures { (input : List ℕ) × IsInput (R.remaining rules.old) input
+        × IsAnsweredLines part locale.now input (N.remaining numbers.old) (N.remaining numbers.new) (W.contents writer.old) (W.contents writer.new) result
+        × AreNoted (λ document note. IsNote document [] part locale.now note) input (E.contents notes.old) (E.contents notes.new) result }
 {
     match document_of(alloc, rules) {
-        Ok(document) => lines_by(alloc, &document, part, locale, numbers, writer),
+        Ok(document) => noted_lines(alloc, &document, part, locale, numbers, writer, notes),
         Err(error) => Err(error),
     }
 }
 
+// Writes the answers to the lines of the numbers by the rules of a document, and the note of the key.
+fn noted_lines<N: Read, W: Write, E: Write>(
+    alloc: Global,
+    document: &Value,
+    part: Part,
+    locale: &str,
+    numbers: &mut N,
+    writer: &mut W,
+    notes: &mut E,
+) -> Result<Verdict, FormsError>
+    ensures { NotesAfter (AnswersLines (view document.now) part locale.now (N.remaining numbers.old) (N.remaining numbers.new) (W.contents writer.old) (W.contents writer.new))
+        (IsNote (view document.now) [] part locale.now) (E.contents notes.old) (E.contents notes.new) result }
+{
+    match note_of(alloc, document, part, locale) {
+        Ok(note) => {
+            let answer = lines_by(alloc, document, part, locale, numbers, writer);
+            write_notes(answer, note.as_str(), notes)
+        }
+        Err(_) => Err(FormsError::Memory),
+    }
+}
+
 /// Writes how gettext's files number the forms that whole numbers of a language have: a line of the
-/// kind of `Plural-Forms`.
-pub fn write_gettext<R: Read, W: Write>(
+/// kind of `Plural-Forms`; and then, in the notes, the key of the rules, if that isn't the locale. The
+/// line's expression has the place of a number's form as its value
+/// ([`crate::laws::forms_are_chosen`]).
+pub fn write_gettext<R: Read, W: Write, E: Write>(
     alloc: Global,
     part: Part,
     locale: &str,
     rules: &mut R,
     writer: &mut W,
+    notes: &mut E,
 ) -> Result<Verdict, FormsError>
-    ensures answers { (input : List ℕ) × IsInput (R.remaining rules.old) input
-        × IsAnswered (Answers IsOneText part locale.now) input (W.contents writer.old) (W.contents writer.new) result }
-    ensures reads { IsRead rules_origin (R.remaining rules.old) (R.remaining rules.new) result }
-    ensures writes_nothing { IfErr result (λ e. e ≢ FormsError.Write → writer.new ≡ writer.old) }
+    ensures { (input : List ℕ) × IsInput (R.remaining rules.old) input
+        × IsAnswered (Answers IsGettextAnswer part locale.now) input (W.contents writer.old) (W.contents writer.new) result
+        × AreNoted (λ document note. IsNote document [] part locale.now note) input (E.contents notes.old) (E.contents notes.new) result }
 {
     match document_of(alloc, rules) {
-        Ok(document) => write_answer(gettext_of(alloc, &document, part, locale), writer),
+        Ok(document) => gettext_by(alloc, &document, part, locale, writer, notes),
         Err(error) => Err(error),
     }
 }
 
-/// Writes the report of files of messages: a line for each fault, and one with the counts.
-pub fn check_files<R: Read, W: Write>(
+// Writes the line for gettext by the rules of a document, and the note of the key.
+fn gettext_by<W: Write, E: Write>(
+    alloc: Global,
+    document: &Value,
+    part: Part,
+    locale: &str,
+    writer: &mut W,
+    notes: &mut E,
+) -> Result<Verdict, FormsError>
+    ensures { NotesAfter (Writes (Answers IsGettextAnswer part locale.now (view document.now)) (W.contents writer.old) (W.contents writer.new))
+        (IsNote (view document.now) [] part locale.now) (E.contents notes.old) (E.contents notes.new) result }
+{
+    match note_of(alloc, document, part, locale) {
+        Ok(note) => {
+            let written = gettext_of(alloc, document, part, locale);
+            let answer = write_answer(written, writer);
+            write_notes(answer, note.as_str(), notes)
+        }
+        Err(_) => Err(FormsError::Memory),
+    }
+}
+
+/// Writes the report of files of messages: a line for each fault, and one with the counts; and then,
+/// in the notes, the key of the rules of each locale, if that isn't the locale.
+pub fn check_files<R: Read, W: Write, E: Write>(
     alloc: Global,
     files: &[MessageFile<'_>],
     rules: &mut R,
     writer: &mut W,
+    notes: &mut E,
 ) -> Result<Verdict, FormsError>
-    ensures reports { (input : List ℕ) × IsInput (R.remaining rules.old) input
-        × IsChecked files.now input (W.contents writer.old) (W.contents writer.new) result }
-    ensures reads { IsRead rules_origin (R.remaining rules.old) (R.remaining rules.new) result }
-    ensures writes_nothing { IfErr result (λ e. e ≢ FormsError.Write → writer.new ≡ writer.old) }
+    ensures { (input : List ℕ) × IsInput (R.remaining rules.old) input
+        × IsChecked files.now input (W.contents writer.old) (W.contents writer.new) result
+        × AreNoted (λ document note. AreFileNotes document files.now note) input (E.contents notes.old) (E.contents notes.new) result }
 {
     match document_of(alloc, rules) {
-        Ok(document) => check_by(alloc, &document, files, writer),
+        Ok(document) => noted_files(alloc, &document, files, writer, notes),
         Err(error) => Err(error),
+    }
+}
+
+// Writes the report of files of messages under the rules of a document, and the notes of the keys.
+fn noted_files<W: Write, E: Write>(
+    alloc: Global,
+    document: &Value,
+    files: &[MessageFile<'_>],
+    writer: &mut W,
+    notes: &mut E,
+) -> Result<Verdict, FormsError>
+    ensures { NotesAfter (Checks (view document.now) files.now (W.contents writer.old) (W.contents writer.new))
+        (AreFileNotes (view document.now) files.now) (E.contents notes.old) (E.contents notes.new) result }
+{
+    match notes_of(alloc, document, files) {
+        Ok(found) => {
+            let answer = check_by(alloc, document, files, writer);
+            write_notes(answer, found.as_str(), notes)
+        }
+        Err(_) => Err(FormsError::Memory),
     }
 }
 
@@ -133,8 +221,7 @@ fn check_by<W: Write>(
     files: &[MessageFile<'_>],
     writer: &mut W,
 ) -> Result<Verdict, FormsError>
-    ensures checks { Checks (view document.now) files.now (W.contents writer.old) (W.contents writer.new) result }
-    ensures writes_nothing { IfErr result (λ e. e ≢ FormsError.Write → writer.new ≡ writer.old) }
+    ensures { Checks (view document.now) files.now (W.contents writer.old) (W.contents writer.new) result }
 {
     match JsonProvider::from_value(alloc, document) {
         Ok(provider) => report_by(alloc, &provider, document, files, writer),
@@ -165,8 +252,7 @@ fn report_by<W: Write>(
     files: &[MessageFile<'_>],
     writer: &mut W,
 ) -> Result<Verdict, FormsError>
-    ensures reports { Reports (view document.now) provider.now files.now (W.contents writer.old) (W.contents writer.new) result }
-    ensures writes_nothing { IfErr result (λ e. e ≢ FormsError.Write → writer.new ≡ writer.old) }
+    ensures { Reports (view document.now) provider.now files.now (W.contents writer.old) (W.contents writer.new) result }
 {
     let source = FallbackProvider {
         provider,
@@ -198,9 +284,7 @@ fn lines_by<N: Read, W: Write>(
     numbers: &mut N,
     writer: &mut W,
 ) -> Result<Verdict, FormsError>
-    ensures lines { AnswersLines (view document.now) part locale.now (N.remaining numbers.old) (N.remaining numbers.new) (W.contents writer.old) (W.contents writer.new) result }
-    ensures touches_nothing { IfErr result (λ e. IsTrue (is_of_rules e)
-        → (writer.new ≡ writer.old) × (numbers.new ≡ numbers.old)) }
+    ensures { AnswersLines (view document.now) part locale.now (N.remaining numbers.old) (N.remaining numbers.new) (W.contents writer.old) (W.contents writer.new) result }
 {
     match language_of(alloc, document, part, locale) {
         Ok(Ok(language)) => answer_input(alloc, &language.rules, numbers, writer),
@@ -211,8 +295,7 @@ fn lines_by<N: Read, W: Write>(
 
 // Returns the document in a reader.
 fn document_of<R: Read>(alloc: Global, reader: &mut R) -> Result<Value, FormsError>
-    ensures document { (input : List ℕ) × IsInput (R.remaining reader.old) input × GivesDocument input result }
-    ensures reads { IsRead rules_origin (R.remaining reader.old) (R.remaining reader.new) result }
+    ensures { (input : List ℕ) × IsInput (R.remaining reader.old) input × GivesDocument input result }
 {
     match read_input(alloc, reader) {
         Ok(input) => value_of(alloc, input.as_slice()),
@@ -256,11 +339,11 @@ fn gettext_of(
     part: Part,
     locale: &str,
 ) -> Result<Result<Printed, LanguageError>, AllocError>
-    ensures { IfOk result (λ answer. Answers IsOneText part locale.now (view document.now) answer) }
+    ensures { IfOk result (λ answer. Answers IsGettextAnswer part locale.now (view document.now) answer) }
 {
     match language_of(alloc, document, part, locale)? {
         Ok(language) => {
-            let text = gettext_line(alloc, &language)?;
+            let text = gettext_line(alloc, language.value)?;
             Ok(Ok(Printed::of(text)))
         }
         Err(error) => Ok(Err(error)),
@@ -288,8 +371,7 @@ fn write_answer<W: Write>(
     answer: Result<Result<Printed, LanguageError>, AllocError>,
     writer: &mut W,
 ) -> Result<Verdict, FormsError>
-    ensures answer { WritesAnswer answer (W.contents writer.old) (W.contents writer.new) result }
-    ensures writes_nothing { IfErr result (λ e. e ≢ FormsError.Write → writer.new ≡ writer.old) }
+    ensures { WritesAnswer answer (W.contents writer.old) (W.contents writer.new) result }
 {
     match answer {
         Ok(Ok(printed)) => printed.write_to(writer),

@@ -64,13 +64,15 @@ fn list(rt: &HostRuntime, wanted: Wanted<'_>) -> Result<Verdict, Failure> {
 // Writes how gettext's files number the forms of a language.
 fn gettext(rt: &HostRuntime, wanted: Wanted<'_>) -> Result<Verdict, Failure> {
     let alloc = rt.alloc();
-    let (part, locale, mut output) = (wanted.part, wanted.locale, rt.stdout());
+    let (part, locale, mut output, mut notes) =
+        (wanted.part, wanted.locale, rt.stdout(), rt.stderr());
     let Some(name) = rules_name(rt, wanted.file)? else {
-        let answer = write_gettext(alloc, part, locale, &mut rt.stdin(), &mut output);
+        let mut input = rt.stdin();
+        let answer = write_gettext(alloc, part, locale, &mut input, &mut output, &mut notes);
         return Failure::of_input(answer);
     };
     let mut file = open(rt, &name)?;
-    let answer = write_gettext(alloc, part, locale, &mut file, &mut output);
+    let answer = write_gettext(alloc, part, locale, &mut file, &mut output, &mut notes);
     Failure::of_file(name, answer)
 }
 
@@ -79,13 +81,14 @@ fn check(rt: &HostRuntime, rules: Option<&str>, names: &[&str]) -> Result<Verdic
     let alloc = rt.alloc();
     let documents = read_files(rt, names)?;
     let files = files_of(alloc, names, documents.as_slice())?;
-    let mut output = rt.stdout();
+    let (mut output, mut notes) = (rt.stdout(), rt.stderr());
     let Some(name) = rules_name(rt, rules)? else {
-        let answer = check_files(alloc, files.as_slice(), &mut rt.stdin(), &mut output);
+        let mut input = rt.stdin();
+        let answer = check_files(alloc, files.as_slice(), &mut input, &mut output, &mut notes);
         return Failure::of_input(answer);
     };
     let mut file = open(rt, &name)?;
-    let answer = check_files(alloc, files.as_slice(), &mut file, &mut output);
+    let answer = check_files(alloc, files.as_slice(), &mut file, &mut output, &mut notes);
     Failure::of_file(name, answer)
 }
 
@@ -105,12 +108,30 @@ fn category_by_file(
     numbers: &[&str],
 ) -> Result<Verdict, Failure> {
     let alloc = rt.alloc();
-    let (part, locale, mut output) = (wanted.part, wanted.locale, rt.stdout());
+    let (part, locale, mut output, mut notes) =
+        (wanted.part, wanted.locale, rt.stdout(), rt.stderr());
     let mut file = open(rt, &name)?;
     let answer = if numbers.is_empty() {
-        answer_lines(alloc, part, locale, &mut file, &mut rt.stdin(), &mut output)
+        let mut input = rt.stdin();
+        answer_lines(
+            alloc,
+            part,
+            locale,
+            &mut file,
+            &mut input,
+            &mut output,
+            &mut notes,
+        )
     } else {
-        answer_numbers(alloc, part, locale, numbers, &mut file, &mut output)
+        answer_numbers(
+            alloc,
+            part,
+            locale,
+            numbers,
+            &mut file,
+            &mut output,
+            &mut notes,
+        )
     };
     Failure::of_file(name, answer)
 }
@@ -124,9 +145,18 @@ fn category_by_input(
     if numbers.is_empty() {
         return Err(Failure::Usage);
     }
-    let (part, locale, mut output) = (wanted.part, wanted.locale, rt.stdout());
+    let (part, locale, mut output, mut notes) =
+        (wanted.part, wanted.locale, rt.stdout(), rt.stderr());
     let mut input = rt.stdin();
-    let answer = answer_numbers(rt.alloc(), part, locale, numbers, &mut input, &mut output);
+    let answer = answer_numbers(
+        rt.alloc(),
+        part,
+        locale,
+        numbers,
+        &mut input,
+        &mut output,
+        &mut notes,
+    );
     Failure::of_input(answer)
 }
 

@@ -50,7 +50,7 @@ fn forms_list(call: &mut Call) {
 // The category of a number.
 fn forms_number(call: &mut Call) {
     let (rules, locale, number) = (call.text(), call.text(), call.text());
-    let mut text = Vec::new(call.alloc);
+    let (mut text, mut notes) = (Vec::new(call.alloc), Vec::new(call.alloc));
     let numbers = [number.as_str()];
     let answer = answer_numbers(
         call.alloc,
@@ -59,14 +59,15 @@ fn forms_number(call: &mut Call) {
         &numbers,
         &mut rules.as_bytes(),
         &mut text,
+        &mut notes,
     );
-    print_answer(call, text.as_slice(), answer);
+    print_noted(call, text.as_slice(), notes.as_slice(), answer);
 }
 
 // The categories of lines.
 fn forms_lines(call: &mut Call) {
     let (rules, locale, lines) = (call.text(), call.text(), call.text());
-    let mut text = Vec::new(call.alloc);
+    let (mut text, mut notes) = (Vec::new(call.alloc), Vec::new(call.alloc));
     let answer = answer_lines(
         call.alloc,
         Part::Cardinal,
@@ -74,22 +75,24 @@ fn forms_lines(call: &mut Call) {
         &mut rules.as_bytes(),
         &mut lines.as_bytes(),
         &mut text,
+        &mut notes,
     );
-    print_answer(call, text.as_slice(), answer);
+    print_noted(call, text.as_slice(), notes.as_slice(), answer);
 }
 
 // The line for gettext.
 fn forms_gettext(call: &mut Call) {
     let (rules, locale) = (call.text(), call.text());
-    let mut text = Vec::new(call.alloc);
+    let (mut text, mut notes) = (Vec::new(call.alloc), Vec::new(call.alloc));
     let answer = write_gettext(
         call.alloc,
         Part::Cardinal,
         locale.as_str(),
         &mut rules.as_bytes(),
         &mut text,
+        &mut notes,
     );
-    print_answer(call, text.as_slice(), answer);
+    print_noted(call, text.as_slice(), notes.as_slice(), answer);
 }
 
 // The report of two files of messages.
@@ -106,9 +109,26 @@ fn forms_check(call: &mut Call) {
             document: &second,
         },
     ];
-    let mut text = Vec::new(call.alloc);
-    let answer = check_files(call.alloc, &files, &mut rules.as_bytes(), &mut text);
-    print_answer(call, text.as_slice(), answer);
+    let (mut text, mut notes) = (Vec::new(call.alloc), Vec::new(call.alloc));
+    let answer = check_files(
+        call.alloc,
+        &files,
+        &mut rules.as_bytes(),
+        &mut text,
+        &mut notes,
+    );
+    print_noted(call, text.as_slice(), notes.as_slice(), answer);
+}
+
+// Prints what was written, the notes, if there are some, and the status.
+fn print_noted(call: &mut Call, text: &[u8], notes: &[u8], answer: Result<Verdict, FormsError>) {
+    if notes.is_empty() {
+        print_answer(call, text, answer);
+        return;
+    }
+    print_lines(call, text);
+    call.separate(" | ");
+    print_answer(call, notes, answer);
 }
 
 // Prints what was written, and the status.

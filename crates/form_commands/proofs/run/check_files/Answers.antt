@@ -1,28 +1,22 @@
 use Rattle.serde_json.specs.View.{view}
-use Rattle.form_commands.proofs.AnswerLemmas.{no_report, report_checked}
-use Rattle.form_commands.proofs.TouchLemmas.{files_not_long, to_the_end}
+use Rattle.form_commands.specs.KeyNotes.{AreFileNotes}
+use Rattle.form_commands.proofs.AnswerLemmas.{no_report}
+use Rattle.form_commands.proofs.NoteLemmas.{none_noted, report_noted}
 use Rattle.form_commands.proofs.run.check_files.Goals as goal
 
-pub returns-in-Ok-clause-reports : goal.returns-in-Ok-clause-reports
-returns-in-Ok-clause-reports g c =
-    let d = c.in-Ok.ensures.document in (
-      d.0,
-      d.1,
-      report_checked c.args.files.now d.0 (view c.in-Ok.document) (g.W.Write.contents c.args.writer.now)
-          (g.W.Write.contents c.check_by.new.writer) c.check_by.result d.2 c.check_by.ensures.checks,
-    )
+pub returns-in-Ok : goal.returns-in-Ok
+returns-in-Ok g c =
+    let d = c.in-Ok.ensures in
+    let both = report_noted c.args.files.now (λ document note. AreFileNotes document c.args.files.now note) d.0 (view c.in-Ok.document)
+    (g.W.Write.contents c.args.writer.now) (g.W.Write.contents c.noted_files.new.writer) (g.E.Write.contents c.args.notes.now)
+    (g.E.Write.contents c.noted_files.new.notes) c.noted_files.result d.2 c.noted_files.ensures in
+    (d.0, d.1, both.0, both.1)
 
-pub returns-in-Err-clause-reports : goal.returns-in-Err-clause-reports
-returns-in-Err-clause-reports g c =
-    let d = c.in-Err.ensures.document in (
+pub returns-in-Err : goal.returns-in-Err
+returns-in-Err g c =
+    let d = c.in-Err.ensures in (
       d.0,
       d.1,
       no_report c.args.files.now d.0 (g.W.Write.contents c.args.writer.now) c.in-Err.error d.2,
+      none_noted (λ document note. AreFileNotes document c.args.files.now note) d.0 (g.E.Write.contents c.args.notes.now) c.in-Err.error,
     )
-
-pub returns-in-Ok-clause-reads : goal.returns-in-Ok-clause-reads
-returns-in-Ok-clause-reads g c =
-    to_the_end (g.R.Read.remaining c.args.rules.now) (g.R.Read.remaining c.document_of.new.reader) c.check_by.result
-    c.in-Ok.ensures.reads
-    (files_not_long (view c.in-Ok.document) c.args.files.now (g.W.Write.contents c.args.writer.now)
-    (g.W.Write.contents c.check_by.new.writer) c.check_by.result c.check_by.ensures.checks)

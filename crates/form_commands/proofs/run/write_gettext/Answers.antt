@@ -1,30 +1,25 @@
+use Rattle.std.proofs.Common.{[]}
 use Rattle.serde_json.specs.View.{view}
-use Rattle.form_commands.specs.FormsAnswers.{Answers, IsOneText}
-use Rattle.form_commands.proofs.AnswerLemmas.{document_answered, no_answer}
-use Rattle.form_commands.proofs.TouchLemmas.{answer_not_long, to_the_end}
+use Rattle.form_commands.specs.FormsAnswers.{Answers, IsGettextAnswer}
+use Rattle.form_commands.specs.KeyNotes.{IsNote}
+use Rattle.form_commands.proofs.AnswerLemmas.{no_answer}
+use Rattle.form_commands.proofs.NoteLemmas.{none_noted, printed_noted}
 use Rattle.form_commands.proofs.run.write_gettext.Goals as goal
 
-pub returns-in-Ok-clause-answers : goal.returns-in-Ok-clause-answers
-returns-in-Ok-clause-answers g c =
-    let d = c.in-Ok.ensures.document in (
+pub returns-in-Ok : goal.returns-in-Ok
+returns-in-Ok g c =
+    let d = c.in-Ok.ensures in
+    let both = printed_noted (Answers IsGettextAnswer c.args.part c.args.locale.now)
+    (λ document note. IsNote document [] c.args.part c.args.locale.now note) d.0 (view c.in-Ok.document)
+    (g.W.Write.contents c.args.writer.now) (g.W.Write.contents c.gettext_by.new.writer) (g.E.Write.contents c.args.notes.now)
+    (g.E.Write.contents c.gettext_by.new.notes) c.gettext_by.result d.2 c.gettext_by.ensures in
+    (d.0, d.1, both.0, both.1)
+
+pub returns-in-Err : goal.returns-in-Err
+returns-in-Err g c =
+    let d = c.in-Err.ensures in (
       d.0,
       d.1,
-      document_answered (Answers IsOneText c.args.part c.args.locale.now) d.0 (view c.in-Ok.document)
-          (g.W.Write.contents c.args.writer.now) (g.W.Write.contents c.write_answer.new.writer) c.gettext_of.result c.write_answer.result
-          d.2 c.gettext_of.ensures c.write_answer.ensures.answer,
+      no_answer (Answers IsGettextAnswer c.args.part c.args.locale.now) d.0 (g.W.Write.contents c.args.writer.now) c.in-Err.error d.2,
+      none_noted (λ document note. IsNote document [] c.args.part c.args.locale.now note) d.0 (g.E.Write.contents c.args.notes.now) c.in-Err.error,
     )
-
-pub returns-in-Err-clause-answers : goal.returns-in-Err-clause-answers
-returns-in-Err-clause-answers g c =
-    let d = c.in-Err.ensures.document in (
-      d.0,
-      d.1,
-      no_answer (Answers IsOneText c.args.part c.args.locale.now) d.0 (g.W.Write.contents c.args.writer.now) c.in-Err.error d.2,
-    )
-
-pub returns-in-Ok-clause-reads : goal.returns-in-Ok-clause-reads
-returns-in-Ok-clause-reads g c =
-    to_the_end (g.R.Read.remaining c.args.rules.now) (g.R.Read.remaining c.document_of.new.reader) c.write_answer.result
-    c.in-Ok.ensures.reads
-    (answer_not_long c.gettext_of.result (g.W.Write.contents c.args.writer.now) (g.W.Write.contents c.write_answer.new.writer)
-    c.write_answer.result c.write_answer.ensures.answer)
