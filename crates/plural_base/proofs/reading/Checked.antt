@@ -19,7 +19,7 @@ use Rattle.plural_base.specs.Inner.JsonSteps.{GivesRule, Passes, alone, row_mean
 use Rattle.plural_base.specs.Json.{Answers, IsRefusal, Stands, ◌>>=◌, all_five}
 use Rattle.plural_base.specs.RangesJson.{ranges_meant}
 use Rattle.plural_base.specs.RulesJson.{named, rule_meant, rules_meant}
-use Rattle.plural_base.proofs.reading.DocumentRefusals.{refused_with}
+use Rattle.plural_base.proofs.reading.DocumentRefusals.{refused_with, third_of_three}
 use Rattle.plural_base.proofs.reading.RulesRead.{rows_read}
 use Rattle.serde_json.specs.Data.{Data, Members, member}
 use Rattle.serde_json.specs.Find.{as_object, as_str, get, get_member}
@@ -112,3 +112,23 @@ maps_alone locale (Err e) ordinal ranges = refl
 maps_alone locale (Ok c) (Err e) ranges = refl
 maps_alone locale (Ok c) (Ok o) (Err e) = refl
 maps_alone locale (Ok c) (Ok o) (Ok r) = refl
+
+-- a refusal of the ranges is one of the document of a locale, if both maps of rules are read
+pub locale_refused : (locale : List ℕ) (value : Data) (a b r : Option Data) (c o : Rows FiveRules) (e : JsonError)
+    → true ≡ is_some (as_object value)
+    → a ≡ get (codes "cardinal") value → b ≡ get (codes "ordinal") value → r ≡ get (codes "ranges") value
+    → alone locale (map_meant rules_meant a) ≡ Ok c → alone locale (map_meant rules_meant b) ≡ Ok o
+    → IsRefusal e (alone locale (map_meant ranges_meant r)) → IsRefusal e (with_locale locale (document_meant value))
+locale_refused locale value a b r c o e is_object a_is b_is r_is first second third =
+    let cardinal = map_meant rules_meant (get (codes "cardinal") value) in
+    let ordinal = map_meant rules_meant (get (codes "ordinal") value) in
+    let ranges = map_meant ranges_meant (get (codes "ranges") value) in
+    refused_with e (alone locale (map_meant ranges_meant r)) (with_locale locale (document_meant value))
+    (λ refused.
+    ap (λ is. with_locale locale (if is then all_maps cardinal ordinal ranges else Err Shape)) (sym is_object)
+    ∙ maps_alone locale cardinal ordinal ranges
+    ∙ third_of_three (alone locale cardinal) (alone locale ordinal) (alone locale ranges) c o e
+    (ap (λ d. alone locale (map_meant rules_meant d)) (sym a_is) ∙ first)
+    (ap (λ d. alone locale (map_meant rules_meant d)) (sym b_is) ∙ second)
+    (ap (λ d. alone locale (map_meant ranges_meant d)) (sym r_is) ∙ refused))
+    third

@@ -23,7 +23,7 @@ refused_with (Pack fault) part whole carry h = carry h
 refused_with Memory part whole carry h = tt
 
 -- after two maps that are read, the third is refused
-third_of_three : (cardinal ordinal : Stands (Rows FiveRules)) (ranges : Stands (Rows PluralRanges)) (c o : Rows FiveRules) (e : JsonError)
+pub third_of_three : (cardinal ordinal : Stands (Rows FiveRules)) (ranges : Stands (Rows PluralRanges)) (c o : Rows FiveRules) (e : JsonError)
     → cardinal ≡ Ok c → ordinal ≡ Ok o → ranges ≡ Err e → all_maps cardinal ordinal ranges ≡ Err e
 third_of_three cardinal ordinal ranges c o e first second third = rw (first, second, third) refl
 
