@@ -1,5 +1,6 @@
 -- Rules that come from texts and documents.
 pub mod Answered
+pub mod Checked
 pub mod EveryReading
 pub mod Rows
 pub mod RowsRead

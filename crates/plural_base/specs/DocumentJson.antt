@@ -1,6 +1,7 @@
 -- What a JSON document means: maps from locales to rules and to ranges (docs/JSON.md).
 --     found locale rows      what the first row of the locale has
 --     document_of_json value      the maps of a document, or its first refusal
+--     document_for locale value      what these maps have for a locale alone, or the first refusal
 --     IsReadAt value rules      both are absent, or the rules come from the texts in the value
 --     AreRangesAt value ranges      both are absent, or the ranges are those that the value means
 use Rattle.std.specs.Prelude.{◌≡◌, ℕ, List, [], ◌∷◌, codes, Option, Some, None, is_some, Ok, Err, bytes_eq, if◌then◌else◌}
@@ -69,6 +70,29 @@ document_meant value =
 
 abbrev pub document_of_json : Data → Stands Document
 document_of_json = unless_float document_meant
+
+-- ---- A document for one locale
+
+-- the row of a locale, if it has one
+abbrev pub row_of : {A : Type 0} → List ℕ → Option A → Rows A
+row_of locale None = []
+row_of locale (Some x) = (locale, x) ∷ []
+
+-- what the maps have for a locale, and no other row
+abbrev pub of_locale : List ℕ → Document → Document
+of_locale locale document = record {
+  cardinal = row_of locale (found locale document.cardinal);
+  ordinal = row_of locale (found locale document.ordinal);
+  ranges = row_of locale (found locale document.ranges);
+}
+
+-- the document of a locale, or the refusal
+abbrev pub with_locale : List ℕ → Stands Document → Stands Document
+with_locale locale stands = stands >>= λ document. Ok (of_locale locale document)
+
+-- the whole document is read: a refusal of another locale is one of this document too
+abbrev pub document_for : List ℕ → Data → Stands Document
+document_for locale value = with_locale locale (document_of_json value)
 
 -- ---- What a locale has
 

@@ -1,7 +1,10 @@
 //! Rules, ranges and documents as JSON.
 
+mod checks;
 pub(crate) mod error;
 pub(crate) mod float;
+mod known;
+mod locale;
 pub(crate) mod provider;
 mod ranges;
 mod rows;

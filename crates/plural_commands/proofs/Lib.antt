@@ -3,3 +3,4 @@ pub mod Faults
 pub mod Lengths
 pub mod Readings
 pub mod Questions
+pub mod OneLocale

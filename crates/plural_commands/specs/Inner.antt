@@ -2,3 +2,4 @@
 pub mod PrivateViews
 pub mod CallAnswers
 pub mod InputFaults
+pub mod OneLocale

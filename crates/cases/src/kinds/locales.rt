@@ -15,6 +15,8 @@ pub fn make(kind: &str, call: &mut Call) -> bool {
     match kind {
         "loaded_rules" => loaded_rules(call),
         "loaded_ranges" => loaded_ranges(call),
+        "rules_of_one" => rules_of_one(call),
+        "ranges_of_one" => ranges_of_one(call),
         "category_of_locale" => category_of_locale(call),
         _ => return false,
     }
@@ -89,6 +91,40 @@ fn print_loaded_ranges(call: &mut Call, provider: &JsonProvider) {
             Err(error) => call.print_error(&error),
         },
         Err(error) => call.print_error(&error),
+    }
+}
+
+// The provider of one locale of a document, or none, if the document is refused.
+fn provider_of_one(call: &mut Call) -> Option<JsonProvider> {
+    let document = call.value();
+    let locale = call.text();
+    match JsonProvider::of_locale(call.alloc, &document, locale.as_str()) {
+        Ok(provider) => Some(provider),
+        Err(error) => {
+            call.print_error(&error);
+            None
+        }
+    }
+}
+
+// The rules of a locale by the provider of one locale, as JSON.
+fn rules_of_one(call: &mut Call) {
+    match provider_of_one(call) {
+        Some(provider) => print_loaded_rules(call, &provider),
+        None => {
+            let _ = call.text();
+            let _ = next_type(call);
+        }
+    }
+}
+
+// The ranges of a locale by the provider of one locale, as JSON.
+fn ranges_of_one(call: &mut Call) {
+    match provider_of_one(call) {
+        Some(provider) => print_loaded_ranges(call, &provider),
+        None => {
+            let _ = call.text();
+        }
     }
 }
 

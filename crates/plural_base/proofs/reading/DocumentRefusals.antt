@@ -12,7 +12,7 @@ use Rattle.serde_json.specs.Data.{Data}
 use Rattle.serde_json.specs.Find.{get, as_object}
 
 -- a refusal of a part is a refusal of the whole, if the whole gives the part's error
-refused_with : {A B : Type 0} (e : JsonError) (part : Stands A) (whole : Stands B) → (part ≡ Err e → whole ≡ Err e)
+pub refused_with : {A B : Type 0} (e : JsonError) (part : Stands A) (whole : Stands B) → (part ≡ Err e → whole ≡ Err e)
     → IsRefusal e part → IsRefusal e whole
 refused_with Float part whole carry h = carry h
 refused_with Shape part whole carry h = carry h
@@ -23,7 +23,7 @@ refused_with (Pack fault) part whole carry h = carry h
 refused_with Memory part whole carry h = tt
 
 -- after two maps that are read, the third is refused
-third_of_three : (cardinal ordinal : Stands (Rows FiveRules)) (ranges : Stands (Rows PluralRanges)) (c o : Rows FiveRules) (e : JsonError)
+pub third_of_three : (cardinal ordinal : Stands (Rows FiveRules)) (ranges : Stands (Rows PluralRanges)) (c o : Rows FiveRules) (e : JsonError)
     → cardinal ≡ Ok c → ordinal ≡ Ok o → ranges ≡ Err e → all_maps cardinal ordinal ranges ≡ Err e
 third_of_three cardinal ordinal ranges c o e first second third = rw (first, second, third) refl
 

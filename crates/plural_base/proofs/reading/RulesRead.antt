@@ -129,7 +129,7 @@ module _ {A : Type 0} (meant : Data → Stands A) (Reads : Data → A → Type 0
       (at_key (slice_cmp nat_cmp locale k) value x _ _ (taken value x read) (others rest refl)))
 
   -- what is found for a locale is read from its member
-  rows_read : (ms : Members) (rows : Rows A) → rows_meant meant ms ≡ Ok rows → Paired Reads (get_member locale ms) (found locale rows)
+  pub rows_read : (ms : Members) (rows : Rows A) → rows_meant meant ms ≡ Ok rows → Paired Reads (get_member locale ms) (found locale rows)
   rows_read no_members rows h = subst (λ r. Paired Reads None (found locale r)) (same_ok _ _ h) tt
   rows_read (member k value ms) rows h = row_read k value ms _ _ rows refl (λ rest read. rows_read ms rest read) h
 

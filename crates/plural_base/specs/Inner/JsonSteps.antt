@@ -1,5 +1,5 @@
 -- Not a definition of the subject: the error that the code makes from a rule's.
-use Rattle.std.specs.Prelude.{Option, fold, Some, None, List, map, String, string_bytes}
+use Rattle.std.specs.Prelude.{◌≡◌, ⊤, ℕ, Option, fold, Some, None, Result, Ok, Err, List, [], ◌∷◌, map, String, string_bytes}
 use Rattle.plural_runtime.specs.declared.error.RuleError.{RuleError}
 use Rattle.plural_runtime.specs.declared.error.RuleError.TheVariants as fault
 use Rattle.plural_base.specs.declared.category.PluralCategory.{PluralCategory}
@@ -13,8 +13,12 @@ use Rattle.plural_base.specs.RangesJson.{name_json}
 use Rattle.serde_json.specs.Data.{Members, no_members, put}
 use Rattle.std.specs.declared.alloc.Global.{Global}
 use Rattle.plural_base.specs.declared.rules.data.PluralRulesData.{PluralRulesData}
-use Rattle.plural_base.specs.DocumentJson.{Rows}
+use Rattle.plural_base.specs.DocumentJson.{Rows, found, row_of}
 use Rattle.plural_base.specs.FiveRules.{FiveRules, rules_of}
+use Rattle.plural_base.specs.Json.{Stands, ◌>>=◌, IsRefusal}
+use Rattle.plural_runtime.specs.PackedRelations.{PackedRelation}
+use Rattle.plural_runtime.specs.RuleOfText.{rule_of_text}
+use Rattle.serde_json.specs.Data.{Data}
 
 -- out of memory names no category
 abbrev pub refusal_of : Option PluralCategory → RuleError → JsonError
@@ -48,3 +52,23 @@ rows_of = rows_by rules_of
 
 abbrev pub range_rows_of : List (String Global × PluralRanges) → Rows PluralRanges
 range_rows_of = rows_by (λ ranges. ranges)
+
+-- ---- Not a definition of the subject: what is read for its refusals alone.
+
+-- the value means something; otherwise the call returns its refusal, or runs out of memory
+abbrev pub Passes : {A : Type 0} → Result ⊤ JsonError → Stands A → Type 0
+Passes {A} (Ok _) stands = (x : A) × (stands ≡ Ok x)
+Passes (Err error) stands = IsRefusal error stands
+
+-- the text gives a rule
+abbrev pub GivesRule : List ℕ → Type 0
+GivesRule text = (rule : List PackedRelation) × (rule_of_text text ≡ Ok rule)
+
+-- the row of a locale that has this value, if any
+abbrev pub row_meant : {A : Type 0} → (Data → Stands A) → List ℕ → Option Data → Stands (Rows A)
+row_meant meant locale None = Ok []
+row_meant meant locale (Some value) = meant value >>= λ x. Ok ((locale, x) ∷ [])
+
+-- the row of a locale alone
+abbrev pub alone : {A : Type 0} → List ℕ → Stands (Rows A) → Stands (Rows A)
+alone locale stands = stands >>= λ rows. Ok (row_of locale (found locale rows))

@@ -26,9 +26,9 @@ use std::marker::Model;
 /// Rules and ranges by locale that were read from a JSON document. It owns them.
 #[derive(Debug, Drop)]
 pub struct JsonProvider {
-    cardinal: BTreeMap<String, PluralRulesData<'static>>,
-    ordinal: BTreeMap<String, PluralRulesData<'static>>,
-    ranges: BTreeMap<String, PluralRanges>,
+    pub(crate) cardinal: BTreeMap<String, PluralRulesData<'static>>,
+    pub(crate) ordinal: BTreeMap<String, PluralRulesData<'static>>,
+    pub(crate) ranges: BTreeMap<String, PluralRanges>,
 }
 
 impl Model for JsonProvider {

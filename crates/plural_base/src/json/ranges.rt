@@ -10,6 +10,7 @@ ghost use Rattle.serde_json.specs.View.{view, members_view};
 use crate::category::raw::{ALL, RawPluralCategory};
 use crate::json::error::JsonError;
 use crate::json::float::holds_float;
+use crate::json::known::KnownTexts;
 use crate::json::rows::FromJson;
 use crate::ranges::PluralRanges;
 use crate::ranges::key::{UnvalidatedPluralRange, category_of_name, range_of_text};
@@ -131,6 +132,15 @@ impl FromJson for PluralRanges {
 
     fn read(_alloc: Global, value: &Value) -> Result<PluralRanges, JsonError> {
         read_ranges(value)
+    }
+
+    fn check<'v>(
+        _alloc: Global,
+        value: &'v Value,
+        _known: &mut KnownTexts<'v>,
+    ) -> Result<(), JsonError> {
+        let _ = read_ranges(value)?;
+        Ok(())
     }
 }
 

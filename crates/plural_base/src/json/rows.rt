@@ -6,12 +6,13 @@ ghost use Rattle.std.specs.Cmp.Lexicographic.{slice_cmp};
 ghost use Rattle.std.specs.Ordering.{nat_cmp};
 ghost use Rattle.plural_base.specs.declared.category.PluralCategory.{PluralCategory};
 ghost use Rattle.plural_base.specs.DocumentJson.{map_meant, rows_meant};
-ghost use Rattle.plural_base.specs.Inner.JsonSteps.{rows_by};
+ghost use Rattle.plural_base.specs.Inner.JsonSteps.{rows_by, Passes};
 ghost use Rattle.plural_base.specs.Json.{Answers, Stands};
 ghost use Rattle.serde_json.specs.Data.{Data};
 ghost use Rattle.serde_json.specs.View.{view, members_view};
 
 use crate::json::error::JsonError;
+use crate::json::known::KnownTexts;
 use plural_runtime::RuleError;
 use serde_json::{Map, Value};
 use std::alloc::{AllocError, Global};
@@ -29,6 +30,16 @@ pub(crate) trait FromJson: Drop {
 
     fn read(alloc: Global, value: &Value) -> Result<Self, JsonError>
         ensures answers { Answers seen result (meant (view value.now)) }
+        ensures float { result ≢ Err JsonError.Float }
+        ensures memory { (category : Option PluralCategory) → result ≢ Err (JsonError.Rule category RuleError.Memory) };
+
+    // Returns the refusal of a value.
+    fn check<'v>(
+        alloc: Global,
+        value: &'v Value,
+        known: &mut KnownTexts<'v>,
+    ) -> Result<(), JsonError>
+        ensures answers { Passes result (meant (view value.now)) }
         ensures float { result ≢ Err JsonError.Float }
         ensures memory { (category : Option PluralCategory) → result ≢ Err (JsonError.Rule category RuleError.Memory) };
 }
@@ -72,7 +83,7 @@ fn read_rows<T: FromJson>(
 }
 
 // Puts what a locale has into a map.
-fn put<T: FromJson>(
+pub(crate) fn put<T: FromJson>(
     rows: &mut BTreeMap<String, T>,
     locale: String,
     row: T,

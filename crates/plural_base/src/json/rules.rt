@@ -14,8 +14,10 @@ ghost use Rattle.serde_json.specs.Written.{has_float};
 
 use crate::category::PluralCategory;
 use crate::category::raw::RawPluralCategory;
+use crate::json::checks::check_rules;
 use crate::json::error::JsonError;
 use crate::json::float::holds_float;
+use crate::json::known::KnownTexts;
 use crate::json::rows::FromJson;
 use crate::json::rule::{read_rule, rule_to_json};
 use crate::rules::data::PluralRulesData;
@@ -95,6 +97,14 @@ impl FromJson for PluralRulesData<'static> {
 
     fn read(alloc: Global, value: &Value) -> Result<PluralRulesData<'static>, JsonError> {
         read_rules(alloc, value)
+    }
+
+    fn check<'v>(
+        alloc: Global,
+        value: &'v Value,
+        known: &mut KnownTexts<'v>,
+    ) -> Result<(), JsonError> {
+        check_rules(alloc, value, known)
     }
 }
 

@@ -104,6 +104,19 @@ fn reads_document(alloc: Global, text: &str, locale: &str, has_ranges: bool) -> 
     }
 }
 
+// Reads what a document has for one locale, which has ordinal rules and ranges.
+fn reads_one_locale(alloc: Global) -> Option<bool> {
+    let Ok(value) = Value::from_str(alloc, DOCUMENT_WITH_RANGES) else {
+        return None;
+    };
+    match JsonProvider::of_locale(alloc, &value, "a") {
+        Ok(provider) => {
+            Some(provider.load_ordinal("a").is_ok() && provider.load_ranges("a").is_ok())
+        }
+        Err(error) => refused(error == JsonError::Memory),
+    }
+}
+
 fn reads_rules(alloc: Global) -> Option<bool> {
     let Ok(value) = Value::from_str(alloc, "{\"one\":\"n = 1\",\"many\":\"i % 100 = 11\"}") else {
         return None;
@@ -201,6 +214,12 @@ fn growth_may_be_refused_in_writing_rules(rt: HostRuntime) {
     let alloc = rt.alloc();
     let first = writes_rules(alloc);
     is_answered(&rt, first, writes_rules(alloc));
+}
+
+#[test]
+fn growth_may_be_refused_in_reading_one_locale_of_a_document(rt: HostRuntime) {
+    let first = reads_one_locale(rt.alloc());
+    is_answered(&rt, first, reads_one_locale(rt.alloc()));
 }
 
 #[test]

@@ -1,0 +1,93 @@
+//! Rules that are read for their refusals alone: nothing of them is kept.
+
+ghost use Rattle.std.specs.Prelude.{◌≢◌, Option, Err, Some, option_map};
+ghost use Rattle.plural_base.specs.declared.category.PluralCategory.{PluralCategory as Category};
+ghost use Rattle.plural_base.specs.Inner.JsonSteps.{Passes};
+ghost use Rattle.plural_base.specs.RulesJson.{member_meant, optional_meant, rule_meant, rules_meant};
+ghost use Rattle.serde_json.specs.View.{view};
+
+use crate::category::PluralCategory;
+use crate::category::raw::RawPluralCategory;
+use crate::json::error::JsonError;
+use crate::json::known::KnownTexts;
+use crate::json::rule::read_rule;
+use plural_runtime::RuleError;
+use serde_json::Value;
+use std::alloc::Global;
+
+// Returns the refusal of five rules.
+pub(crate) fn check_rules<'v>(
+    alloc: Global,
+    value: &'v Value,
+    known: &mut KnownTexts<'v>,
+) -> Result<(), JsonError>
+    ensures answers { Passes result (rules_meant (view value.now)) }
+    ensures float { result ≢ Err JsonError.Float }
+    ensures memory { (category : Option Category) → result ≢ Err (JsonError.Rule category RuleError.Memory) }
+{
+    if !value.is_object() {
+        return Err(JsonError::Shape);
+    }
+    check_member(alloc, value, PluralCategory::Zero, known)?;
+    check_member(alloc, value, PluralCategory::One, known)?;
+    check_member(alloc, value, PluralCategory::Two, known)?;
+    check_member(alloc, value, PluralCategory::Few, known)?;
+    check_member(alloc, value, PluralCategory::Many, known)
+}
+
+// Returns the refusal of the rule under the name of a category.
+fn check_member<'v>(
+    alloc: Global,
+    value: &'v Value,
+    category: PluralCategory,
+    known: &mut KnownTexts<'v>,
+) -> Result<(), JsonError>
+    ensures answers { Passes result (member_meant category (view value.now)) }
+    ensures float { result ≢ Err JsonError.Float }
+    ensures memory { (c : Option Category) → result ≢ Err (JsonError.Rule c RuleError.Memory) }
+{
+    let name = RawPluralCategory::from(category).as_str();
+    check_optional(alloc, value.get(name), category, known)
+}
+
+// Returns the refusal of a rule that may be absent or null.
+fn check_optional<'v>(
+    alloc: Global,
+    value: Option<&'v Value>,
+    category: PluralCategory,
+    known: &mut KnownTexts<'v>,
+) -> Result<(), JsonError>
+    ensures answers { Passes result (optional_meant category (option_map (λ v. view v.now) value.entry)) }
+    ensures float { result ≢ Err JsonError.Float }
+    ensures memory { (c : Option Category) → result ≢ Err (JsonError.Rule c RuleError.Memory) }
+{
+    let Some(value) = value else {
+        return Ok(());
+    };
+    if value.is_null() {
+        return Ok(());
+    }
+    check_rule(alloc, value, category, known)
+}
+
+// Returns the refusal of a rule. A text that was read before isn't read again.
+fn check_rule<'v>(
+    alloc: Global,
+    value: &'v Value,
+    category: PluralCategory,
+    known: &mut KnownTexts<'v>,
+) -> Result<(), JsonError>
+    ensures answers { Passes result (rule_meant (Some category) (view value.now)) }
+    ensures float { result ≢ Err JsonError.Float }
+    ensures memory { (c : Option Category) → result ≢ Err (JsonError.Rule c RuleError.Memory) }
+{
+    let Some(text) = value.as_str() else {
+        return Err(JsonError::Shape);
+    };
+    if known.has(text) {
+        return Ok(());
+    }
+    drop(read_rule(alloc, value, Some(category))?);
+    known.keep(text)?;
+    Ok(())
+}
