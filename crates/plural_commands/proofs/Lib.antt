@@ -3,4 +3,3 @@ pub mod Faults
 pub mod Lengths
 pub mod Readings
 pub mod Questions
-pub mod OneLocale

@@ -2,4 +2,3 @@
 pub mod PrivateViews
 pub mod CallAnswers
 pub mod InputFaults
-pub mod OneLocale

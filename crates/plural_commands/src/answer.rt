@@ -1,10 +1,8 @@
 //! The answer to a query of a document.
 
-ghost use Rattle.std.specs.Prelude.{◌≡◌};
 ghost use Rattle.plural_commands.specs.Answer.{AnswersLookup};
 ghost use Rattle.plural_commands.specs.Input.{document_of};
 ghost use Rattle.plural_commands.specs.Inner.CallAnswers.{GivesText};
-ghost use Rattle.plural_commands.specs.Inner.OneLocale.{locale_of};
 ghost use Rattle.plural_commands.specs.Inner.PrivateViews.{document_view, lookup_view};
 ghost use Rattle.plural_commands.specs.Steps.{After};
 
@@ -27,21 +25,8 @@ pub(crate) fn text_in(
 ) -> Result<CowStr<'static>, RunError>
     ensures { GivesText (After (AnswersLookup (lookup_view lookup.now)) (document_of bytes.now)) result }
 {
-    let document = document_of(alloc, bytes, locale_of(lookup))?;
+    let document = document_of(alloc, bytes)?;
     text_of(alloc, &document, lookup)
-}
-
-// The locale whose rules a query asks for.
-fn locale_of<'a>(lookup: &Lookup<'a>) -> &'a str
-    ensures { result.now ≡ locale_of (lookup_view lookup.now) }
-{
-    match lookup {
-        Lookup::Category(locale, _, _)
-        | Lookup::Range(locale, _, _, _)
-        | Lookup::Print(locale, _)
-        | Lookup::Select(locale, _, _)
-        | Lookup::Message(locale, _, _, _) => locale,
-    }
 }
 
 // Returns the answer to a query of a document.

@@ -1,10 +1,9 @@
-//! The document that an input writes, with the rules and ranges that it has for a locale.
+//! The document that an input writes, and the rules and ranges that it has for a locale.
 
 ghost use Rattle.serde_json.specs.View.{view};
-ghost use Rattle.icu_plurals.specs.DocumentJson.{document_for};
+ghost use Rattle.icu_plurals.specs.DocumentJson.{document_of_json};
 ghost use Rattle.icu_plurals.specs.FiveRules.{rules_of as data_of};
-ghost use Rattle.plural_commands.specs.Input.{or_bad, ranged_for, rules_for};
-ghost use Rattle.plural_commands.specs.Inner.OneLocale.{document_at};
+ghost use Rattle.plural_commands.specs.Input.{document_of, or_bad, ranged_for, rules_for};
 ghost use Rattle.plural_commands.specs.Inner.CallAnswers.{GivesValue};
 ghost use Rattle.plural_commands.specs.Inner.PrivateViews.{document_view};
 ghost use Rattle.plural_commands.specs.Steps.{or_fault};
@@ -21,19 +20,19 @@ use plural_documents::{JsonTextError, json_value};
 use serde_json::Value;
 use std::alloc::Global;
 
-// A document: its JSON value, and what its maps of rules and of ranges have for a locale.
+// A document: its JSON value, and the maps of rules and of ranges in it.
 #[derive(Drop)]
 pub(crate) struct Document {
     pub(crate) value: Value,
     maps: JsonProvider,
 }
 
-// The document that the bytes write, with what it has for a locale alone. All of it is read.
-pub(crate) fn document_of(alloc: Global, bytes: &[u8], locale: &str) -> Result<Document, RunError>
-    ensures { GivesValue document_view (document_at locale.now bytes.now) result }
+// The document that the bytes write.
+pub(crate) fn document_of(alloc: Global, bytes: &[u8]) -> Result<Document, RunError>
+    ensures { GivesValue document_view (document_of bytes.now) result }
 {
     let value = value_of(alloc, bytes)?;
-    let maps = maps_of(alloc, &value, locale)?;
+    let maps = maps_of(alloc, &value)?;
     Ok(Document { value, maps })
 }
 
@@ -48,11 +47,11 @@ fn value_of(alloc: Global, bytes: &[u8]) -> Result<Value, RunError>
     }
 }
 
-// What the maps that a JSON value means have for a locale.
-fn maps_of(alloc: Global, value: &Value, locale: &str) -> Result<JsonProvider, RunError>
-    ensures { GivesValue (λ maps. maps) (or_bad (document_for locale.now (view value.now))) result }
+// The maps that a JSON value means.
+fn maps_of(alloc: Global, value: &Value) -> Result<JsonProvider, RunError>
+    ensures { GivesValue (λ maps. maps) (or_bad (document_of_json (view value.now))) result }
 {
-    match JsonProvider::of_locale(alloc, value, locale) {
+    match JsonProvider::from_value(alloc, value) {
         Ok(maps) => Ok(maps),
         Err(JsonError::Memory) => Err(RunError::Memory),
         Err(refusal) => Err(RunError::Document(refusal)),
