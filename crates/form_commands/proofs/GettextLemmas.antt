@@ -62,21 +62,21 @@ six_match A B C D E F false false false false false true p q r s t u = inr (inr 
 six_match A B C D E F false false false false false false p q r s t u = λ h. elim h as (λ _. ⊥) [
   | inl x ↦ p x
   | inr g ↦ elim g as (λ _. ⊥) [
-      | inl x ↦ q x
+    | inl x ↦ q x
+    | inr g ↦ elim g as (λ _. ⊥) [
+      | inl x ↦ r x
       | inr g ↦ elim g as (λ _. ⊥) [
-          | inl x ↦ r x
+        | inl x ↦ s x
+        | inr g ↦ elim g as (λ _. ⊥) [
+          | inl x ↦ t x
           | inr g ↦ elim g as (λ _. ⊥) [
-              | inl x ↦ s x
-              | inr g ↦ elim g as (λ _. ⊥) [
-                  | inl x ↦ t x
-                  | inr g ↦ elim g as (λ _. ⊥) [
-                      | inl x ↦ u x
-                      | inr x ↦ x
-                    ]
-                ]
-            ]
+            | inl x ↦ u x
+            | inr x ↦ x
+          ]
         ]
+      ]
     ]
+  ]
 ]
 
 -- whether a power or a number below the limit has it

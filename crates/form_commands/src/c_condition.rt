@@ -11,7 +11,9 @@ ghost use Rattle.form_commands.specs.RuleConditions.{atoms_under, condition_of, 
 ghost use Rattle.form_commands.specs.Inner.ConditionSteps.{AreCut, IsGroup, Joins, begun_before, ended_before, group_texts};
 
 use crate::joined::Joined;
-use icu_plurals::provider::rules::runtime::ast::{AndOr, Operand, Polarity, RangeOrValue, Relation, Rule};
+use icu_plurals::provider::rules::runtime::ast::{
+    AndOr, Operand, Polarity, RangeOrValue, Relation, Rule,
+};
 use std::alloc::{AllocError, Global};
 
 // The relations of a group, and whether a whole number may have all.
@@ -145,7 +147,11 @@ fn range_at(relation: &Relation<'_>, place: usize) -> (u32, u32)
 }
 
 // Appends a relation of the number.
-fn push_relation(alloc: Global, relation: &Relation<'_>, atoms: &mut Joined) -> Result<(), AllocError>
+fn push_relation(
+    alloc: Global,
+    relation: &Relation<'_>,
+    atoms: &mut Joined,
+) -> Result<(), AllocError>
     ensures { let meaning = (lent_relation relation.now).meaning in
         OnOk result (Joins (codes " && ") (map atom_text (atoms_under meaning.operator meaning.modulus meaning.ranges)) atoms.old atoms.new) }
 {

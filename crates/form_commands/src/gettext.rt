@@ -96,14 +96,7 @@ fn has_power(rules: &PluralRules<'_>, category: PluralCategory) -> bool
 }
 
 // Returns whether one of six is true.
-fn some_of(
-    fourth: bool,
-    fifth: bool,
-    sixth: bool,
-    seventh: bool,
-    eighth: bool,
-    ninth: bool,
-) -> bool
+fn some_of(fourth: bool, fifth: bool, sixth: bool, seventh: bool, eighth: bool, ninth: bool) -> bool
     ensures { result ≡ (((((fourth || fifth) || sixth) || seventh) || eighth) || ninth) }
 {
     fourth || fifth || sixth || seventh || eighth || ninth

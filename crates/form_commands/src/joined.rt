@@ -40,13 +40,21 @@ impl Joined {
     pub(crate) fn and_text(&self) -> &str
         ensures { (pieces : List (List ℕ)) → AreJoined (codes " && ") pieces self.now → result.now ≡ and_text pieces }
     {
-        if self.is_begun { self.text.as_str() } else { "1" }
+        if self.is_begun {
+            self.text.as_str()
+        } else {
+            "1"
+        }
     }
 
     // Returns the texts, which `||` joins, or 0 without any.
     pub(crate) fn or_text(&self) -> &str
         ensures { (pieces : List (List ℕ)) → AreJoined (codes " || ") pieces self.now → result.now ≡ or_text pieces }
     {
-        if self.is_begun { self.text.as_str() } else { "0" }
+        if self.is_begun {
+            self.text.as_str()
+        } else {
+            "0"
+        }
     }
 }

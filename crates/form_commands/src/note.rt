@@ -130,9 +130,25 @@ fn push_locale(
         (string_bytes notes.old) (string_bytes notes.new)) }
 {
     let cardinal = is_asked(Part::Cardinal, value);
-    push_if(alloc, cardinal, document, place, Part::Cardinal, locale, notes)?;
+    push_if(
+        alloc,
+        cardinal,
+        document,
+        place,
+        Part::Cardinal,
+        locale,
+        notes,
+    )?;
     let ordinal = is_asked(Part::Ordinal, value);
-    push_if(alloc, ordinal, document, place, Part::Ordinal, locale, notes)
+    push_if(
+        alloc,
+        ordinal,
+        document,
+        place,
+        Part::Ordinal,
+        locale,
+        notes,
+    )
 }
 
 // Returns whether a locale has messages of a part, or patterns.

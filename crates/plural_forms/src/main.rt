@@ -64,8 +64,12 @@ fn list(rt: &HostRuntime, wanted: Wanted<'_>) -> Result<Verdict, Failure> {
 // Writes how gettext's files number the forms of a language.
 fn gettext(rt: &HostRuntime, wanted: Wanted<'_>) -> Result<Verdict, Failure> {
     let alloc = rt.alloc();
-    let (part, locale, mut output, mut notes) =
-        (wanted.part, wanted.locale, rt.stdout(), rt.stderr());
+    let (part, locale, mut output, mut notes) = (
+        wanted.part,
+        wanted.locale,
+        rt.stdout(),
+        rt.stderr(),
+    );
     let Some(name) = rules_name(rt, wanted.file)? else {
         let mut input = rt.stdin();
         let answer = write_gettext(alloc, part, locale, &mut input, &mut output, &mut notes);
@@ -108,8 +112,12 @@ fn category_by_file(
     numbers: &[&str],
 ) -> Result<Verdict, Failure> {
     let alloc = rt.alloc();
-    let (part, locale, mut output, mut notes) =
-        (wanted.part, wanted.locale, rt.stdout(), rt.stderr());
+    let (part, locale, mut output, mut notes) = (
+        wanted.part,
+        wanted.locale,
+        rt.stdout(),
+        rt.stderr(),
+    );
     let mut file = open(rt, &name)?;
     let answer = if numbers.is_empty() {
         let mut input = rt.stdin();
@@ -145,8 +153,12 @@ fn category_by_input(
     if numbers.is_empty() {
         return Err(Failure::Usage);
     }
-    let (part, locale, mut output, mut notes) =
-        (wanted.part, wanted.locale, rt.stdout(), rt.stderr());
+    let (part, locale, mut output, mut notes) = (
+        wanted.part,
+        wanted.locale,
+        rt.stdout(),
+        rt.stderr(),
+    );
     let mut input = rt.stdin();
     let answer = answer_numbers(
         rt.alloc(),

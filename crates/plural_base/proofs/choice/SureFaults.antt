@@ -154,6 +154,7 @@ within_leaves_memory one text x number_fault.Memory within is = refl
 -- out of memory is no other fault
 not_syntax : {A : Type 0} → ◌≡◌ {A = Result A DecimalError} (Err number_fault.Memory) (Err number_fault.Syntax) → ⊥
 not_syntax same = absurd cc
+
 not_limit : {A : Type 0} → ◌≡◌ {A = Result A DecimalError} (Err number_fault.Memory) (Err number_fault.Limit) → ⊥
 not_limit same = absurd cc
 

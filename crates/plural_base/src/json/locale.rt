@@ -26,11 +26,7 @@ impl JsonProvider {
     /// The rest of the document is read too, but not kept: it is refused as by
     /// [`JsonProvider::from_value`], whichever locale the refusal is of. It allocates; out of
     /// memory is [`JsonError::Memory`].
-    pub fn of_locale(
-        alloc: Global,
-        value: &Value,
-        locale: &str,
-    ) -> Result<JsonProvider, JsonError>
+    pub fn of_locale(alloc: Global, value: &Value, locale: &str) -> Result<JsonProvider, JsonError>
         ensures answers { Answers (λ provider. provider) result (document_for locale.now (view value.now)) }
         // Both are checked before anything is allocated.
         ensures float { (result ≡ Err JsonError.Float) ↔ IsTrue (has_float (view value.now)) }

@@ -10,7 +10,7 @@ pub loop-place-preserved : goal.loop-place-preserved
 loop-place-preserved c =
     let form = c.form_at.result in
     choice_grown (rules_of c.args.five.now) c.args.forms.now c.loop-place.place form (string_bytes c.loop-place.text) c.as_str.result.now
-    (string_bytes c.push_str.new.self) (omega arith) 
+    (string_bytes c.push_str.new.self) (omega arith)
     (get_or_from_slice_get c.args.forms.now c.loop-place.place form form c.form_at.ensures) c.loop-place.invariant
     (c.as_str.ensures.value ∙ c.in_ok-choice.ensures) c.in_ok-push_str.ensures.bytes
 

@@ -15,9 +15,9 @@ returns-in_ok-text-in-Ok c =
       answered,
       (
         text,
-        subst (λ (rules : FiveRules). IsGettextLine rules text) 
-        (one_rules (rules_of_json (view c.in-Ok.language.value.now)) line.0 c.in-Ok.language.rules line.1
-        (found_language (view c.args.document.now) c.args.part c.args.locale.now c.in-Ok.language answered)) line.2,
+        subst (λ (rules : FiveRules). IsGettextLine rules text)
+            (one_rules (rules_of_json (view c.in-Ok.language.value.now)) line.0 c.in-Ok.language.rules line.1
+            (found_language (view c.args.document.now) c.args.part c.args.locale.now c.in-Ok.language answered)) line.2,
         c.of.ensures,
       ),
     )
