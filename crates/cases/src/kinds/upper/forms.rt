@@ -127,7 +127,6 @@ fn print_noted(call: &mut Call, text: &[u8], notes: &[u8], answer: Result<Verdic
         return;
     }
     print_lines(call, text);
-    call.separate(" | ");
     print_answer(call, notes, answer);
 }
 
