@@ -7,8 +7,8 @@ use Rattle.std.proofs.KnownBytes.{Appends-nil}
 use Rattle.plural_documents.specs.Outputs.{IsPartWritten}
 use Rattle.icu_plurals.specs.FiveRules.{FiveRules}
 use Rattle.icu_plurals.specs.declared.PluralCategory.{PluralCategory}
-use Rattle.form_commands.specs.InputLines.{lines_of}
-use Rattle.form_commands.specs.Inner.LineSteps.{EndsLine, Forgets, HasNoEnd, IsAfter, place_after}
+use Rattle.form_commands.specs.InputLines.{HasNoEnd, lines_of}
+use Rattle.form_commands.specs.Inner.LineSteps.{EndsLine, Forgets, IsAfter, place_after}
 use Rattle.form_commands.specs.Inner.StreamSteps.{IsBegunAfter, IsWrittenAfter}
 use Rattle.form_commands.specs.NumberAnswers.{AreLineAnswers, IsAnswerAt, IsCategoryOf, most_number_bytes, next_place}
 use Rattle.form_commands.specs.PrintedTexts.{PrintedText, after_text, nothing}

@@ -40,7 +40,7 @@ pub document_in : (input bytes : List ℕ) (r : Result Value FormsError) → byt
 document_in input bytes (Ok value) is short given = (short, rw (← is) given)
 document_in input bytes (Err Rules) is short given = tt
 document_in input bytes (Err TooLong) is short given = absurd given
-document_in input bytes (Err Json) is short given = rw (← is) given
+document_in input bytes (Err Json) is short given = (short, rw (← is) given)
 document_in input bytes (Err (Refused error)) is short given = given
 document_in input bytes (Err (Language error)) is short given = given
 document_in input bytes (Err Numbers) is short given = given

@@ -9,10 +9,14 @@ pub mod AfterLemmas
 pub mod StreamLemmas
 -- answers to documents
 pub mod AnswerLemmas
+-- what is read of the rules
+pub mod RulesRead
 -- the lines of forms
 pub mod FormLemmas
 -- notes of keys
 pub mod NoteLemmas
+-- what calls leave alone
+pub mod LeftAlone
 -- the line for gettext
 pub mod ConditionValues
 pub mod JoinLemmas

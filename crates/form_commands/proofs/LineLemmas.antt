@@ -3,8 +3,7 @@ use Rattle.std.proofs.Common.{◌≡◌, ℕ, ◌≤◌, ◌<◌, ◌+◌, List,
 use Rattle.std.specs.Prelude.{◌≢◌}
 use Rattle.std.proofs.lemmas.Bool.{ne_eqb}
 use Rattle.std.proofs.lemmas.List.{length-take, take-append-le, take_all, length-append}
-use Rattle.form_commands.specs.InputLines.{lines_of}
-use Rattle.form_commands.specs.Inner.LineSteps.{HasNoEnd}
+use Rattle.form_commands.specs.InputLines.{HasNoEnd, lines_of}
 
 -- ---- Ends of lines
 

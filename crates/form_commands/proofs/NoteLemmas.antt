@@ -18,7 +18,7 @@ use Rattle.form_commands.specs.InputLines.{lines_of}
 use Rattle.form_commands.specs.Inner.NoteSteps.{Notes, NotesAfter, Writes}
 use Rattle.form_commands.specs.Inner.RunSteps.{AnswersLines, Checks}
 use Rattle.form_commands.specs.Inner.PrintedSteps.{Grows}
-use Rattle.form_commands.specs.KeyNotes.{AreFileNotes, AreLocaleNotes, AreMemberNotes, AreNoted, IsFileNote, IsNote, IsNoteIf, has_members, is_asked}
+use Rattle.form_commands.specs.KeyNotes.{AreFileNotes, AreLocaleNotes, AreMemberNotes, AreNoted, IsFileNote, IsNote, IsNoted, IsNoteIf, has_members, is_asked}
 use Rattle.form_commands.specs.PrintedTexts.{PrintedText}
 use Rattle.form_commands.specs.declared.error.FormsError.{FormsError}
 use Rattle.form_commands.specs.declared.error.FormsError.TheVariants.{Memory}
@@ -105,12 +105,14 @@ from_nothing Is old new none grown =
 whole_part : (old new : Option (List ℕ)) (text : List ℕ) → Appends old new text → IsPartWritten old new text
 whole_part old new text appended = (text, [], sym (append-nil text), appended)
 
-pub noted : (AreNotes : Data → List ℕ → Type 0) (input : List ℕ) (document : Data) (notes : List ℕ) (old new : Option (List ℕ))
-    (answer result : Result Verdict FormsError) → IsDocumentIn input document → AreNotes document notes → Notes answer notes old new result
-    → AreNoted AreNotes input old new result
-noted AreNotes input document notes old new (Ok verdict) result given are (inl w) = rw w.0 (document, notes, given, are, w.1)
-noted AreNotes input document notes old new (Ok verdict) result given are (inr w) = rw w.0 (inr (document, notes, given, are, w.1))
-noted AreNotes input document notes old new (Err error) result given are w = rw w.0 (inl w.1)
+pub noted : (AreNotes : Data → List ℕ → Type 0) (IsResult : Result Verdict FormsError → Type 0) (input : List ℕ) (document : Data)
+    (notes : List ℕ) (old new : Option (List ℕ)) (answer result : Result Verdict FormsError) → IsDocumentIn input document
+    → AreNotes document notes → IsResult answer → Notes answer notes old new result → AreNoted AreNotes IsResult input old new result
+noted AreNotes IsResult input document notes old new (Ok verdict) result given are whole (inl w) =
+    rw w.0 (document, notes, given, are, w.1)
+noted AreNotes IsResult input document notes old new (Ok verdict) result given are whole (inr w) =
+    rw w.0 (inr (verdict, whole, document, notes, given, are, w.1))
+noted AreNotes IsResult input document notes old new (Err error) result given are whole w = rw w.0 (inl w.1)
 
 pub answer_noted : (IsAnswer : Data → Result PrintedText LanguageError → Type 0) (input notes : List ℕ) (old new before after : Option (List ℕ))
     (answer result : Result Verdict FormsError) → IsAnswered IsAnswer input old new answer → Notes answer notes before after result
@@ -149,12 +151,12 @@ check_noted files input notes old new before after (Err error) result a w = rw w
 pub printed_noted : (IsAnswer : Data → Result PrintedText LanguageError → Type 0) (AreNotes : Data → List ℕ → Type 0) (input : List ℕ)
     (document : Data) (old new before after : Option (List ℕ)) (result : Result Verdict FormsError) → IsDocumentIn input document
     → NotesAfter (Writes (IsAnswer document) old new) (AreNotes document) before after result
-    → IsAnswered IsAnswer input old new result × AreNoted AreNotes input before after result
-printed_noted IsAnswer AreNotes input document old new before after result given (inl n) = (
-  answer_noted IsAnswer input n.1 old new before after n.0 result
-      (document_answered IsAnswer input document old new n.2.0 n.0 given n.2.1 n.2.2) n.4,
-  noted AreNotes input document n.1 before after n.0 result given n.3 n.4,
-)
+    → IsNoted AreNotes (IsAnswered IsAnswer input old new) input before after result
+printed_noted IsAnswer AreNotes input document old new before after result given (inl n) =
+    let answer = document_answered IsAnswer input document old new n.2.0 n.0 given n.2.1 n.2.2 in (
+      answer_noted IsAnswer input n.1 old new before after n.0 result answer n.4,
+      noted AreNotes (IsAnswered IsAnswer input old new) input document n.1 before after n.0 result given n.3 answer n.4,
+    )
 printed_noted IsAnswer AreNotes input document old new before after result given (inr n) = (
   rw n.1 (document_answered IsAnswer input document old new n.0.0 (Err Memory) given n.0.1 n.0.2),
   rw n.1 (inl n.2),
@@ -163,12 +165,13 @@ printed_noted IsAnswer AreNotes input document old new before after result given
 pub lines_noted_by : (part : Part) (locale : List ℕ) (AreNotes : Data → List ℕ → Type 0) (input : List ℕ) (document : Data)
     (taken left old new before after : Option (List ℕ)) (result : Result Verdict FormsError) → IsDocumentIn input document
     → NotesAfter (AnswersLines document part locale taken left old new) (AreNotes document) before after result
-    → IsAnsweredLines part locale input taken left old new result × AreNoted AreNotes input before after result
-lines_noted_by part locale AreNotes input document taken left old new before after result given (inl n) = (
-  lines_noted part locale input n.1 taken left old new before after n.0 result
-      (lines_answered part locale input document taken left old new n.0 given n.2) n.4,
-  noted AreNotes input document n.1 before after n.0 result given n.3 n.4,
-)
+    → IsNoted AreNotes (IsAnsweredLines part locale input taken left old new) input before after result
+lines_noted_by part locale AreNotes input document taken left old new before after result given (inl n) =
+    let answer = lines_answered part locale input document taken left old new n.0 given n.2 in (
+      lines_noted part locale input n.1 taken left old new before after n.0 result answer n.4,
+      noted AreNotes (IsAnsweredLines part locale input taken left old new) input document n.1 before after n.0 result given n.3 answer
+          n.4,
+    )
 lines_noted_by part locale AreNotes input document taken left old new before after result given (inr n) = (
   rw n.1 (lines_answered part locale input document taken left old new (Err Memory) given n.0),
   rw n.1 (inl n.2),
@@ -177,17 +180,18 @@ lines_noted_by part locale AreNotes input document taken left old new before aft
 pub report_noted : (files : List MessageFile) (AreNotes : Data → List ℕ → Type 0) (input : List ℕ) (document : Data)
     (old new before after : Option (List ℕ)) (result : Result Verdict FormsError) → IsDocumentIn input document
     → NotesAfter (Checks document files old new) (AreNotes document) before after result
-    → IsChecked files input old new result × AreNoted AreNotes input before after result
-report_noted files AreNotes input document old new before after result given (inl n) = (
-  check_noted files input n.1 old new before after n.0 result (report_checked files input document old new n.0 given n.2) n.4,
-  noted AreNotes input document n.1 before after n.0 result given n.3 n.4,
-)
+    → IsNoted AreNotes (IsChecked files input old new) input before after result
+report_noted files AreNotes input document old new before after result given (inl n) =
+    let answer = report_checked files input document old new n.0 given n.2 in (
+      check_noted files input n.1 old new before after n.0 result answer n.4,
+      noted AreNotes (IsChecked files input old new) input document n.1 before after n.0 result given n.3 answer n.4,
+    )
 report_noted files AreNotes input document old new before after result given (inr n) = (
   rw n.1 (report_checked files input document old new (Err Memory) given n.0),
   rw n.1 (inl n.2),
 )
 
 -- without a document there are none
-pub none_noted : (AreNotes : Data → List ℕ → Type 0) (input : List ℕ) (old : Option (List ℕ)) (error : FormsError)
-    → AreNoted AreNotes input old old (Err error)
-none_noted AreNotes input old error = inl (Keeps-refl old)
+pub none_noted : (AreNotes : Data → List ℕ → Type 0) (IsResult : Result Verdict FormsError → Type 0) (input : List ℕ)
+    (old : Option (List ℕ)) (error : FormsError) → IsResult (Err error) → IsNoted AreNotes IsResult input old old (Err error)
+none_noted AreNotes IsResult input old error is = (is, inl (Keeps-refl old))

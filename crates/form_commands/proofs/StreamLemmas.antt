@@ -7,7 +7,7 @@ use Rattle.std.proofs.lemmas.List.{append-nil}
 use Rattle.std.specs.declared.alloc.AllocError.{AllocError}
 use Rattle.icu_plurals.specs.FiveRules.{FiveRules}
 use Rattle.plural_documents.specs.Outputs.{IsPartWritten}
-use Rattle.form_commands.specs.FormsAnswers.{IsBegun, IsStreamed}
+use Rattle.form_commands.specs.FormsAnswers.{IsBegun, IsCutOff, IsStreamed}
 use Rattle.form_commands.specs.InputLines.{lines_of}
 use Rattle.form_commands.specs.Inner.LineSteps.{EndsLine, Forgets, Takes}
 use Rattle.form_commands.specs.Inner.RunSteps.{WritesText}
@@ -97,6 +97,20 @@ begun_all rules bytes text before left old mid new consumed appended b = (
   b.5,
   subst (IsPartWritten old new) (sym b.6) (part_after old mid new text b.3 appended b.7),
 )
+
+-- the reader failed
+pub cut_off : (rules : FiveRules) (bytes text : List ℕ) (lines : Lines) (before left old new : Option (List ℕ)) → Consumes before left bytes
+    → Appends old new text → IsWrittenAfter rules bytes text lines → IsCutOff rules before left old new
+cut_off rules bytes text lines before left old new consumed appended after =
+    let a = after.0 in (
+      bytes,
+      a.done,
+      after_text text lines.printed,
+      consumed,
+      (a.last, a.no_end, a.cut),
+      a.answered,
+      subst (Appends old new) (sym (ap (λ (t : List ℕ). text ++ t) after.1 ∙ append-nil text)) appended,
+    )
 
 -- memory ran out, or the writer failed
 pub failed : (rules : FiveRules) (before left old new : Option (List ℕ)) (error : FormsError) → (error ≡ Memory) ⊎ (error ≡ Write)

@@ -4,6 +4,7 @@
 --     IsAnswered IsAnswer input old new result      what a writer took, and the result
 --     IsAnsweredLines part locale input before left old new result      the same for the lines of another input
 --     IsChecked files input old new result      the same for files of messages
+--     forms_origin fault      where a fault comes from: what was read of the rules by then
 use Rattle.std.specs.Prelude.{◌≡◌, ◌⊎◌, ℕ, ◌<◌, ◌≤◌, ◌==◌, List, ◌++◌, length, Option, Some, None, Result, Ok, Err, if◌then◌else◌}
 use Rattle.std.specs.Io.KnownBytes.{Appends, Consumes, IsAtEnd, Keeps}
 use Rattle.icu_plurals.specs.DocumentJson.{Document, document_of_json, found}
@@ -14,7 +15,7 @@ use Rattle.message_report.specs.declared.counts.Counts.{Counts}
 use Rattle.message_report.specs.declared.error.ReportError.{ReportError}
 use Rattle.message_report.specs.declared.error.ReportError.TheVariants as report
 use Rattle.message_report.specs.declared.file.MessageFile.{MessageFile}
-use Rattle.plural_documents.specs.Inputs.{most_bytes}
+use Rattle.plural_documents.specs.Inputs.{Origin, from_reader, from_length, from_writer, from_memory, from_answer, most_bytes}
 use Rattle.plural_documents.specs.JsonTexts.{json_of}
 use Rattle.plural_documents.specs.Outputs.{IsPartWritten}
 use Rattle.plural_fallback.specs.LocalesJson.{keys_under, parent_in, part_name}
@@ -22,7 +23,7 @@ use Rattle.plural_fallback.specs.declared.locales.Part.{Part}
 use Rattle.serde_json.specs.Data.{Data}
 use Rattle.form_commands.specs.FormLines.{IsFormList}
 use Rattle.form_commands.specs.GettextLines.{IsGettextLine}
-use Rattle.form_commands.specs.InputLines.{lines_of}
+use Rattle.form_commands.specs.InputLines.{AreEndedIn, lines_of}
 use Rattle.form_commands.specs.Languages.{IsLanguageOf}
 use Rattle.form_commands.specs.NumberAnswers.{AreLineAnswers, AreNumberAnswers}
 use Rattle.form_commands.specs.PrintedTexts.{PrintedText, only_text, verdict_of}
@@ -38,6 +39,10 @@ use Rattle.form_commands.specs.declared.language.Language as code
 -- the document that an input writes
 abbrev pub IsDocumentIn : List ℕ → Data → Type 0
 IsDocumentIn input document = (length input ≤ most_bytes) × (json_of input ≡ Some document)
+
+-- an input within the limit that is no JSON text
+abbrev pub IsNoJson : List ℕ → Type 0
+IsNoJson input = (length input ≤ most_bytes) × (json_of input ≡ None)
 
 -- the forms of a language
 abbrev pub IsListAnswer : Part → List ℕ → code.Language → PrintedText → Type 0
@@ -67,7 +72,7 @@ IsAnswered IsAnswer input old new (Ok verdict) =
     × (verdict ≡ verdict_of printed) × Appends old new printed.text
 IsAnswered IsAnswer input old new (Err Rules) = Keeps old new
 IsAnswered IsAnswer input old new (Err TooLong) = (most_bytes < length input) × Keeps old new
-IsAnswered IsAnswer input old new (Err Json) = (json_of input ≡ None) × Keeps old new
+IsAnswered IsAnswer input old new (Err Json) = IsNoJson input × Keeps old new
 IsAnswered IsAnswer input old new (Err (Refused error)) = ⊥
 IsAnswered IsAnswer input old new (Err (Language error)) =
     (document : Data) × IsDocumentIn input document × IsAnswer document (Err error) × Keeps old new
@@ -85,6 +90,12 @@ IsBegun rules before left old new =
     (numbers : List ℕ) × (done rest : List (List ℕ)) × (printed : PrintedText) × Consumes before left numbers
     × (lines_of numbers ≡ done ++ rest) × AreLineAnswers rules done printed × IsPartWritten old new printed.text
 
+-- The reader failed: some of it was taken, and the lines that have ended there are answered.
+abbrev pub IsCutOff : FiveRules → Option (List ℕ) → Option (List ℕ) → Option (List ℕ) → Option (List ℕ) → Type 0
+IsCutOff rules before left old new =
+    (numbers : List ℕ) × (ended : List (List ℕ)) × (printed : PrintedText) × Consumes before left numbers × AreEndedIn numbers ended
+    × AreLineAnswers rules ended printed × Appends old new printed.text
+
 -- the answers to all its lines, or a beginning of them
 abbrev pub IsStreamed : FiveRules → Option (List ℕ) → Option (List ℕ) → Option (List ℕ) → Option (List ℕ) → Result Verdict FormsError → Type 0
 IsStreamed rules before left old new (Ok verdict) =
@@ -95,7 +106,7 @@ IsStreamed rules before left old new (Err TooLong) = ⊥
 IsStreamed rules before left old new (Err Json) = ⊥
 IsStreamed rules before left old new (Err (Refused error)) = ⊥
 IsStreamed rules before left old new (Err (Language error)) = ⊥
-IsStreamed rules before left old new (Err Numbers) = IsBegun rules before left old new
+IsStreamed rules before left old new (Err Numbers) = IsCutOff rules before left old new
 IsStreamed rules before left old new (Err Write) = IsBegun rules before left old new
 IsStreamed rules before left old new (Err Memory) = IsBegun rules before left old new
 
@@ -115,7 +126,7 @@ abbrev pub IsAnsweredLines : Part → List ℕ → List ℕ → Option (List ℕ
 IsAnsweredLines part locale input before left old new (Ok verdict) = IsStreamedFor part locale input before left old new (Ok verdict)
 IsAnsweredLines part locale input before left old new (Err Rules) = IsUntouched before left old new
 IsAnsweredLines part locale input before left old new (Err TooLong) = (most_bytes < length input) × IsUntouched before left old new
-IsAnsweredLines part locale input before left old new (Err Json) = (json_of input ≡ None) × IsUntouched before left old new
+IsAnsweredLines part locale input before left old new (Err Json) = IsNoJson input × IsUntouched before left old new
 IsAnsweredLines part locale input before left old new (Err (Refused error)) = ⊥
 IsAnsweredLines part locale input before left old new (Err (Language error)) =
     (document : Data) × IsDocumentIn input document × IsLanguageOf document part locale (Err error) × IsUntouched before left old new
@@ -147,10 +158,20 @@ IsChecked files input old new (Ok verdict) =
     (counts : Counts) × IsReportedBy files input old new (Ok counts) × (verdict ≡ verdict_of_counts counts)
 IsChecked files input old new (Err Rules) = Keeps old new
 IsChecked files input old new (Err TooLong) = (most_bytes < length input) × Keeps old new
-IsChecked files input old new (Err Json) = (json_of input ≡ None) × Keeps old new
+IsChecked files input old new (Err Json) = IsNoJson input × Keeps old new
 IsChecked files input old new (Err (Refused error)) =
     (value : Data) × IsDocumentIn input value × (document_of_json value ≡ Err error) × Keeps old new
 IsChecked files input old new (Err (Language error)) = ⊥
 IsChecked files input old new (Err Numbers) = ⊥
 IsChecked files input old new (Err Write) = IsReportedBy files input old new (Err report.Write)
 IsChecked files input old new (Err Memory) = Keeps old new
+
+-- ---- What is read
+
+-- where a fault comes from; `IsRead` says what was read of the rules by then
+abbrev pub forms_origin : FormsError → Origin
+forms_origin Rules = from_reader
+forms_origin TooLong = from_length
+forms_origin Write = from_writer
+forms_origin Memory = from_memory
+forms_origin fault = from_answer

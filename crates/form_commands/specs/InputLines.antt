@@ -1,6 +1,7 @@
 -- The lines of an input.
 --     lines_of input      each as it stands before its newline, and what follows the last newline, if that isn't empty
-use Rattle.std.specs.Prelude.{ℕ, ◌==◌, List, [], ◌∷◌, if◌then◌else◌}
+--     AreEndedIn input lines      those that stand before a newline
+use Rattle.std.specs.Prelude.{◌≡◌, ◌≢◌, ℕ, ◌==◌, List, [], ◌∷◌, ◌++◌, ⊤, if◌then◌else◌}
 
 -- the first line begins with a byte
 abbrev pub begun_with : ℕ → List (List ℕ) → List (List ℕ)
@@ -10,3 +11,13 @@ begun_with byte (line ∷ lines) = (byte ∷ line) ∷ lines
 abbrev pub lines_of : List ℕ → List (List ℕ)
 lines_of [] = []
 lines_of (byte ∷ bytes) = if byte == 10 then [] ∷ lines_of bytes else begun_with byte (lines_of bytes)
+
+-- no byte ends a line
+abbrev pub HasNoEnd : List ℕ → Type 0
+HasNoEnd [] = ⊤
+HasNoEnd (byte ∷ bytes) = (byte ≢ 10) × HasNoEnd bytes
+
+-- whatever follows the input, these are its first lines, and then comes that of its last bytes, which hasn't ended
+abbrev pub AreEndedIn : List ℕ → List (List ℕ) → Type 0
+AreEndedIn input lines =
+    (last : List ℕ) × HasNoEnd last × ((rest : List ℕ) → lines_of (input ++ rest) ≡ lines ++ lines_of (last ++ rest))

@@ -2,6 +2,7 @@
 --     note_text place part locale key      the note of a key
 --     IsNote document place part locale note      that of a locale, if it has a key
 --     AreFileNotes document files notes      those of the locales of files of messages
+--     IsNoted AreNotes IsResult input old new result      a result, and what was written of its notes
 use Rattle.std.specs.Prelude.{◌≡◌, ◌⊎◌, ℕ, List, [], ◌∷◌, ◌++◌, codes, Bool, true, false, ◌||◌, bytes_eq, Option, Some, None, Result, Ok, Err, if◌then◌else◌}
 use Rattle.std.specs.Io.KnownBytes.{Appends, Keeps}
 use Rattle.std.specs.Option.{option_and_then}
@@ -82,10 +83,17 @@ AreFileNotes document (file ∷ files) notes =
 
 -- ---- What is written
 
--- the notes, if there is an answer; else none, or a beginning of them
-abbrev pub AreNoted : (Data → List ℕ → Type 0) → List ℕ → Option (List ℕ) → Option (List ℕ) → Result Verdict FormsError → Type 0
-AreNoted AreNotes input old new (Ok verdict) =
+-- the notes, if there is an answer; else none, or, after the whole answer, a beginning of them
+abbrev pub AreNoted : (Data → List ℕ → Type 0) → (Result Verdict FormsError → Type 0) → List ℕ → Option (List ℕ) → Option (List ℕ)
+    → Result Verdict FormsError → Type 0
+AreNoted AreNotes IsResult input old new (Ok verdict) =
     (document : Data) × (notes : List ℕ) × IsDocumentIn input document × AreNotes document notes × Appends old new notes
-AreNoted AreNotes input old new (Err error) =
+AreNoted AreNotes IsResult input old new (Err error) =
     Keeps old new
-    ⊎ ((document : Data) × (notes : List ℕ) × IsDocumentIn input document × AreNotes document notes × IsPartWritten old new notes)
+    ⊎ ((verdict : Verdict) × IsResult (Ok verdict) × (document : Data) × (notes : List ℕ) × IsDocumentIn input document
+    × AreNotes document notes × IsPartWritten old new notes)
+
+-- a result, and its notes
+abbrev pub IsNoted : (Data → List ℕ → Type 0) → (Result Verdict FormsError → Type 0) → List ℕ → Option (List ℕ) → Option (List ℕ)
+    → Result Verdict FormsError → Type 0
+IsNoted AreNotes IsResult input old new result = IsResult result × AreNoted AreNotes IsResult input old new result

@@ -1,6 +1,6 @@
 //! The notes of the keys under which rules are found.
 
-ghost use Rattle.std.specs.Prelude.{◌≡◌, ◌++◌, [], IfOk, OnOk, codes, option_map, string_bytes};
+ghost use Rattle.std.specs.Prelude.{◌≡◌, ◌≢◌, ◌++◌, [], IfErr, IfOk, OnOk, codes, option_map, string_bytes};
 ghost use Rattle.std.specs.Option.{option_and_then};
 ghost use Rattle.form_commands.specs.Inner.NoteSteps.{Notes};
 ghost use Rattle.form_commands.specs.Inner.PrintedSteps.{Grows};
@@ -49,7 +49,8 @@ pub(crate) fn write_notes<E: Write>(
     text: &str,
     notes: &mut E,
 ) -> Result<Verdict, FormsError>
-    ensures { Notes answer text.now (E.contents notes.old) (E.contents notes.new) result }
+    ensures written { Notes answer text.now (E.contents notes.old) (E.contents notes.new) result }
+    ensures writes_nothing { IfErr result (λ e. e ≢ FormsError.Write → notes.new ≡ notes.old) }
 {
     match answer {
         Ok(verdict) => match write_output(notes, text.as_bytes()) {

@@ -1,6 +1,6 @@
 //! What is printed for a question.
 
-ghost use Rattle.std.specs.Prelude.{◌≡◌, OnOk, string_bytes};
+ghost use Rattle.std.specs.Prelude.{◌≡◌, ◌≢◌, IfErr, OnOk, string_bytes};
 ghost use Rattle.form_commands.specs.Inner.RunSteps.{WritesText};
 ghost use Rattle.form_commands.specs.NumberAnswers.{category_answer, fault_answer};
 ghost use Rattle.form_commands.specs.PrintedTexts.{joined, nothing, only_text, verdict_of, without_text};
@@ -119,7 +119,8 @@ impl Printed {
 
     // Writes the text, and returns whether each number has a category.
     pub(crate) fn write_to<W: Write>(&self, writer: &mut W) -> Result<Verdict, FormsError>
-        ensures { WritesText self.now (W.contents writer.old) (W.contents writer.new) result }
+        ensures text { WritesText self.now (W.contents writer.old) (W.contents writer.new) result }
+        ensures writes_nothing { IfErr result (λ e. e ≢ FormsError.Write → writer.new ≡ writer.old) }
     {
         match write_output(writer, self.as_bytes()) {
             Ok(()) => Ok(self.verdict()),

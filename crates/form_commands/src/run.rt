@@ -1,13 +1,14 @@
 //! The answers to questions, over any readers and writer.
 
-ghost use Rattle.std.specs.Prelude.{◌≡◌, [], IfOk, List, ℕ};
-ghost use Rattle.form_commands.specs.FormsAnswers.{Answers, IsAnswered, IsAnsweredLines, IsChecked, IsGettextAnswer, IsListAnswer, IsNumbersAnswer, verdict_of_counts};
+ghost use Rattle.std.specs.Prelude.{◌≡◌, ◌≢◌, [], IfErr, IfOk, IsTrue, List, ℕ};
+ghost use Rattle.form_commands.specs.FormsAnswers.{Answers, IsAnswered, IsAnsweredLines, IsChecked, IsGettextAnswer, IsListAnswer, IsNumbersAnswer, forms_origin, verdict_of_counts};
+ghost use Rattle.form_commands.specs.FormsErrors.{is_of_rules};
 ghost use Rattle.form_commands.specs.Inner.FormsInputFaults.{refused_rules};
 ghost use Rattle.form_commands.specs.Inner.NoteSteps.{NotesAfter, Writes};
 ghost use Rattle.form_commands.specs.Inner.QuestionViews.{words_view};
 ghost use Rattle.form_commands.specs.Inner.RunSteps.{AnswersLines, Checks, GivesDocument, GivesValue, Reports, WritesAnswer};
-ghost use Rattle.form_commands.specs.KeyNotes.{AreFileNotes, AreNoted, IsNote};
-ghost use Rattle.plural_documents.specs.Inputs.{IsInput};
+ghost use Rattle.form_commands.specs.KeyNotes.{AreFileNotes, IsNote, IsNoted};
+ghost use Rattle.plural_documents.specs.Inputs.{IsInput, IsRead};
 ghost use Rattle.serde_json.specs.View.{view};
 
 use crate::error::{FormsError, LanguageError, Verdict};
@@ -28,6 +29,10 @@ use std::alloc::{AllocError, Global};
 use std::io::{Read, Write};
 
 /// Writes the forms of a language.
+///
+/// The rules are read to their end, or to one byte past the limit of 4194304 bytes, here and in the
+/// other calls. After an error nothing was written, except by a failed write
+/// ([`FormsError::Write`]), which took a beginning of the lines. It allocates.
 pub fn list_forms<R: Read, W: Write>(
     alloc: Global,
     part: Part,
@@ -35,8 +40,11 @@ pub fn list_forms<R: Read, W: Write>(
     rules: &mut R,
     writer: &mut W,
 ) -> Result<Verdict, FormsError>
-    ensures { (input : List ℕ) × IsInput (R.remaining rules.old) input
+    // The answer is that of some input: what remained in the reader, if that is known.
+    ensures answers { (input : List ℕ) × IsInput (R.remaining rules.old) input
         × IsAnswered (Answers (IsListAnswer part locale.now) part locale.now) input (W.contents writer.old) (W.contents writer.new) result }
+    ensures reads { IsRead forms_origin (R.remaining rules.old) (R.remaining rules.new) result }
+    ensures writes_nothing { IfErr result (λ e. e ≢ FormsError.Write → writer.new ≡ writer.old) }
 {
     match document_of(alloc, rules) {
         Ok(document) => write_answer(list_of(alloc, &document, part, locale), writer),
@@ -46,6 +54,9 @@ pub fn list_forms<R: Read, W: Write>(
 
 /// Writes a line for each of the numbers: its category, or why it has none; and then, in the notes,
 /// the key of the rules, if that isn't the locale.
+///
+/// After an error nothing was written, except by a failed write, to the one or the other: of the
+/// notes something was written only after all lines. It allocates.
 pub fn answer_numbers<R: Read, W: Write, E: Write>(
     alloc: Global,
     part: Part,
@@ -55,9 +66,12 @@ pub fn answer_numbers<R: Read, W: Write, E: Write>(
     writer: &mut W,
     notes: &mut E,
 ) -> Result<Verdict, FormsError>
-    ensures { (input : List ℕ) × IsInput (R.remaining rules.old) input
-        × IsAnswered (Answers (IsNumbersAnswer (words_view numbers.now)) part locale.now) input (W.contents writer.old) (W.contents writer.new) result
-        × AreNoted (λ document note. IsNote document [] part locale.now note) input (E.contents notes.old) (E.contents notes.new) result }
+    ensures answers { (input : List ℕ) × IsInput (R.remaining rules.old) input
+        × IsNoted (λ document note. IsNote document [] part locale.now note)
+        (IsAnswered (Answers (IsNumbersAnswer (words_view numbers.now)) part locale.now) input (W.contents writer.old) (W.contents writer.new))
+        input (E.contents notes.old) (E.contents notes.new) result }
+    ensures reads { IsRead forms_origin (R.remaining rules.old) (R.remaining rules.new) result }
+    ensures writes_nothing { IfErr result (λ e. e ≢ FormsError.Write → (writer.new ≡ writer.old) × (notes.new ≡ notes.old)) }
 {
     match document_of(alloc, rules) {
         Ok(document) => numbers_by(alloc, &document, part, locale, numbers, writer, notes),
@@ -75,8 +89,9 @@ fn numbers_by<W: Write, E: Write>(
     writer: &mut W,
     notes: &mut E,
 ) -> Result<Verdict, FormsError>
-    ensures { NotesAfter (Writes (Answers (IsNumbersAnswer (words_view numbers.now)) part locale.now (view document.now)) (W.contents writer.old) (W.contents writer.new))
+    ensures answers { NotesAfter (Writes (Answers (IsNumbersAnswer (words_view numbers.now)) part locale.now (view document.now)) (W.contents writer.old) (W.contents writer.new))
         (IsNote (view document.now) [] part locale.now) (E.contents notes.old) (E.contents notes.new) result }
+    ensures writes_nothing { IfErr result (λ e. e ≢ FormsError.Write → (writer.new ≡ writer.old) × (notes.new ≡ notes.old)) }
 {
     match note_of(alloc, document, part, locale) {
         Ok(note) => {
@@ -90,6 +105,11 @@ fn numbers_by<W: Write, E: Write>(
 
 /// Writes a line for each line of the numbers: its category, or why it has none; and then, in the
 /// notes, the key of the rules, if that isn't the locale.
+///
+/// The numbers are read after the rules, 4096 bytes at a time. If the rules are at fault
+/// ([`FormsError::is_of_rules`]), none is read, and nothing is written; after another error the
+/// first lines may have been answered. Of the notes something was written only by a failed write,
+/// and after all lines. It allocates.
 pub fn answer_lines<R: Read, N: Read, W: Write, E: Write>(
     alloc: Global,
     part: Part,
@@ -99,9 +119,13 @@ pub fn answer_lines<R: Read, N: Read, W: Write, E: Write>(
     writer: &mut W,
     notes: &mut E,
 ) -> Result<Verdict, FormsError>
-    ensures { (input : List ℕ) × IsInput (R.remaining rules.old) input
-        × IsAnsweredLines part locale.now input (N.remaining numbers.old) (N.remaining numbers.new) (W.contents writer.old) (W.contents writer.new) result
-        × AreNoted (λ document note. IsNote document [] part locale.now note) input (E.contents notes.old) (E.contents notes.new) result }
+    ensures answers { (input : List ℕ) × IsInput (R.remaining rules.old) input
+        × IsNoted (λ document note. IsNote document [] part locale.now note)
+        (IsAnsweredLines part locale.now input (N.remaining numbers.old) (N.remaining numbers.new) (W.contents writer.old) (W.contents writer.new))
+        input (E.contents notes.old) (E.contents notes.new) result }
+    ensures reads { IsRead forms_origin (R.remaining rules.old) (R.remaining rules.new) result }
+    ensures touches_nothing { IfErr result (λ e. IsTrue (is_of_rules e) → (numbers.new ≡ numbers.old) × (writer.new ≡ writer.old)) }
+    ensures notes_nothing { IfErr result (λ e. e ≢ FormsError.Write → notes.new ≡ notes.old) }
 {
     match document_of(alloc, rules) {
         Ok(document) => noted_lines(alloc, &document, part, locale, numbers, writer, notes),
@@ -119,8 +143,10 @@ fn noted_lines<N: Read, W: Write, E: Write>(
     writer: &mut W,
     notes: &mut E,
 ) -> Result<Verdict, FormsError>
-    ensures { NotesAfter (AnswersLines (view document.now) part locale.now (N.remaining numbers.old) (N.remaining numbers.new) (W.contents writer.old) (W.contents writer.new))
+    ensures answers { NotesAfter (AnswersLines (view document.now) part locale.now (N.remaining numbers.old) (N.remaining numbers.new) (W.contents writer.old) (W.contents writer.new))
         (IsNote (view document.now) [] part locale.now) (E.contents notes.old) (E.contents notes.new) result }
+    ensures touches_nothing { IfErr result (λ e. IsTrue (is_of_rules e) → (numbers.new ≡ numbers.old) × (writer.new ≡ writer.old)) }
+    ensures notes_nothing { IfErr result (λ e. e ≢ FormsError.Write → notes.new ≡ notes.old) }
 {
     match note_of(alloc, document, part, locale) {
         Ok(note) => {
@@ -135,6 +161,9 @@ fn noted_lines<N: Read, W: Write, E: Write>(
 /// kind of `Plural-Forms`; and then, in the notes, the key of the rules, if that isn't the locale. The
 /// line's expression has the place of a number's form as its value
 /// ([`crate::laws::forms_are_chosen`]).
+///
+/// After an error nothing was written, except by a failed write, as by [`answer_numbers`]. It
+/// allocates.
 pub fn write_gettext<R: Read, W: Write, E: Write>(
     alloc: Global,
     part: Part,
@@ -143,9 +172,12 @@ pub fn write_gettext<R: Read, W: Write, E: Write>(
     writer: &mut W,
     notes: &mut E,
 ) -> Result<Verdict, FormsError>
-    ensures { (input : List ℕ) × IsInput (R.remaining rules.old) input
-        × IsAnswered (Answers IsGettextAnswer part locale.now) input (W.contents writer.old) (W.contents writer.new) result
-        × AreNoted (λ document note. IsNote document [] part locale.now note) input (E.contents notes.old) (E.contents notes.new) result }
+    ensures answers { (input : List ℕ) × IsInput (R.remaining rules.old) input
+        × IsNoted (λ document note. IsNote document [] part locale.now note)
+        (IsAnswered (Answers IsGettextAnswer part locale.now) input (W.contents writer.old) (W.contents writer.new))
+        input (E.contents notes.old) (E.contents notes.new) result }
+    ensures reads { IsRead forms_origin (R.remaining rules.old) (R.remaining rules.new) result }
+    ensures writes_nothing { IfErr result (λ e. e ≢ FormsError.Write → (writer.new ≡ writer.old) × (notes.new ≡ notes.old)) }
 {
     match document_of(alloc, rules) {
         Ok(document) => gettext_by(alloc, &document, part, locale, writer, notes),
@@ -162,8 +194,9 @@ fn gettext_by<W: Write, E: Write>(
     writer: &mut W,
     notes: &mut E,
 ) -> Result<Verdict, FormsError>
-    ensures { NotesAfter (Writes (Answers IsGettextAnswer part locale.now (view document.now)) (W.contents writer.old) (W.contents writer.new))
+    ensures answers { NotesAfter (Writes (Answers IsGettextAnswer part locale.now (view document.now)) (W.contents writer.old) (W.contents writer.new))
         (IsNote (view document.now) [] part locale.now) (E.contents notes.old) (E.contents notes.new) result }
+    ensures writes_nothing { IfErr result (λ e. e ≢ FormsError.Write → (writer.new ≡ writer.old) × (notes.new ≡ notes.old)) }
 {
     match note_of(alloc, document, part, locale) {
         Ok(note) => {
@@ -177,6 +210,9 @@ fn gettext_by<W: Write, E: Write>(
 
 /// Writes the report of files of messages: a line for each fault, and one with the counts; and then,
 /// in the notes, the key of the rules of each locale, if that isn't the locale.
+///
+/// After an error nothing was written, except by a failed write, as by [`answer_numbers`]. It
+/// allocates.
 pub fn check_files<R: Read, W: Write, E: Write>(
     alloc: Global,
     files: &[MessageFile<'_>],
@@ -184,9 +220,12 @@ pub fn check_files<R: Read, W: Write, E: Write>(
     writer: &mut W,
     notes: &mut E,
 ) -> Result<Verdict, FormsError>
-    ensures { (input : List ℕ) × IsInput (R.remaining rules.old) input
-        × IsChecked files.now input (W.contents writer.old) (W.contents writer.new) result
-        × AreNoted (λ document note. AreFileNotes document files.now note) input (E.contents notes.old) (E.contents notes.new) result }
+    ensures answers { (input : List ℕ) × IsInput (R.remaining rules.old) input
+        × IsNoted (λ document note. AreFileNotes document files.now note)
+        (IsChecked files.now input (W.contents writer.old) (W.contents writer.new))
+        input (E.contents notes.old) (E.contents notes.new) result }
+    ensures reads { IsRead forms_origin (R.remaining rules.old) (R.remaining rules.new) result }
+    ensures writes_nothing { IfErr result (λ e. e ≢ FormsError.Write → (writer.new ≡ writer.old) × (notes.new ≡ notes.old)) }
 {
     match document_of(alloc, rules) {
         Ok(document) => noted_files(alloc, &document, files, writer, notes),
@@ -202,8 +241,9 @@ fn noted_files<W: Write, E: Write>(
     writer: &mut W,
     notes: &mut E,
 ) -> Result<Verdict, FormsError>
-    ensures { NotesAfter (Checks (view document.now) files.now (W.contents writer.old) (W.contents writer.new))
+    ensures answers { NotesAfter (Checks (view document.now) files.now (W.contents writer.old) (W.contents writer.new))
         (AreFileNotes (view document.now) files.now) (E.contents notes.old) (E.contents notes.new) result }
+    ensures writes_nothing { IfErr result (λ e. e ≢ FormsError.Write → (writer.new ≡ writer.old) × (notes.new ≡ notes.old)) }
 {
     match notes_of(alloc, document, files) {
         Ok(found) => {
@@ -221,7 +261,8 @@ fn check_by<W: Write>(
     files: &[MessageFile<'_>],
     writer: &mut W,
 ) -> Result<Verdict, FormsError>
-    ensures { Checks (view document.now) files.now (W.contents writer.old) (W.contents writer.new) result }
+    ensures answers { Checks (view document.now) files.now (W.contents writer.old) (W.contents writer.new) result }
+    ensures writes_nothing { IfErr result (λ e. e ≢ FormsError.Write → writer.new ≡ writer.old) }
 {
     match JsonProvider::from_value(alloc, document) {
         Ok(provider) => report_by(alloc, &provider, document, files, writer),
@@ -252,7 +293,8 @@ fn report_by<W: Write>(
     files: &[MessageFile<'_>],
     writer: &mut W,
 ) -> Result<Verdict, FormsError>
-    ensures { Reports (view document.now) provider.now files.now (W.contents writer.old) (W.contents writer.new) result }
+    ensures answers { Reports (view document.now) provider.now files.now (W.contents writer.old) (W.contents writer.new) result }
+    ensures writes_nothing { IfErr result (λ e. e ≢ FormsError.Write → writer.new ≡ writer.old) }
 {
     let source = FallbackProvider {
         provider,
@@ -260,7 +302,7 @@ fn report_by<W: Write>(
     };
     match run(alloc, &source, files, writer) {
         Ok(counts) => Ok(verdict_of(counts)),
-        Err(error) => Err(FormsError::from(error)),
+        Err(fault) => Err(FormsError::from(fault)),
     }
 }
 
@@ -284,7 +326,8 @@ fn lines_by<N: Read, W: Write>(
     numbers: &mut N,
     writer: &mut W,
 ) -> Result<Verdict, FormsError>
-    ensures { AnswersLines (view document.now) part locale.now (N.remaining numbers.old) (N.remaining numbers.new) (W.contents writer.old) (W.contents writer.new) result }
+    ensures answers { AnswersLines (view document.now) part locale.now (N.remaining numbers.old) (N.remaining numbers.new) (W.contents writer.old) (W.contents writer.new) result }
+    ensures touches_nothing { IfErr result (λ e. IsTrue (is_of_rules e) → (numbers.new ≡ numbers.old) × (writer.new ≡ writer.old)) }
 {
     match language_of(alloc, document, part, locale) {
         Ok(Ok(language)) => answer_input(alloc, &language.rules, numbers, writer),
@@ -295,7 +338,8 @@ fn lines_by<N: Read, W: Write>(
 
 // Returns the document in a reader.
 fn document_of<R: Read>(alloc: Global, reader: &mut R) -> Result<Value, FormsError>
-    ensures { (input : List ℕ) × IsInput (R.remaining reader.old) input × GivesDocument input result }
+    ensures document { (input : List ℕ) × IsInput (R.remaining reader.old) input × GivesDocument input result }
+    ensures reads { IsRead forms_origin (R.remaining reader.old) (R.remaining reader.new) result }
 {
     match read_input(alloc, reader) {
         Ok(input) => value_of(alloc, input.as_slice()),
@@ -371,11 +415,12 @@ fn write_answer<W: Write>(
     answer: Result<Result<Printed, LanguageError>, AllocError>,
     writer: &mut W,
 ) -> Result<Verdict, FormsError>
-    ensures { WritesAnswer answer (W.contents writer.old) (W.contents writer.new) result }
+    ensures answers { WritesAnswer answer (W.contents writer.old) (W.contents writer.new) result }
+    ensures writes_nothing { IfErr result (λ e. e ≢ FormsError.Write → writer.new ≡ writer.old) }
 {
     match answer {
         Ok(Ok(printed)) => printed.write_to(writer),
-        Ok(Err(error)) => Err(FormsError::Language(error)),
+        Ok(Err(fault)) => Err(FormsError::Language(fault)),
         Err(_) => Err(FormsError::Memory),
     }
 }

@@ -1,7 +1,7 @@
 -- Not a definition of the subject: the state after some bytes of an input, and one step of it.
 use Rattle.std.specs.Prelude.{◌≡◌, ◌≢◌, ℕ, ◌+◌, List, [], ◌∷◌, ◌++◌, take, ⊤}
 use Rattle.icu_plurals.specs.FiveRules.{FiveRules}
-use Rattle.form_commands.specs.InputLines.{lines_of}
+use Rattle.form_commands.specs.InputLines.{HasNoEnd, lines_of}
 use Rattle.form_commands.specs.NumberAnswers.{AreLineAnswers, IsAnswerAt, most_number_bytes, next_place}
 use Rattle.form_commands.specs.PrintedTexts.{PrintedText, after_text, joined, without_text}
 use Rattle.form_commands.specs.declared.printed.Place.TheVariants.{Line}
@@ -13,11 +13,6 @@ use Rattle.form_commands.specs.declared.stream.Lines.{Lines}
 abbrev pub place_after : ℕ → List (List ℕ) → ℕ
 place_after place [] = place
 place_after place (line ∷ lines) = place_after (next_place place) lines
-
--- no byte ends a line
-abbrev pub HasNoEnd : List ℕ → Type 0
-HasNoEnd [] = ⊤
-HasNoEnd (byte ∷ bytes) = (byte ≢ 10) × HasNoEnd bytes
 
 -- After these bytes some lines have ended, and are answered by a text that was written and what is printed since; the last one hasn't,
 -- and of it not more than one byte above the limit is kept.

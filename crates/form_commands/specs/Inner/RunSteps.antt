@@ -15,7 +15,7 @@ use Rattle.plural_fallback.specs.declared.locales.Part.{Part}
 use Rattle.serde_json.specs.Data.{Data}
 use Rattle.serde_json.specs.View.{view}
 use Rattle.serde_json.specs.declared.Value.{Value}
-use Rattle.form_commands.specs.FormsAnswers.{IsDocumentIn, IsStreamed, IsUntouched, rules_source, verdict_of_counts}
+use Rattle.form_commands.specs.FormsAnswers.{IsDocumentIn, IsNoJson, IsStreamed, IsUntouched, rules_source, verdict_of_counts}
 use Rattle.form_commands.specs.Inner.FormsInputFaults.{report_fault}
 use Rattle.form_commands.specs.Languages.{IsLanguageOf}
 use Rattle.form_commands.specs.PrintedTexts.{PrintedText, verdict_of}
@@ -49,7 +49,7 @@ abbrev pub GivesDocument : List ℕ → Result Value FormsError → Type 0
 GivesDocument input (Ok value) = IsDocumentIn input (view value)
 GivesDocument input (Err Rules) = ⊤
 GivesDocument input (Err TooLong) = most_bytes < length input
-GivesDocument input (Err Json) = json_of input ≡ None
+GivesDocument input (Err Json) = IsNoJson input
 GivesDocument input (Err (Refused error)) = ⊥
 GivesDocument input (Err (Language error)) = ⊥
 GivesDocument input (Err Numbers) = ⊥

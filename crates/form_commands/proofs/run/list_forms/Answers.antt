@@ -1,22 +1,35 @@
 use Rattle.serde_json.specs.View.{view}
 use Rattle.form_commands.specs.FormsAnswers.{Answers, IsListAnswer}
 use Rattle.form_commands.proofs.AnswerLemmas.{document_answered, no_answer}
+use Rattle.form_commands.proofs.RulesRead.{answer_read}
 use Rattle.form_commands.proofs.run.list_forms.Goals as goal
 
-pub returns-in-Ok : goal.returns-in-Ok
-returns-in-Ok g c =
-    let d = c.in-Ok.ensures in (
+pub returns-in-Ok-clause-answers : goal.returns-in-Ok-clause-answers
+returns-in-Ok-clause-answers g c =
+    let d = c.in-Ok.ensures.document in (
       d.0,
       d.1,
       document_answered (Answers (IsListAnswer c.args.part c.args.locale.now) c.args.part c.args.locale.now) d.0 (view c.in-Ok.document)
           (g.W.Write.contents c.args.writer.now) (g.W.Write.contents c.write_answer.new.writer) c.list_of.result c.write_answer.result
-          d.2 c.list_of.ensures c.write_answer.ensures,
+          d.2 c.list_of.ensures c.write_answer.ensures.answers,
     )
 
-pub returns-in-Err : goal.returns-in-Err
-returns-in-Err g c =
-    let d = c.in-Err.ensures in (
+pub returns-in-Err-clause-answers : goal.returns-in-Err-clause-answers
+returns-in-Err-clause-answers g c =
+    let d = c.in-Err.ensures.document in (
       d.0,
       d.1,
       no_answer (Answers (IsListAnswer c.args.part c.args.locale.now) c.args.part c.args.locale.now) d.0 (g.W.Write.contents c.args.writer.now) c.in-Err.error d.2,
     )
+
+pub returns-in-Ok-clause-reads : goal.returns-in-Ok-clause-reads
+returns-in-Ok-clause-reads g c =
+    let IsAnswer = Answers (IsListAnswer c.args.part c.args.locale.now) c.args.part c.args.locale.now in
+    let d = c.in-Ok.ensures.document in
+    let document = view c.in-Ok.document in
+    let old = g.W.Write.contents c.args.writer.now in
+    let new = g.W.Write.contents c.write_answer.new.writer in
+    answer_read IsAnswer (g.R.Read.remaining c.args.rules.now) (g.R.Read.remaining c.document_of.new.reader) old new d.0 document
+    c.write_answer.result c.in-Ok.ensures.reads d.2
+    (document_answered IsAnswer d.0 document old new c.list_of.result c.write_answer.result d.2 c.list_of.ensures
+    c.write_answer.ensures.answers)

@@ -1,7 +1,7 @@
 use Rattle.std.proofs.Common.{◌≡◌, ◌<◌, [], ◌++◌, length, take, arith, rules, refl}
 use Rattle.std.proofs.KnownBytes.{Appends-nil, Appends-trans, Consumes-kept, Consumes-nil, Consumes-trans}
-use Rattle.form_commands.proofs.AfterLemmas.{after_nothing, begun_here}
-use Rattle.form_commands.proofs.StreamLemmas.{at_end, begun_all, failed, streamed, took}
+use Rattle.form_commands.proofs.AfterLemmas.{after_nothing}
+use Rattle.form_commands.proofs.StreamLemmas.{at_end, begun_all, cut_off, failed, streamed, took}
 use Rattle.form_commands.proofs.stream.answer_input.Goals.{in-Ok+in_default, in-Err+else-ne}
 use Rattle.form_commands.proofs.stream.answer_input.Goals as goal
 
@@ -37,10 +37,8 @@ returns-in-Err-answer_bytes g c =
 pub returns-then-ne : goal.returns-then-ne
 returns-then-ne g c =
     let i = c.loop.invariant in
-    begun_all c.args.rules.now i.0 i.1 (g.N.Read.remaining c.args.numbers.now) (g.N.Read.remaining c.read.new.self)
-    (g.W.Write.contents c.args.writer.now) (g.W.Write.contents c.loop.writer) (g.W.Write.contents c.loop.writer)
-    (Consumes-kept _ _ _ _ i.2 c.in-Err.ensures.bytes) i.3
-    (begun_here c.args.rules.now i.0 i.1 c.loop.lines (g.W.Write.contents c.loop.writer) i.4)
+    cut_off c.args.rules.now i.0 i.1 c.loop.lines (g.N.Read.remaining c.args.numbers.now) (g.N.Read.remaining c.read.new.self)
+    (g.W.Write.contents c.args.writer.now) (g.W.Write.contents c.loop.writer) (Consumes-kept _ _ _ _ i.2 c.in-Err.ensures.bytes) i.3 i.4
 
 pub loop-preserved : goal.loop-preserved
 loop-preserved g c =
@@ -64,6 +62,5 @@ loop-preserved g c =
 pub returns : goal.returns
 returns g c =
     let i = c.loop.invariant in
-    begun_all c.args.rules.now i.0 i.1 (g.N.Read.remaining c.args.numbers.now) (g.N.Read.remaining c.loop.numbers)
-    (g.W.Write.contents c.args.writer.now) (g.W.Write.contents c.loop.writer) (g.W.Write.contents c.loop.writer) i.2 i.3
-    (begun_here c.args.rules.now i.0 i.1 c.loop.lines (g.W.Write.contents c.loop.writer) i.4)
+    cut_off c.args.rules.now i.0 i.1 c.loop.lines (g.N.Read.remaining c.args.numbers.now) (g.N.Read.remaining c.loop.numbers)
+    (g.W.Write.contents c.args.writer.now) (g.W.Write.contents c.loop.writer) i.2 i.3 i.4

@@ -22,7 +22,7 @@ returns-in-Ok g c =
     let empty : length line.items ≡ 0 = ap length none in
     let zero : vec_len line ≡ 0 = omega arith in
     let both : true ≡ false = sym (c.is_empty.ensures ∙ eq-eqb (vec_len line) 0 zero) ∙ c.if-is_empty.false in cc)
-    c.in-Ok.ensures c.write_to.ensures
+    c.in-Ok.ensures c.write_to.ensures.text
 
 pub returns-in-Err : goal.returns-in-Err
 returns-in-Err g c =
