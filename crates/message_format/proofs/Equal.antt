@@ -7,7 +7,8 @@ use Rattle.fixed_decimal.specs.Written.{CompactNumber, WritesCompact, IsCompactO
 use Rattle.plural_base.specs.FiveRules.{FiveRules}
 use Rattle.message_pattern.specs.PatternParts.{Part}
 use Rattle.message_format.specs.FormatNumbers.{HaveSameValue}
-use Rattle.message_format.specs.FormatBranches.{Branching, EqualsWritten, IsBranchOfNumber}
+use Rattle.message_pattern.specs.ArgumentBranches.{Branching}
+use Rattle.message_format.specs.FormatBranches.{EqualsWritten, IsBranchOfNumber}
 use Rattle.message_format.specs.FormatSteps.{Chooses, IsCounted}
 use Rattle.message_format.proofs.Ascii.{number_is_utf8}
 

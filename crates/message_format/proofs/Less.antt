@@ -11,7 +11,8 @@ use Rattle.message_format.specs.declared.error.ArgumentFault.TheVariants.{NotANu
 use Rattle.message_format.specs.declared.error.FormatError.{FormatError}
 use Rattle.message_format.specs.declared.error.FormatError.TheVariants as error
 use Rattle.message_format.specs.declared.steps.Step as steps
-use Rattle.message_format.specs.FormatBranches.{Branching, IsBranchOfNumber}
+use Rattle.message_pattern.specs.ArgumentBranches.{Branching}
+use Rattle.message_format.specs.FormatBranches.{IsBranchOfNumber}
 use Rattle.message_format.specs.FormatOffsets.{IsDifference, plain}
 use Rattle.message_format.specs.FormatSteps.{Step, Chooses, Fails, IsCountedBy, IsLess, IsCountedLess}
 use Rattle.message_format.specs.Inner.FormatViews.{step_view, GivesStep}

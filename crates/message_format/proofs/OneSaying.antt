@@ -16,9 +16,10 @@ use Rattle.message_pattern.specs.declared.part.ArgumentKind.TheVariants.{Plural,
 use Rattle.message_format.specs.declared.error.ArgumentFault.{ArgumentFault}
 use Rattle.message_format.specs.FormatArguments.{Value}
 use Rattle.message_format.specs.FormatArguments as argument
-use Rattle.message_format.specs.FormatBranches.{Branching, behind_end, branch_or_other, IsBranchOfValue, IsBranchOfNumber}
+use Rattle.message_pattern.specs.ArgumentBranches.{Branching}
+use Rattle.message_format.specs.FormatBranches.{behind_end, branch_or_other, IsBranchOfValue, HasBranchOfValue, IsBranchOfNumber}
 use Rattle.message_format.specs.FormatOffsets.{IsDifference, plain}
-use Rattle.message_format.specs.FormatSteps.{Step, Stops, Prints, Chooses, Fails, TwoRules, Reads, IsCounted, IsCountedBy, IsLess, IsCountedLess, IsPlural, IsChoice, IsStep}
+use Rattle.message_format.specs.FormatSteps.{Step, Stops, Prints, Chooses, Fails, TwoRules, ReadsNumber, IsCounted, IsCountedBy, IsLess, IsCountedLess, IsPlural, IsChoice, IsStep}
 use Rattle.message_format.specs.FormatMeaning.{Outcome, Said, Faulty, Says, ends, stops, prints, chooses, breaks, fails}
 use Rattle.message_format.proofs.OneDifference.{one_difference}
 
@@ -63,6 +64,10 @@ one_by_value x (c ∷ bs) a b (inl h) (inr k) = absurd (k.0 h.0)
 one_by_value x (c ∷ bs) a b (inr h) (inl k) = absurd (h.0 k.0)
 one_by_value x (c ∷ bs) a b (inr h) (inr k) = one_by_value x bs a b h.1 k.1
 
+-- where no branch is that of the value, there is none
+pub none_of_value : (x : CompactNumber) (bs : List Branching) → IsBranchOfValue x bs None → HasBranchOfValue x bs → ⊥
+none_of_value x bs none some = let e : None ≡ Some some.0 = one_by_value x bs None (Some some.0) none some.1 in cc
+
 one_category : (rules : FiveRules) (x : Places) (e : ℕ) (c d : PluralCategory) → IsKeptChoice rules x e c → IsKeptChoice rules x e d → c ≡ d
 one_category rules x e c d h k =
     let same : h.0 ≡ k.0 = one_kept x e h.0 k.0 h.1 k.1 in
@@ -83,7 +88,7 @@ one_branch rules x y bs p q (inr h) (inr k) =
 
 -- where a text writes one number, what comes of it is one
 one_read : {A : Type 0} (Writes IsOver : A → Type 0) → ((x y : A) → Writes x → Writes y → x ≡ y) → (name : List ℕ) (Then : A → Step → Type 0)
-    → ((x : A) (s t : Step) → Then x s → Then x t → s ≡ t) → (s t : Step) → Reads Writes IsOver name Then s → Reads Writes IsOver name Then t → s ≡ t
+    → ((x : A) (s t : Step) → Then x s → Then x t → s ≡ t) → (s t : Step) → ReadsNumber Writes IsOver name Then s → ReadsNumber Writes IsOver name Then t → s ≡ t
 one_read Writes IsOver one name Then same s t (inl h) (inl k) = h.1 ∙ sym k.1
 one_read Writes IsOver one name Then same s t (inl h) (inr (inl k)) = absurd (h.0 k.0.0 k.0.1)
 one_read Writes IsOver one name Then same s t (inl h) (inr (inr k)) = absurd (h.0 k.0 k.1)

@@ -7,7 +7,8 @@ use Rattle.message_pattern.specs.declared.part.Part as parts
 use Rattle.message_pattern.specs.declared.part.Piece.TheVariants as pieces
 use Rattle.message_pattern.specs.declared.part.Selector as selectors
 use Rattle.message_pattern.specs.PatternParts.{Part, parts_view, selector_view}
-use Rattle.message_format.specs.FormatBranches.{Branching, branches_of, Equals, IsBranchOfValue}
+use Rattle.message_pattern.specs.ArgumentBranches.{Branching, branches_of}
+use Rattle.message_format.specs.FormatBranches.{Equals, IsBranchOfValue}
 
 -- what stands for a part that isn't there
 abbrev pub no_part : parts.Part
@@ -25,7 +26,7 @@ none_left (p ∷ ps) h = absurd (omega arith)
 
 -- the first branch
 branches_from : (depth : ℕ) (p : parts.Part) (rest : List parts.Part) (s : selectors.Selector) → p.depth ≤ depth → p.piece ≡ pieces.Branch s
-    → branches_of depth (parts_view (p ∷ rest)) ≡ (selector_view s, parts_view rest) ∷ branches_of depth (parts_view rest)
+    → branches_of depth (parts_view (p ∷ rest)) ≡ record { selector = selector_view s; parts = parts_view rest } ∷ branches_of depth (parts_view rest)
 branches_from depth p rest s h is =
     let f : nat_lt depth p.depth ≡ false = grind (arith, nat_tests) in
     rw (f, is)

@@ -1,27 +1,13 @@
--- The branches of an argument, and which one is chosen.
+-- Which of the branches of an argument is chosen.
 use Rattle.std.specs.Prelude.{◌≡◌, ◌⊎◌, ℕ, List, [], ◌∷◌, Bool, false, nat_lt, bytes_eq, Option, Some, None, if◌then◌else◌, codes}
 use Rattle.fixed_decimal.specs.Written.{CompactNumber, WritesCompact, IsCompactOverLimit}
 use Rattle.plural_base.specs.Categories.{name_of}
 use Rattle.plural_base.specs.DecimalChoice.{IsExactChoice, IsKeptChoice}
 use Rattle.plural_base.specs.FiveRules.{FiveRules}
 use Rattle.plural_base.specs.declared.category.PluralCategory.{PluralCategory}
-use Rattle.message_pattern.specs.PatternParts.{Part, Selector, Exactly, Keyword, Branch, End}
+use Rattle.message_pattern.specs.PatternParts.{Part, Selector, Exactly, Keyword, End}
+use Rattle.message_pattern.specs.ArgumentBranches.{Branching}
 use Rattle.message_format.specs.FormatNumbers.{HaveSameValue}
-
--- a selector, and the parts from its branch on
-abbrev pub Branching : Type 0
-Branching = Selector × List Part
-
--- The branches of an argument at a depth, of which these parts follow its beginning: their
--- selectors have its depth, and what is deeper is in a branch.
-abbrev pub branches_of : ℕ → List Part → List Branching
-branches_of depth [] = []
-branches_of depth (p ∷ ps) =
-    if nat_lt depth p.depth then branches_of depth ps
-    else elim p.piece as (λ _. List Branching) [
-      | Branch selector ↦ (selector, ps) ∷ branches_of depth ps
-      | _ ↦ []
-    ]
 
 -- the parts that follow the end of an argument at a depth
 abbrev pub behind_end : ℕ → List Part → List Part
@@ -43,7 +29,7 @@ is_keyword word (Keyword other) = bytes_eq other word
 -- the first branch of a keyword
 abbrev pub branch_of_keyword : List ℕ → List Branching → Option (List Part)
 branch_of_keyword word [] = None
-branch_of_keyword word (b ∷ bs) = if is_keyword word b.0 then Some b.1 else branch_of_keyword word bs
+branch_of_keyword word (b ∷ bs) = if is_keyword word b.selector then Some b.parts else branch_of_keyword word bs
 
 -- no parts, if there is no branch: the reader of patterns requires a branch `other`
 abbrev pub parts_or_none : Option (List Part) → List Part
@@ -74,7 +60,11 @@ Equals x (Keyword word) = ⊥
 abbrev pub IsBranchOfValue : CompactNumber → List Branching → Option (List Part) → Type 0
 IsBranchOfValue x [] parts = parts ≡ None
 IsBranchOfValue x (b ∷ bs) parts =
-    (Equals x b.0 × (parts ≡ Some b.1)) ⊎ ((Equals x b.0 → ⊥) × IsBranchOfValue x bs parts)
+    (Equals x b.selector × (parts ≡ Some b.parts)) ⊎ ((Equals x b.selector → ⊥) × IsBranchOfValue x bs parts)
+
+-- one of the branches is that of the number's value
+abbrev pub HasBranchOfValue : CompactNumber → List Branching → Type 0
+HasBranchOfValue x bs = (parts : List Part) × IsBranchOfValue x bs (Some parts)
 
 -- The category that the rules choose for a number: by what is kept of its digits, and within the
 -- exactness bound that of the number itself.

@@ -13,7 +13,8 @@ use Rattle.message_format.specs.declared.error.ArgumentFault.{ArgumentFault}
 use Rattle.message_format.specs.declared.error.ArgumentFault.TheVariants.{Missing, WrongKind, NotANumber, OverLimit, CompactOffset}
 use Rattle.message_format.specs.FormatArguments.{Argument, Value, Number, Text, value_named}
 use Rattle.message_format.specs.FormatOffsets.{IsDifference, plain}
-use Rattle.message_format.specs.FormatBranches.{Branching, branches_of, branch_or_other, IsBranchOfNumber}
+use Rattle.message_pattern.specs.ArgumentBranches.{Branching, branches_of}
+use Rattle.message_format.specs.FormatBranches.{branch_or_other, IsBranchOfNumber}
 
 -- what a part does
 pub data Step : Type 0 where
@@ -37,15 +38,17 @@ shown_value name None = Fails Missing name
 shown_value name (Some (Number number)) = Prints number
 shown_value name (Some (Text text)) = Prints text
 
--- A select compares a text with its keywords. `#` in its branches is what it is around it.
+-- A select compares a text with its keywords. `#` in its branches is text, also in one that stands in
+-- a branch of a plural, since the reader of patterns makes no piece `Hash` of it: so the text of `#`
+-- that stands around the select is handed on, and isn't said in its branches.
 abbrev pub selected : List ℕ → List ℕ → List Branching → Option Value → Step
 selected hash name bs None = Fails Missing name
 selected hash name bs (Some (Number number)) = Fails WrongKind name
 selected hash name bs (Some (Text text)) = Chooses hash (branch_or_other text bs)
 
 -- A text writes a number, from which the step comes; or it writes none, or one over a limit.
-abbrev pub Reads : {A : Type 0} → (A → Type 0) → (A → Type 0) → List ℕ → (A → Step → Type 0) → Step → Type 0
-Reads {A = A} Writes IsOver name Then step =
+abbrev pub ReadsNumber : {A : Type 0} → (A → Type 0) → (A → Type 0) → List ℕ → (A → Step → Type 0) → Step → Type 0
+ReadsNumber {A = A} Writes IsOver name Then step =
     (((x : A) → Writes x → ⊥) × (step ≡ Fails NotANumber name))
     ⊎ (((x : A) × Writes x × IsOver x) × (step ≡ Fails OverLimit name))
     ⊎ ((x : A) × Writes x × (IsOver x → ⊥) × Then x step)
@@ -53,7 +56,7 @@ Reads {A = A} Writes IsOver name Then step =
 -- A plural chooses by the number that the text of its argument writes, and `#` is this text.
 abbrev pub IsCounted : FiveRules → List ℕ → List Branching → List ℕ → Step → Type 0
 IsCounted rules name bs text step =
-    Reads (λ x. WritesCompact text x) (λ x. IsCompactOverLimit x) name
+    ReadsNumber (λ x. WritesCompact text x) (λ x. IsCompactOverLimit x) name
     (λ x s. (parts : List Part) × IsBranchOfNumber rules x x bs parts × (s ≡ Chooses text parts)) step
 
 -- It chooses by a number and this number less the offset, and `#` is the text of the latter, which
@@ -68,13 +71,13 @@ abbrev pub IsLess : FiveRules → List ℕ → List Branching → List ℕ → C
 IsLess rules name bs digits x step =
     ((0 < x.exponent) × (step ≡ Fails CompactOffset name))
     ⊎ ((x.exponent ≡ 0)
-    × Reads (λ o. WritesUnsigned digits o) (λ o. IsOverLimit o) name
+    × ReadsNumber (λ o. WritesUnsigned digits o) (λ o. IsOverLimit o) name
     (λ o s. (less : Decimal) × IsDifference x.significand o less × IsCountedBy rules name bs x less s) step)
 
 -- A plural with an offset chooses by the number that the text of its argument writes.
 abbrev pub IsCountedLess : FiveRules → List ℕ → List Branching → List ℕ → List ℕ → Step → Type 0
 IsCountedLess rules name bs digits text step =
-    Reads (λ x. WritesCompact text x) (λ x. IsCompactOverLimit x) name (λ x s. IsLess rules name bs digits x s) step
+    ReadsNumber (λ x. WritesCompact text x) (λ x. IsCompactOverLimit x) name (λ x s. IsLess rules name bs digits x s) step
 
 -- A plural or an ordinal with these branches.
 abbrev pub IsPlural : FiveRules → List ℕ → Option (List ℕ) → List Branching → Option Value → Step → Type 0

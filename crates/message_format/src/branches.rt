@@ -1,8 +1,9 @@
 //! The branches of an argument.
 
-ghost use Rattle.std.specs.Prelude.{◌≡◌, ◌≤◌, length, IfOk, IfSome};
+ghost use Rattle.std.specs.Prelude.{◌≡◌, ◌≤◌, ◌↔◌, length, IsTrue, IfOk, IfSome};
 ghost use Rattle.message_pattern.specs.PatternParts.{parts_view, selector_view};
-ghost use Rattle.message_format.specs.FormatBranches.{branches_of, behind_end, is_keyword, branch_of_keyword, branch_or_other, IsBranchOfValue, IsBranchOfNumber};
+ghost use Rattle.message_pattern.specs.ArgumentBranches.{branches_of};
+ghost use Rattle.message_format.specs.FormatBranches.{behind_end, is_keyword, branch_of_keyword, branch_or_other, IsBranchOfValue, HasBranchOfValue, IsBranchOfNumber};
 ghost use Rattle.message_format.specs.Inner.FormatViews.{any_parts};
 
 use crate::numbers::{equals, span_of};
@@ -104,6 +105,23 @@ fn branch_of_value<'s, 'p>(
         left = rest;
     }
     Ok(None)
+}
+
+/// Returns whether a number chooses a branch by its value: whether the argument at this depth, of
+/// which these parts follow the beginning, has a branch whose selector is `=` and a number of the
+/// same value. It allocates the digits of long numbers; the error is out of memory.
+pub fn has_branch_of_value(
+    alloc: Global,
+    number: &CompactDecimal,
+    depth: usize,
+    parts: &[Part<'_>],
+) -> Result<bool, AllocError>
+    ensures { IfOk result (λ has. IsTrue has ↔ HasBranchOfValue number.now (branches_of depth (parts_view parts.now))) }
+{
+    match branch_of_value(alloc, number, depth, parts)? {
+        Some(_) => Ok(true),
+        None => Ok(false),
+    }
 }
 
 // The branch for a number: the first of its value, else that of the category of the number less the

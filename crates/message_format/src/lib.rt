@@ -12,6 +12,7 @@ mod offsets;
 mod steps;
 
 pub use arguments::{Argument, Value};
+pub use branches::has_branch_of_value;
 pub use error::{ArgumentFault, FormatError};
 pub use formatting::format;
 pub use steps::Rules;

@@ -5,7 +5,7 @@ ghost use Rattle.fixed_decimal.specs.Places.{IsWithinLimit};
 ghost use Rattle.fixed_decimal.specs.Written.{CompactNumber, WritesCompact, IsCompactOverLimit};
 ghost use Rattle.fixed_decimal.specs.declared.decimal.Decimal.{Decimal as SignedNumber};
 ghost use Rattle.message_pattern.specs.PatternParts.{parts_view};
-ghost use Rattle.message_format.specs.FormatBranches.{branches_of};
+ghost use Rattle.message_pattern.specs.ArgumentBranches.{branches_of};
 ghost use Rattle.message_format.specs.FormatOffsets.{IsDifference};
 ghost use Rattle.message_format.specs.FormatSteps.{IsCountedBy, IsLess, IsCountedLess};
 ghost use Rattle.message_format.specs.Inner.FormatViews.{GivesStep, IsBehind};

@@ -8,9 +8,9 @@ use Rattle.message_pattern.specs.declared.part.ArgumentKind.{ArgumentKind}
 use Rattle.message_pattern.specs.declared.part.ArgumentKind.TheVariants.{Plural, Ordinal, Select}
 use Rattle.message_pattern.specs.PatternBytes.{comma, equals, opening, closing, is_empty, begins, behind_run, after_white, after_word}
 use Rattle.message_pattern.specs.PatternParts.{Selector, Exactly, Keyword}
-use Rattle.message_pattern.specs.PatternHeads.{◌>>=◌, fault_at, missing, Head, Plain, Choice, is_bad_number, name_front, kind_named, kind_before, kind_front, offset_behind, offset_front, behind_name, head_front, counts, is_number, exact_front, keyword_front, selector_front, branch_opens, next_branch, branch_front, BranchFront}
+use Rattle.message_pattern.specs.PatternHeads.{◌>>=◌, fault_at, missing, Head, Plain, Choice, is_bad_number, name_front, kind_named, kind_before, kind_front, offset_behind, offset_front, behind_name, head_front, is_counting, is_number, exact_front, keyword_front, selector_front, branch_opens, next_branch, branch_front, BranchFront}
 use Rattle.message_pattern.specs.PatternHeads as branch
-use Rattle.message_pattern.specs.PatternGrammar.{IsLongest, IsNameOrNumber, IsType, IsOffsetValue, IsOffset, IsSelector}
+use Rattle.message_pattern.specs.PatternGrammar.{IsLongest, IsNameOrNumber, IsArgumentType, IsOffsetValue, IsOffset, IsSelector}
 use Rattle.message_pattern.proofs.Longest.{longest_run, longest_rest, longest_begins}
 use Rattle.message_pattern.proofs.GrammarHeads.{empty_false}
 
@@ -27,7 +27,7 @@ name_again s name t h =
 abbrev after_type : List ℕ → Bool → Option ArgumentKind → List ℕ → Result (ArgumentKind × List ℕ) Fault
 after_type s a k r = if a then Err (missing ExpectedType s) else kind_before s k r
 
-kind_again : (s : List ℕ) (kind : ArgumentKind) (v w : List ℕ) → IsType s kind v → after_white v ≡ comma ∷ w → kind_front s ≡ Ok (kind, w)
+kind_again : (s : List ℕ) (kind : ArgumentKind) (v w : List ℕ) → IsArgumentType s kind v → after_white v ≡ comma ∷ w → kind_front s ≡ Ok (kind, w)
 kind_again s kind v w h e =
     ap (λ (x : List ℕ). after_type s (is_empty x) (kind_named x) (after_white (behind_run Letter s))) (longest_run Letter s h.word v h.letters)
     ∙ (ap (λ (a : Bool). after_type s a (kind_named h.word) (after_white (behind_run Letter s))) (empty_false h.word h.nonempty)
@@ -65,7 +65,7 @@ plain_again s name t rest h e =
     ∙ ap (λ (r : List ℕ). behind_name name r) e
 
 pub choice_again : (kind : ArgumentKind) (offset : Option (List ℕ)) (s name t u v w x : List ℕ)
-    → IsNameOrNumber (after_white s) name t → after_white t ≡ comma ∷ u → IsType (after_white u) kind v → after_white v ≡ comma ∷ w
+    → IsNameOrNumber (after_white s) name t → after_white t ≡ comma ∷ u → IsArgumentType (after_white u) kind v → after_white v ≡ comma ∷ w
     → IsOffset kind w offset x → head_front s ≡ Ok (Choice kind name offset, x)
 choice_again kind offset s name t u v w x h e i f o =
     ap (λ (r : Result (List ℕ × List ℕ) Fault). r >>= λ n. behind_name n.0 n.1) (name_again (after_white s) name t h)
@@ -124,7 +124,7 @@ selector_again kind s (Keyword (b ∷ word)) t h = record {
   whole = h.0.whole;
   no_end = not_by b closing (word ++ t) (b == closing) refl (longest_begins Name s b word t h.0) refl;
   reads =
-      ap (λ (v : Bool). if v && counts kind then exact_front (word ++ t) else keyword_front (b ∷ (word ++ t))) (not_by b equals (word ++ t) (b == equals) refl (longest_begins Name s b word t h.0) refl)
+      ap (λ (v : Bool). if v && is_counting kind then exact_front (word ++ t) else keyword_front (b ∷ (word ++ t))) (not_by b equals (word ++ t) (b == equals) refl (longest_begins Name s b word t h.0) refl)
       ∙ subst (λ (u : List ℕ). keyword_front u ≡ Ok (Keyword (b ∷ word), t)) h.0.whole (keyword_again s (b ∷ word) t h.0 h.1);
 }
 

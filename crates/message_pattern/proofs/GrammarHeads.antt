@@ -6,11 +6,11 @@ use Rattle.message_pattern.specs.declared.error.Fault.{Fault}
 use Rattle.message_pattern.specs.declared.error.FaultKind.TheVariants.{ExpectedName, BadNumber, ExpectedEnd, ExpectedType, ExpectedStyle, ExpectedOffset, ExpectedSelector, ExpectedValue, ExpectedBranch, MissingOther}
 use Rattle.message_pattern.specs.declared.part.ArgumentKind.{ArgumentKind}
 use Rattle.message_pattern.specs.declared.part.ArgumentKind.TheVariants.{Plural, Ordinal, Select}
-use Rattle.message_pattern.specs.PatternBytes.{comma, equals, opening, closing, is_empty, run, behind_run, after_white, after_word}
+use Rattle.message_pattern.specs.PatternBytes.{comma, equals, opening, closing, is_empty, class_front, behind_run, after_white, after_word}
 use Rattle.message_pattern.specs.PatternParts.{Selector, Exactly}
-use Rattle.message_pattern.specs.PatternHeads.{◌>>=◌, fault_at, unclosed, missing, Head, Plain, Choice, is_bad_number, name_front, kind_named, style_front, kind_before, kind_front, digits_front, offset_behind, offset_front, choice_front, behind_name, head_front, counts, is_number, exact_front, keyword_front, selector_front, branch_opens, next_branch, branch_front, BranchFront}
+use Rattle.message_pattern.specs.PatternHeads.{◌>>=◌, fault_at, unclosed, missing, Head, Plain, Choice, is_bad_number, name_front, kind_named, style_front, kind_before, kind_front, digits_front, offset_behind, offset_front, choice_front, behind_name, head_front, is_counting, is_number, exact_front, keyword_front, selector_front, branch_opens, next_branch, branch_front, BranchFront}
 use Rattle.message_pattern.specs.PatternHeads as branch
-use Rattle.message_pattern.specs.PatternGrammar.{IsNameOrNumber, IsType, IsOffsetValue, IsOffset, IsSelector}
+use Rattle.message_pattern.specs.PatternGrammar.{IsNameOrNumber, IsArgumentType, IsOffsetValue, IsOffset, IsSelector}
 use Rattle.message_pattern.proofs.Longest.{is_longest}
 
 -- ---- results
@@ -44,10 +44,10 @@ empty_false (b ∷ w) h = refl
 
 pub name_sound : (s : List ℕ) (x : List ℕ × List ℕ) → name_front s ≡ Ok x → (t : List ℕ) × IsNameOrNumber s x.0 t × (after_white t ≡ x.1)
 name_sound s x e =
-    let g = guard_ok (is_empty (run Name s)) (missing ExpectedName s) _ x e in
-    let k = guard_ok (is_bad_number (run Name s)) (fault_at BadNumber s) _ x g.1 in
+    let g = guard_ok (is_empty (class_front Name s)) (missing ExpectedName s) _ x e in
+    let k = guard_ok (is_bad_number (class_front Name s)) (fault_at BadNumber s) _ x g.1 in
     subst (λ (y : List ℕ × List ℕ). (t : List ℕ) × IsNameOrNumber s y.0 t × (after_white t ≡ y.1)) (same_ok k.1)
-    (behind_run Name s, record { bytes = is_longest Name s; nonempty = nonempty_of (run Name s) g.0; no_zeros = k.0 }, refl)
+    (behind_run Name s, record { bytes = is_longest Name s; nonempty = nonempty_of (class_front Name s) g.0; no_zeros = k.0 }, refl)
 
 comma_step : (kind : ArgumentKind) (b : ℕ) (s : List ℕ) (v : Bool) (x : ArgumentKind × List ℕ) → (b == comma) ≡ v
     → (if v then Ok (kind, s) else Err (fault_at ExpectedStyle (b ∷ s))) ≡ Ok x → (kind ≡ x.0) × (b ∷ s ≡ comma ∷ x.1)
@@ -65,19 +65,19 @@ before_sound : (s : List ℕ) (k : Option ArgumentKind) (r : List ℕ) (x : Argu
 before_sound s None r x e = absurd (no_ok e)
 before_sound s (Some kind) r x e = let h = style_sound kind r x e in (ap Some h.0, h.1)
 
-pub kind_sound : (s : List ℕ) (x : ArgumentKind × List ℕ) → kind_front s ≡ Ok x → (t : List ℕ) × IsType s x.0 t × (after_white t ≡ comma ∷ x.1)
+pub kind_sound : (s : List ℕ) (x : ArgumentKind × List ℕ) → kind_front s ≡ Ok x → (t : List ℕ) × IsArgumentType s x.0 t × (after_white t ≡ comma ∷ x.1)
 kind_sound s x e =
-    let g = guard_ok (is_empty (run Letter s)) (missing ExpectedType s) _ x e in
-    let h = before_sound s (kind_named (run Letter s)) (after_white (behind_run Letter s)) x g.1 in
-    (behind_run Letter s, record { word = run Letter s; letters = is_longest Letter s; nonempty = nonempty_of (run Letter s) g.0; named = h.0 }, h.1)
+    let g = guard_ok (is_empty (class_front Letter s)) (missing ExpectedType s) _ x e in
+    let h = before_sound s (kind_named (class_front Letter s)) (after_white (behind_run Letter s)) x g.1 in
+    (behind_run Letter s, record { word = class_front Letter s; letters = is_longest Letter s; nonempty = nonempty_of (class_front Letter s) g.0; named = h.0 }, h.1)
 
 offset_step : (s : List ℕ) (o : Option (List ℕ)) (x : Option (List ℕ) × List ℕ) → after_word (codes "offset:") s ≡ o → offset_behind o s ≡ Ok x
     → IsOffsetValue s x.0 x.1
 offset_step s None x h e = subst (λ (y : Option (List ℕ) × List ℕ). IsOffsetValue s y.0 y.1) (same_ok e) (h, refl)
 offset_step s (Some t) x h e =
-    let g = guard_ok (is_empty (run Digit (after_white t))) (missing ExpectedOffset (after_white t)) _ x e in
+    let g = guard_ok (is_empty (class_front Digit (after_white t))) (missing ExpectedOffset (after_white t)) _ x e in
     subst (λ (y : Option (List ℕ) × List ℕ). IsOffsetValue s y.0 y.1) (same_ok g.1)
-    (t, h, is_longest Digit (after_white t), nonempty_of (run Digit (after_white t)) g.0)
+    (t, h, is_longest Digit (after_white t), nonempty_of (class_front Digit (after_white t)) g.0)
 
 pub offset_sound : (kind : ArgumentKind) (s : List ℕ) (x : Option (List ℕ) × List ℕ) → offset_front kind s ≡ Ok x → IsOffset kind s x.0 x.1
 offset_sound Select s x e = subst (λ (y : Option (List ℕ) × List ℕ). (y.0 ≡ None) × (y.1 ≡ s)) (same_ok e) (refl, refl)
@@ -89,7 +89,7 @@ abbrev pub HeadIs : List ℕ → Head → List ℕ → Type 0
 HeadIs s (Plain name) rest = (t : List ℕ) × IsNameOrNumber (after_white s) name t × (after_white t ≡ closing ∷ rest)
 HeadIs s (Choice kind name offset) rest =
     (t : List ℕ) × (u : List ℕ) × (v : List ℕ) × (w : List ℕ)
-    × IsNameOrNumber (after_white s) name t × (after_white t ≡ comma ∷ u) × IsType (after_white u) kind v × (after_white v ≡ comma ∷ w)
+    × IsNameOrNumber (after_white s) name t × (after_white t ≡ comma ∷ u) × IsArgumentType (after_white u) kind v × (after_white v ≡ comma ∷ w)
     × IsOffset kind w offset rest
 
 -- what it says behind the name
@@ -97,7 +97,7 @@ abbrev pub BehindName : List ℕ → List ℕ → Head → List ℕ → Type 0
 BehindName name s (Plain n) rest = (name ≡ n) × (s ≡ closing ∷ rest)
 BehindName name s (Choice kind n offset) rest =
     (u : List ℕ) × (v : List ℕ) × (w : List ℕ)
-    × (name ≡ n) × (s ≡ comma ∷ u) × IsType (after_white u) kind v × (after_white v ≡ comma ∷ w) × IsOffset kind w offset rest
+    × (name ≡ n) × (s ≡ comma ∷ u) × IsArgumentType (after_white u) kind v × (after_white v ≡ comma ∷ w) × IsOffset kind w offset rest
 
 choice_sound : (name : List ℕ) (c : ℕ) (s : List ℕ) (x : Head × List ℕ) → c ≡ comma → choice_front name s ≡ Ok x → BehindName name (c ∷ s) x.0 x.1
 choice_sound name c s x h e =
@@ -137,30 +137,30 @@ head_sound s x e =
 
 -- ---- and before a branch
 
-exact_by : (kind : ArgumentKind) (b : ℕ) (s : List ℕ) (v : Bool) (x : Selector × List ℕ) → b ≡ equals → counts kind ≡ true → is_number (run Number s) ≡ v
-    → (if v then Ok (Exactly (run Number s), behind_run Number s) else Err (missing ExpectedValue s)) ≡ Ok x → IsSelector kind (b ∷ s) x.0 x.1
+exact_by : (kind : ArgumentKind) (b : ℕ) (s : List ℕ) (v : Bool) (x : Selector × List ℕ) → b ≡ equals → is_counting kind ≡ true → is_number (class_front Number s) ≡ v
+    → (if v then Ok (Exactly (class_front Number s), behind_run Number s) else Err (missing ExpectedValue s)) ≡ Ok x → IsSelector kind (b ∷ s) x.0 x.1
 exact_by kind b s true x h c t e =
     subst (λ (y : Selector × List ℕ). IsSelector kind (b ∷ s) y.0 y.1) (same_ok e) (s, ap (λ (n : ℕ). n ∷ s) h, c, is_longest Number s, t)
 exact_by kind b s false x h c t e = absurd (no_ok e)
 
-exact_sound : (kind : ArgumentKind) (b : ℕ) (s : List ℕ) (x : Selector × List ℕ) → b ≡ equals → counts kind ≡ true → exact_front s ≡ Ok x
+exact_sound : (kind : ArgumentKind) (b : ℕ) (s : List ℕ) (x : Selector × List ℕ) → b ≡ equals → is_counting kind ≡ true → exact_front s ≡ Ok x
     → IsSelector kind (b ∷ s) x.0 x.1
-exact_sound kind b s x h c e = exact_by kind b s (is_number (run Number s)) x h c refl e
+exact_sound kind b s x h c e = exact_by kind b s (is_number (class_front Number s)) x h c refl e
 
 keyword_sound : (kind : ArgumentKind) (s : List ℕ) (x : Selector × List ℕ) → keyword_front s ≡ Ok x → IsSelector kind s x.0 x.1
 keyword_sound kind s x e =
-    let g = guard_ok (is_empty (run Name s)) (missing ExpectedSelector s) _ x e in
-    subst (λ (y : Selector × List ℕ). IsSelector kind s y.0 y.1) (same_ok g.1) (is_longest Name s, nonempty_of (run Name s) g.0)
+    let g = guard_ok (is_empty (class_front Name s)) (missing ExpectedSelector s) _ x e in
+    subst (λ (y : Selector × List ℕ). IsSelector kind s y.0 y.1) (same_ok g.1) (is_longest Name s, nonempty_of (class_front Name s) g.0)
 
 and_true : (a b : Bool) → (a && b) ≡ true → (a ≡ true) × (b ≡ true)
 and_true true true e = (refl, refl)
 and_true true false e = absurd (let t : false ≡ true = e in cc)
 and_true false b e = absurd (let t : false ≡ true = e in cc)
 
-selector_step : (kind : ArgumentKind) (b : ℕ) (s : List ℕ) (v : Bool) (x : Selector × List ℕ) → (b == equals && counts kind) ≡ v
+selector_step : (kind : ArgumentKind) (b : ℕ) (s : List ℕ) (v : Bool) (x : Selector × List ℕ) → (b == equals && is_counting kind) ≡ v
     → (if v then exact_front s else keyword_front (b ∷ s)) ≡ Ok x → IsSelector kind (b ∷ s) x.0 x.1
 selector_step kind b s true x t e =
-    let h = and_true (b == equals) (counts kind) t in exact_sound kind b s x (eqb-true b equals h.0) h.1 e
+    let h = and_true (b == equals) (is_counting kind) t in exact_sound kind b s x (eqb-true b equals h.0) h.1 e
 selector_step kind b s false x t e = keyword_sound kind (b ∷ s) x e
 
 -- what the grammar says of what stands before a branch
@@ -192,7 +192,7 @@ next_step : (kind : ArgumentKind) (other : Bool) (b : ℕ) (s : List ℕ) (v : B
 next_step kind other b s true x h e = closes_step kind other b s x (eqb-true b closing h) e
 next_step kind other b s false x h e =
     let k = bind_ok (selector_front kind b s) _ x e in
-    opens_sound kind other (b ∷ s) k.0.1 k.0.0 (after_white k.0.1) x (selector_step kind b s (b == equals && counts kind) k.0 refl k.1) refl k.2
+    opens_sound kind other (b ∷ s) k.0.1 k.0.0 (after_white k.0.1) x (selector_step kind b s (b == equals && is_counting kind) k.0 refl k.1) refl k.2
 
 next_sound : (kind : ArgumentKind) (other : Bool) (s : List ℕ) (x : BranchFront) → next_branch kind other s ≡ Ok x → BranchIs kind other s x
 next_sound kind other [] x e = absurd (no_ok e)

@@ -3,7 +3,7 @@ use Rattle.std.proofs.Common.{◌≡◌, ◌==◌, ℕ, List, [], ◌∷◌, Boo
 use Rattle.message_pattern.specs.declared.bytes.Class.TheVariants.{Letter}
 use Rattle.message_pattern.specs.declared.error.FaultKind.TheVariants.{ExpectedType}
 use Rattle.message_pattern.specs.declared.part.ArgumentKind.{ArgumentKind}
-use Rattle.message_pattern.specs.PatternBytes.{is_empty, run, behind_run, after_white}
+use Rattle.message_pattern.specs.PatternBytes.{is_empty, class_front, behind_run, after_white}
 use Rattle.message_pattern.specs.PatternHeads.{missing, kind_named, kind_before, kind_front}
 
 -- a list that has a length isn't empty
@@ -12,11 +12,11 @@ nonempty [] b e f = let t : true ≡ false = sym e ∙ f in cc
 nonempty (x ∷ w) b e f = refl
 
 -- where letters stand, they decide
-pub kind_front_is : (s w r a : List ℕ) (k : Option ArgumentKind) → w ≡ run Letter s → is_empty w ≡ false → r ≡ behind_run Letter s
+pub kind_front_is : (s w r a : List ℕ) (k : Option ArgumentKind) → w ≡ class_front Letter s → is_empty w ≡ false → r ≡ behind_run Letter s
     → a ≡ after_white r → k ≡ kind_named w → kind_before s k a ≡ kind_front s
 kind_front_is s w r a k e1 e2 e3 e4 e5 = sym
     (ap
-    (λ (b : Bool). if b then Err (missing ExpectedType s) else kind_before s (kind_named (run Letter s)) (after_white (behind_run Letter s)))
+    (λ (b : Bool). if b then Err (missing ExpectedType s) else kind_before s (kind_named (class_front Letter s)) (after_white (behind_run Letter s)))
     (ap is_empty (sym e1) ∙ e2)
     ∙ (ap (λ (v : List ℕ). kind_before s (kind_named v) (after_white (behind_run Letter s))) (sym e1)
     ∙ (ap (λ (j : Option ArgumentKind). kind_before s j (after_white (behind_run Letter s))) (sym e5)

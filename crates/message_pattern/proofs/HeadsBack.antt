@@ -8,7 +8,7 @@ use Rattle.message_pattern.specs.declared.part.ArgumentKind.{ArgumentKind}
 use Rattle.message_pattern.specs.declared.part.ArgumentKind.TheVariants.{Plural, Ordinal, Select}
 use Rattle.message_pattern.specs.PatternBytes.{comma, equals, opening, closing, is_between, is_digit, is_in, begins, white_width, skip, after_white, after_word}
 use Rattle.message_pattern.specs.PatternParts.{Selector, Exactly, Keyword}
-use Rattle.message_pattern.specs.PatternGrammar.{IsLongest, IsNameOrNumber, IsType, IsOffsetValue, IsOffset, IsSelector}
+use Rattle.message_pattern.specs.PatternGrammar.{IsLongest, IsNameOrNumber, IsArgumentType, IsOffsetValue, IsOffset, IsSelector}
 use Rattle.message_pattern.specs.PatternPrinting.{kind_text, offset_text, selector_text}
 use Rattle.message_pattern.proofs.Longest.{AllBegin, first, later, each_in, is_longest, longest_begins}
 
@@ -172,7 +172,7 @@ nonempty b w e = cc
 -- the type behind the comma
 pub record IsTypeThere (kind : ArgumentKind) (s : List ℕ) : Type 0 where
   pub rest : List ℕ
-  pub there : IsType (after_white (kind_text kind ++ s)) kind rest
+  pub there : IsArgumentType (after_white (kind_text kind ++ s)) kind rest
   pub comma_there : after_white rest ≡ comma ∷ s
 
 pub type_back : (kind : ArgumentKind) (s : List ℕ) → IsTypeThere kind s

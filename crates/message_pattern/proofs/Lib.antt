@@ -11,6 +11,7 @@ pub mod GrammarAgain
 pub mod GrammarReads
 pub mod Shorter
 pub mod Total
+pub mod WholeTexts
 pub mod Spelled
 pub mod TextBack
 pub mod HeadsBack

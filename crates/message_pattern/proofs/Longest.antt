@@ -1,9 +1,9 @@
 -- The longest front of bytes of a class is one.
 use Rattle.std.proofs.Common.{◌≡◌, ◌<◌, ℕ, zero, suc, List, [], ◌∷◌, ◌++◌, Bool, true, false, length, drop, refl, sym, ap, subst, arith, ◌∙◌, if◌then◌else◌}
 use Rattle.message_pattern.specs.declared.bytes.Class.{Class}
-use Rattle.message_pattern.specs.PatternBytes.{begins, run, behind_run}
+use Rattle.message_pattern.specs.PatternBytes.{begins, class_front, behind_run}
 use Rattle.message_pattern.specs.PatternGrammar.{IsLongest}
-use Rattle.message_pattern.proofs.Runs.{run-whole}
+use Rattle.message_pattern.proofs.Runs.{class_front-whole}
 
 -- at each place before the rest a byte of the class begins
 abbrev pub AllBegin : Class → List ℕ → List ℕ → Type 0
@@ -15,9 +15,9 @@ each_step class b s r true e h zero l = e
 each_step class b s r true e h (suc i) l = h i (omega (arith, l))
 each_step class b s r false e h i l = absurd (omega (arith, l))
 
-run-each : (class : Class) (s : List ℕ) → AllBegin class s (run class s)
-run-each class [] i l = absurd (omega (arith, l))
-run-each class (b ∷ s) i l = each_step class b s (run class s) (begins class (b ∷ s)) refl (run-each class s) i l
+class_front-each : (class : Class) (s : List ℕ) → AllBegin class s (class_front class s)
+class_front-each class [] i l = absurd (omega (arith, l))
+class_front-each class (b ∷ s) i l = each_step class b s (class_front class s) (begins class (b ∷ s)) refl (class_front-each class s) i l
 
 stops_step : (class : Class) (b : ℕ) (r s : List ℕ) (v : Bool) → begins class (b ∷ s) ≡ v → begins class r ≡ false
     → begins class (if v then r else b ∷ s) ≡ false
@@ -29,8 +29,8 @@ behind-stops class [] = refl
 behind-stops class (b ∷ s) = stops_step class b (behind_run class s) s (begins class (b ∷ s)) refl (behind-stops class s)
 
 -- a run is longest
-pub is_longest : (class : Class) (s : List ℕ) → IsLongest class s (run class s) (behind_run class s)
-is_longest class s = record { whole = sym (run-whole class s); each = run-each class s; longest = behind-stops class s }
+pub is_longest : (class : Class) (s : List ℕ) → IsLongest class s (class_front class s) (behind_run class s)
+is_longest class s = record { whole = sym (class_front-whole class s); each = class_front-each class s; longest = behind-stops class s }
 
 -- behind the first byte
 pub later : (class : Class) (b : ℕ) (t s : List ℕ) → AllBegin class (b ∷ s) (b ∷ t) → AllBegin class s t
@@ -39,11 +39,11 @@ later class b t s a i l = a (suc i) (omega (arith, l))
 pub first : (class : Class) (b : ℕ) (t s : List ℕ) → AllBegin class (b ∷ s) (b ∷ t) → begins class (b ∷ s) ≡ true
 first class b t s a = a zero (omega arith)
 
-run_front : (class : Class) (t r : List ℕ) → AllBegin class (t ++ r) t → begins class r ≡ false → run class (t ++ r) ≡ t
+run_front : (class : Class) (t r : List ℕ) → AllBegin class (t ++ r) t → begins class r ≡ false → class_front class (t ++ r) ≡ t
 run_front class [] [] a h = refl
-run_front class [] (b ∷ r) a h = ap (λ (v : Bool). if v then b ∷ run class r else []) h
+run_front class [] (b ∷ r) a h = ap (λ (v : Bool). if v then b ∷ class_front class r else []) h
 run_front class (b ∷ t) r a h =
-    ap (λ (v : Bool). if v then b ∷ run class (t ++ r) else []) (first class b t (t ++ r) a)
+    ap (λ (v : Bool). if v then b ∷ class_front class (t ++ r) else []) (first class b t (t ++ r) a)
     ∙ ap (λ (l : List ℕ). b ∷ l) (run_front class t r (later class b t (t ++ r) a) h)
 
 behind_front : (class : Class) (t r : List ℕ) → AllBegin class (t ++ r) t → begins class r ≡ false → behind_run class (t ++ r) ≡ r
@@ -58,8 +58,8 @@ pub each_in : (class : Class) (s t r : List ℕ) → IsLongest class s t r → A
 each_in class s t r l = subst (λ (u : List ℕ). AllBegin class u t) l.whole l.each
 
 -- the longest front is the run
-pub longest_run : (class : Class) (s t r : List ℕ) → IsLongest class s t r → run class s ≡ t
-longest_run class s t r l = ap (λ (u : List ℕ). run class u) l.whole ∙ run_front class t r (each_in class s t r l) l.longest
+pub longest_run : (class : Class) (s t r : List ℕ) → IsLongest class s t r → class_front class s ≡ t
+longest_run class s t r l = ap (λ (u : List ℕ). class_front class u) l.whole ∙ run_front class t r (each_in class s t r l) l.longest
 
 pub longest_rest : (class : Class) (s t r : List ℕ) → IsLongest class s t r → behind_run class s ≡ r
 longest_rest class s t r l = ap (λ (u : List ℕ). behind_run class u) l.whole ∙ behind_front class t r (each_in class s t r l) l.longest

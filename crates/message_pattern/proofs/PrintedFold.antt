@@ -7,14 +7,14 @@ use Rattle.message_pattern.specs.declared.text.Context.TheVariants.{Whole}
 use Rattle.message_pattern.specs.PatternBytes.{hash, comma, opening, closing}
 use Rattle.message_pattern.specs.PatternText.{is_quotable}
 use Rattle.message_pattern.specs.PatternParts.{Part, Branch}
-use Rattle.message_pattern.specs.PatternReading.{Place, InMessage, InArgument, InBranches, one, context_of}
+use Rattle.message_pattern.specs.PatternReading.{PatternPlace, InMessage, InArgument, InBranches, one, context_of}
 use Rattle.message_pattern.specs.PatternPrinting.{letters, spelled, SayTheSame, end_of_quote, byte_text, text_text, quoted_behind, kind_text, offset_text, selector_text, IsPrinted, message_ends, message_text, message_hash, message_argument, none_arg, complex_arg, style_branch, style_ends, PrintsAs, PrintsExactly, IsReadAlike}
 use Rattle.message_pattern.specs.Inner.PatternFold.{fold}
 use Rattle.message_pattern.proofs.Spelled.{spelled-append}
 use Rattle.message_pattern.proofs.PrintsBack.{prints_back}
 
 -- behind the parts of a place, the text goes on with z
-abbrev Folds : Place → List Part → List ℕ → Type 0
+abbrev Folds : PatternPlace → List Part → List ℕ → Type 0
 Folds (InMessage c d q) parts text =
     (outer : List Context) (tail : List Part) (z : List ℕ) → ((k : Bool) → fold c outer (Message k) tail ≡ end_of_quote k ++ z)
     → fold c outer (Message q) (parts ++ tail) ≡ text ++ z
@@ -56,7 +56,7 @@ branch_behind e sel message text t = simp append_assoc
 end_grouped : (e t : List ℕ) → ((e ++ closing ∷ []) ++ closing ∷ []) ++ t ≡ e ++ closing ∷ ((closing ∷ []) ++ t)
 end_grouped e t = simp append_assoc
 
-folds : {place : Place} {parts : List Part} {text : List ℕ} → IsPrinted place parts text → Folds place parts text
+folds : {place : PatternPlace} {parts : List Part} {text : List ℕ} → IsPrinted place parts text → Folds place parts text
 folds (message_ends c d q) = λ outer tail z f. f q
 folds (message_text c d q s text more h) = λ outer tail z f.
     ap (λ (u : List ℕ). text_text c q s ++ u) (folds h outer tail z f) ∙ regrouped (text_text c q s) text z
@@ -124,7 +124,7 @@ letters_printed c d q (b ∷ s) text more h =
     (message_text c d q (b ∷ []) (text_text c o s ++ text) (letters d s ++ more) (letters_printed c d o s text more h))
 
 -- what is printed is printed so, byte by byte
-spelled_printed : {place : Place} {parts : List Part} {text : List ℕ} → IsPrinted place parts text → IsPrinted place (spelled parts) text
+spelled_printed : {place : PatternPlace} {parts : List Part} {text : List ℕ} → IsPrinted place parts text → IsPrinted place (spelled parts) text
 spelled_printed (message_ends c d q) = message_ends c d q
 spelled_printed (message_text c d q s text more h) = letters_printed c d q s text (spelled more) (spelled_printed h)
 spelled_printed (message_hash c d q text more h) = message_hash c d q text (spelled more) (spelled_printed h)

@@ -6,14 +6,14 @@ use Rattle.message_pattern.specs.declared.part.ArgumentKind.TheVariants.{Plural,
 use Rattle.message_pattern.specs.declared.reader.TheConstants.{DEPTH_LIMIT}
 use Rattle.message_pattern.specs.declared.text.Context.{Context}
 use Rattle.message_pattern.specs.declared.text.Context.TheVariants.{Whole}
-use Rattle.message_pattern.specs.PatternBytes.{apostrophe, hash, comma, opening, closing, run, behind_run, after_white}
+use Rattle.message_pattern.specs.PatternBytes.{apostrophe, hash, comma, opening, closing, class_front, behind_run, after_white}
 use Rattle.message_pattern.specs.declared.bytes.Class.TheVariants as class
 use Rattle.message_pattern.specs.PatternText.{Front, Closes, Opens, Takes, takes_text, front, is_nested, is_counted, is_quotable, apostrophe_front, quoted_apostrophe}
 use Rattle.message_pattern.specs.PatternParts.{Part, Piece, Text, Hash, Argument, Begin, Branch, Selector}
 use Rattle.message_pattern.specs.PatternParts as piece
 use Rattle.message_pattern.specs.PatternHeads.{is_other}
-use Rattle.message_pattern.specs.PatternReading.{Place, InMessage, InArgument, InBranches, one, at_most_one, context_of}
-use Rattle.message_pattern.specs.PatternGrammar.{IsRead, IsSelector, IsOffset, IsNameOrNumber, message_ends, message_closes, message_text, message_argument, none_arg, complex_arg, style_branch, style_ends}
+use Rattle.message_pattern.specs.PatternReading.{PatternPlace, InMessage, InArgument, InBranches, one, at_most_one, context_of}
+use Rattle.message_pattern.specs.PatternGrammar.{IsReadAt, IsSelector, IsOffset, IsNameOrNumber, message_ends, message_closes, message_text, message_argument, none_arg, complex_arg, style_branch, style_ends}
 use Rattle.message_pattern.specs.PatternPrinting.{letters, spelled, end_of_quote, text_text, quoted_behind, kind_text, offset_text, selector_text, IsPrinted, PrintsAs, IsReadAlike}
 use Rattle.message_pattern.specs.PatternPrinting as prints
 use Rattle.message_pattern.specs.PatternAnswers.{IsPattern}
@@ -53,9 +53,9 @@ front_piece : (c : Context) (q : Bool) (s : List ℕ) → IsMessagePiece c (fron
 front_piece c true [] = tt
 front_piece c false [] = tt
 front_piece c true (b ∷ s) =
-    chosen c (b == apostrophe) (quoted_apostrophe s) (takes_text (run class.Unquoted (b ∷ s)) true (behind_run class.Unquoted (b ∷ s))) (quoted_piece c s) tt
+    chosen c (b == apostrophe) (quoted_apostrophe s) (takes_text (class_front class.Unquoted (b ∷ s)) true (behind_run class.Unquoted (b ∷ s))) (quoted_piece c s) tt
 front_piece c false (b ∷ s) =
-    let last : Front = takes_text (run class.Plain (b ∷ s)) false (behind_run class.Plain (b ∷ s)) in
+    let last : Front = takes_text (class_front class.Plain (b ∷ s)) false (behind_run class.Plain (b ∷ s)) in
     let alone : Front = if b == closing || b == hash then takes_text (b ∷ []) false s else last in
     let number : Front = if b == hash && is_counted c then Takes (Some Hash) false s else alone in
     let closes : Front = if b == closing && is_nested c then Closes s else number in
@@ -95,7 +95,7 @@ abbrev MessageBack : Context → ℕ → Bool → List Part → Type 0
 MessageBack c d q parts =
     (t rest : List ℕ) → Stops c t rest → (text : List ℕ) × IsPrinted (InMessage c d q) parts text × IsReadAs (InMessage c d q) (text ++ t) (spelled parts) rest
 
-abbrev IsBack : Place → List Part → Type 0
+abbrev IsBack : PatternPlace → List Part → Type 0
 IsBack (InMessage c d q) parts = (k : Bool) → MessageBack c d k parts
 IsBack (InArgument d) parts =
     (rest : List ℕ) → (text : List ℕ) × IsPrinted (InArgument d) parts text × IsReadAs (InArgument d) (text ++ rest) (spelled parts) rest
@@ -163,12 +163,12 @@ none_back d s name t h rest = (
 )
 
 -- white space before a branch may be passed first
-abbrev FromWhite : Place → List ℕ → List Part → List ℕ → Type 0
+abbrev FromWhite : PatternPlace → List ℕ → List Part → List ℕ → Type 0
 FromWhite (InMessage c d q) s parts rest = Unit {0}
 FromWhite (InArgument d) s parts rest = Unit {0}
-FromWhite (InBranches kind d o) s parts rest = IsRead (InBranches kind d o) (after_white s) parts rest
+FromWhite (InBranches kind d o) s parts rest = IsReadAt (InBranches kind d o) (after_white s) parts rest
 
-from_white : {place : Place} {s rest : List ℕ} {parts : List Part} → IsRead place s parts rest → FromWhite place s parts rest
+from_white : {place : PatternPlace} {s rest : List ℕ} {parts : List Part} → IsReadAt place s parts rest → FromWhite place s parts rest
 from_white (message_ends c d q s e w) = tt
 from_white (message_closes c d q s rest e) = tt
 from_white (message_text c d q r s t rest p more e h) = tt
@@ -179,10 +179,10 @@ from_white (style_branch d kind other sel s t u v rest inner more i e room h k) 
     style_branch d kind other sel (after_white s) t u v rest inner more (subst (λ (l : List ℕ). IsSelector kind l sel t) (sym (white_again s)) i) e room h k
 from_white (style_ends d kind s rest e) = style_ends d kind (after_white s) rest (white_again s ∙ e)
 
-offset_then : (kind : ArgumentKind) (d : ℕ) (s x rest : List ℕ) (parts : List Part) → (x ≡ s) ⊎ (x ≡ after_white s) → IsRead (InBranches kind d false) s parts rest
-    → IsRead (InBranches kind d false) x parts rest
-offset_then kind d s x rest parts (inl e) h = subst (λ (u : List ℕ). IsRead (InBranches kind d false) u parts rest) (sym e) h
-offset_then kind d s x rest parts (inr e) h = subst (λ (u : List ℕ). IsRead (InBranches kind d false) u parts rest) (sym e) (from_white h)
+offset_then : (kind : ArgumentKind) (d : ℕ) (s x rest : List ℕ) (parts : List Part) → (x ≡ s) ⊎ (x ≡ after_white s) → IsReadAt (InBranches kind d false) s parts rest
+    → IsReadAt (InBranches kind d false) x parts rest
+offset_then kind d s x rest parts (inl e) h = subst (λ (u : List ℕ). IsReadAt (InBranches kind d false) u parts rest) (sym e) h
+offset_then kind d s x rest parts (inr e) h = subst (λ (u : List ℕ). IsReadAt (InBranches kind d false) u parts rest) (sym e) (from_white h)
 
 -- the text of a head, and what follows
 head_grouped : (name kind offset text rest : List ℕ)
@@ -246,7 +246,7 @@ style_end d kind rest = (
   closing_no_offset rest,
 )
 
-back : {place : Place} {s rest : List ℕ} {parts : List Part} → IsRead place s parts rest → IsBack place parts
+back : {place : PatternPlace} {s rest : List ℕ} {parts : List Part} → IsReadAt place s parts rest → IsBack place parts
 back (message_ends c d q s e w) = λ k. ends_back c d k
 back (message_closes c d q s rest e) = λ k. ends_back c d k
 back (message_text c d q r s t rest p more e h) = pieces_back c d p r t more (piece_is c q r s t p e) (back h)
@@ -260,5 +260,5 @@ back (style_ends d kind s rest e) = style_end d kind
 -- the parts of a pattern are printed as a text that is read back
 pub prints_back : (source : List ℕ) (parts : List Part) → IsPattern source parts → (text : List ℕ) × PrintsAs parts text × IsReadAlike text parts
 prints_back source parts h =
-    let b = back h.1 false [] [] (inl (refl, refl, refl)) in
-    (b.0, b.1, (b.2.0, ([], subst (λ (u : List ℕ). IsRead (InMessage Whole 0 false) u b.2.0 []) (append-nil b.0) b.2.1), b.2.2))
+    let b = back h false [] [] (inl (refl, refl, refl)) in
+    (b.0, b.1, (b.2.0, subst (λ (u : List ℕ). IsReadAt (InMessage Whole 0 false) u b.2.0 []) (append-nil b.0) b.2.1, b.2.2))

@@ -12,7 +12,7 @@ use Rattle.message_pattern.specs.PatternText.{Front, Closes, Opens, Takes, takes
 use Rattle.message_pattern.specs.PatternParts.{Selector, Exactly, Keyword, Hash}
 use Rattle.message_pattern.specs.PatternHeads.{Head, Plain, Choice, BranchFront}
 use Rattle.message_pattern.specs.PatternHeads as branch
-use Rattle.message_pattern.specs.PatternGrammar.{IsLongest, IsType, IsOffsetValue, IsOffset, IsSelector}
+use Rattle.message_pattern.specs.PatternGrammar.{IsLongest, IsArgumentType, IsOffsetValue, IsOffset, IsSelector}
 use Rattle.message_pattern.specs.Inner.PatternViews.{IsShorter}
 use Rattle.message_pattern.proofs.GrammarHeads.{HeadIs, BranchIs}
 
@@ -113,7 +113,7 @@ offset_le Select s offset rest h = omega (arith, ap length h.1)
 offset_le Plural s offset rest h = omega (arith, value_le (after_white s) offset rest h, white_le s)
 offset_le Ordinal s offset rest h = omega (arith, value_le (after_white s) offset rest h, white_le s)
 
-letters_le : (s v : List ℕ) (kind : ArgumentKind) → IsType (after_white s) kind v → length v ≤ length (after_white s)
+letters_le : (s v : List ℕ) (kind : ArgumentKind) → IsArgumentType (after_white s) kind v → length v ≤ length (after_white s)
 letters_le s v kind i = longest_le Letter (after_white s) i.word v i.letters
 
 pub head_le : (s : List ℕ) (h : Head) (rest : List ℕ) → HeadIs s h rest → length rest ≤ length s

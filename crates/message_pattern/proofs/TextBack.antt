@@ -4,23 +4,23 @@ use Rattle.std.proofs.lemmas.Bool.{eqb-true}
 use Rattle.message_pattern.specs.declared.bytes.Class.{Class}
 use Rattle.message_pattern.specs.declared.bytes.Class.TheVariants.{Plain, Unquoted}
 use Rattle.message_pattern.specs.declared.text.Context.{Context}
-use Rattle.message_pattern.specs.PatternBytes.{apostrophe, hash, opening, closing, begins, run, behind_run}
+use Rattle.message_pattern.specs.PatternBytes.{apostrophe, hash, opening, closing, begins, class_front, behind_run}
 use Rattle.message_pattern.specs.PatternText.{Front, End, Closes, Opens, Takes, takes_text, front, is_nested, is_counted, is_quotable, apostrophe_front, quoted_apostrophe}
 use Rattle.message_pattern.specs.PatternParts.{Part, Piece, Text, Hash}
-use Rattle.message_pattern.specs.PatternReading.{Place, InMessage, InArgument, InBranches, one, at_most_one}
-use Rattle.message_pattern.specs.PatternGrammar.{IsRead, message_ends, message_closes, message_text, message_argument, none_arg, complex_arg, style_branch, style_ends}
+use Rattle.message_pattern.specs.PatternReading.{PatternPlace, InMessage, InArgument, InBranches, one, at_most_one}
+use Rattle.message_pattern.specs.PatternGrammar.{IsReadAt, message_ends, message_closes, message_text, message_argument, none_arg, complex_arg, style_branch, style_ends}
 use Rattle.message_pattern.specs.PatternPrinting.{letters, spelled, end_of_quote, byte_text, text_text, quoted_behind}
 
 -- what is read says the same as these parts
-abbrev pub IsReadAs : Place → List ℕ → List Part → List ℕ → Type 0
-IsReadAs place s parts rest = (again : List Part) × IsRead place s again rest × (spelled again ≡ parts)
+abbrev pub IsReadAs : PatternPlace → List ℕ → List Part → List ℕ → Type 0
+IsReadAs place s parts rest = (again : List Part) × IsReadAt place s again rest × (spelled again ≡ parts)
 
 -- ---- a message that begins with a piece
 
 -- a message whose front is a piece is that piece and the message behind it
-abbrev pub BeginsWith : Place → List ℕ → List Part → List ℕ → Type 0
+abbrev pub BeginsWith : PatternPlace → List ℕ → List Part → List ℕ → Type 0
 BeginsWith (InMessage c d q) s parts rest =
-    (p : Option Piece) (r : Bool) (t : List ℕ) → front c q s ≡ Takes p r t → (more : List Part) × IsRead (InMessage c d r) t more rest × (parts ≡ at_most_one d p ++ more)
+    (p : Option Piece) (r : Bool) (t : List ℕ) → front c q s ≡ Takes p r t → (more : List Part) × IsReadAt (InMessage c d r) t more rest × (parts ≡ at_most_one d p ++ more)
 BeginsWith (InArgument d) s parts rest = Unit {0}
 BeginsWith (InBranches k d o) s parts rest = Unit {0}
 
@@ -34,18 +34,18 @@ no_piece_opens : {f : Front} (p : Option Piece) (r : Bool) (t s : List ℕ) → 
 no_piece_opens p r t s e h = let x : Opens s ≡ Takes p r t = sym e ∙ h in cc
 
 same_piece : (c : Context) (d : ℕ) (p p' : Option Piece) (r r' : Bool) (t t' rest : List ℕ) (more : List Part)
-    → Takes p r t ≡ Takes p' r' t' → IsRead (InMessage c d r) t more rest
-    → (again : List Part) × IsRead (InMessage c d r') t' again rest × (at_most_one d p ++ more ≡ at_most_one d p' ++ again)
+    → Takes p r t ≡ Takes p' r' t' → IsReadAt (InMessage c d r) t more rest
+    → (again : List Part) × IsReadAt (InMessage c d r') t' again rest × (at_most_one d p ++ more ≡ at_most_one d p' ++ again)
 same_piece c d p p' r r' t t' rest more e h =
     let f : p ≡ p' = cc in
     let g : r ≡ r' = cc in
     let k : t ≡ t' = cc in (
       more,
-      subst (λ (v : Bool). IsRead (InMessage c d v) t' more rest) g (subst (λ (u : List ℕ). IsRead (InMessage c d r) u more rest) k h),
+      subst (λ (v : Bool). IsReadAt (InMessage c d v) t' more rest) g (subst (λ (u : List ℕ). IsReadAt (InMessage c d r) u more rest) k h),
       ap (λ (x : Option Piece). at_most_one d x ++ more) f,
     )
 
-begins_with : {place : Place} {s rest : List ℕ} {parts : List Part} → IsRead place s parts rest → BeginsWith place s parts rest
+begins_with : {place : PatternPlace} {s rest : List ℕ} {parts : List Part} → IsReadAt place s parts rest → BeginsWith place s parts rest
 begins_with (message_ends c d q s e w) = λ p r t h. absurd (no_piece p r t e h)
 begins_with (message_closes c d q s rest e) = λ p r t h. absurd (no_piece_closes p r t rest e h)
 begins_with (message_text c d q r s t rest p more e h) = λ p' r' t' f. same_piece c d p p' r r' t t' rest more (sym e ∙ f) h
@@ -59,15 +59,15 @@ begins_with (style_ends d kind s rest e) = tt
 
 -- at a byte of the class, the front is the run
 abbrev IsRunFront : Context → Bool → Class → Type 0
-IsRunFront c q k = (b : ℕ) (s : List ℕ) → begins k (b ∷ s) ≡ true → front c q (b ∷ s) ≡ takes_text (run k (b ∷ s)) q (behind_run k (b ∷ s))
+IsRunFront c q k = (b : ℕ) (s : List ℕ) → begins k (b ∷ s) ≡ true → front c q (b ∷ s) ≡ takes_text (class_front k (b ∷ s)) q (behind_run k (b ∷ s))
 
 takes_one : (k : Class) (b : ℕ) (t : List ℕ) (q : Bool) → begins k (b ∷ t) ≡ true
-    → takes_text (run k (b ∷ t)) q (behind_run k (b ∷ t)) ≡ takes_text (b ∷ run k t) q (behind_run k t)
-takes_one k b t q e = ap (λ (v : Bool). takes_text (if v then b ∷ run k t else []) q (if v then behind_run k t else b ∷ t)) e
+    → takes_text (class_front k (b ∷ t)) q (behind_run k (b ∷ t)) ≡ takes_text (b ∷ class_front k t) q (behind_run k t)
+takes_one k b t q e = ap (λ (v : Bool). takes_text (if v then b ∷ class_front k t else []) q (if v then behind_run k t else b ∷ t)) e
 
-run_none : (k : Class) (t : List ℕ) → begins k t ≡ false → run k t ≡ []
+run_none : (k : Class) (t : List ℕ) → begins k t ≡ false → class_front k t ≡ []
 run_none k [] e = refl
-run_none k (b ∷ t) e = ap (λ (v : Bool). if v then b ∷ run k t else []) e
+run_none k (b ∷ t) e = ap (λ (v : Bool). if v then b ∷ class_front k t else []) e
 
 behind_none : (k : Class) (t : List ℕ) → begins k t ≡ false → behind_run k t ≡ t
 behind_none k [] e = refl
@@ -84,9 +84,9 @@ byte_before c d q k b t parts rest false runs e f h = (
 )
 byte_before c d q k b [] parts rest true runs e f h = absurd (let x : false ≡ true = f in cc)
 byte_before c d q k b (a ∷ t) parts rest true runs e f h =
-    let m = begins_with h.1 (Some (Text (run k (a ∷ t)))) q (behind_run k (a ∷ t)) (runs a t f) in (
-      one d (Text (b ∷ run k (a ∷ t))) ++ m.0,
-      message_text c d q q (b ∷ a ∷ t) (behind_run k (a ∷ t)) rest (Some (Text (b ∷ run k (a ∷ t)))) m.0 (runs b (a ∷ t) e ∙ takes_one k b (a ∷ t) q e) m.1,
+    let m = begins_with h.1 (Some (Text (class_front k (a ∷ t)))) q (behind_run k (a ∷ t)) (runs a t f) in (
+      one d (Text (b ∷ class_front k (a ∷ t))) ++ m.0,
+      message_text c d q q (b ∷ a ∷ t) (behind_run k (a ∷ t)) rest (Some (Text (b ∷ class_front k (a ∷ t)))) m.0 (runs b (a ∷ t) e ∙ takes_one k b (a ∷ t) q e) m.1,
       ap (λ (l : List Part). letters d (b ∷ []) ++ l) (sym (ap spelled m.2) ∙ h.2),
     )
 
@@ -103,7 +103,7 @@ plain_by false false false true c b s t u x = absurd (let y : false ≡ true = x
 plain_by false false false false c b s t u x = refl
 
 plain_runs : (c : Context) → IsRunFront c false Plain
-plain_runs c b s e = plain_by (b == apostrophe) (b == opening) (b == closing) (b == hash) c b s (run Plain (b ∷ s)) (behind_run Plain (b ∷ s)) e
+plain_runs c b s e = plain_by (b == apostrophe) (b == opening) (b == closing) (b == hash) c b s (class_front Plain (b ∷ s)) (behind_run Plain (b ∷ s)) e
 
 -- ---- quoted text
 
@@ -112,7 +112,7 @@ quoted_by true s t u x = absurd (let y : false ≡ true = x in cc)
 quoted_by false s t u x = refl
 
 quoted_runs : (c : Context) → IsRunFront c true Unquoted
-quoted_runs c b s e = quoted_by (b == apostrophe) s (run Unquoted (b ∷ s)) (behind_run Unquoted (b ∷ s)) e
+quoted_runs c b s e = quoted_by (b == apostrophe) s (class_front Unquoted (b ∷ s)) (behind_run Unquoted (b ∷ s)) e
 
 -- a byte that is quoted
 in_quotes : (c : Context) (d b : ℕ) (t : List ℕ) (parts : List Part) (rest : List ℕ) → (b == apostrophe) ≡ false

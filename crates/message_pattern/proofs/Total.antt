@@ -9,19 +9,19 @@ use Rattle.message_pattern.specs.PatternText.{Front, End, Closes, Opens, Takes, 
 use Rattle.message_pattern.specs.PatternParts.{Part, Selector, Branch}
 use Rattle.message_pattern.specs.PatternHeads.{Head, Plain, Choice, BranchFront, head_front, branch_front, is_other, unclosed, fault_at}
 use Rattle.message_pattern.specs.PatternHeads as branch
-use Rattle.message_pattern.specs.PatternReading.{Place, InMessage, InArgument, InBranches, Step, Ends, Fails, Goes, Calls, Outcome, Read, Faulty, Reads, ends, fails, goes, calls, breaks, step, one, context_of, message_step, argument_step, branches_step}
+use Rattle.message_pattern.specs.PatternReading.{PatternPlace, InMessage, InArgument, InBranches, ReadStep, Ends, Fails, Goes, Calls, ReadOutcome, Read, Faulty, ReadsTo, ends, fails, goes, calls, breaks, read_step, one, context_of, message_step, argument_step, branches_step}
 use Rattle.message_pattern.specs.Inner.PatternViews.{IsShorter}
 use Rattle.message_pattern.proofs.GrammarHeads.{head_sound, branch_sound}
 use Rattle.message_pattern.proofs.Shorter.{front_shorter, head_le, branch_less}
 
 -- what is left to read at a place
-abbrev pub size : Place → List ℕ → ℕ
+abbrev pub size : PatternPlace → List ℕ → ℕ
 size (InMessage c d q) s = 2 * length s
 size (InArgument d) s = 2 * length s + 1
 size (InBranches k d o) s = 2 * length s
 
 -- a step leaves less to read
-abbrev pub LeavesLess : ℕ → List ℕ → Step → Type 0
+abbrev pub LeavesLess : ℕ → List ℕ → ReadStep → Type 0
 LeavesLess n s (Ends parts rest) = length rest ≤ length s
 LeavesLess n s (Fails fault) = Unit {0}
 LeavesLess n s (Goes parts next t) = (size next t < n) × (length t ≤ length s)
@@ -58,35 +58,35 @@ branches_less k d o s (Ok (branch.Closes rest)) e =
 branches_less k d o s (Ok (branch.Opens sel t)) e =
     opens_less k d o s t sel (nat_lt d DEPTH_LIMIT) (branch_less k o s _ (branch.Opens sel t) refl (branch_sound k o s (branch.Opens sel t) e))
 
-step_less : (place : Place) (s : List ℕ) → LeavesLess (size place s) s (step place s)
+step_less : (place : PatternPlace) (s : List ℕ) → LeavesLess (size place s) s (read_step place s)
 step_less (InMessage c d q) s = message_less c d s (front c q s) (front_shorter c q s)
 step_less (InArgument d) s = argument_less d s (head_front s) refl
 step_less (InBranches k d o) s = branches_less k d o s (branch_front k o s) refl
 
 -- what follows is no longer than the text
-abbrev pub IsWithin : ℕ → Outcome → Type 0
+abbrev pub IsWithin : ℕ → ReadOutcome → Type 0
 IsWithin n (Read parts rest) = length rest ≤ n
 IsWithin n (Faulty fault) = Unit {0}
 
-within_more : (m n : ℕ) (o : Outcome) → m ≤ n → IsWithin m o → IsWithin n o
+within_more : (m n : ℕ) (o : ReadOutcome) → m ≤ n → IsWithin m o → IsWithin n o
 within_more m n (Read parts rest) h k = omega (arith, h, k)
 within_more m n (Faulty fault) h k = tt
 
 -- an outcome
-abbrev pub Found : Place → List ℕ → List Part → Type 0
-Found place s before = (o : Outcome) × Reads (step place s) before o × IsWithin (length s) o
+abbrev pub Found : PatternPlace → List ℕ → List Part → Type 0
+Found place s before = (o : ReadOutcome) × ReadsTo (read_step place s) before o × IsWithin (length s) o
 
-calls_found : (n : ℕ) (again : (p : Place) (t : List ℕ) (b : List Part) → size p t < n → Found p t b)
-    (place next after : Place) (s t : List ℕ) (before parts : List Part) (o : Outcome)
-    → step place s ≡ Calls parts next after t → length t ≤ length s → ((u : List ℕ) → length u ≤ length t → size after u < n)
-    → Reads (step next t) (before ++ parts) o → IsWithin (length t) o → Found place s before
+calls_found : (n : ℕ) (again : (p : PatternPlace) (t : List ℕ) (b : List Part) → size p t < n → Found p t b)
+    (place next after : PatternPlace) (s t : List ℕ) (before parts : List Part) (o : ReadOutcome)
+    → read_step place s ≡ Calls parts next after t → length t ≤ length s → ((u : List ℕ) → length u ≤ length t → size after u < n)
+    → ReadsTo (read_step next t) (before ++ parts) o → IsWithin (length t) o → Found place s before
 calls_found n again place next after s t before parts (Read inner u) e le less h w =
     let k = again after u inner (less u w) in
     (k.0, calls _ before parts inner next after t u k.0 e h k.1, within_more (length u) (length s) k.0 (omega (arith, w, le)) k.2)
 calls_found n again place next after s t before parts (Faulty fault) e le less h w = (Faulty fault, breaks _ before parts next after t fault e h, tt)
 
-step_found : (n : ℕ) (again : (p : Place) (t : List ℕ) (b : List Part) → size p t < n → Found p t b)
-    (place : Place) (s : List ℕ) (before : List Part) (x : Step) → size place s ≤ n → step place s ≡ x → LeavesLess (size place s) s x → Found place s before
+step_found : (n : ℕ) (again : (p : PatternPlace) (t : List ℕ) (b : List Part) → size p t < n → Found p t b)
+    (place : PatternPlace) (s : List ℕ) (before : List Part) (x : ReadStep) → size place s ≤ n → read_step place s ≡ x → LeavesLess (size place s) s x → Found place s before
 step_found n again place s before (Ends parts rest) m e h = (Read (before ++ parts) rest, ends _ before parts rest e, h)
 step_found n again place s before (Fails fault) m e h = (Faulty fault, fails _ before fault e, tt)
 step_found n again place s before (Goes parts next t) m e h =
@@ -96,11 +96,11 @@ step_found n again place s before (Calls parts next after t) m e h =
     let k = again next t (before ++ parts) (omega (arith, h.0, m)) in
     calls_found n again place next after s t before parts k.0 e h.1 (λ u l. let x : size after u < size place s = h.2 u l in omega (arith, x, m)) k.1 k.2
 
-found_below : (n : ℕ) (place : Place) (s : List ℕ) (before : List Part) → size place s < n → Found place s before
+found_below : (n : ℕ) (place : PatternPlace) (s : List ℕ) (before : List Part) → size place s < n → Found place s before
 found_below zero place s before h = absurd (omega (arith, h))
 found_below (suc n) place s before h =
-    step_found n (λ p t b k. found_below n p t b k) place s before (step place s) (omega (arith, h)) refl (step_less place s)
+    step_found n (λ p t b k. found_below n p t b k) place s before (read_step place s) (omega (arith, h)) refl (step_less place s)
 
 -- every text is read
-pub found : (place : Place) (s : List ℕ) (before : List Part) → Found place s before
+pub found : (place : PatternPlace) (s : List ℕ) (before : List Part) → Found place s before
 found place s before = found_below (size place s + 1) place s before (omega arith)

@@ -1,6 +1,7 @@
 -- patterns of messages
 pub mod PatternBytes
 pub mod PatternParts
+pub mod ArgumentBranches
 pub mod PatternText
 pub mod PatternHeads
 pub mod PatternReading

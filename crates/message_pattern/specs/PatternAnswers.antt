@@ -1,5 +1,5 @@
 -- What the reader of patterns may return: what the text is read as, or out of memory.
-use Rattle.std.specs.Prelude.{◌≡◌, ◌⊎◌, ℕ, ◌-◌, false, List, length, Result, Ok, Err}
+use Rattle.std.specs.Prelude.{◌≡◌, ◌⊎◌, ℕ, ◌-◌, false, List, [], length, Result, Ok, Err}
 use Rattle.message_pattern.specs.declared.error.Fault.{Fault}
 use Rattle.message_pattern.specs.declared.error.FaultKind.{FaultKind}
 use Rattle.message_pattern.specs.declared.error.PatternError as error
@@ -7,11 +7,11 @@ use Rattle.message_pattern.specs.declared.error.PatternError.TheVariants as erro
 use Rattle.message_pattern.specs.declared.text.Context.TheVariants.{Whole}
 use Rattle.message_pattern.specs.PatternParts.{Part}
 use Rattle.message_pattern.specs.PatternReading.{InMessage, Faulty, ReadsPattern}
-use Rattle.message_pattern.specs.PatternGrammar.{IsRead}
+use Rattle.message_pattern.specs.PatternGrammar.{IsReadAt}
 
--- the text is a pattern with these parts, by the grammar
+-- the whole text is a pattern with these parts, by the grammar: nothing follows them
 abbrev pub IsPattern : List ℕ → List Part → Type 0
-IsPattern text parts = (rest : List ℕ) × IsRead (InMessage Whole 0 false) text parts rest
+IsPattern text parts = IsReadAt (InMessage Whole 0 false) text parts []
 
 -- the text is none: its first fault is of this kind, at this byte
 abbrev pub HasFault : List ℕ → FaultKind → ℕ → Type 0
@@ -28,20 +28,20 @@ IsFaultOf text (errors.Fault kind place) = HasFault text kind place
 IsFaultOf text errors.Memory = Unit {0}
 
 -- what is returned is what the text is read as
-abbrev pub IsAnswer : List ℕ → Result (List Part) error.PatternError → Type 0
-IsAnswer text (Ok parts) = IsPattern text parts
-IsAnswer text (Err e) = IsFaultOf text e
+abbrev pub IsWhatIsRead : List ℕ → Result (List Part) error.PatternError → Type 0
+IsWhatIsRead text (Ok parts) = IsPattern text parts
+IsWhatIsRead text (Err e) = IsFaultOf text e
 
 -- parts are returned if and only if the text is a pattern with these parts, and a fault if and only
 -- if the text has it, out of memory aside
-pub record AnswersExactly (text : List ℕ) (r : Result (List Part) error.PatternError) : Type 0 where
-  pub only : IsAnswer text r
+pub record ParsesExactly (text : List ℕ) (r : Result (List Part) error.PatternError) : Type 0 where
+  pub only : IsWhatIsRead text r
   pub read : (parts : List Part) → IsPattern text parts → IsUnlessMemory r (Ok parts)
   pub fault : (kind : FaultKind) (place : ℕ) → HasFault text kind place → IsUnlessMemory r (Err (errors.Fault kind place))
 
 -- a text has at most one list of parts; if it has one, it has no fault; it has at most one fault
-abbrev pub HaveOneReading : Type 0
-HaveOneReading =
+abbrev pub AreReadOneWay : Type 0
+AreReadOneWay =
     (text : List ℕ)
     → ((a b : List Part) → IsPattern text a → IsPattern text b → a ≡ b)
     × ((parts : List Part) (kind : FaultKind) (place : ℕ) → IsPattern text parts → HasFault text kind place → ⊥)

@@ -15,8 +15,8 @@ apostrophe = 39
 abbrev pub comma : ℕ
 comma = 44
 
-abbrev pub minus : ℕ
-minus = 45
+abbrev pub minus_sign : ℕ
+minus_sign = 45
 
 abbrev pub point : ℕ
 point = 46
@@ -71,7 +71,7 @@ is_letter b = is_between 65 90 b || is_between 97 122 b
 -- text has digits, `-` and `.`; plain text is all but `'`, `{`, `}` and `#`
 abbrev pub is_in : Class → ℕ → Bool
 is_in Name b = is_letter b || is_digit b || b == 95 || nat_le 128 b
-is_in Number b = is_digit b || b == minus || b == point
+is_in Number b = is_digit b || b == minus_sign || b == point
 is_in Digit b = is_digit b
 is_in Letter b = is_letter b
 is_in Plain b = not (b == apostrophe || b == opening || b == closing || b == hash)
@@ -85,9 +85,9 @@ begins Name (b ∷ s) = is_in Name b && white_width (b ∷ s) == 0
 begins class (b ∷ s) = is_in class b
 
 -- the longest front of bytes of the class
-abbrev pub run : Class → List ℕ → List ℕ
-run class [] = []
-run class (b ∷ s) = if begins class (b ∷ s) then b ∷ run class s else []
+abbrev pub class_front : Class → List ℕ → List ℕ
+class_front class [] = []
+class_front class (b ∷ s) = if begins class (b ∷ s) then b ∷ class_front class s else []
 
 -- what follows it
 abbrev pub behind_run : Class → List ℕ → List ℕ

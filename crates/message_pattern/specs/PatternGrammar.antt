@@ -12,8 +12,8 @@ use Rattle.message_pattern.specs.PatternBytes.{comma, equals, opening, closing, 
 use Rattle.message_pattern.specs.PatternText.{front, is_nested, End, Closes, Opens, Takes}
 use Rattle.message_pattern.specs.PatternParts.{Part, Piece, Selector, Exactly, Keyword, Argument, Begin, Branch}
 use Rattle.message_pattern.specs.PatternParts as piece
-use Rattle.message_pattern.specs.PatternHeads.{is_bad_number, kind_named, counts, is_number, is_other}
-use Rattle.message_pattern.specs.PatternReading.{Place, InMessage, InArgument, InBranches, one, at_most_one, context_of}
+use Rattle.message_pattern.specs.PatternHeads.{is_bad_number, kind_named, is_counting, is_number, is_other}
+use Rattle.message_pattern.specs.PatternReading.{PatternPlace, InMessage, InArgument, InBranches, one, at_most_one, context_of}
 
 -- the longest front of the class, and the rest: at each place of the front a byte of the class
 -- begins, which in a name is no white space, and at the rest none does
@@ -31,7 +31,7 @@ pub record IsNameOrNumber (s name rest : List ℕ) : Type 0 where
   pub no_zeros : is_bad_number name ≡ false
 
 -- "plural" | "selectordinal" | "select", in letters of any case
-pub record IsType (s : List ℕ) (kind : ArgumentKind) (rest : List ℕ) : Type 0 where
+pub record IsArgumentType (s : List ℕ) (kind : ArgumentKind) (rest : List ℕ) : Type 0 where
   pub word : List ℕ
   pub letters : IsLongest Letter s word rest
   pub nonempty : word ≢ []
@@ -53,30 +53,30 @@ IsOffset _ s offset rest = IsOffsetValue (after_white s) offset rest
 -- keyword = [^[[:Pattern_Syntax:][:Pattern_White_Space:]]]+
 abbrev pub IsSelector : ArgumentKind → List ℕ → Selector → List ℕ → Type 0
 IsSelector kind s (Exactly number) rest =
-    (t : List ℕ) × (s ≡ equals ∷ t) × (counts kind ≡ true) × IsLongest Number t number rest × (is_number number ≡ true)
+    (t : List ℕ) × (s ≡ equals ∷ t) × (is_counting kind ≡ true) × IsLongest Number t number rest × (is_number number ≡ true)
 IsSelector kind s (Keyword word) rest = IsLongest Name s word rest × (word ≢ [])
 
 -- from a place on, these parts are read from the front of a text, and the rest follows
-pub data IsRead : Place → List ℕ → List Part → List ℕ → Type 0 where
+pub data IsReadAt : PatternPlace → List ℕ → List Part → List ℕ → Type 0 where
   -- message = messageText (argument messageText)*
-  message_ends : (c : Context) (d : ℕ) (q : Bool) (s : List ℕ) → front c q s ≡ End → is_nested c ≡ false → IsRead (InMessage c d q) s [] []
-  message_closes : (c : Context) (d : ℕ) (q : Bool) (s rest : List ℕ) → front c q s ≡ Closes rest → IsRead (InMessage c d q) s [] rest
+  message_ends : (c : Context) (d : ℕ) (q : Bool) (s : List ℕ) → front c q s ≡ End → is_nested c ≡ false → IsReadAt (InMessage c d q) s [] []
+  message_closes : (c : Context) (d : ℕ) (q : Bool) (s rest : List ℕ) → front c q s ≡ Closes rest → IsReadAt (InMessage c d q) s [] rest
   message_text : (c : Context) (d : ℕ) (q r : Bool) (s t rest : List ℕ) (p : Option Piece) (more : List Part) → front c q s ≡ Takes p r t
-      → IsRead (InMessage c d r) t more rest → IsRead (InMessage c d q) s (at_most_one d p ++ more) rest
+      → IsReadAt (InMessage c d r) t more rest → IsReadAt (InMessage c d q) s (at_most_one d p ++ more) rest
   message_argument : (c : Context) (d : ℕ) (q : Bool) (s t u rest : List ℕ) (inner more : List Part) → front c q s ≡ Opens t
-      → IsRead (InArgument d) t inner u → IsRead (InMessage c d false) u more rest → IsRead (InMessage c d q) s (inner ++ more) rest
+      → IsReadAt (InArgument d) t inner u → IsReadAt (InMessage c d false) u more rest → IsReadAt (InMessage c d q) s (inner ++ more) rest
   -- noneArg = '{' argNameOrNumber '}'
   none_arg : (d : ℕ) (s name t rest : List ℕ) → IsNameOrNumber (after_white s) name t → after_white t ≡ closing ∷ rest
-      → IsRead (InArgument d) s (one d (Argument name)) rest
+      → IsReadAt (InArgument d) s (one d (Argument name)) rest
   -- pluralArg = '{' argNameOrNumber ',' "plural" ',' pluralStyle '}', and likewise selectordinal and
   -- select; pluralStyle = [offsetValue] (selector '{' message '}')+
   complex_arg : (d : ℕ) (kind : ArgumentKind) (offset : Option (List ℕ)) (s name t u v w x rest : List ℕ) (more : List Part)
-      → IsNameOrNumber (after_white s) name t → after_white t ≡ comma ∷ u → IsType (after_white u) kind v → after_white v ≡ comma ∷ w
-      → IsOffset kind w offset x → IsRead (InBranches kind d false) x more rest
-      → IsRead (InArgument d) s (one d (Begin kind name offset) ++ more) rest
+      → IsNameOrNumber (after_white s) name t → after_white t ≡ comma ∷ u → IsArgumentType (after_white u) kind v → after_white v ≡ comma ∷ w
+      → IsOffset kind w offset x → IsReadAt (InBranches kind d false) x more rest
+      → IsReadAt (InArgument d) s (one d (Begin kind name offset) ++ more) rest
   -- (selector '{' message '}')+, with a selector `other` among them
   style_branch : (d : ℕ) (kind : ArgumentKind) (other : Bool) (sel : Selector) (s t u v rest : List ℕ) (inner more : List Part)
       → IsSelector kind (after_white s) sel t → after_white t ≡ opening ∷ u → d < DEPTH_LIMIT
-      → IsRead (InMessage (context_of kind) (d + 1) false) u inner v → IsRead (InBranches kind d (other || is_other sel)) v more rest
-      → IsRead (InBranches kind d other) s (one d (Branch sel) ++ (inner ++ more)) rest
-  style_ends : (d : ℕ) (kind : ArgumentKind) (s rest : List ℕ) → after_white s ≡ closing ∷ rest → IsRead (InBranches kind d true) s (one d piece.End) rest
+      → IsReadAt (InMessage (context_of kind) (d + 1) false) u inner v → IsReadAt (InBranches kind d (other || is_other sel)) v more rest
+      → IsReadAt (InBranches kind d other) s (one d (Branch sel) ++ (inner ++ more)) rest
+  style_ends : (d : ℕ) (kind : ArgumentKind) (s rest : List ℕ) → after_white s ≡ closing ∷ rest → IsReadAt (InBranches kind d true) s (one d piece.End) rest

@@ -8,7 +8,7 @@ use Rattle.message_pattern.specs.declared.error.FaultKind.{FaultKind}
 use Rattle.message_pattern.specs.declared.error.FaultKind.TheVariants.{Unclosed, ExpectedName, BadNumber, ExpectedEnd, ExpectedType, UnsupportedType, ExpectedStyle, ExpectedOffset, ExpectedSelector, ExpectedValue, ExpectedBranch, MissingOther}
 use Rattle.message_pattern.specs.declared.part.ArgumentKind.{ArgumentKind}
 use Rattle.message_pattern.specs.declared.part.ArgumentKind.TheVariants.{Plural, Ordinal, Select}
-use Rattle.message_pattern.specs.PatternBytes.{comma, minus, point, equals, opening, closing, is_empty, run, behind_run, after_white, after_word}
+use Rattle.message_pattern.specs.PatternBytes.{comma, minus_sign, point, equals, opening, closing, is_empty, class_front, behind_run, after_white, after_word}
 use Rattle.message_pattern.specs.PatternParts.{Selector, Exactly, Keyword}
 
 infixl 10 ◌>>=◌
@@ -48,9 +48,9 @@ is_bad_number (a ∷ s) = (a == 48 && not (is_empty s)) && is_empty (behind_run 
 -- the name in front of s, and what follows it and white space
 abbrev pub name_front : List ℕ → Result (List ℕ × List ℕ) Fault
 name_front s =
-    if is_empty (run Name s) then Err (missing ExpectedName s)
-    else if is_bad_number (run Name s) then Err (fault_at BadNumber s)
-    else Ok (run Name s, after_white (behind_run Name s))
+    if is_empty (class_front Name s) then Err (missing ExpectedName s)
+    else if is_bad_number (class_front Name s) then Err (fault_at BadNumber s)
+    else Ok (class_front Name s, after_white (behind_run Name s))
 
 -- the kind that a type names, in letters of any case
 abbrev pub kind_named : List ℕ → Option ArgumentKind
@@ -73,14 +73,14 @@ kind_before s (Some kind) rest = style_front kind rest
 -- the type in front of s, which chooses, and what follows it and its comma
 abbrev pub kind_front : List ℕ → Result (ArgumentKind × List ℕ) Fault
 kind_front s =
-    if is_empty (run Letter s) then Err (missing ExpectedType s)
-    else kind_before s (kind_named (run Letter s)) (after_white (behind_run Letter s))
+    if is_empty (class_front Letter s) then Err (missing ExpectedType s)
+    else kind_before s (kind_named (class_front Letter s)) (after_white (behind_run Letter s))
 
 -- the digits in front of s
 abbrev pub digits_front : List ℕ → Result (Option (List ℕ) × List ℕ) Fault
 digits_front s =
-    if is_empty (run Digit s) then Err (missing ExpectedOffset s)
-    else Ok (Some (run Digit s), behind_run Digit s)
+    if is_empty (class_front Digit s) then Err (missing ExpectedOffset s)
+    else Ok (Some (class_front Digit s), behind_run Digit s)
 
 -- the offset behind `offset:`, if that is in front of s
 abbrev pub offset_behind : Option (List ℕ) → List ℕ → Result (Option (List ℕ) × List ℕ) Fault
@@ -118,9 +118,9 @@ pub data BranchFront : Type 0 where
   Opens : Selector → List ℕ → BranchFront
 
 -- a plural or an ordinal
-abbrev pub counts : ArgumentKind → Bool
-counts Select = false
-counts _ = true
+abbrev pub is_counting : ArgumentKind → Bool
+is_counting Select = false
+is_counting _ = true
 
 -- a point and digits
 abbrev pub is_fraction : List ℕ → Bool
@@ -130,28 +130,28 @@ is_fraction (b ∷ s) = (b == point && not (is_empty s)) && is_empty (behind_run
 -- digits, with a fraction or none
 abbrev pub is_unsigned : List ℕ → Bool
 is_unsigned s =
-    not (is_empty (run Digit s)) && (is_empty (behind_run Digit s) || is_fraction (behind_run Digit s))
+    not (is_empty (class_front Digit s)) && (is_empty (behind_run Digit s) || is_fraction (behind_run Digit s))
 
 -- a number, with a minus or none
 abbrev pub is_number : List ℕ → Bool
 is_number [] = false
-is_number (b ∷ s) = if b == minus then is_unsigned s else is_unsigned (b ∷ s)
+is_number (b ∷ s) = if b == minus_sign then is_unsigned s else is_unsigned (b ∷ s)
 
 -- the number behind `=`
 abbrev pub exact_front : List ℕ → Result (Selector × List ℕ) Fault
 exact_front s =
-    if is_number (run Number s) then Ok (Exactly (run Number s), behind_run Number s)
+    if is_number (class_front Number s) then Ok (Exactly (class_front Number s), behind_run Number s)
     else Err (missing ExpectedValue s)
 
 -- the keyword in front of s
 abbrev pub keyword_front : List ℕ → Result (Selector × List ℕ) Fault
 keyword_front s =
-    if is_empty (run Name s) then Err (missing ExpectedSelector s)
-    else Ok (Keyword (run Name s), behind_run Name s)
+    if is_empty (class_front Name s) then Err (missing ExpectedSelector s)
+    else Ok (Keyword (class_front Name s), behind_run Name s)
 
 -- the selector in front of a text: an argument that counts may compare with a number
 abbrev pub selector_front : ArgumentKind → ℕ → List ℕ → Result (Selector × List ℕ) Fault
-selector_front kind b s = if b == equals && counts kind then exact_front s else keyword_front (b ∷ s)
+selector_front kind b s = if b == equals && is_counting kind then exact_front s else keyword_front (b ∷ s)
 
 -- the brace that begins the branch of a selector is in front of s
 abbrev pub branch_opens : Selector → List ℕ → Result BranchFront Fault

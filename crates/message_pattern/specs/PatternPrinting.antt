@@ -10,7 +10,7 @@ use Rattle.message_pattern.specs.PatternText.{is_quotable}
 use Rattle.message_pattern.specs.PatternParts.{Part, Piece, Selector, Exactly, Keyword, Text, Hash, Argument, Begin, Branch}
 use Rattle.message_pattern.specs.PatternParts as piece
 use Rattle.message_pattern.specs.PatternHeads.{is_other}
-use Rattle.message_pattern.specs.PatternReading.{Place, InMessage, InArgument, InBranches, one, context_of}
+use Rattle.message_pattern.specs.PatternReading.{PatternPlace, InMessage, InArgument, InBranches, one, context_of}
 use Rattle.message_pattern.specs.PatternAnswers.{IsPattern}
 
 -- ---- the same parts
@@ -75,7 +75,7 @@ selector_text (Keyword word) = word
 -- ---- patterns
 
 -- from a place on, these parts are printed as this text
-pub data IsPrinted : Place → List Part → List ℕ → Type 0 where
+pub data IsPrinted : PatternPlace → List Part → List ℕ → Type 0 where
   -- quoted text goes up to the end of the message, or to what isn't text
   message_ends : (c : Context) (d : ℕ) (q : Bool) → IsPrinted (InMessage c d q) [] (end_of_quote q)
   message_text : (c : Context) (d : ℕ) (q : Bool) (s text : List ℕ) (more : List Part)

@@ -14,32 +14,32 @@ use Rattle.message_pattern.specs.PatternHeads.{Head, Plain, Choice, BranchFront,
 use Rattle.message_pattern.specs.PatternHeads as branch
 
 -- where a reading stands
-pub data Place : Type 0 where
+pub data PatternPlace : Type 0 where
   -- in a message, at a depth, in quoted text or not
-  InMessage : Context → ℕ → Bool → Place
+  InMessage : Context → ℕ → Bool → PatternPlace
   -- behind the brace that begins an argument
-  InArgument : ℕ → Place
+  InArgument : ℕ → PatternPlace
   -- before a branch, after a branch `other` or not
-  InBranches : ArgumentKind → ℕ → Bool → Place
+  InBranches : ArgumentKind → ℕ → Bool → PatternPlace
 
 -- what a reading comes to
-pub data Outcome : Type 0 where
+pub data ReadOutcome : Type 0 where
   -- all parts, and what follows what was read
-  Read : List Part → List ℕ → Outcome
+  Read : List Part → List ℕ → ReadOutcome
   -- the first fault
-  Faulty : Fault → Outcome
+  Faulty : Fault → ReadOutcome
 
 -- what stands in front of a text at a place
-pub data Step : Type 0 where
+pub data ReadStep : Type 0 where
   -- the end of what is read there: the last parts, and what follows
-  Ends : List Part → List ℕ → Step
+  Ends : List Part → List ℕ → ReadStep
   -- a fault
-  Fails : Fault → Step
+  Fails : Fault → ReadStep
   -- these parts, and then a place before the rest
-  Goes : List Part → Place → List ℕ → Step
+  Goes : List Part → PatternPlace → List ℕ → ReadStep
   -- these parts; then what begins with the rest is read at the first place, and at the second what
   -- follows
-  Calls : List Part → Place → Place → List ℕ → Step
+  Calls : List Part → PatternPlace → PatternPlace → List ℕ → ReadStep
 
 -- a part alone
 abbrev pub one : ℕ → Piece → List Part
@@ -52,55 +52,55 @@ context_of Ordinal = Counted
 context_of Select = Selected
 
 -- a message ends with the text, a branch doesn't
-abbrev pub at_end : Context → Step
-at_end context = if is_nested context then Fails unclosed else Ends [] []
+abbrev pub step_at_end : Context → ReadStep
+step_at_end context = if is_nested context then Fails unclosed else Ends [] []
 
 -- a piece alone, or none
 abbrev pub at_most_one : ℕ → Option Piece → List Part
 at_most_one depth None = []
 at_most_one depth (Some p) = one depth p
 
-abbrev pub message_step : Context → ℕ → Front → Step
-message_step context depth End = at_end context
+abbrev pub message_step : Context → ℕ → Front → ReadStep
+message_step context depth End = step_at_end context
 message_step context depth (Closes rest) = Ends [] rest
 message_step context depth (Opens rest) = Calls [] (InArgument depth) (InMessage context depth false) rest
 message_step context depth (Takes p quoted rest) = Goes (at_most_one depth p) (InMessage context depth quoted) rest
 
-abbrev pub argument_step : ℕ → Result (Head × List ℕ) Fault → Step
+abbrev pub argument_step : ℕ → Result (Head × List ℕ) Fault → ReadStep
 argument_step depth (Err fault) = Fails fault
 argument_step depth (Ok (Plain name, rest)) = Ends (one depth (piece.Argument name)) rest
 argument_step depth (Ok (Choice kind name offset, rest)) =
     Goes (one depth (piece.Begin kind name offset)) (InBranches kind depth false) rest
 
 -- the branch of a selector, at most DEPTH_LIMIT deep
-abbrev pub opens_branch : ArgumentKind → ℕ → Bool → Selector → List ℕ → Step
+abbrev pub opens_branch : ArgumentKind → ℕ → Bool → Selector → List ℕ → ReadStep
 opens_branch kind depth has_other selector rest =
     if nat_lt depth DEPTH_LIMIT
     then Calls (one depth (piece.Branch selector)) (InMessage (context_of kind) (depth + 1) false) (InBranches kind depth (has_other || is_other selector)) rest
     else Fails (fault_at TooDeep rest)
 
-abbrev pub branches_step : ArgumentKind → ℕ → Bool → Result BranchFront Fault → Step
+abbrev pub branches_step : ArgumentKind → ℕ → Bool → Result BranchFront Fault → ReadStep
 branches_step kind depth has_other (Err fault) = Fails fault
 branches_step kind depth has_other (Ok (branch.Closes rest)) = Ends (one depth piece.End) rest
 branches_step kind depth has_other (Ok (branch.Opens selector rest)) = opens_branch kind depth has_other selector rest
 
 -- what stands in front of s at a place
-abbrev pub step : Place → List ℕ → Step
-step (InMessage context depth quoted) s = message_step context depth (front context quoted s)
-step (InArgument depth) s = argument_step depth (head_front s)
-step (InBranches kind depth has_other) s = branches_step kind depth has_other (branch_front kind has_other s)
+abbrev pub read_step : PatternPlace → List ℕ → ReadStep
+read_step (InMessage context depth quoted) s = message_step context depth (front context quoted s)
+read_step (InArgument depth) s = argument_step depth (head_front s)
+read_step (InBranches kind depth has_other) s = branches_step kind depth has_other (branch_front kind has_other s)
 
 -- from this step on, behind these parts, a text is read to the outcome
-pub data Reads : Step → List Part → Outcome → Type 0 where
-  ends : (at : Step) (before parts : List Part) (rest : List ℕ) → at ≡ Ends parts rest → Reads at before (Read (before ++ parts) rest)
-  fails : (at : Step) (before : List Part) (fault : Fault) → at ≡ Fails fault → Reads at before (Faulty fault)
-  goes : (at : Step) (before parts : List Part) (place : Place) (rest : List ℕ) (outcome : Outcome) → at ≡ Goes parts place rest
-      → Reads (step place rest) (before ++ parts) outcome → Reads at before outcome
-  calls : (at : Step) (before parts inner : List Part) (place after : Place) (rest end : List ℕ) (outcome : Outcome) → at ≡ Calls parts place after rest
-      → Reads (step place rest) (before ++ parts) (Read inner end) → Reads (step after end) inner outcome → Reads at before outcome
-  breaks : (at : Step) (before parts : List Part) (place after : Place) (rest : List ℕ) (fault : Fault) → at ≡ Calls parts place after rest
-      → Reads (step place rest) (before ++ parts) (Faulty fault) → Reads at before (Faulty fault)
+pub data ReadsTo : ReadStep → List Part → ReadOutcome → Type 0 where
+  ends : (at : ReadStep) (before parts : List Part) (rest : List ℕ) → at ≡ Ends parts rest → ReadsTo at before (Read (before ++ parts) rest)
+  fails : (at : ReadStep) (before : List Part) (fault : Fault) → at ≡ Fails fault → ReadsTo at before (Faulty fault)
+  goes : (at : ReadStep) (before parts : List Part) (place : PatternPlace) (rest : List ℕ) (outcome : ReadOutcome) → at ≡ Goes parts place rest
+      → ReadsTo (read_step place rest) (before ++ parts) outcome → ReadsTo at before outcome
+  calls : (at : ReadStep) (before parts inner : List Part) (place after : PatternPlace) (rest end : List ℕ) (outcome : ReadOutcome) → at ≡ Calls parts place after rest
+      → ReadsTo (read_step place rest) (before ++ parts) (Read inner end) → ReadsTo (read_step after end) inner outcome → ReadsTo at before outcome
+  breaks : (at : ReadStep) (before parts : List Part) (place after : PatternPlace) (rest : List ℕ) (fault : Fault) → at ≡ Calls parts place after rest
+      → ReadsTo (read_step place rest) (before ++ parts) (Faulty fault) → ReadsTo at before (Faulty fault)
 
 -- a whole pattern is read to the outcome
-abbrev pub ReadsPattern : List ℕ → Outcome → Type 0
-ReadsPattern text outcome = Reads (step (InMessage Whole 0 false) text) [] outcome
+abbrev pub ReadsPattern : List ℕ → ReadOutcome → Type 0
+ReadsPattern text outcome = ReadsTo (read_step (InMessage Whole 0 false) text) [] outcome

@@ -5,7 +5,7 @@ use Rattle.message_pattern.specs.declared.bytes.Class.TheVariants.{Plain, Unquot
 use Rattle.message_pattern.specs.declared.text.Context.{Context}
 use Rattle.message_pattern.specs.declared.text.Context.TheVariants.{Whole, Counted, Selected}
 use Rattle.message_pattern.specs.PatternParts.{Piece, Text, Hash}
-use Rattle.message_pattern.specs.PatternBytes.{apostrophe, hash, opening, closing, run, behind_run}
+use Rattle.message_pattern.specs.PatternBytes.{apostrophe, hash, opening, closing, class_front, behind_run}
 
 -- what stands at the front, and what follows it
 pub data Front : Type 0 where
@@ -57,7 +57,7 @@ plain_front context (b ∷ s) =
     else if b == closing && is_nested context then Closes s
     else if b == hash && is_counted context then Takes (Some Hash) false s
     else if b == closing || b == hash then takes_text (b ∷ []) false s
-    else takes_text (run Plain (b ∷ s)) false (behind_run Plain (b ∷ s))
+    else takes_text (class_front Plain (b ∷ s)) false (behind_run Plain (b ∷ s))
 
 -- behind an apostrophe in quoted text: two are one, else the quoted text ends
 abbrev pub quoted_apostrophe : List ℕ → Front
@@ -69,7 +69,7 @@ abbrev pub quoted_front : List ℕ → Front
 quoted_front [] = End
 quoted_front (b ∷ s) =
     if b == apostrophe then quoted_apostrophe s
-    else takes_text (run Unquoted (b ∷ s)) true (behind_run Unquoted (b ∷ s))
+    else takes_text (class_front Unquoted (b ∷ s)) true (behind_run Unquoted (b ∷ s))
 
 -- the front of text, quoted or not
 abbrev pub front : Context → Bool → List ℕ → Front

@@ -1,9 +1,9 @@
 //! What stands before a branch: its selector, or the end of the argument.
 
 ghost use Rattle.std.specs.Prelude.{◌≡◌, ◌∷◌, ◌≤◌, ◌<◌, IfOk, length};
-ghost use Rattle.message_pattern.specs.PatternHeads.{counts, is_fraction, is_unsigned, is_number, exact_front, keyword_front, selector_front, branch_opens, next_branch, branch_front, is_other};
+ghost use Rattle.message_pattern.specs.PatternHeads.{is_counting, is_fraction, is_unsigned, is_number, exact_front, keyword_front, selector_front, branch_opens, next_branch, branch_front, is_other};
 ghost use Rattle.message_pattern.specs.PatternParts.{selector_view};
-ghost use Rattle.message_pattern.specs.Inner.PatternViews.{seen, branch_view, IsBehind};
+ghost use Rattle.message_pattern.specs.Inner.PatternViews.{seen, branch_view, IsBranchBehind};
 
 use crate::bytes::{Class, after_white, after_word, split_run};
 use crate::error::{Fault, FaultKind};
@@ -19,7 +19,7 @@ pub(crate) enum BranchFront<'p> {
 impl ArgumentKind {
     // A plural or an ordinal.
     fn counts(self) -> bool
-        ensures { result ≡ counts self }
+        ensures { result ≡ is_counting self }
     {
         match self {
             ArgumentKind::Plural | ArgumentKind::Ordinal => true,
@@ -104,7 +104,7 @@ fn selector_front<'p>(
 // The brace that begins the branch of a selector.
 fn branch_opens<'p>(selector: Selector<'p>, text: &'p [u8]) -> Result<BranchFront<'p>, Fault>
     ensures branch { seen branch_view result ≡ branch_opens (selector_view selector.entry) text.now }
-    ensures shorter { IfOk result (λ x. IsBehind (branch_view x) text.now) }
+    ensures shorter { IfOk result (λ x. IsBranchBehind (branch_view x) text.now) }
 {
     let [first, rest @ ..] = text else {
         return Err(unclosed());
@@ -118,7 +118,7 @@ fn branch_opens<'p>(selector: Selector<'p>, text: &'p [u8]) -> Result<BranchFron
 // The next branch in front of the text, or the end: a branch `other` has to stand before it.
 fn next_branch(kind: ArgumentKind, has_other: bool, text: &[u8]) -> Result<BranchFront<'_>, Fault>
     ensures branch { seen branch_view result ≡ next_branch kind has_other text.now }
-    ensures shorter { IfOk result (λ x. IsBehind (branch_view x) text.now) }
+    ensures shorter { IfOk result (λ x. IsBranchBehind (branch_view x) text.now) }
 {
     let [first, rest @ ..] = text else {
         return Err(unclosed());
@@ -140,7 +140,7 @@ pub(crate) fn branch_front(
     text: &[u8],
 ) -> Result<BranchFront<'_>, Fault>
     ensures branch { seen branch_view result ≡ branch_front kind has_other text.now }
-    ensures shorter { IfOk result (λ x. IsBehind (branch_view x) text.now) }
+    ensures shorter { IfOk result (λ x. IsBranchBehind (branch_view x) text.now) }
 {
     next_branch(kind, has_other, after_white(text))
 }

@@ -1,7 +1,7 @@
 //! Runs of bytes of one class, white space and words.
 
 ghost use Rattle.std.specs.Prelude.{◌≡◌, ◌≢◌, ◌∷◌, ◌≤◌, ◌<◌, ◌+◌, length, take, drop, IfSome, IfNone, None, Some};
-ghost use Rattle.message_pattern.specs.PatternBytes.{is_digit, is_letter, is_in, begins, run, behind_run, white_width, after_white, after_word};
+ghost use Rattle.message_pattern.specs.PatternBytes.{is_digit, is_letter, is_in, begins, class_front, behind_run, white_width, after_white, after_word};
 
 /// A class of bytes.
 #[derive(Clone, Copy)]
@@ -90,7 +90,7 @@ fn behind_run(class: Class, text: &[u8]) -> &[u8]
 // The longest front of the class, and what follows it.
 #[inline(always)]
 pub(crate) fn split_run(class: Class, text: &[u8]) -> (&[u8], &[u8])
-    ensures front { result.0.now ≡ run class text.now }
+    ensures front { result.0.now ≡ class_front class text.now }
     ensures rest { result.1.now ≡ behind_run class text.now }
     ensures whole { length result.0.now + length result.1.now ≡ length text.now }
 {

@@ -1,11 +1,11 @@
 //! Laws of the definitions that the contracts name.
 
-ghost use Rattle.message_pattern.specs.PatternAnswers.{EveryTextIsRead, HaveOneReading};
+ghost use Rattle.message_pattern.specs.PatternAnswers.{EveryTextIsRead, AreReadOneWay};
 ghost use Rattle.message_pattern.specs.PatternPrinting.{HaveOnePrintedText, PatternsPrintBack};
 
 /// A text is read in at most one way: it has one list of parts, or one first fault, and never both.
 pub fn one_reading()
-    ensures { HaveOneReading }
+    ensures { AreReadOneWay }
 {}
 
 /// Every text is a pattern, or has a first fault.

@@ -2,7 +2,7 @@
 
 ghost use Rattle.std.specs.Prelude.{◌≡◌, IfOk};
 ghost use Rattle.message_pattern.specs.PatternParts.{parts_view};
-ghost use Rattle.message_pattern.specs.PatternAnswers.{AnswersExactly};
+ghost use Rattle.message_pattern.specs.PatternAnswers.{ParsesExactly};
 ghost use Rattle.message_pattern.specs.PatternPrinting.{PrintsExactly};
 ghost use Rattle.message_pattern.specs.Inner.PatternViews.{pattern_error};
 
@@ -38,7 +38,7 @@ impl<'p> Pattern<'p> {
     /// list of parts. The error is the text's first fault, with the byte where it is, or out of
     /// memory.
     pub fn parse(alloc: Global, text: &'p [u8]) -> Result<Pattern<'p>, PatternError>
-        ensures { AnswersExactly text.now result }
+        ensures { ParsesExactly text.now result }
     {
         let mut parts = match Vec::with_capacity(alloc, ROOM) {
             Ok(parts) => parts,

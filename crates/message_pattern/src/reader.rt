@@ -2,10 +2,10 @@
 
 ghost use Rattle.std.specs.Prelude.{◌≡◌, ◌≤◌, ◌<◌, ◌++◌, [], true, false, IfOk, IfErr, OnOk, MatchResult, length};
 ghost use Rattle.message_pattern.specs.PatternParts.{parts_view, piece_view};
-ghost use Rattle.message_pattern.specs.PatternReading.{step, message_step, one, at_most_one, context_of, InMessage, InArgument, InBranches, Outcome, Reads};
+ghost use Rattle.message_pattern.specs.PatternReading.{read_step, message_step, one, at_most_one, context_of, InMessage, InArgument, InBranches, ReadOutcome, ReadsTo};
 ghost use Rattle.message_pattern.specs.PatternText.{is_nested};
 ghost use Rattle.message_pattern.specs.PatternHeads.{unclosed};
-ghost use Rattle.message_pattern.specs.Inner.PatternViews.{GivesOutcome, IsShorter, stop_view, any_view};
+ghost use Rattle.message_pattern.specs.Inner.PatternViews.{GivesReadOutcome, IsShorter, stop_view, any_view};
 
 use crate::branch::{BranchFront, branch_front};
 use crate::error::{FaultKind, ReadError};
@@ -68,8 +68,8 @@ fn pieces<'p>(
     text: &'p [u8],
     parts: &mut Vec<Part<'p>>,
 ) -> Result<Stop<'p>, ReadError>
-    ensures read { IfOk result (λ stop. (outcome : Outcome) → Reads (message_step context depth (stop_view stop)) (parts_view parts.new.items) outcome
-        → Reads (step (InMessage context depth false) text.now) (parts_view parts.old.items) outcome) }
+    ensures read { IfOk result (λ stop. (outcome : ReadOutcome) → ReadsTo (message_step context depth (stop_view stop)) (parts_view parts.new.items) outcome
+        → ReadsTo (read_step (InMessage context depth false) text.now) (parts_view parts.old.items) outcome) }
     ensures shorter { IfOk result (λ stop. IsShorter (stop_view stop) text.now) }
     ensures err { IfErr result (λ e. e ≡ ReadError.Memory) }
 {
@@ -110,7 +110,7 @@ pub(crate) fn message<'p>(
     parts: &mut Vec<Part<'p>>,
 ) -> Result<&'p [u8], ReadError>
     requires { depth ≤ DEPTH_LIMIT }
-    ensures outcome { GivesOutcome (step (InMessage context depth false) text.now) parts.old.items parts.new.items result }
+    ensures outcome { GivesReadOutcome (read_step (InMessage context depth false) text.now) parts.old.items parts.new.items result }
     ensures shorter { IfOk result (λ rest. length rest.now ≤ length text.now) }
 {
     let mut rest = text;
@@ -131,7 +131,7 @@ fn argument<'p>(
     parts: &mut Vec<Part<'p>>,
 ) -> Result<&'p [u8], ReadError>
     requires { depth ≤ DEPTH_LIMIT }
-    ensures outcome { GivesOutcome (step (InArgument depth) text.now) parts.old.items parts.new.items result }
+    ensures outcome { GivesReadOutcome (read_step (InArgument depth) text.now) parts.old.items parts.new.items result }
     ensures shorter { IfOk result (λ rest. length rest.now ≤ length text.now) }
 {
     let (head, rest) = head_front(text)?;
@@ -156,7 +156,7 @@ fn branches<'p>(
     parts: &mut Vec<Part<'p>>,
 ) -> Result<&'p [u8], ReadError>
     requires { depth ≤ DEPTH_LIMIT }
-    ensures outcome { GivesOutcome (step (InBranches kind depth false) text.now) parts.old.items parts.new.items result }
+    ensures outcome { GivesReadOutcome (read_step (InBranches kind depth false) text.now) parts.old.items parts.new.items result }
     ensures shorter { IfOk result (λ rest. length rest.now ≤ length text.now) }
 {
     let mut has_other = false;

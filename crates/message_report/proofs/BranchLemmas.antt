@@ -12,8 +12,8 @@ use Rattle.message_report.specs.FormFaults.{Language}
 use Rattle.message_report.specs.FoundInMessages.{Found}
 use Rattle.message_report.specs.Inner.ArgumentViews.{branching}
 use Rattle.message_report.specs.Inner.ToldLines.{Tells, remembered}
-use Rattle.message_report.specs.MessagesReport.{branch_lines, fault_lines, most_compared, selector_text}
-use Rattle.message_report.specs.PatternBranches.{branches_of}
+use Rattle.message_report.specs.MessagesReport.{branch_lines, fault_lines, most_compared, selector_name}
+use Rattle.message_pattern.specs.ArgumentBranches.{branches_of}
 use Rattle.message_report.specs.PatternFaults.{PluralArgument, branch_fault}
 use Rattle.message_report.specs.declared.branch_fault.BranchFault.{BranchFault}
 use Rattle.message_report.proofs.TellLemmas.{Going, completes, continues, remembers}
@@ -32,7 +32,7 @@ deeper depth ps rest p is deep =
 -- a selector
 pub at_selector : (depth : ℕ) (ps rest : List parts.Part) (p : parts.Part) (selector : selectors.Selector) → ps ≡ p ∷ rest
     → p.depth ≤ depth → p.piece ≡ piece.Branch selector
-    → branches_of depth (parts_view ps) ≡ branching depth selector rest ∷ branches_of depth (parts_view rest)
+    → branches_of depth (parts_view ps) ≡ branching selector rest ∷ branches_of depth (parts_view rest)
 at_selector depth ps rest p selector is low branch =
     let test : nat_lt depth p.depth ≡ false = grind (arith, nat_tests) in
     rw is (rw (test, branch) refl)
@@ -77,20 +77,20 @@ pub tells_branch : (language : Language) (place : List ℕ) (a : PluralArgument)
     (fault : Option BranchFault) (next : ℕ) (new : Found) (after : List Selector)
     → ps ≡ p ∷ rest → p.depth ≤ a.depth → p.piece ≡ piece.Branch selector
     → GoingOn language place a first old count now seen ps all
-    → fault ≡ branch_fault language a seen (branching a.depth selector rest)
-    → Tells count now next new (fault_lines place (selector_text (selector_view selector)) fault)
+    → fault ≡ branch_fault language a seen (branching selector rest)
+    → Tells count now next new (fault_lines place (selector_name (selector_view selector)) fault)
     → after ≡ remembered seen (selector_view selector)
     → GoingOn language place a first old next new after rest all
 tells_branch language place a first old count now seen ps rest p selector all fault next new after is low branch so_far found told more = (
   so_far.0 ++ selector_view selector ∷ [],
   more ∙ remembers so_far.0 seen (selector_view selector) so_far.1,
-  continues first old count now next new (fault_lines place (selector_text (selector_view selector)) fault)
+  continues first old count now next new (fault_lines place (selector_name (selector_view selector)) fault)
       (branch_lines language place a (so_far.0 ++ selector_view selector ∷ []) (branches_of a.depth (parts_view rest)))
       (branch_lines language place a so_far.0 (branches_of a.depth (parts_view ps))) all whole so_far.2 told,
 )
   where
     whole : branch_lines language place a so_far.0 (branches_of a.depth (parts_view ps))
-        ≡ fault_lines place (selector_text (selector_view selector)) fault
+        ≡ fault_lines place (selector_name (selector_view selector)) fault
         ++ branch_lines language place a (so_far.0 ++ selector_view selector ∷ []) (branches_of a.depth (parts_view rest))
     whole = rw (at_selector a.depth ps rest p selector is low branch, found, so_far.1) refl
 

@@ -4,8 +4,8 @@ use Rattle.std.specs.Prelude.{IsTrue, not, ◌&&◌, nat_lt}
 use Rattle.std.proofs.lemmas.Bool.{ltb-true, ltb-false}
 use Rattle.icu_plurals.specs.declared.PluralCategory.{PluralCategory}
 use Rattle.icu_plurals.specs.FiveRules.{FiveRules}
-use Rattle.plural_checker.specs.WholeNumbers.{HasWhole, IsLeastFrom, whole_limit}
-use Rattle.message_report.specs.ChosenNumbers.{AreTwoLeast, Chooses, HoldsNowhere, IsLeast}
+use Rattle.plural_checker.specs.WholeNumbers.{AreTwoLeastOf, HasWhole, HoldsNowhere, IsLeast, IsLeastFrom, whole_limit}
+use Rattle.message_report.specs.ChosenNumbers.{Chooses}
 use Rattle.message_report.specs.Inner.KnownNumbers.{AreNumbersOf, AreTwoFrom, chosen_by, chosen_of}
 use Rattle.message_report.specs.declared.category_numbers.CategoryNumbers.{CategoryNumbers}
 
@@ -101,7 +101,7 @@ module _ (rules : FiveRules) (category : PluralCategory) (own_zero own_one : Boo
   first_is (Some n) second (found, after) = least 2 (Some n) (omega arith) found
 
   from_two : (first second : Option ℕ) → AreTwoFrom rules category first second → ¬ (Chosen 0) → ¬ (Chosen 1)
-      → AreTwoLeast Chosen first second
+      → AreTwoLeastOf Chosen first second
   from_two None second (none, absent) no_zero no_one =
       (lower 0 2 None (omega arith) (both no_zero no_one) (least 2 None (omega arith) none), absent)
   from_two (Some n) second (found, after) no_zero no_one = (
@@ -111,7 +111,7 @@ module _ (rules : FiveRules) (category : PluralCategory) (own_zero own_one : Boo
 
   by_chosen : (numbers : CategoryNumbers) → AreNumbersOf rules category numbers → (zero one : Bool)
       → (numbers.zero && not own_zero) ≡ zero → (numbers.one && not own_one) ≡ one
-      → AreTwoLeast Chosen (chosen_by zero one numbers.from_two).first (chosen_by zero one numbers.from_two).second
+      → AreTwoLeastOf Chosen (chosen_by zero one numbers.from_two).first (chosen_by zero one numbers.from_two).second
   by_chosen numbers known true true zero one = (
     (omega arith, omega arith, zero_chooses numbers.zero known.zero zero, at_start 0),
     (omega arith, omega arith, one_chooses numbers.one known.one one, at_start 1),
@@ -131,6 +131,6 @@ module _ (rules : FiveRules) (category : PluralCategory) (own_zero own_one : Boo
 
   -- those that are known are the two least
   pub are_two_least : (numbers : CategoryNumbers) → AreNumbersOf rules category numbers
-      → AreTwoLeast (Chooses rules category own_zero own_one)
+      → AreTwoLeastOf (Chooses rules category own_zero own_one)
       (chosen_of numbers own_zero own_one).first (chosen_of numbers own_zero own_one).second
   are_two_least numbers known = by_chosen numbers known (numbers.zero && not own_zero) (numbers.one && not own_one) refl refl

@@ -6,7 +6,8 @@ use Rattle.icu_plurals.specs.declared.PluralCategory.TheVariants.{Zero, One, Two
 use Rattle.icu_plurals.specs.FiveRules.{FiveRules}
 use Rattle.plural_checker.specs.LanguageTexts.{categories_with_rule}
 use Rattle.plural_checker.specs.declared.coverage.CategorySet.{CategorySet}
-use Rattle.message_report.specs.ChosenNumbers.{AreTwoLeast, Chooses}
+use Rattle.plural_checker.specs.WholeNumbers.{AreTwoLeastOf}
+use Rattle.message_report.specs.ChosenNumbers.{Chooses}
 use Rattle.message_report.specs.FormFaults.{has_category, IsLanguageOf}
 use Rattle.message_report.specs.Inner.KnownNumbers.{AreNumbersOf, chosen_of}
 use Rattle.message_report.specs.Inner.LanguageViews.{is_in_set, language_view, numbers_at}
@@ -45,7 +46,7 @@ language_is rules language categories zero one two few many other = record {
     known Other = other
 
     at : (category : PluralCategory) → IsTrue (is_in_set language.categories category) → (own_zero own_one : Bool)
-        → AreTwoLeast (Chooses rules category own_zero own_one) (chosen_of (numbers_at language category) own_zero own_one).first
+        → AreTwoLeastOf (Chooses rules category own_zero own_one) (chosen_of (numbers_at language category) own_zero own_one).first
         (chosen_of (numbers_at language category) own_zero own_one).second
     at category has own_zero own_one =
         are_two_least rules category own_zero own_one (numbers_at language category) (known category has)

@@ -7,6 +7,8 @@ pub mod Periods
 pub mod PrintedChars
 -- lines of patterns
 pub mod BranchLemmas
+pub mod OwnBranches
+pub mod PatternTold
 pub mod TellLemmas
 pub mod TextLemmas
 pub mod ToldLemmas

@@ -1,28 +1,28 @@
 -- What is found in a text, of what the reader of patterns returns.
-use Rattle.std.proofs.Common.{◌≡◌, ℕ, List, inl, inr, refl, ap, subst, ◌∙◌}
+use Rattle.std.proofs.Common.{◌≡◌, ℕ, List, inl, inr, refl, subst}
 use Rattle.std.specs.Prelude.{Ok, Err}
-use Rattle.message_pattern.specs.PatternAnswers.{AnswersExactly, HasFault, IsPattern}
+use Rattle.message_pattern.specs.PatternAnswers.{ParsesExactly, HasFault, IsPattern}
 use Rattle.message_pattern.specs.PatternParts.{Part}
 use Rattle.message_pattern.specs.declared.error.FaultKind.{FaultKind}
 use Rattle.message_pattern.specs.declared.error.PatternError.TheVariants as error
 use Rattle.message_report.specs.FoundInMessages.{Found, one_fault, together}
 use Rattle.message_report.specs.Inner.Added.{Adds}
-use Rattle.message_report.specs.MessagesReport.{IsFoundInText, found_of_lines, no_pattern_line, pattern_lines}
+use Rattle.message_report.specs.MessagesReport.{IsFoundInArguments, IsFoundInText, no_pattern_line}
 use Rattle.message_report.specs.PatternFaults.{TwoLanguages}
 
 -- a pattern
 pub pattern_found : (two : TwoLanguages) (place text bytes : List ℕ) (ps shown : List Part) (old new : Found) → bytes ≡ text
-    → AnswersExactly bytes (Ok ps) → shown ≡ ps → new ≡ together old (found_of_lines place (pattern_lines two place shown))
+    → ParsesExactly bytes (Ok ps) → shown ≡ ps → Adds (IsFoundInArguments two place shown) old new
     → Adds (IsFoundInText two place text) old new
 pattern_found two place text bytes ps shown old new same answers is added = (
-  found_of_lines place (pattern_lines two place ps),
-  inl (ps, subst (λ (b : List ℕ). IsPattern b ps) same answers.only, refl),
-  added ∙ ap (λ (l : List Part). together old (found_of_lines place (pattern_lines two place l))) is,
+  added.0,
+  inl (ps, subst (λ (b : List ℕ). IsPattern b ps) same answers.only, subst (λ (l : List Part). IsFoundInArguments two place l added.0) is added.1),
+  added.2,
 )
 
 -- none
 pub fault_found : (two : TwoLanguages) (place text bytes : List ℕ) (kind : FaultKind) (byte : ℕ) (old new : Found) → bytes ≡ text
-    → AnswersExactly bytes (Err (error.Fault kind byte)) → new ≡ together old (one_fault (no_pattern_line place kind byte))
+    → ParsesExactly bytes (Err (error.Fault kind byte)) → new ≡ together old (one_fault (no_pattern_line place kind byte))
     → Adds (IsFoundInText two place text) old new
 fault_found two place text bytes kind byte old new same answers added = (
   one_fault (no_pattern_line place kind byte),

@@ -12,7 +12,8 @@ use Rattle.icu_plurals.specs.declared.PluralCategory.TheVariants.{Zero, One, Two
 use Rattle.icu_plurals.specs.Categories.{name_of}
 use Rattle.icu_plurals.specs.FiveRules.{FiveRules}
 use Rattle.plural_message.specs.Messages.{placeholder}
-use Rattle.message_report.specs.ChosenNumbers.{Chooses, AreTwoLeast}
+use Rattle.plural_checker.specs.WholeNumbers.{AreTwoLeastOf}
+use Rattle.message_report.specs.ChosenNumbers.{Chooses}
 use Rattle.message_report.specs.MessageForms.{form_under, has_form}
 use Rattle.message_report.specs.declared.category_numbers.TwoNumbers.{TwoNumbers}
 use Rattle.message_report.specs.declared.fault.FormFault.{FormFault}
@@ -40,7 +41,7 @@ pub record Language : Type 0 where
 pub record IsLanguageOf (rules : FiveRules) (language : Language) : Type 0 where
   pub has : (category : PluralCategory) → language.has category ≡ has_category rules category
   pub numbers : (category : PluralCategory) → IsTrue (language.has category) → (own_zero own_one : Bool)
-      → AreTwoLeast (Chooses rules category own_zero own_one)
+      → AreTwoLeastOf (Chooses rules category own_zero own_one)
       (language.numbers category own_zero own_one).first (language.numbers category own_zero own_one).second
 
 -- those that choose it in a message

@@ -15,16 +15,16 @@ use Rattle.icu_plurals.specs.declared.PluralCategory.{PluralCategory}
 use Rattle.icu_plurals.specs.declared.PluralCategory.TheVariants.{Zero, One, Two, Few, Many, Other}
 use Rattle.icu_plurals.specs.declared.PluralRuleType.{PluralRuleType}
 use Rattle.icu_plurals.specs.declared.PluralRuleType.TheVariants.{Cardinal, Ordinal}
+use Rattle.message_pattern.specs.ArgumentBranches.{Branching}
 use Rattle.message_pattern.specs.PatternAnswers.{HasFault, IsPattern}
 use Rattle.message_pattern.specs.PatternErrors.{pattern_error_text}
-use Rattle.message_pattern.specs.PatternParts.{Part, Selector, Exactly, Keyword, Begin}
+use Rattle.message_pattern.specs.PatternParts.{Part, Piece, Selector, Exactly, Keyword, Begin}
 use Rattle.message_pattern.specs.declared.error.FaultKind.{FaultKind}
 use Rattle.message_pattern.specs.declared.error.PatternError.TheVariants as error
 use Rattle.message_report.specs.FormFaults.{Language, HasFormFault, IsLanguageOf, form_fault_text}
 use Rattle.message_report.specs.FoundInMessages.{Found, IsFoundIn, IsFoundInEach, nothing, one_fault, one_form, one_message, together}
 use Rattle.message_report.specs.MessageForms.{form_name, form_order, has_form, is_form_name}
-use Rattle.message_report.specs.PatternBranches.{Branching}
-use Rattle.message_report.specs.PatternFaults.{PluralArgument, TwoLanguages, argument_at, branch_fault, branch_fault_text, language_of, missing_fault, type_of_kind}
+use Rattle.message_report.specs.PatternFaults.{IsArgumentAt, PluralArgument, TwoLanguages, branch_fault, branch_fault_text, language_of, missing_fault, type_of_kind}
 use Rattle.message_report.specs.PrintedKeys.{bytes_text, message_text, name_text}
 use Rattle.message_report.specs.RulesSource.{RulesSource, HasRules}
 use Rattle.message_report.specs.declared.branch_fault.BranchFault.{BranchFault}
@@ -171,9 +171,9 @@ abbrev pub argument_place : List ℕ → List ℕ → List ℕ
 argument_place place name = place ++ (codes " {" ++ (bytes_text name ++ codes "}"))
 
 -- `=1`, `one`
-abbrev pub selector_text : Selector → List ℕ
-selector_text (Exactly number) = codes "=" ++ bytes_text number
-selector_text (Keyword word) = bytes_text word
+abbrev pub selector_name : Selector → List ℕ
+selector_name (Exactly number) = codes "=" ++ bytes_text number
+selector_name (Keyword word) = bytes_text word
 
 -- the line of a fault, if there is one: `ru pattern files {n} one: no #, but 1 and 21 are one`
 abbrev pub fault_lines : List ℕ → List ℕ → Option BranchFault → List (List ℕ)
@@ -198,7 +198,7 @@ most_compared = 32
 abbrev pub branch_lines : Language → List ℕ → PluralArgument → List Selector → List Branching → List (List ℕ)
 branch_lines language place a before [] = []
 branch_lines language place a before (b ∷ bs) =
-    fault_lines place (selector_text b.selector) (branch_fault language a (take most_compared before) b)
+    fault_lines place (selector_name b.selector) (branch_fault language a (take most_compared before) b)
     ++ branch_lines language place a (before ++ b.selector ∷ []) bs
 
 abbrev pub language_lines : Language → List ℕ → PluralArgument → List (List ℕ)
@@ -214,19 +214,18 @@ abbrev pub argument_lines : TwoLanguages → List ℕ → Option PluralRuleType 
 argument_lines two place None a = []
 argument_lines two place (Some type) a = lines_under type (argument_place place a.name) (language_of two type) a
 
--- of a part that these parts follow, if it begins an argument
-abbrev pub part_lines : TwoLanguages → List ℕ → Part → List Part → List (List ℕ)
-part_lines two place p ps =
-    elim p.piece as (λ _. List (List ℕ)) [
-      | Begin kind name offset ↦ argument_lines two place (type_of_kind kind)
-          (argument_at name (is_some offset) p.depth ps)
-      | _ ↦ []
-    ]
+-- of a piece at a depth that these parts follow, if it begins an argument
+abbrev pub HasPieceLines : TwoLanguages → List ℕ → ℕ → Piece → List Part → List (List ℕ) → Type 0
+HasPieceLines two place depth (Begin kind name offset) ps lines =
+    (a : PluralArgument) × IsArgumentAt name (is_some offset) depth ps a × (lines ≡ argument_lines two place (type_of_kind kind) a)
+HasPieceLines two place depth piece ps lines = lines ≡ []
 
 -- of each argument, however deep, in the order in which they begin
-abbrev pub pattern_lines : TwoLanguages → List ℕ → List Part → List (List ℕ)
-pattern_lines two place [] = []
-pattern_lines two place (p ∷ ps) = part_lines two place p ps ++ pattern_lines two place ps
+abbrev pub HasPatternLines : TwoLanguages → List ℕ → List Part → List (List ℕ) → Type 0
+HasPatternLines two place [] lines = lines ≡ []
+HasPatternLines two place (p ∷ ps) lines =
+    (first more : List (List ℕ)) × HasPieceLines two place p.depth p.piece ps first × HasPatternLines two place ps more
+    × (lines ≡ first ++ more)
 
 -- the first lines are told, and the others are counted in one
 abbrev pub found_of_lines : List ℕ → List (List ℕ) → Found
@@ -241,10 +240,15 @@ found_of_lines place lines = record {
 abbrev pub no_pattern_line : List ℕ → FaultKind → ℕ → List ℕ
 no_pattern_line place kind byte = place_line place (codes "no pattern: " ++ pattern_error_text (error.Fault kind byte))
 
+-- of the arguments of a pattern with these parts
+abbrev pub IsFoundInArguments : TwoLanguages → List ℕ → List Part → Found → Type 0
+IsFoundInArguments two place parts found =
+    (lines : List (List ℕ)) × HasPatternLines two place parts lines × (found ≡ found_of_lines place lines)
+
 -- of a text: what is wrong with the arguments of the pattern, or its first fault if it is none
 abbrev pub IsFoundInText : TwoLanguages → List ℕ → List ℕ → Found → Type 0
 IsFoundInText two place text found =
-    ((parts : List Part) × IsPattern text parts × (found ≡ found_of_lines place (pattern_lines two place parts)))
+    ((parts : List Part) × IsPattern text parts × IsFoundInArguments two place parts found)
     ⊎ ((kind : FaultKind) × (byte : ℕ) × HasFault text kind byte × (found ≡ one_fault (no_pattern_line place kind byte)))
 
 -- of a value, which should be a text

@@ -1,22 +1,22 @@
 -- What is wrong with the branches of a plural argument in a pattern, under the rules of its language.
+--     IsArgumentAt name has_offset depth parts argument      the argument at a depth, of which these parts follow its beginning
 --     missing_fault language argument category      that a category which whole numbers have has no branch
 --     branch_fault language argument before branch      the fault of a branch behind these selectors, if it has one
-use Rattle.std.specs.Prelude.{ℕ, Bool, ◌&&◌, ◌||◌, not, bytes_eq, List, ◌++◌, codes, Option, Some, None, if◌then◌else◌}
+use Rattle.std.specs.Prelude.{◌≡◌, ℕ, Bool, ◌||◌, bytes_eq, List, ◌++◌, codes, Option, Some, None, if◌then◌else◌}
 use Rattle.icu_plurals.specs.declared.PluralCategory.{PluralCategory}
 use Rattle.icu_plurals.specs.declared.PluralCategory.TheVariants.{Zero, One, Two, Few, Many, Other}
 use Rattle.icu_plurals.specs.declared.PluralRuleType.{PluralRuleType}
 use Rattle.icu_plurals.specs.declared.PluralRuleType.TheVariants.{Cardinal, Ordinal}
 use Rattle.icu_plurals.specs.Categories.{name_of}
+use Rattle.message_pattern.specs.ArgumentBranches.{Branching, branches_of}
 use Rattle.message_pattern.specs.PatternParts.{Part, Selector, Exactly, Keyword}
 use Rattle.message_pattern.specs.declared.part.ArgumentKind.{ArgumentKind}
 use Rattle.message_pattern.specs.declared.part.ArgumentKind.TheVariants as kind
 use Rattle.message_report.specs.FormFaults.{Language, are_text, missing_text}
-use Rattle.message_report.specs.PatternBranches.{Branching, branches_of, has_branch, has_number, stands_in}
+use Rattle.message_report.specs.PatternBranches.{IsOwn, has_category_branch, has_number, inside_of, stands_in}
 use Rattle.message_report.specs.declared.branch_fault.BranchFault.{BranchFault}
 use Rattle.message_report.specs.declared.branch_fault.BranchFault.TheVariants.{NoCategory, Twice, Unused, NoHash, Missing}
 use Rattle.message_report.specs.declared.category_numbers.TwoNumbers.{TwoNumbers}
-use Rattle.message_report.specs.declared.form.Form.{Form}
-use Rattle.message_report.specs.declared.form.Form.TheVariants.{ExplicitZero, ExplicitOne, Category}
 
 -- ---- An argument
 
@@ -30,20 +30,21 @@ pub record PluralArgument : Type 0 where
   pub own_zero : Bool
   pub own_one : Bool
 
--- behind an offset none counts, where `=0` is for another number than that which has the category
-abbrev pub has_own : Form → Bool → List Branching → Bool
-has_own form has_offset branches = not has_offset && has_branch form branches
-
 -- the argument at a depth, of which these parts follow its beginning
-abbrev pub argument_at : List ℕ → Bool → ℕ → List Part → PluralArgument
-argument_at name has_offset depth ps = record {
+abbrev pub argument_at : List ℕ → Bool → ℕ → List Part → Bool → Bool → PluralArgument
+argument_at name has_offset depth ps own_zero own_one = record {
   name = name;
   has_offset = has_offset;
   depth = depth;
   branches = branches_of depth ps;
-  own_zero = has_own ExplicitZero has_offset (branches_of depth ps);
-  own_one = has_own ExplicitOne has_offset (branches_of depth ps);
+  own_zero = own_zero;
+  own_one = own_one;
 }
+
+abbrev pub IsArgumentAt : List ℕ → Bool → ℕ → List Part → PluralArgument → Type 0
+IsArgumentAt name has_offset depth ps a =
+    (own_zero own_one : Bool) × IsOwn (codes "0") has_offset (branches_of depth ps) own_zero
+    × IsOwn (codes "1") has_offset (branches_of depth ps) own_one × (a ≡ argument_at name has_offset depth ps own_zero own_one)
 
 -- the type of the rules that choose its branch; a select needs none
 abbrev pub type_of_kind : ArgumentKind → Option PluralRuleType
@@ -74,7 +75,7 @@ missing_by category (Some first) second = Some (Missing category first second)
 
 abbrev pub missing_fault : Language → PluralArgument → PluralCategory → Option BranchFault
 missing_fault language a category =
-    if has_branch (Category category) a.branches then None
+    if has_category_branch category a.branches then None
     else if language.has category
     then missing_by category (numbers_of language a category).first (numbers_of language a category).second
     else None
@@ -117,7 +118,7 @@ selector_fault language a (Keyword word) inside = category_fault_if language a i
 -- first that the selector stands before
 abbrev pub branch_fault : Language → PluralArgument → List Selector → Branching → Option BranchFault
 branch_fault language a before b =
-    if stands_in b.selector before then Some Twice else selector_fault language a b.selector b.inside
+    if stands_in b.selector before then Some Twice else selector_fault language a b.selector (inside_of a.depth b.parts)
 
 -- ---- The texts of faults
 

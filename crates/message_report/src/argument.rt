@@ -1,15 +1,20 @@
 //! The branches of plural arguments in patterns.
 
-ghost use Rattle.std.specs.Prelude.{◌≡◌, ◌<◌, map};
+ghost use Rattle.std.specs.Prelude.{◌≡◌, ◌<◌, IfOk, is_some, map};
+ghost use Rattle.message_format.specs.FormatBranches.{branch_of_keyword, is_keyword};
+ghost use Rattle.message_pattern.specs.ArgumentBranches.{branches_of};
 ghost use Rattle.message_pattern.specs.PatternParts.{Exactly, Keyword, part_view, parts_view, selector_view};
 ghost use Rattle.message_report.specs.Inner.ArgumentViews.{argument_view};
-ghost use Rattle.message_report.specs.PatternFaults.{argument_at, has_own};
-ghost use Rattle.message_report.specs.PatternBranches.{branches_of, has_branch, has_number, inside_of, is_for, is_number_of};
-ghost use Rattle.message_report.specs.PatternBranches.{is_one_text, is_word_of, is_zero_fraction, is_zero_text, same_selector};
-ghost use Rattle.message_report.specs.PatternBranches.{says_number, stands_in};
+ghost use Rattle.message_report.specs.PatternFaults.{IsArgumentAt};
+ghost use Rattle.message_report.specs.PatternBranches.{IsOwn, has_category_branch, has_number, inside_of};
+ghost use Rattle.message_report.specs.PatternBranches.{same_selector, says_number, stands_in};
 
-use crate::form::{Form, name_of};
+use crate::form::name_of;
+use fixed_decimal::CompactDecimal;
+use icu_plurals::PluralCategory;
+use message_format::has_branch_of_value;
 use message_pattern::{Part, Piece, Selector};
+use std::alloc::{AllocError, Global};
 
 // A plural or an ordinal.
 #[derive(Clone, Copy)]
@@ -27,103 +32,70 @@ pub(crate) struct Argument<'p> {
 
 // Returns the argument at a depth, of which these parts follow its beginning.
 pub(crate) fn argument_at<'p>(
+    alloc: Global,
     name: &'p [u8],
     has_offset: bool,
     depth: usize,
     parts: &'p [Part<'p>],
-) -> Argument<'p>
-    ensures { argument_view result ≡ argument_at name.now has_offset depth (parts_view parts.now) }
+) -> Result<Argument<'p>, AllocError>
+    ensures { IfOk result (λ a. IsArgumentAt name.now has_offset depth (parts_view parts.now) (argument_view a)) }
 {
-    Argument {
+    let own_zero = is_own(alloc, "0", has_offset, depth, parts)?;
+    let own_one = is_own(alloc, "1", has_offset, depth, parts)?;
+    Ok(Argument {
         name,
         has_offset,
         depth,
         parts,
-        own_zero: has_own(Form::ExplicitZero, has_offset, depth, parts),
-        own_one: has_own(Form::ExplicitOne, has_offset, depth, parts),
+        own_zero,
+        own_one,
+    })
+}
+
+// Returns whether exactly the number that a text writes has a branch of its own.
+fn is_own(
+    alloc: Global,
+    number: &str,
+    has_offset: bool,
+    depth: usize,
+    parts: &[Part<'_>],
+) -> Result<bool, AllocError>
+    ensures { IfOk result (λ own. IsOwn number.now has_offset (branches_of depth (parts_view parts.now)) own) }
+{
+    if has_offset {
+        return Ok(false);
+    }
+    match CompactDecimal::from_str(alloc, number) {
+        Ok(number) => has_branch_of_value(alloc, &number, depth, parts),
+        // A digit is a number, so memory ran out.
+        Err(_) => Err(AllocError),
     }
 }
 
-// Returns whether exactly 0 or 1 has a branch of its own.
-fn has_own(form: Form, has_offset: bool, depth: usize, parts: &[Part<'_>]) -> bool
-    ensures { result ≡ has_own form has_offset (branches_of depth (parts_view parts.now)) }
-{
-    !has_offset && has_branch(form, depth, parts)
-}
-
-// Returns whether all digits of a number's text are 0.
-fn is_zero_text(text: &[u8]) -> bool
-    ensures { result ≡ is_zero_text text.now }
-{
-    let mut left = text;
-    while let [byte, rest @ ..] = left {
-        if *byte != b'0' && *byte != b'-' && *byte != b'.' {
-            return false;
-        }
-        left = rest;
-    }
-    true
-}
-
-// Returns whether a text is empty, or a point and zeros.
-fn is_zero_fraction(text: &[u8]) -> bool
-    ensures { result ≡ is_zero_fraction text.now }
-{
-    match text {
-        [byte, rest @ ..] => *byte == b'.' && is_zero_text(rest),
-        [] => true,
-    }
-}
-
-// Returns whether a text writes 1.
-fn is_one_text(text: &[u8]) -> bool
-    ensures { result ≡ is_one_text text.now }
-{
-    let mut left = text;
-    while let [byte, rest @ ..] = left {
-        if *byte != b'0' {
-            return *byte == b'1' && is_zero_fraction(rest);
-        }
-        left = rest;
-    }
-    false
-}
-
-// Returns whether `=` and a number is for a form.
-fn is_number_of(form: Form, number: &[u8]) -> bool
-    ensures { result ≡ is_number_of form number.now }
-{
-    match form {
-        Form::ExplicitZero => is_zero_text(number),
-        Form::ExplicitOne => is_one_text(number),
-        Form::Category(_) => false,
-    }
-}
-
-// Returns whether a keyword is for a form.
-fn is_word_of(form: Form, word: &[u8]) -> bool
-    ensures { result ≡ is_word_of form word.now }
-{
-    match form {
-        Form::ExplicitZero => false,
-        Form::ExplicitOne => false,
-        Form::Category(category) => word == name_of(category).as_bytes(),
-    }
-}
-
-// Returns whether a selector is for a form.
-fn is_for(form: Form, selector: Selector<'_>) -> bool
-    ensures { result ≡ is_for form (selector_view selector.entry) }
+// Returns whether a selector is this keyword.
+fn is_word(word: &[u8], selector: Selector<'_>) -> bool
+    ensures { result ≡ is_keyword word.now (selector_view selector.entry) }
 {
     match selector {
-        Selector::Exactly(number) => is_number_of(form, number),
-        Selector::Keyword(word) => is_word_of(form, word),
+        Selector::Exactly(_) => false,
+        Selector::Keyword(other) => other == word,
     }
 }
 
-// Returns whether an argument at this depth has a branch for a form.
-pub(crate) fn has_branch(form: Form, depth: usize, parts: &[Part<'_>]) -> bool
-    ensures { result ≡ has_branch form (branches_of depth (parts_view parts.now)) }
+// Returns whether an argument at this depth has a branch of a category.
+pub(crate) fn has_category_branch(
+    category: PluralCategory,
+    depth: usize,
+    parts: &[Part<'_>],
+) -> bool
+    ensures { result ≡ has_category_branch category (branches_of depth (parts_view parts.now)) }
+{
+    has_word(name_of(category).as_bytes(), depth, parts)
+}
+
+// Returns whether it has a branch of a keyword.
+fn has_word(word: &[u8], depth: usize, parts: &[Part<'_>]) -> bool
+    ensures { result ≡ is_some (branch_of_keyword word.now (branches_of depth (parts_view parts.now))) }
 {
     let mut left = parts;
     while let [part, rest @ ..] = left {
@@ -131,7 +103,7 @@ pub(crate) fn has_branch(form: Form, depth: usize, parts: &[Part<'_>]) -> bool
             let Piece::Branch(selector) = part.piece else {
                 return false;
             };
-            if is_for(form, selector) {
+            if is_word(word, selector) {
                 return true;
             }
         }

@@ -9,9 +9,9 @@ ghost use Rattle.message_report.specs.PatternFaults.{branch_fault, branch_fault_
 ghost use Rattle.message_report.specs.PatternFaults.{missing_by, missing_fault, no_hash, numbers_of, selector_fault};
 ghost use Rattle.message_report.specs.Inner.ArgumentViews.{branching};
 
-use crate::argument::{Argument, has_branch, has_number, stands_in};
+use crate::argument::{Argument, has_category_branch, has_number, stands_in};
 use crate::category_numbers::TwoNumbers;
-use crate::form::{Form, name_of};
+use crate::form::name_of;
 use crate::language::Language;
 use icu_plurals::PluralCategory;
 use message_pattern::{Part, Selector};
@@ -80,7 +80,7 @@ pub(crate) fn missing_fault(
 ) -> Option<BranchFault>
     ensures { result ≡ missing_fault (language_view language.now) (argument_view argument.entry) category }
 {
-    if has_branch(Form::Category(category), argument.depth, argument.parts) {
+    if has_category_branch(category, argument.depth, argument.parts) {
         return None;
     }
     if !language.has(category) {
@@ -193,7 +193,7 @@ pub(crate) fn branch_fault(
     parts: &[Part<'_>],
 ) -> Option<BranchFault>
     ensures { result ≡ branch_fault (language_view language.now) (argument_view argument.entry)
-        (map selector_view before.now) (branching argument.entry.depth selector.entry parts.now) }
+        (map selector_view before.now) (branching selector.entry parts.now) }
 {
     if stands_in(selector, before) {
         return Some(BranchFault::Twice);

@@ -5,8 +5,8 @@ ghost use Rattle.message_pattern.specs.PatternParts.{parts_view};
 ghost use Rattle.message_report.specs.FoundInMessages.{one_fault, together};
 ghost use Rattle.message_report.specs.Inner.Added.{Adds};
 ghost use Rattle.message_report.specs.Inner.ArgumentViews.{languages_view};
-ghost use Rattle.message_report.specs.MessagesReport.{found_of_lines, no_pattern_line, pattern_lines, pattern_place, place_line};
-ghost use Rattle.message_report.specs.MessagesReport.{IsFoundInPattern, IsFoundInText, IsFoundInTextIf};
+ghost use Rattle.message_report.specs.MessagesReport.{no_pattern_line, pattern_place, place_line};
+ghost use Rattle.message_report.specs.MessagesReport.{IsFoundInArguments, IsFoundInPattern, IsFoundInText, IsFoundInTextIf};
 ghost use Rattle.message_report.specs.PrintedKeys.{message_text};
 ghost use Rattle.serde_json.specs.Find.{as_str};
 ghost use Rattle.serde_json.specs.View.{view};
@@ -98,8 +98,7 @@ fn add_lines(
     parts: &[Part<'_>],
     found: &mut Found,
 ) -> Result<(), AllocError>
-    ensures { OnOk result (found.new ≡ together found.old
-        (found_of_lines place.now (pattern_lines (languages_view languages.now) place.now (parts_view parts.now)))) }
+    ensures { OnOk result (Adds (IsFoundInArguments (languages_view languages.now) place.now (parts_view parts.now)) found.old found.new) }
 {
     let count = tell_pattern(alloc, languages, place, parts, found)?;
     add_rest(alloc, place, count, found)

@@ -2,13 +2,13 @@
 
 ghost use Rattle.std.specs.Prelude.{◌≡◌, ◌∷◌, ◌++◌, [], codes, IfOk, OnOk, map, option_map, string_bytes};
 ghost use Rattle.icu_plurals.specs.Categories.{name_of};
-ghost use Rattle.message_pattern.specs.PatternParts.{part_view, parts_view, selector_view};
+ghost use Rattle.message_pattern.specs.PatternParts.{parts_view, piece_view, selector_view};
 ghost use Rattle.message_report.specs.Inner.ArgumentViews.{argument_view, branching, languages_view};
 ghost use Rattle.message_report.specs.Inner.LanguageViews.{language_view};
-ghost use Rattle.message_report.specs.Inner.ToldLines.{Tells, remembered};
+ghost use Rattle.message_report.specs.Inner.ToldLines.{Tells, TellsThose, remembered};
 ghost use Rattle.message_report.specs.MessagesReport.{argument_lines, argument_place, branch_lines, category_order, fault_lines};
-ghost use Rattle.message_report.specs.MessagesReport.{language_lines, lines_under, missing_lines, named_line, part_lines};
-ghost use Rattle.message_report.specs.MessagesReport.{no_rules_text, pattern_lines, place_line, selector_text};
+ghost use Rattle.message_report.specs.MessagesReport.{HasPatternLines, HasPieceLines, language_lines, lines_under, missing_lines, named_line};
+ghost use Rattle.message_report.specs.MessagesReport.{no_rules_text, place_line, selector_name};
 ghost use Rattle.message_report.specs.PrintedKeys.{bytes_text};
 ghost use Rattle.message_report.specs.PatternFaults.{branch_fault, branch_fault_text, language_of, missing_fault, type_of_kind};
 
@@ -64,8 +64,8 @@ pub(crate) fn tell_pattern(
     parts: &[Part<'_>],
     found: &mut Found,
 ) -> Result<u64, AllocError>
-    ensures { IfOk result (λ count. Tells 0 found.old count found.new
-        (pattern_lines (languages_view languages.now) place.now (parts_view parts.now))) }
+    ensures { IfOk result (λ count. TellsThose (HasPatternLines (languages_view languages.now) place.now (parts_view parts.now))
+        0 found.old count found.new) }
 {
     let mut count = 0;
     let mut left = parts;
@@ -86,18 +86,20 @@ fn tell_part(
     before: u64,
     found: &mut Found,
 ) -> Result<u64, AllocError>
-    ensures { IfOk result (λ count. Tells before found.old count found.new
-        (part_lines (languages_view languages.now) place.now (part_view part.now) (parts_view parts.now))) }
+    ensures { IfOk result (λ count. TellsThose
+        (HasPieceLines (languages_view languages.now) place.now part.now.depth (piece_view part.now.piece) (parts_view parts.now))
+        before found.old count found.new) }
 {
     let Piece::Begin(kind, name, offset) = part.piece else {
         return Ok(before);
     };
+    let argument = argument_at(alloc, name, offset.is_some(), part.depth, parts)?;
     tell_argument(
         alloc,
         languages,
         place,
         type_of_kind(kind),
-        argument_at(name, offset.is_some(), part.depth, parts),
+        argument,
         before,
         found,
     )
@@ -284,18 +286,18 @@ fn tell_branch(
     found: &mut Found,
 ) -> Result<u64, AllocError>
     ensures { IfOk result (λ count. Tells before found.old count found.new
-        (fault_lines place.now (selector_text (selector_view selector.entry)) fault)) }
+        (fault_lines place.now (selector_name (selector_view selector.entry)) fault)) }
 {
     if fault.is_none() {
         return Ok(before);
     }
-    let name = selector_text(alloc, selector)?;
+    let name = selector_name(alloc, selector)?;
     tell(alloc, place, name.as_str(), fault, before, found)
 }
 
 // Returns what is printed for a selector.
-fn selector_text(alloc: Global, selector: Selector<'_>) -> Result<String, AllocError>
-    ensures { IfOk result (λ text. string_bytes text ≡ selector_text (selector_view selector.entry)) }
+fn selector_name(alloc: Global, selector: Selector<'_>) -> Result<String, AllocError>
+    ensures { IfOk result (λ text. string_bytes text ≡ selector_name (selector_view selector.entry)) }
 {
     match selector {
         Selector::Exactly(number) => exact_text(alloc, number),

@@ -18,7 +18,7 @@ use Rattle.message_pattern.specs.declared.branch.BranchFront as branches
 use Rattle.message_pattern.specs.declared.branch.BranchFront.TheVariants as branch
 use Rattle.message_pattern.specs.PatternText.{Front, End, Closes, Opens, Takes}
 use Rattle.message_pattern.specs.PatternParts.{Piece, offset_view, selector_view, piece_view, parts_view}
-use Rattle.message_pattern.specs.PatternReading.{Step, Reads, Read, Faulty}
+use Rattle.message_pattern.specs.PatternReading.{ReadStep, ReadsTo, Read, Faulty}
 use Rattle.message_pattern.specs.PatternHeads.{Head, Plain, Choice, BranchFront}
 use Rattle.message_pattern.specs.PatternHeads as spec
 
@@ -62,15 +62,15 @@ abbrev pub digits_view : Option (Bor (List ℕ)) × Bor (List ℕ) → Option (L
 digits_view x = (offset_view x.0, x.1.now)
 
 -- what follows the front of a branch is shorter than the text
-abbrev pub IsBehind : BranchFront → List ℕ → Type 0
-IsBehind (spec.Closes rest) s = length rest < length s
-IsBehind (spec.Opens selector rest) s = length rest < length s
+abbrev pub IsBranchBehind : BranchFront → List ℕ → Type 0
+IsBranchBehind (spec.Closes rest) s = length rest < length s
+IsBranchBehind (spec.Opens selector rest) s = length rest < length s
 
 -- what a private reader returns, with the parts before and after it: the outcome, or out of memory
-abbrev pub GivesOutcome : Step → List parts.Part → List parts.Part → Result (Bor (List ℕ)) ReadError → Type 0
-GivesOutcome at old new (Ok rest) = Reads at (parts_view old) (Read (parts_view new) rest.now)
-GivesOutcome at old new (Err (read.Fault fault)) = Reads at (parts_view old) (Faulty fault)
-GivesOutcome at old new (Err read.Memory) = Unit {0}
+abbrev pub GivesReadOutcome : ReadStep → List parts.Part → List parts.Part → Result (Bor (List ℕ)) ReadError → Type 0
+GivesReadOutcome at old new (Ok rest) = ReadsTo at (parts_view old) (Read (parts_view new) rest.now)
+GivesReadOutcome at old new (Err (read.Fault fault)) = ReadsTo at (parts_view old) (Faulty fault)
+GivesReadOutcome at old new (Err read.Memory) = Unit {0}
 
 -- the error of a reading of a text
 abbrev pub pattern_error : List ℕ → ReadError → error.PatternError

@@ -1,10 +1,10 @@
 -- Not a definition of the subject: arguments and languages of the code, in the words of the definitions.
-use Rattle.std.specs.Prelude.{ℕ, List, option_map}
+use Rattle.std.specs.Prelude.{List, option_map}
 use Rattle.message_pattern.specs.declared.part.Part as parts
 use Rattle.message_pattern.specs.declared.part.Selector as selectors
+use Rattle.message_pattern.specs.ArgumentBranches.{Branching, branches_of}
 use Rattle.message_pattern.specs.PatternParts.{parts_view, selector_view}
 use Rattle.message_report.specs.Inner.LanguageViews.{language_view}
-use Rattle.message_report.specs.PatternBranches.{Branching, branches_of, inside_of}
 use Rattle.message_report.specs.PatternFaults.{PluralArgument, TwoLanguages}
 use Rattle.message_report.specs.declared.argument.Argument.{Argument}
 use Rattle.message_report.specs.declared.pattern_lines.Languages.{Languages}
@@ -20,8 +20,8 @@ argument_view a = record {
 }
 
 -- the branch of a selector, from whose parts on these are
-abbrev pub branching : ℕ → selectors.Selector → List parts.Part → Branching
-branching depth selector ps = record { selector = selector_view selector; inside = inside_of depth (parts_view ps) }
+abbrev pub branching : selectors.Selector → List parts.Part → Branching
+branching selector ps = record { selector = selector_view selector; parts = parts_view ps }
 
 abbrev pub languages_view : Languages → TwoLanguages
 languages_view two =

@@ -18,6 +18,10 @@ pub record Tells (before : ℕ) (old : Found) (count : ℕ) (new : Found) (lines
   pub found : new ≡ together old (told_lines before lines)
   pub counted : count ≡ before + length lines
 
+-- lines that are those were told, or counted
+abbrev pub TellsThose : (List (List ℕ) → Type 0) → ℕ → Found → ℕ → Found → Type 0
+TellsThose Are before old count new = (lines : List (List ℕ)) × Are lines × Tells before old count new lines
+
 -- one selector more, unless there are many
 abbrev pub remembered : List Selector → Selector → List Selector
 remembered seen selector = if nat_lt (length seen) most_compared then seen ++ selector ∷ [] else seen

@@ -1,6 +1,6 @@
 use Rattle.std.proofs.Common.{◌+◌, ◌*◌, ◌≤◌, false, length}
 use Rattle.message_pattern.specs.PatternParts.{parts_view}
-use Rattle.message_pattern.specs.PatternReading.{InMessage, InBranches, Outcome, Reads, step}
+use Rattle.message_pattern.specs.PatternReading.{InMessage, InBranches, ReadOutcome, ReadsTo, read_step}
 use Rattle.message_pattern.proofs.reader.+read.Given as goal
 
 abbrev pub decreases-message : goal.decreases-message
@@ -15,8 +15,8 @@ decreases-branches l = 2 * length l.text.now
 -- what the rest comes to, the message comes to
 abbrev pub invariant-message-arguments : goal.invariant-message-arguments
 invariant-message-arguments l = record {
-  read : (outcome : Outcome) → Reads (step (InMessage l.context l.depth false) l.rest) (parts_view l.parts.items) outcome
-      → Reads (step (InMessage l.context l.depth false) l.text) (parts_view l.initial.parts.items) outcome;
+  read : (outcome : ReadOutcome) → ReadsTo (read_step (InMessage l.context l.depth false) l.rest) (parts_view l.parts.items) outcome
+      → ReadsTo (read_step (InMessage l.context l.depth false) l.text) (parts_view l.initial.parts.items) outcome;
   shorter : length l.rest ≤ length l.text;
 }
 
@@ -26,8 +26,8 @@ decreases-message-arguments l = length l.rest
 -- what the rest comes to, the branches come to
 abbrev pub invariant-branches-selectors : goal.invariant-branches-selectors
 invariant-branches-selectors l = record {
-  read : (outcome : Outcome) → Reads (step (InBranches l.kind l.depth l.has_other) l.rest) (parts_view l.parts.items) outcome
-      → Reads (step (InBranches l.kind l.depth false) l.text) (parts_view l.initial.parts.items) outcome;
+  read : (outcome : ReadOutcome) → ReadsTo (read_step (InBranches l.kind l.depth l.has_other) l.rest) (parts_view l.parts.items) outcome
+      → ReadsTo (read_step (InBranches l.kind l.depth false) l.text) (parts_view l.initial.parts.items) outcome;
   shorter : length l.rest ≤ length l.text;
 }
 

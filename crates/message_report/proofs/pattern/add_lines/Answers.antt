@@ -1,13 +1,18 @@
-use Rattle.message_pattern.specs.PatternParts.{parts_view}
-use Rattle.message_report.specs.Inner.ArgumentViews.{languages_view}
-use Rattle.message_report.specs.MessagesReport.{pattern_lines}
+use Rattle.std.proofs.Common.{◌≡◌, refl}
+use Rattle.message_report.specs.FoundInMessages.{together}
+use Rattle.message_report.specs.Inner.Added.{lines_alone}
+use Rattle.message_report.specs.MessagesReport.{found_of_lines, rest_lines}
 use Rattle.message_report.proofs.FoundLemmas.{on_ok}
 use Rattle.message_report.proofs.TellLemmas.{all_lines}
 use Rattle.message_report.proofs.pattern.add_lines.Goals as goal
 
 pub returns : goal.returns
 returns c =
+    let told = c.in_ok-count.ensures in
     on_ok c.add_rest.result
-    (all_lines c.args.place.now (pattern_lines (languages_view c.args.languages.now) c.args.place.now (parts_view c.args.parts.now))
-    c.in_ok-count.count c.args.found.now c.tell_pattern.new.found c.add_rest.new.found c.in_ok-count.ensures)
+    (λ (rest : c.add_rest.new.found ≡ together c.tell_pattern.new.found (lines_alone (rest_lines c.args.place.now c.in_ok-count.count))). (
+      found_of_lines c.args.place.now told.0,
+      (told.0, told.1, refl),
+      all_lines c.args.place.now told.0 c.in_ok-count.count c.args.found.now c.tell_pattern.new.found c.add_rest.new.found told.2 rest,
+    ))
     c.add_rest.ensures

@@ -5,7 +5,7 @@ use Rattle.message_pattern.specs.declared.part.Selector as selectors
 use Rattle.message_report.specs.Inner.ArgumentViews.{argument_view, branching}
 use Rattle.message_report.specs.Inner.LanguageViews.{language_view}
 use Rattle.message_report.specs.MessagesReport.{branch_lines}
-use Rattle.message_report.specs.PatternBranches.{branches_of}
+use Rattle.message_pattern.specs.ArgumentBranches.{branches_of}
 use Rattle.message_report.specs.PatternFaults.{branch_fault}
 use Rattle.message_report.proofs.BranchLemmas.{ends_branches, no_part, other_part, passes, tells_branch}
 use Rattle.message_report.proofs.TellLemmas.{headed, none_left, starts}
@@ -42,7 +42,7 @@ loop-left-preserved c =
     c.tell_branch.new.found (map selector_view c.remember.new.seen.items)
     (headed ps no_part (length ps) c.in-len1-up.len_at_least refl) c.if-part-argument.false c.in-Branch.is c.loop-left.invariant
     (c.branch_fault-fault.ensures
-    ∙ ap (λ (l : List selectors.Selector). branch_fault language a (map selector_view l) (branching a.depth c.in-Branch.selector rest))
+    ∙ ap (λ (l : List selectors.Selector). branch_fault language a (map selector_view l) (branching c.in-Branch.selector rest))
     c.as_slice.ensures.value)
     c.in_ok-count.ensures c.in_ok-remember.ensures
 
