@@ -5,5 +5,6 @@ pub mod ScanSound
 pub mod ScanSize
 pub mod CutOnce
 pub mod Alone
+pub mod FirstBytes
 pub mod LargeNumbers
 pub mod TokensFit

@@ -47,14 +47,6 @@ impl<'l> Lexer<'l> {
     {
         Lexer { rest: text }
     }
-
-    // The bytes whose tokens remain.
-    #[inline]
-    pub(crate) fn rest(&self) -> &'l [u8]
-        ensures { tokens_of result.now ≡ self.now }
-    {
-        self.rest
-    }
 }
 
 impl<'l> Iterator for Lexer<'l> {
@@ -94,7 +86,7 @@ fn behind_space(text: &[u8]) -> &[u8]
 // The token that the byte begins, and the bytes after it.
 #[inline]
 #[tactic(auto, using(crate::proofs::tokens::Alone::i_alone, crate::proofs::tokens::Alone::point_alone), unfolding(crate::specs::Inner::Scan::tokens_from))]
-fn token_at(first: u8, rest: &[u8]) -> (Token, &[u8])
+pub(crate) fn token_at(first: u8, rest: &[u8]) -> (Token, &[u8])
     requires { first ≢ blank }
     ensures { tokens_of (first ∷ rest.now) ≡ result.0 ∷ tokens_of result.1.now }
 {
@@ -133,7 +125,7 @@ fn token_at(first: u8, rest: &[u8]) -> (Token, &[u8])
 // The bytes after the first, if that is the byte. (`strip_prefix` says so by a comparison of lists,
 // which `token_at` would have to open for each of its bytes.)
 #[inline]
-fn strip_byte(text: &[u8], byte: u8) -> Option<&[u8]>
+pub(crate) fn strip_byte(text: &[u8], byte: u8) -> Option<&[u8]>
     ensures { MatchOption result (first text.now ≢ Some byte) (λ after. text.now ≡ byte ∷ after.now) }
 {
     match text {
@@ -165,7 +157,7 @@ const TOO_LARGE: u64 = 4_294_967_296;
 
 // The token of the number that begins with the digit, and the bytes after it.
 #[tactic(auto, unfolding(crate::specs::Inner::Scan::tokens_from))]
-fn number(first: u8, text: &[u8]) -> (Token, &[u8])
+pub(crate) fn number(first: u8, text: &[u8]) -> (Token, &[u8])
     requires low { 49 ≤ first }
     requires high { first ≤ 57 }
     ensures { tokens_of (first ∷ text.now) ≡ result.0 ∷ tokens_of result.1.now }

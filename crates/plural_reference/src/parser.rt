@@ -1,5 +1,6 @@
 //! Reading rules (UTS 35 Part 3, Plural Rules Syntax).
 
+mod front;
 mod plain;
 mod samples;
 mod sink;
@@ -9,7 +10,7 @@ ghost use Rattle.std.specs.Prelude.{◌≡◌, ◌≢◌, ◌∷◌, [], Some, N
 ghost use Rattle.plural_reference.specs.declared.token.Token.TheVariants as token;
 ghost use Rattle.plural_reference.specs.declared.token.Token.TheVariants.{Comma};
 ghost use Rattle.plural_reference.specs.Lexer.{AreTokensOf, first};
-ghost use Rattle.plural_reference.specs.Parser.{Reads, Faulty, operand_of, token_value, value_fault};
+ghost use Rattle.plural_reference.specs.Parser.{Reads, Faulty, operand_of, value_fault};
 ghost use Rattle.plural_reference.specs.declared.error.ParseError.TheVariants.{ExpectedValue};
 ghost use Rattle.plural_reference.specs.Samples.{ReadsRule, ReadsCondition, FaultyRule};
 ghost use Rattle.plural_reference.specs.Reading.{AnswersExactly, IsAnswer};
@@ -20,13 +21,13 @@ use crate::ast::{
     Rule, Value,
 };
 use crate::error::{ParseError, ReadError};
-use crate::lexer::Lexer;
+use crate::lexer::token_at;
+use crate::parser::front::{behind, behind_spaces, number_at};
 use crate::parser::sink::Kept;
 use crate::sequence::Sequence;
 use crate::token::Token;
 use std::alloc::{AllocError, Global};
 use std::marker::Model;
-use std::mem;
 pub use whole::is_read_whole;
 
 /// Reads the condition of a rule (UTS 35 Part 3, Plural Rules Syntax) from the longest beginning of
@@ -88,53 +89,59 @@ pub fn parse_without_samples(alloc: Global, text: &[u8]) -> Result<Condition, Re
     Ok(condition)
 }
 
-// The remaining tokens, the first of them already read.
+// The bytes whose tokens remain, from the first token on.
 #[derive(Drop)]
 struct Parser<'p> {
-    ahead: Option<Token>,
-    lexer: Lexer<'p>,
+    rest: &'p [u8],
 }
 
 impl<'p> Model for Parser<'p> {
-    ghost use Rattle.std.specs.Prelude.{◌≡◌, List, [], None};
-    ghost use Rattle.std.specs.List.{cons_option};
+    ghost use Rattle.std.specs.Prelude.{◌≢◌, List, Some};
     ghost use Rattle.plural_reference.specs.declared.token.Token.{Token};
+    ghost use Rattle.plural_reference.specs.Lexer.{blank, first};
+    ghost use Rattle.plural_reference.specs.Inner.Scan.{tokens_of};
 
     ghost Value = { List Token };
 
-    ghost view = { λ p. cons_option p.ahead p.lexer };
+    ghost view = { λ p. tokens_of p.rest.now };
 
-    ghost invariant = { λ p. p.ahead ≡ None → p.lexer ≡ [] };
+    ghost invariant = { λ p. first p.rest.now ≢ Some blank };
 }
 
 impl<'p> Parser<'p> {
     fn new(text: &'p [u8]) -> Self
         ensures { AreTokensOf text.now result }
     {
-        let mut lexer = Lexer::new(text);
-        let ahead = lexer.next();
-        Parser { ahead, lexer }
+        Parser {
+            rest: behind_spaces(text),
+        }
     }
 
     // Takes the next token.
     #[inline]
+    #[tactic(auto, unfolding(crate::specs::Inner::Scan::tokens_from))]
     fn next(&mut self) -> Option<Token>
         ensures { MatchOption result ((self.old ≡ []) × (self.new ≡ [])) (λ t. self.old ≡ t ∷ self.new) }
     {
-        let ahead = self.lexer.next();
-        mem::replace(&mut self.ahead, ahead)
+        let [next, rest @ ..] = self.rest else {
+            return None;
+        };
+        let (token, after) = token_at(*next, rest);
+        self.rest = behind_spaces(after);
+        Some(token)
     }
 
     // Takes the next token if it is this one.
-    #[inline]
+    #[inline(always)]
     fn take_if(&mut self, token: Token) -> bool
         ensures { MatchBool result (self.old ≡ token ∷ self.new) ((first self.old ≢ Some token) × (self.new ≡ self.old)) }
     {
-        if self.ahead == Some(token) {
-            self.ahead = self.lexer.next();
-            true
-        } else {
-            false
+        match behind(self.rest, &token) {
+            Some(after) => {
+                self.rest = behind_spaces(after);
+                true
+            }
+            None => false,
         }
     }
 
@@ -145,8 +152,8 @@ impl<'p> Parser<'p> {
             ((value_fault (first self.old) ≡ Some ExpectedValue) × (self.new ≡ self.old))
             (λ n. TakesValue self.old (record { 0 = n }) self.new) }
     {
-        let number = number_of(self.ahead.as_ref()?)?;
-        self.next();
+        let (number, after) = number_at(self.rest)?;
+        self.rest = behind_spaces(after);
         Some(number)
     }
 
@@ -190,19 +197,21 @@ impl<'p> Parser<'p> {
     }
 
     // Takes the operand that begins a relation, unless the tokens end or At comes.
+    #[tactic(auto, unfolding(crate::specs::Inner::Scan::tokens_from))]
     fn operand(&mut self) -> Result<Option<Operand>, ParseError>
         ensures shorter { length self.new ≤ length self.old }
         ensures operand { MatchResult result (λ o. ReadsOption TakesOperand self.old o self.new) (NoOperand self.old) }
     {
-        let Some(token) = &self.ahead else {
+        let [next, rest @ ..] = self.rest else {
             return Ok(None);
         };
-        if *token == Token::At {
+        let (token, after) = token_at(*next, rest);
+        if token == Token::At {
             return Ok(None);
         }
-        match operand_of(token) {
+        match operand_of(&token) {
             Some(operand) => {
-                self.next();
+                self.rest = behind_spaces(after);
                 Ok(Some(operand))
             }
             None => Err(ParseError::ExpectedOperand),
@@ -303,18 +312,6 @@ fn begun<T: Drop>(alloc: Global, first: T) -> Result<Vec<T>, AllocError>
     let mut items = Vec::with_capacity(alloc, ROOM)?;
     items.push_reserved(first);
     Ok(items)
-}
-
-// The number that a token is.
-#[inline]
-fn number_of(token: &Token) -> Option<u32>
-    ensures { MatchOption result (token_value token.now ≡ None) (λ n. token_value token.now ≡ Some (record { 0 = n })) }
-{
-    match token {
-        Token::Number(number) => Some(*number),
-        Token::Zero => Some(0),
-        _ => None,
-    }
 }
 
 // The operand that a token is.

@@ -11,10 +11,12 @@ ghost use Rattle.plural_reference.specs.Inner.PlainSamples.{AreLists, HasSamples
 ghost use Rattle.plural_reference.specs.Inner.Scan.{tokens_of};
 
 use super::Parser;
+use super::front::behind_spaces;
 use super::plain::are_plain;
 use super::sink::{LeftOut, Sink};
 use crate::ast::{DecimalValue, Operand, SampleList, SampleRange, Samples};
 use crate::error::{ParseError, ReadError};
+use crate::lexer::{strip_byte, token_at};
 use crate::sequence::Sequence;
 use crate::token::Token;
 use std::alloc::{AllocError, Global};
@@ -50,13 +52,11 @@ impl<'p> Parser<'p> {
 
     // The bytes behind At, if it is the next token.
     #[inline]
+    #[tactic(auto, unfolding(crate::specs::Inner::Scan::tokens_from))]
     fn behind_at(&self) -> Option<&[u8]>
         ensures { IfSome result (λ text. self.now ≡ At ∷ tokens_of text.now) }
     {
-        match &self.ahead {
-            Some(Token::At) => Some(self.lexer.rest()),
-            _ => None,
-        }
+        strip_byte(self.rest, b'@')
     }
 
     // samples = (At (Integer | Decimal) list)*
@@ -144,15 +144,17 @@ impl<'p> Parser<'p> {
 
     // Whether the next token begins a sample.
     #[inline]
+    #[tactic(auto, unfolding(crate::specs::Inner::Scan::tokens_from))]
     fn is_before_sample(&self) -> bool
         ensures { MatchBool result
             (sample_fault (first self.now) ≡ None)
             (sample_fault (first self.now) ≡ Some ExpectedValue) }
     {
-        match &self.ahead {
-            Some(token) => begins_sample(token),
-            None => false,
-        }
+        let [next, rest @ ..] = self.rest else {
+            return false;
+        };
+        let (token, _) = token_at(*next, rest);
+        begins_sample(&token)
     }
 
     // digits (Dot digits)?
@@ -203,13 +205,18 @@ impl<'p> Parser<'p> {
 
     // Takes the next token if it begins an exponent: its text.
     #[inline]
+    #[tactic(auto, unfolding(crate::specs::Inner::Scan::tokens_from))]
     fn take_mark(&mut self) -> Option<&'static str>
         ensures { MatchOption result
             (NoMark self.old × (self.new ≡ self.old))
             (λ mark. TakesText IsExponentMark self.old mark.now self.new) }
     {
-        let mark = mark_of(self.ahead.as_ref()?)?;
-        self.next();
+        let [next, rest @ ..] = self.rest else {
+            return None;
+        };
+        let (token, after) = token_at(*next, rest);
+        let mark = mark_of(&token)?;
+        self.rest = behind_spaces(after);
         Some(mark)
     }
 }

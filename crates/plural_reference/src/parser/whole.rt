@@ -37,9 +37,10 @@ impl<'p> Parser<'p> {
     }
 
     // Whether no token is left.
+    #[tactic(auto, using(crate::proofs::tokens::FirstBytes::no_tokens_left, crate::proofs::tokens::FirstBytes::no_bytes_left))]
     fn is_at_end(&self) -> bool
         ensures { IsTrue result ↔ (self.now ≡ []) }
     {
-        self.ahead.is_none()
+        self.rest.is_empty()
     }
 }

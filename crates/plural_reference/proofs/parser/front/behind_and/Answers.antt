@@ -1,0 +1,5 @@
+use Rattle.plural_reference.proofs.tokens.FirstBytes.{and_by_third}
+use Rattle.plural_reference.proofs.parser.front.behind_and.Goals as goal
+
+pub returns : goal.returns
+returns c = and_by_third _ _ _ _ c.in_ok-rest.ensures c.in_ok-last.ensures c.strip_byte-3.ensures

@@ -1,0 +1,5 @@
+use Rattle.plural_reference.proofs.tokens.FirstBytes.{or_by_second}
+use Rattle.plural_reference.proofs.parser.front.behind_or.Goals as goal
+
+pub returns : goal.returns
+returns c = or_by_second _ _ _ c.in_ok-rest.ensures c.strip_byte-2.ensures
