@@ -1,8 +1,9 @@
 //! A text as tokens (UTS 35 Part 3, Plural Rules Syntax).
 
-ghost use Rattle.std.specs.Prelude.{◌≡◌, ◌≢◌, ◌≤◌, ◌+◌, ◌*◌, ◌∷◌, ℕ, Some, length, min, MatchOption};
+ghost use Rattle.std.specs.Prelude.{◌≡◌, ◌≢◌, ◌≤◌, ◌+◌, ◌*◌, ◌∷◌, [], ℕ, Some, length, min, MatchOption};
 ghost use Rattle.plural_reference.specs.Lexer.{first, AreTokensOf, blank};
 ghost use Rattle.std.specs.Iterator.{YieldsFirst, item_count};
+ghost use Rattle.plural_reference.specs.Inner.Front.{BeginsAtToken};
 ghost use Rattle.plural_reference.specs.Inner.Scan.{tokens_of, keyword_tokens, number_token};
 
 use crate::ast;
@@ -83,10 +84,23 @@ fn behind_space(text: &[u8]) -> &[u8]
     }
 }
 
+// The first token of a text that doesn't begin with a space, and the bytes after it.
+#[inline]
+#[tactic(auto, unfolding(crate::specs::Inner::Scan::tokens_from))]
+pub(crate) fn first_token(text: &[u8]) -> Option<(Token, &[u8])>
+    requires { BeginsAtToken text.now }
+    ensures { MatchOption result (tokens_of text.now ≡ []) (λ it. tokens_of text.now ≡ it.0 ∷ tokens_of it.1.now) }
+{
+    match text {
+        [first, rest @ ..] => Some(token_at(*first, rest)),
+        [] => None,
+    }
+}
+
 // The token that the byte begins, and the bytes after it.
 #[inline]
 #[tactic(auto, using(crate::proofs::tokens::Alone::i_alone, crate::proofs::tokens::Alone::point_alone), unfolding(crate::specs::Inner::Scan::tokens_from))]
-pub(crate) fn token_at(first: u8, rest: &[u8]) -> (Token, &[u8])
+fn token_at(first: u8, rest: &[u8]) -> (Token, &[u8])
     requires { first ≢ blank }
     ensures { tokens_of (first ∷ rest.now) ≡ result.0 ∷ tokens_of result.1.now }
 {

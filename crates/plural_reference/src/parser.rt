@@ -21,7 +21,7 @@ use crate::ast::{
     Rule, Value,
 };
 use crate::error::{ParseError, ReadError};
-use crate::lexer::token_at;
+use crate::lexer::first_token;
 use crate::parser::front::{behind, behind_spaces, number_at};
 use crate::parser::sink::Kept;
 use crate::sequence::Sequence;
@@ -96,16 +96,16 @@ struct Parser<'p> {
 }
 
 impl<'p> Model for Parser<'p> {
-    ghost use Rattle.std.specs.Prelude.{◌≢◌, List, Some};
+    ghost use Rattle.std.specs.Prelude.{List};
     ghost use Rattle.plural_reference.specs.declared.token.Token.{Token};
-    ghost use Rattle.plural_reference.specs.Lexer.{blank, first};
+    ghost use Rattle.plural_reference.specs.Inner.Front.{BeginsAtToken};
     ghost use Rattle.plural_reference.specs.Inner.Scan.{tokens_of};
 
     ghost Value = { List Token };
 
     ghost view = { λ p. tokens_of p.rest.now };
 
-    ghost invariant = { λ p. first p.rest.now ≢ Some blank };
+    ghost invariant = { λ p. BeginsAtToken p.rest.now };
 }
 
 impl<'p> Parser<'p> {
@@ -119,14 +119,10 @@ impl<'p> Parser<'p> {
 
     // Takes the next token.
     #[inline]
-    #[tactic(auto, unfolding(crate::specs::Inner::Scan::tokens_from))]
     fn next(&mut self) -> Option<Token>
         ensures { MatchOption result ((self.old ≡ []) × (self.new ≡ [])) (λ t. self.old ≡ t ∷ self.new) }
     {
-        let [next, rest @ ..] = self.rest else {
-            return None;
-        };
-        let (token, after) = token_at(*next, rest);
+        let (token, after) = first_token(self.rest)?;
         self.rest = behind_spaces(after);
         Some(token)
     }
@@ -197,15 +193,13 @@ impl<'p> Parser<'p> {
     }
 
     // Takes the operand that begins a relation, unless the tokens end or At comes.
-    #[tactic(auto, unfolding(crate::specs::Inner::Scan::tokens_from))]
     fn operand(&mut self) -> Result<Option<Operand>, ParseError>
         ensures shorter { length self.new ≤ length self.old }
         ensures operand { MatchResult result (λ o. ReadsOption TakesOperand self.old o self.new) (NoOperand self.old) }
     {
-        let [next, rest @ ..] = self.rest else {
+        let Some((token, after)) = first_token(self.rest) else {
             return Ok(None);
         };
-        let (token, after) = token_at(*next, rest);
         if token == Token::At {
             return Ok(None);
         }

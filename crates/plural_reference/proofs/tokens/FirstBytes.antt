@@ -14,7 +14,8 @@ use Rattle.plural_reference.specs.Lexer.{first, max_number}
 use Rattle.plural_reference.specs.Inner.Scan.{Start, gives, opens, Scan, between, in_keyword, in_number, after_i}
 use Rattle.plural_reference.specs.Inner.Scan.{after_point, piece_starts, look_up, start_move, begin_piece, number_token}
 use Rattle.plural_reference.specs.Parser.{value_fault}
-use Rattle.plural_reference.specs.Inner.Scan.{then_begin, ScanMove, tokens_from, tokens_of, IsBehind}
+use Rattle.plural_reference.specs.Inner.Scan.{then_begin, ScanMove, tokens_from, tokens_of}
+use Rattle.plural_reference.specs.Inner.Front.{BeginsAtToken, IsBehind}
 use Rattle.plural_reference.specs.declared.error.ParseError.TheVariants.{ExpectedValue}
 use Rattle.plural_reference.proofs.tokens.ScanComplete.{no_eq}
 use Rattle.plural_reference.proofs.tokens.Alone.{point_alone}
@@ -124,14 +125,14 @@ unfolding tokens_from
 text_begins b bs t other e = subst (λ o. IsSomeAnd o (λ u. MayBegin u b)) e (any_begins b bs other)
 
 -- a text has no first token that begins with another byte
-other_first : (text : List ℕ) (t : Token) (k : ℕ) → ((b : ℕ) → MayBegin t b → b ≡ k) → first text ≢ Some 32 → first text ≢ Some k
+other_first : (text : List ℕ) (t : Token) (k : ℕ) → ((b : ℕ) → MayBegin t b → b ≡ k) → BeginsAtToken text → first text ≢ Some k
     → first (tokens_of text) ≢ Some t
 unfolding tokens_from
 other_first [] t k h space other e = cc
 other_first (b ∷ bs) t k h space other e = other (ap Some (h b (text_begins b bs t (λ q. space (ap Some q)) e)))
 
 -- a text without tokens that doesn't begin with a space is empty
-pub no_tokens_left : (text : List ℕ) → first text ≢ Some 32 → tokens_of text ≡ [] → text ≡ []
+pub no_tokens_left : (text : List ℕ) → BeginsAtToken text → tokens_of text ≡ [] → text ≡ []
 unfolding tokens_from
 no_tokens_left [] space e = refl
 no_tokens_left (b ∷ bs) space e =
@@ -160,7 +161,7 @@ broken k ks t [] other = refl
 broken k ks t (c ∷ cs) other = rw (no_eq c k (λ e. other (ap Some e))) refl
 
 -- `and`
-pub no_and : (text : List ℕ) → first text ≢ Some 32 → first text ≢ Some 97 → first (tokens_of text) ≢ Some And
+pub no_and : (text : List ℕ) → BeginsAtToken text → first text ≢ Some 97 → first (tokens_of text) ≢ Some And
 no_and text space other = other_first text And 97 (λ b h. h) space other
 
 pub no_and_by_second : (text rest : List ℕ) → text ≡ 97 ∷ rest → first rest ≢ Some 110 → first (tokens_of text) ≢ Some And
@@ -176,7 +177,7 @@ and_by_third text rest last None e f other = λ g.
 and_by_third text rest last (Some after) e f g = rw (e, f, g) refl
 
 -- `or`
-pub no_or : (text : List ℕ) → first text ≢ Some 32 → first text ≢ Some 111 → first (tokens_of text) ≢ Some Or
+pub no_or : (text : List ℕ) → BeginsAtToken text → first text ≢ Some 111 → first (tokens_of text) ≢ Some Or
 no_or text space other = other_first text Or 111 (λ b h. h) space other
 
 pub or_by_second : (text rest : List ℕ) (after : Option (Bor (List ℕ))) → text ≡ 111 ∷ rest
@@ -186,7 +187,7 @@ or_by_second text rest None e other = λ g. let junk : first (tokens_of text) �
 or_by_second text rest (Some after) e f = rw (e, f) refl
 
 -- `…`
-pub no_ellipsis : (text : List ℕ) → first text ≢ Some 32 → first text ≢ Some 0xe2 → first (tokens_of text) ≢ Some Ellipsis
+pub no_ellipsis : (text : List ℕ) → BeginsAtToken text → first text ≢ Some 0xe2 → first (tokens_of text) ≢ Some Ellipsis
 no_ellipsis text space other = other_first text Ellipsis 0xe2 (λ b h. h) space other
 
 pub no_ellipsis_by_second : (text rest : List ℕ) → text ≡ 0xe2 ∷ rest → first rest ≢ Some 0x80 → first (tokens_of text) ≢ Some Ellipsis
@@ -202,7 +203,7 @@ ellipsis_by_third text rest last None e f other = λ g.
 ellipsis_by_third text rest last (Some after) e f g = rw (e, f, g) refl
 
 -- `..`
-pub no_dots : (text : List ℕ) → first text ≢ Some 32 → first text ≢ Some 46 → first (tokens_of text) ≢ Some DotDot
+pub no_dots : (text : List ℕ) → BeginsAtToken text → first text ≢ Some 46 → first (tokens_of text) ≢ Some DotDot
 no_dots text space other = other_first text DotDot 46 (λ b h. h) space other
 
 pub dots_by_second : (text rest : List ℕ) (after : Option (Bor (List ℕ))) → text ≡ 46 ∷ rest
@@ -215,6 +216,7 @@ dots_by_second text rest (Some after) e f = rw (e, f) refl
 
 -- what the functions that strip these bytes may be left to show
 pub ruleset and_bytes = (no_and, no_and_by_second)
+
 pub ruleset ellipsis_bytes = (no_ellipsis, no_ellipsis_by_second)
 
 -- ---- values
@@ -227,7 +229,7 @@ no_value_of (Some Zero) b h n = absurd (n (omega (arith, h), omega (arith, h)))
 no_value_of (Some _) b h n = refl
 
 -- a text whose first byte is no digit begins with no value
-pub no_value : (text : List ℕ) → first text ≢ Some 32 → ¬ (IsAsciiDigit (get_or text 0 0))
+pub no_value : (text : List ℕ) → BeginsAtToken text → ¬ (IsAsciiDigit (get_or text 0 0))
     → value_fault (first (tokens_of text)) ≡ Some ExpectedValue
 unfolding tokens_from
 no_value [] space n = refl

@@ -1,7 +1,6 @@
 -- Not a definition of the subject: the tokens of a text, byte by byte, for the view of the lexer
 -- and its private contracts. That these are the tokens of the text's pieces is proved.
-use Rattle.std.specs.Prelude.{ℕ, ◌+◌, ◌*◌, ◌≡◌, ◌≢◌, List, [], ◌∷◌, ◌++◌, Option, Some, MatchOption, nat_eq, cond, nat_le, codes}
-use Rattle.std.specs.Borrow.{Bor}
+use Rattle.std.specs.Prelude.{ℕ, ◌+◌, ◌*◌, List, [], ◌∷◌, ◌++◌, nat_eq, cond, nat_le, codes}
 use Rattle.std.specs.Str.{byte}
 use Rattle.std.specs.Char.{is_ascii_digit, digit_value}
 use Rattle.plural_reference.specs.declared.ast.Operand.TheVariants.{N, I, F, T, V, W, C}
@@ -9,7 +8,7 @@ use Rattle.plural_reference.specs.declared.ast.Operator.TheVariants.{Eq, NotEq}
 use Rattle.plural_reference.specs.declared.token.Token.{Token}
 use Rattle.plural_reference.specs.declared.token.Token.TheVariants.{Operand, Operator, Number, Zero, Dot, DotDot, Comma, Or, And}
 use Rattle.plural_reference.specs.declared.token.Token.TheVariants.{Modulo, Junk, At, Decimal, Integer, Ellipsis, Tilde, E}
-use Rattle.plural_reference.specs.Lexer.{blank, first, max_number}
+use Rattle.plural_reference.specs.Lexer.{blank, max_number}
 
 -- which part of a piece the bytes so far are
 pub data Scan : Type 0 where
@@ -102,7 +101,3 @@ tokens_of text = tokens_from between text
 abbrev pub keyword_tokens : List ℕ → Token → List ℕ → List Token
 keyword_tokens [] t rest = t ∷ tokens_of rest
 keyword_tokens (k ∷ ks) t rest = tokens_from (in_keyword k ks t) rest
-
--- the text begins with the token, and these bytes follow it, if there are any
-abbrev pub IsBehind : List ℕ → Token → Option (Bor (List ℕ)) → Type 0
-IsBehind text t rest = MatchOption rest (first (tokens_of text) ≢ Some t) (λ after. tokens_of text ≡ t ∷ tokens_of after.now)

@@ -3,12 +3,13 @@
 ghost use Rattle.std.specs.Prelude.{◌≡◌, ◌≢◌, Some, None, MatchOption};
 ghost use Rattle.plural_reference.specs.declared.error.ParseError.TheVariants.{ExpectedValue};
 ghost use Rattle.plural_reference.specs.declared.token.Token.TheVariants.{DotDot, And, Or, Ellipsis};
-ghost use Rattle.plural_reference.specs.Lexer.{blank, first};
+ghost use Rattle.plural_reference.specs.Lexer.{first};
 ghost use Rattle.plural_reference.specs.Parser.{token_value, value_fault};
+ghost use Rattle.plural_reference.specs.Inner.Front.{BeginsAtToken, IsBehind};
 ghost use Rattle.plural_reference.specs.Inner.Reader.{TakesValue};
-ghost use Rattle.plural_reference.specs.Inner.Scan.{tokens_of, IsBehind};
+ghost use Rattle.plural_reference.specs.Inner.Scan.{tokens_of};
 
-use crate::lexer::{number, strip_byte, token_at};
+use crate::lexer::{first_token, number, strip_byte};
 use crate::token::Token;
 
 // The bytes after the spaces at the front.
@@ -16,7 +17,7 @@ use crate::token::Token;
 #[tactic(auto, unfolding(crate::specs::Inner::Scan::tokens_from))]
 pub(super) fn behind_spaces(text: &[u8]) -> &[u8]
     ensures tokens { tokens_of result.now ≡ tokens_of text.now }
-    ensures no_space { first result.now ≢ Some blank }
+    ensures no_space { BeginsAtToken result.now }
 {
     let mut rest = text;
     'spaces: while let [next, after @ ..] = rest {
@@ -31,7 +32,7 @@ pub(super) fn behind_spaces(text: &[u8]) -> &[u8]
 // The bytes after the token, if the text begins with it. Most tokens are told without being cut.
 #[inline(always)]
 pub(super) fn behind<'t>(text: &'t [u8], token: &Token) -> Option<&'t [u8]>
-    requires { first text.now ≢ Some blank }
+    requires { BeginsAtToken text.now }
     ensures { IsBehind text.now token.now result }
 {
     match token {
@@ -51,7 +52,7 @@ pub(super) fn behind<'t>(text: &'t [u8], token: &Token) -> Option<&'t [u8]>
 #[inline]
 #[tactic(auto, using(crate::proofs::tokens::FirstBytes::no_dots))]
 fn behind_dots(text: &[u8]) -> Option<&[u8]>
-    requires { first text.now ≢ Some blank }
+    requires { BeginsAtToken text.now }
     ensures { IsBehind text.now DotDot result }
 {
     let rest = strip_byte(text, b'.')?;
@@ -62,7 +63,7 @@ fn behind_dots(text: &[u8]) -> Option<&[u8]>
 #[inline]
 #[tactic(auto, using(crate::proofs::tokens::FirstBytes::and_bytes))]
 fn behind_and(text: &[u8]) -> Option<&[u8]>
-    requires { first text.now ≢ Some blank }
+    requires { BeginsAtToken text.now }
     ensures { IsBehind text.now And result }
 {
     let rest = strip_byte(text, b'a')?;
@@ -74,7 +75,7 @@ fn behind_and(text: &[u8]) -> Option<&[u8]>
 #[inline]
 #[tactic(auto, using(crate::proofs::tokens::FirstBytes::no_or))]
 fn behind_or(text: &[u8]) -> Option<&[u8]>
-    requires { first text.now ≢ Some blank }
+    requires { BeginsAtToken text.now }
     ensures { IsBehind text.now Or result }
 {
     let rest = strip_byte(text, b'o')?;
@@ -85,7 +86,7 @@ fn behind_or(text: &[u8]) -> Option<&[u8]>
 #[inline]
 #[tactic(auto, using(crate::proofs::tokens::FirstBytes::ellipsis_bytes))]
 fn behind_ellipsis(text: &[u8]) -> Option<&[u8]>
-    requires { first text.now ≢ Some blank }
+    requires { BeginsAtToken text.now }
     ensures { IsBehind text.now Ellipsis result }
 {
     let rest = strip_byte(text, 0xe2)?;
@@ -96,13 +97,10 @@ fn behind_ellipsis(text: &[u8]) -> Option<&[u8]>
 // The bytes after any token, which is cut and compared.
 #[tactic(auto, unfolding(crate::specs::Inner::Scan::tokens_from))]
 fn behind_other<'t>(text: &'t [u8], token: &Token) -> Option<&'t [u8]>
-    requires { first text.now ≢ Some blank }
+    requires { BeginsAtToken text.now }
     ensures { IsBehind text.now token.now result }
 {
-    let [next, rest @ ..] = text else {
-        return None;
-    };
-    let (found, after) = token_at(*next, rest);
+    let (found, after) = first_token(text)?;
     if found == *token { Some(after) } else { None }
 }
 
@@ -110,7 +108,7 @@ fn behind_other<'t>(text: &'t [u8], token: &Token) -> Option<&'t [u8]>
 #[inline]
 #[tactic(auto, unfolding(crate::specs::Inner::Scan::tokens_from))]
 pub(super) fn number_at(text: &[u8]) -> Option<(u32, &[u8])>
-    requires { first text.now ≢ Some blank }
+    requires { BeginsAtToken text.now }
     ensures { MatchOption result
         (value_fault (first (tokens_of text.now)) ≡ Some ExpectedValue)
         (λ it. TakesValue (tokens_of text.now) (record { 0 = it.0 }) (tokens_of it.1.now)) }

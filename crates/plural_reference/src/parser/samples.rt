@@ -16,7 +16,7 @@ use super::plain::are_plain;
 use super::sink::{LeftOut, Sink};
 use crate::ast::{DecimalValue, Operand, SampleList, SampleRange, Samples};
 use crate::error::{ParseError, ReadError};
-use crate::lexer::{strip_byte, token_at};
+use crate::lexer::{first_token, strip_byte};
 use crate::sequence::Sequence;
 use crate::token::Token;
 use std::alloc::{AllocError, Global};
@@ -144,17 +144,15 @@ impl<'p> Parser<'p> {
 
     // Whether the next token begins a sample.
     #[inline]
-    #[tactic(auto, unfolding(crate::specs::Inner::Scan::tokens_from))]
     fn is_before_sample(&self) -> bool
         ensures { MatchBool result
             (sample_fault (first self.now) ≡ None)
             (sample_fault (first self.now) ≡ Some ExpectedValue) }
     {
-        let [next, rest @ ..] = self.rest else {
-            return false;
-        };
-        let (token, _) = token_at(*next, rest);
-        begins_sample(&token)
+        match first_token(self.rest) {
+            Some((token, _)) => begins_sample(&token),
+            None => false,
+        }
     }
 
     // digits (Dot digits)?
@@ -205,16 +203,12 @@ impl<'p> Parser<'p> {
 
     // Takes the next token if it begins an exponent: its text.
     #[inline]
-    #[tactic(auto, unfolding(crate::specs::Inner::Scan::tokens_from))]
     fn take_mark(&mut self) -> Option<&'static str>
         ensures { MatchOption result
             (NoMark self.old × (self.new ≡ self.old))
             (λ mark. TakesText IsExponentMark self.old mark.now self.new) }
     {
-        let [next, rest @ ..] = self.rest else {
-            return None;
-        };
-        let (token, after) = token_at(*next, rest);
+        let (token, after) = first_token(self.rest)?;
         let mark = mark_of(&token)?;
         self.rest = behind_spaces(after);
         Some(mark)
