@@ -22,7 +22,7 @@ use crate::ast::{
 };
 use crate::error::{ParseError, ReadError};
 use crate::lexer::first_token;
-use crate::parser::front::{behind, behind_spaces, number_at};
+use crate::parser::front::{behind, behind_spaces, number_at, operator_at};
 use crate::parser::sink::Kept;
 use crate::sequence::Sequence;
 use crate::token::Token;
@@ -235,10 +235,9 @@ impl<'p> Parser<'p> {
         ensures shorter { length self.new ≤ length self.old }
         ensures operator { MatchResult result (λ o. self.old ≡ token.Operator o ∷ self.new) (NoOperator self.old) }
     {
-        match self.next() {
-            Some(Token::Operator(operator)) => Ok(operator),
-            _ => Err(ParseError::ExpectedOperator),
-        }
+        let (operator, after) = operator_at(self.rest).ok_or(ParseError::ExpectedOperator)?;
+        self.rest = behind_spaces(after);
+        Ok(operator)
     }
 
     // relation = expr Operator range_list

@@ -8,15 +8,16 @@ use Rattle.std.specs.Borrow.{Bor}
 use Rattle.std.specs.List.{AllByRecursion}
 use Rattle.std.specs.Char.{is_ascii_digit, digit_value, IsAsciiDigit}
 use Rattle.plural_reference.specs.declared.ast.Operand.TheVariants.{I}
+use Rattle.plural_reference.specs.declared.ast.Operator.TheVariants.{Eq, NotEq}
 use Rattle.plural_reference.specs.declared.token.Token.{Token}
-use Rattle.plural_reference.specs.declared.token.Token.TheVariants.{Operand, Number, Zero, Dot, DotDot, Comma, Or, And, Modulo, Junk, At, Integer, Ellipsis, Tilde}
+use Rattle.plural_reference.specs.declared.token.Token.TheVariants.{Operand, Operator, Number, Zero, Dot, DotDot, Comma, Or, And, Modulo, Junk, At, Integer, Ellipsis, Tilde}
 use Rattle.plural_reference.specs.Lexer.{first, max_number}
 use Rattle.plural_reference.specs.Inner.Scan.{Start, gives, opens, Scan, between, in_keyword, in_number, after_i}
 use Rattle.plural_reference.specs.Inner.Scan.{after_point, piece_starts, look_up, start_move, begin_piece, number_token}
-use Rattle.plural_reference.specs.Parser.{value_fault}
+use Rattle.plural_reference.specs.Parser.{operator_fault, value_fault}
 use Rattle.plural_reference.specs.Inner.Scan.{then_begin, ScanMove, tokens_from, tokens_of}
 use Rattle.plural_reference.specs.Inner.Front.{BeginsAtToken, IsBehind}
-use Rattle.plural_reference.specs.declared.error.ParseError.TheVariants.{ExpectedValue}
+use Rattle.plural_reference.specs.declared.error.ParseError.TheVariants.{ExpectedOperator, ExpectedValue}
 use Rattle.plural_reference.proofs.tokens.ScanComplete.{no_eq}
 use Rattle.plural_reference.proofs.tokens.Alone.{point_alone}
 
@@ -33,6 +34,8 @@ MayBegin Modulo b = b ≡ 37
 MayBegin At b = b ≡ 64
 MayBegin Ellipsis b = b ≡ 0xe2
 MayBegin Tilde b = b ≡ 126
+MayBegin (Operator Eq) b = b ≡ 61
+MayBegin (Operator NotEq) b = b ≡ 33
 MayBegin _ b = Unit {0}
 
 -- there is a first token, and it may begin with the byte
@@ -94,8 +97,8 @@ row_begins b (opens s) bs h = opened_begins s bs b h
 rows_fit : AllByRecursion RowFits piece_starts
 rows_fit =
     let from_zero : AllByRecursion RowFits (drop 9 piece_starts) =
-    (refl, (refl, (refl, (refl, (refl, (refl, (refl, (refl, (tt, (tt, (refl, tt))))))))))) in
-    (tt, (tt, (tt, (tt, (tt, (tt, (tt, (tt, (tt, from_zero)))))))))
+    (refl, (refl, (refl, (refl, (refl, (refl, (refl, (refl, (refl, (tt, (refl, tt))))))))))) in
+    (tt, (tt, (tt, (tt, (tt, (tt, (tt, (tt, (refl, from_zero)))))))))
 
 -- a byte that is looked up
 looked_up : (b : ℕ) (ss : List (ℕ × Start)) (bs : List ℕ) → AllByRecursion RowFits ss → MovesBy (look_up b ss) bs b
@@ -218,6 +221,40 @@ dots_by_second text rest (Some after) e f = rw (e, f) refl
 pub ruleset and_bytes = (no_and, no_and_by_second)
 
 pub ruleset ellipsis_bytes = (no_ellipsis, no_ellipsis_by_second)
+
+-- ---- operators
+
+-- a token that begins with neither byte of an operator is none
+no_operator_of : (o : Option Token) (b : ℕ) → IsSomeAnd o (λ t. MayBegin t b) → b ≢ 61 → b ≢ 33
+    → operator_fault o ≡ Some ExpectedOperator
+no_operator_of None b h e n = refl
+no_operator_of (Some (Operator Eq)) b h e n = absurd (e h)
+no_operator_of (Some (Operator NotEq)) b h e n = absurd (n h)
+no_operator_of (Some _) b h e n = refl
+
+-- `=` and `!=`
+pub no_operator : (text : List ℕ) → BeginsAtToken text → first text ≢ Some 61 → first text ≢ Some 33
+    → operator_fault (first (tokens_of text)) ≡ Some ExpectedOperator
+unfolding tokens_from
+no_operator [] space e n = refl
+no_operator (b ∷ bs) space e n =
+    no_operator_of _ b (any_begins b bs (λ q. space (ap Some q))) (λ q. e (ap Some q)) (λ q. n (ap Some q))
+
+pub no_operator_by_second : (text rest : List ℕ) → text ≡ 33 ∷ rest → first rest ≢ Some 61
+    → operator_fault (first (tokens_of text)) ≡ Some ExpectedOperator
+unfolding tokens_from
+no_operator_by_second text rest e other = rw (e, broken 61 [] (Operator NotEq) rest other) refl
+
+pub is_equal : (text after : List ℕ) → text ≡ 61 ∷ after → tokens_of text ≡ Operator Eq ∷ tokens_of after
+unfolding tokens_from
+is_equal text after e = rw e refl
+
+pub is_not_equal : (text rest after : List ℕ) → text ≡ 33 ∷ rest → rest ≡ 61 ∷ after → tokens_of text ≡ Operator NotEq ∷ tokens_of after
+unfolding tokens_from
+is_not_equal text rest after e f = rw (e, f) refl
+
+-- what a reader of operators may be left to show
+pub ruleset operator_bytes = (no_operator, no_operator_by_second, is_equal)
 
 -- ---- values
 

@@ -1,14 +1,16 @@
 //! The token at the front of a text, told by its first bytes (UTS 35 Part 3, Plural Rules Syntax).
 
-ghost use Rattle.std.specs.Prelude.{◌≡◌, ◌≢◌, Some, None, MatchOption};
-ghost use Rattle.plural_reference.specs.declared.error.ParseError.TheVariants.{ExpectedValue};
+ghost use Rattle.std.specs.Prelude.{◌≡◌, ◌≢◌, ◌∷◌, Some, None, MatchOption};
+ghost use Rattle.plural_reference.specs.declared.error.ParseError.TheVariants.{ExpectedOperator, ExpectedValue};
+ghost use Rattle.plural_reference.specs.declared.token.Token.TheVariants as token;
 ghost use Rattle.plural_reference.specs.declared.token.Token.TheVariants.{DotDot, And, Or, Ellipsis};
 ghost use Rattle.plural_reference.specs.Lexer.{first};
-ghost use Rattle.plural_reference.specs.Parser.{token_value, value_fault};
+ghost use Rattle.plural_reference.specs.Parser.{operator_fault, token_value, value_fault};
 ghost use Rattle.plural_reference.specs.Inner.Front.{BeginsAtToken, IsBehind};
 ghost use Rattle.plural_reference.specs.Inner.Reader.{TakesValue};
 ghost use Rattle.plural_reference.specs.Inner.Scan.{tokens_of};
 
+use crate::ast::Operator;
 use crate::lexer::{first_token, number, strip_byte};
 use crate::token::Token;
 
@@ -136,4 +138,21 @@ fn number_of(token: &Token) -> Option<u32>
         Token::Zero => Some(0),
         _ => None,
     }
+}
+
+// The operator that the first token is, and the bytes after it.
+#[inline]
+#[tactic(auto, using(crate::proofs::tokens::FirstBytes::operator_bytes))]
+pub(super) fn operator_at(text: &[u8]) -> Option<(Operator, &[u8])>
+    requires { BeginsAtToken text.now }
+    ensures { MatchOption result
+        (operator_fault (first (tokens_of text.now)) ≡ Some ExpectedOperator)
+        (λ it. tokens_of text.now ≡ token.Operator it.0 ∷ tokens_of it.1.now) }
+{
+    if let Some(after) = strip_byte(text, b'=') {
+        return Some((Operator::Eq, after));
+    }
+    let rest = strip_byte(text, b'!')?;
+    let after = strip_byte(rest, b'=')?;
+    Some((Operator::NotEq, after))
 }
