@@ -38,22 +38,23 @@ impl Rule<'static> {
         ensures start_limit { (result ≡ Err RuleError.StartLimit)
             ↔ (IsFalse (has_large_value rule.now.condition) × IsTrue (has_high_start (map relation_bytes (packed rule.now.condition)))) }
     {
+        if has_large_value(&rule.condition) {
+            return Err(RuleError::Parse(ParseError::ValueTooLarge));
+        }
         Rule::of_condition(alloc, &rule.condition)
     }
 
-    // Packs a condition, as a tree without samples.
+    // Packs a condition whose values fit, as a tree without samples.
     pub(crate) fn of_condition(
         alloc: Global,
         condition: &ast::Condition,
     ) -> Result<Rule<'static>, RuleError>
+        requires { IsFalse (has_large_value condition.now) }
         ensures packs { Packs condition.now result }
         ensures value_too_large { (result ≡ Err (RuleError.Parse ParseError.ValueTooLarge)) ↔ IsTrue (has_large_value condition.now) }
         ensures start_limit { (result ≡ Err RuleError.StartLimit)
             ↔ (IsFalse (has_large_value condition.now) × IsTrue (has_high_start (map relation_bytes (packed condition.now)))) }
     {
-        if has_large_value(condition) {
-            return Err(RuleError::Parse(ParseError::ValueTooLarge));
-        }
         let Some(list) = list_of(condition) else {
             return Err(RuleError::StartLimit);
         };

@@ -1,7 +1,10 @@
-use Rattle.std.proofs.Common.{◌≡◌, ◌∙◌, ap, subst, sym, inl, inr, Err}
+use Rattle.std.proofs.Common.{◌≡◌, ◌∙◌, ℕ, List, false, ap, subst, sym, inl, inr, Err}
+use Rattle.plural_reference.specs.declared.ast.Condition.{Condition}
+use Rattle.plural_reference.specs.declared.token.Token.{Token}
+use Rattle.plural_reference.specs.PrintingLaws.{ConditionsOfTextsAreSpellable}
 use Rattle.plural_reference.specs.declared.error.ParseError.TheVariants.{ValueTooLarge}
 use Rattle.plural_reference.specs.Reading.{IsAnswer}
-use Rattle.plural_reference.specs.Lexer.{TextFaulty, TextReads}
+use Rattle.plural_reference.specs.Lexer.{AreTokensOf, TextFaulty, TextReads}
 use Rattle.plural_reference.specs.Samples.{ReadsCondition, FaultyRule}
 use Rattle.plural_runtime.specs.PackedTree.{has_large_value}
 use Rattle.plural_runtime.proofs.texts.FaultKinds.{never_too_large, packing_not_large}
@@ -35,19 +38,28 @@ returns-in-Err-Parse-clause-gives c =
       | inr memory ↦ cc
     ]
 
+-- the values of a condition that is read fit
+small : (text : List ℕ) (tokens : List Token) (condition : Condition) → ConditionsOfTextsAreSpellable → AreTokensOf text tokens
+    → ReadsCondition tokens condition → has_large_value condition ≡ false
+small text tokens condition law cut reads =
+    ap has_large_value (sym reads.2)
+    ∙ spellable_is_small reads.0.condition (law text reads.0.condition (tokens, cut, (reads.1.0, reads.1.1)))
+
+pub of_condition-requires : goal.of_condition-requires
+of_condition-requires c =
+    let text = c.as_bytes.result.now in
+    let law = c.one_list_of_tokens.ensures text in
+    small text law.0 c.in-Ok.condition c.conditions_of_texts_are_spellable.ensures law.1
+    (subst (λ r. IsAnswer (ReadsCondition law.0) (FaultyRule law.0) r) c.in-Ok.is (c.parse_without_samples.ensures.only law.0 law.1))
+
 pub returns-in-Ok-clause-fits : goal.returns-in-Ok-clause-fits
 returns-in-Ok-clause-fits c = λ h.
     let condition = c.in-Ok.condition in
     let text = c.as_bytes.result.now in
     let law = c.one_list_of_tokens.ensures text in
-    let tokens = law.0 in
-    let reads : ReadsCondition tokens condition =
-    subst (λ r. IsAnswer (ReadsCondition tokens) (FaultyRule tokens) r) c.in-Ok.is
-    (c.parse_without_samples.ensures.only tokens law.1) in
-    let rule = reads.0 in
-    let spellable = c.conditions_of_texts_are_spellable.ensures text rule.condition (tokens, law.1, (reads.1.0, reads.1.1)) in
-    let small = ap has_large_value (sym reads.2) ∙ spellable_is_small rule.condition spellable in
-    elim c.of_condition.ensures.packs [ inl e ↦ packing_not_large condition small (sym e ∙ h) | inr memory ↦ cc ]
+    let fits = small text law.0 condition c.conditions_of_texts_are_spellable.ensures law.1
+    (subst (λ r. IsAnswer (ReadsCondition law.0) (FaultyRule law.0) r) c.in-Ok.is (c.parse_without_samples.ensures.only law.0 law.1)) in
+    elim c.of_condition.ensures.packs [ inl e ↦ packing_not_large condition fits (sym e ∙ h) | inr memory ↦ cc ]
 
 pub returns-in-Err-Parse-clause-fits : goal.returns-in-Err-Parse-clause-fits
 returns-in-Err-Parse-clause-fits c = λ h.

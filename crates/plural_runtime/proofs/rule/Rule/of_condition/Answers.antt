@@ -3,22 +3,19 @@ use Rattle.std.specs.Prelude.{Ok}
 use Rattle.packed_list.specs.ListBytes.{ListBytes}
 use Rattle.plural_runtime.specs.PackedTree.{packed}
 use Rattle.plural_runtime.specs.PackedRelations.{RuleBytes}
-use Rattle.plural_runtime.proofs.trees.PackedTrees.{packing-large, packing-high, packing-ok, small_tree}
+use Rattle.plural_runtime.proofs.trees.PackedTrees.{packing-high, packing-ok, small_tree}
 use Rattle.plural_runtime.proofs.rule.Rule.of_condition.Goals as goal
-
-pub returns-then-has_large_value-clause-packs : goal.returns-then-has_large_value-clause-packs
-returns-then-has_large_value-clause-packs c = inl (sym (packing-large c.args.condition.now (sym c.if-has_large_value.ensures)))
 
 pub returns-in_default-clause-packs : goal.returns-in_default-clause-packs
 returns-in_default-clause-packs c =
-    inl (sym (packing-high c.args.condition.now (sym c.if-has_large_value.ensures) c.in_default.ensures.high))
+    inl (sym (packing-high c.args.condition.now c.requires c.in_default.ensures.high))
 
 pub owned-requires : goal.owned-requires
 owned-requires c =
     let condition = c.args.condition.now in
     let bytes = c.in-Ok.bytes.items in
     let here : RuleBytes (packed condition) bytes = record {
-      fit = small_tree condition (sym c.if-has_large_value.ensures);
+      fit = small_tree condition c.requires;
       packed = subst (λ (items : List (List ℕ)). ListBytes items bytes) c.in-Some.ensures.ok c.in-Ok.ensures;
     } in
     subst (λ relations. RuleBytes relations bytes) (sym (c.relations_read_again.ensures (packed condition) bytes here)) here
@@ -28,7 +25,7 @@ returns-in-Ok-clause-packs c =
     let condition = c.args.condition.now in
     let bytes = c.in-Ok.bytes.items in
     let law = c.relations_read_again.ensures in
-    let no_large = sym c.if-has_large_value.ensures in
+    let no_large = c.requires in
     let here : RuleBytes (packed condition) bytes = record {
       fit = small_tree condition no_large;
       packed = subst (λ (items : List (List ℕ)). ListBytes items bytes) c.in-Some.ensures.ok c.in-Ok.ensures;
