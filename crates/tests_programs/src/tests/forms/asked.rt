@@ -11,10 +11,10 @@ use std::io::{Read, Write};
 
 // The rules that are asked, and the lines of numbers.
 pub(crate) const RULES: &[u8] = br#"{"cardinal":{"en":{"one":"i = 1 and v = 0"}}}"#;
+
 pub(crate) const LINES: &[u8] = b"1\n2";
 
-const MESSAGES: &str =
-    r#"{"en-GB":{"cardinal":{"files":{"one":"a file","other":"{} files"}}}}"#;
+const MESSAGES: &str = r#"{"en-GB":{"cardinal":{"files":{"one":"a file","other":"{} files"}}}}"#;
 
 // The calls that write an answer.
 #[derive(Clone, Copy, Debug, PartialEq, Eq)]

@@ -68,7 +68,14 @@ fn an_interrupted_read_is_repeated(rt: HostRuntime) {
         rules.interrupts = 3;
         lines.interrupts = 3;
         let (mut writer, mut notes) = (awaiting(asked.text()), awaiting(asked.notes()));
-        let answer = answer(rt.alloc(), asked, &mut rules, &mut lines, &mut writer, &mut notes);
+        let answer = answer(
+            rt.alloc(),
+            asked,
+            &mut rules,
+            &mut lines,
+            &mut writer,
+            &mut notes,
+        );
         holds!(rt; answer.is_ok() && writer.is_done() && notes.is_done(), at asked);
     }
 }
@@ -79,7 +86,14 @@ fn fails_after(alloc: Global, lines: &[u8], length: usize, text: &str) -> bool {
     let mut rules = RULES;
     let mut lines = Input::up_to(lines, length, true);
     let (mut writer, mut notes) = (awaiting(text), Taking::some(0, true));
-    let answer = answer(alloc, Asked::Lines, &mut rules, &mut lines, &mut writer, &mut notes);
+    let answer = answer(
+        alloc,
+        Asked::Lines,
+        &mut rules,
+        &mut lines,
+        &mut writer,
+        &mut notes,
+    );
     let is_told = match answer {
         Ok(_) => false,
         Err(fault) => awaits_fault(writer, fault.status(), &fault),

@@ -20,7 +20,14 @@ fn is_failed_write(answer: &Result<Verdict, FormsError>) -> bool {
 fn stops_after(alloc: Global, asked: Asked, left: usize, refuses: bool) -> bool {
     let (mut rules, mut lines) = (RULES, LINES);
     let (mut writer, mut notes) = (Taking::some(left, refuses), Taking::some(0, true));
-    let answer = answer(alloc, asked, &mut rules, &mut lines, &mut writer, &mut notes);
+    let answer = answer(
+        alloc,
+        asked,
+        &mut rules,
+        &mut lines,
+        &mut writer,
+        &mut notes,
+    );
     let is_stopped = writer.left == 0 && writer.is_left_alone();
     is_failed_write(&answer) && is_stopped && notes.is_untouched()
 }
@@ -40,7 +47,14 @@ fn a_refused_write_is_a_fault_before_any_note(rt: HostRuntime) {
 fn notes_stop_after(alloc: Global, asked: Asked, left: usize, succeeds: bool) -> bool {
     let (mut rules, mut lines) = (RULES, LINES);
     let (mut writer, mut notes) = (awaiting(asked.text()), Taking::some(left, true));
-    let answer = answer(alloc, asked, &mut rules, &mut lines, &mut writer, &mut notes);
+    let answer = answer(
+        alloc,
+        asked,
+        &mut rules,
+        &mut lines,
+        &mut writer,
+        &mut notes,
+    );
     let is_told = if succeeds {
         answer.is_ok()
     } else {
@@ -65,7 +79,14 @@ fn a_refused_note_is_a_fault_after_the_whole_answer(rt: HostRuntime) {
 fn left_of_lines(alloc: Global, lines: &[u8], taken: usize) -> Option<usize> {
     let (mut rules, mut rest) = (RULES, lines);
     let (mut writer, mut notes) = (Taking::some(taken, true), Taking::some(0, true));
-    let answer = answer(alloc, Asked::Lines, &mut rules, &mut rest, &mut writer, &mut notes);
+    let answer = answer(
+        alloc,
+        Asked::Lines,
+        &mut rules,
+        &mut rest,
+        &mut writer,
+        &mut notes,
+    );
     let is_stopped = writer.left == 0 && writer.is_left_alone();
     if is_failed_write(&answer) && is_stopped && notes.is_untouched() {
         Some(rest.len())
