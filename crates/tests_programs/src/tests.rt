@@ -4,6 +4,7 @@
 mod assertion;
 mod awaits;
 mod commands;
+mod forms;
 mod input;
 mod line;
 mod pieces;

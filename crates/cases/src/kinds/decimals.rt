@@ -15,6 +15,7 @@ pub fn make(kind: &str, call: &mut Call) -> bool {
         "exponent" => exponent(call),
         "unsigned_integer" => unsigned_integer(call),
         "signed_integer" => signed_integer(call),
+        "signed_integer_64" => signed_integer_64(call),
         "shifted_decimal" => shifted_decimal(call),
         "padded_decimal" => padded_decimal(call),
         "trimmed_decimal" => trimmed_decimal(call),
@@ -31,6 +32,9 @@ pub fn make(kind: &str, call: &mut Call) -> bool {
 // Makes the call of a kind that is about an unsigned decimal.
 fn makes_unsigned(kind: &str, call: &mut Call) -> bool {
     match kind {
+        "unsigned_integer_64" => unsigned_integer_64(call),
+        "padded_unsigned" => padded_unsigned(call),
+        "trimmed_unsigned" => trimmed_unsigned(call),
         "rounded_unsigned" => rounded_unsigned(call),
         "shifted_digits" => shifted_digits(call),
         "digits_at" => digits_at(call),
@@ -176,6 +180,25 @@ fn signed_integer(call: &mut Call) {
     }
 }
 
+// An integer of 64 bits without a sign.
+fn unsigned_integer_64(call: &mut Call) {
+    let number = call.number();
+    let made = UnsignedDecimal::from_u64(call.alloc, number);
+    print_unsigned(call, made);
+}
+
+// An integer of 64 bits with a sign.
+fn signed_integer_64(call: &mut Call) {
+    let text = call.text();
+    match text.as_str().parse::<i64>() {
+        Ok(number) => {
+            let made = Decimal::from_i64(call.alloc, number);
+            print_decimal(call, made);
+        }
+        Err(_) => call.not("an integer"),
+    }
+}
+
 // What a shift gives, and the decimal after it.
 fn shifted_decimal(call: &mut Call) {
     let Some(mut number) = next_decimal(call) else {
@@ -207,6 +230,28 @@ fn padded_decimal(call: &mut Call) {
 // The text of a decimal without the zeros at the end of its fraction.
 fn trimmed_decimal(call: &mut Call) {
     if let Some(mut number) = next_decimal(call) {
+        number.trim_end();
+        let _ = write!(call, "{number}");
+    }
+}
+
+// What zeros that are added give, and the text of the unsigned decimal after it.
+fn padded_unsigned(call: &mut Call) {
+    let Some(mut number) = next_unsigned(call) else {
+        return;
+    };
+    match number.pad_end(call.magnitude()) {
+        Ok(()) => call.print("ok, "),
+        Err(error) => {
+            let _ = write!(call, "error {error:?}, ");
+        }
+    }
+    let _ = write!(call, "{number}");
+}
+
+// The text of an unsigned decimal without the zeros at the end of its fraction.
+fn trimmed_unsigned(call: &mut Call) {
+    if let Some(mut number) = next_unsigned(call) {
         number.trim_end();
         let _ = write!(call, "{number}");
     }

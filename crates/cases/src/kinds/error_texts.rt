@@ -2,11 +2,13 @@
 
 use crate::call::Call;
 use fixed_decimal::DecimalError;
+use form_commands::{FormsError, NumberFault};
 use message_format::{ArgumentFault, FormatError};
 use packed_list::{ListError, PackError};
 use plural_base::{
     DataError, ElementsPackError, JsonError, PluralCategory, RulesBytesError, RulesPackError,
 };
+use plural_fallback::FallbackError;
 use plural_reference::{LexerError, OperandsError, ParseError, ReadError};
 use plural_runtime::{RuleBytesError, RuleError};
 use std::fmt::{Debug, Display, Write};
@@ -96,19 +98,47 @@ const FORMATS: [FormatError<'static>; 6] = [
     FormatError::Memory,
 ];
 
+const FALLBACKS: [FallbackError; 3] = [
+    FallbackError::NotFound,
+    FallbackError::LongChain,
+    FallbackError::NotLoaded,
+];
+
+const NUMBERS: [NumberFault; 4] = [
+    NumberFault::TooLong,
+    NumberFault::NotText,
+    NumberFault::Syntax,
+    NumberFault::Limit,
+];
+
+// Those whose values can be written here.
+const FORMS: [FormsError; 7] = [
+    FormsError::Rules,
+    FormsError::TooLong,
+    FormsError::Json,
+    FormsError::Refused(JsonError::Shape),
+    FormsError::Numbers,
+    FormsError::Write,
+    FormsError::Memory,
+];
+
 /// Makes the call of a kind of this file. Returns whether there is such a kind.
 pub fn make(kind: &str, call: &mut Call) -> bool {
-    if kind != "error_texts" {
-        return false;
+    match kind {
+        "error_texts" => error_texts(call),
+        "forms_errors" => forms_errors(call),
+        _ => return false,
     }
-    error_texts(call);
     true
 }
 
 // The texts of the errors of a type.
 fn error_texts(call: &mut Call) {
     let name = call.text();
-    if !prints_of_texts(call, name.as_str()) && !prints_of_packed(call, name.as_str()) {
+    if !prints_of_texts(call, name.as_str())
+        && !prints_of_packed(call, name.as_str())
+        && !prints_of_forms(call, name.as_str())
+    {
         call.not("a type of errors");
     }
 }
@@ -144,10 +174,31 @@ fn prints_of_packed(call: &mut Call, name: &str) -> bool {
     true
 }
 
+// Prints the errors of a type, if it is one of locales and forms.
+fn prints_of_forms(call: &mut Call, name: &str) -> bool {
+    match name {
+        "FallbackError" => print_each(call, &FALLBACKS),
+        "NumberFault" => print_each(call, &NUMBERS),
+        "FormsError" => print_each(call, &FORMS),
+        _ => return false,
+    }
+    true
+}
+
 // Prints each error's name and its text.
 fn print_each<E: Debug + Display>(call: &mut Call, errors: &[E]) {
     for error in errors {
         call.separate(" | ");
         let _ = write!(call, "{error:?}: {error}");
+    }
+}
+
+// Prints each error of forms, whether the rules are at fault, and the exit status.
+fn forms_errors(call: &mut Call) {
+    for error in &FORMS {
+        call.separate(" | ");
+        let _ = write!(call, "{error:?} ");
+        call.print_truth(error.is_of_rules());
+        let _ = write!(call, " {}", error.status());
     }
 }

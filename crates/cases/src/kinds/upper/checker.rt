@@ -4,10 +4,11 @@ use crate::arguments::has_names;
 use crate::call::Call;
 use crate::kinds::categories::category;
 use icu_plurals::provider::rules::reference::ast::{DecimalValue, SampleRange};
-use icu_plurals::{PluralCategory, PluralElements};
+use icu_plurals::{PluralCategory, PluralElements, PluralRules};
 use message_report::category_set;
 use plural_checker::{
-    CategorySet, Coverage, LanguageTexts, RangeFault, SampleNumbers, check_texts,
+    CategorySet, Coverage, LanguageTexts, RangeFault, SampleNumbers, check_texts, least_from,
+    two_least,
 };
 use std::fmt::Write;
 
@@ -21,6 +22,18 @@ pub fn make(kind: &str, call: &mut Call) -> bool {
         "coverage" => coverage(call),
         "set_of_elements" => set_of_elements(call),
         "set_of_message" => set_of_message(call),
+        _ => return of_rules(kind, call),
+    }
+    true
+}
+
+// Makes the call of a kind that is about rules.
+fn of_rules(kind: &str, call: &mut Call) -> bool {
+    match kind {
+        "set_of_rules" => set_of_rules(call),
+        "set_without" => set_without(call),
+        "least_number" => least_number(call),
+        "two_least_numbers" => two_least_numbers(call),
         _ => return false,
     }
     true
@@ -139,12 +152,60 @@ fn has_rule(call: &mut Call) {
 
 // The categories that elements for some categories lack, and those that they have in vain.
 fn coverage(call: &mut Call) {
-    let mut elements = CategorySet::default();
-    for name in &call.texts() {
-        include(call, &mut elements, name.as_str());
-    }
+    let elements = next_set(call);
     let rules = call.rules();
     print_coverage(call, Coverage::of(elements, &rules));
+}
+
+// The set of the categories in the next argument.
+fn next_set(call: &mut Call) -> CategorySet {
+    let mut set = CategorySet::default();
+    for name in &call.texts() {
+        include(call, &mut set, name.as_str());
+    }
+    set
+}
+
+// The categories that have a rule.
+fn set_of_rules(call: &mut Call) {
+    let rules = call.rules();
+    print_names(call, CategorySet::of_rules(&rules));
+}
+
+// The categories of a set that are not in another.
+fn set_without(call: &mut Call) {
+    let set = next_set(call);
+    let others = next_set(call);
+    print_names(call, set.without(others));
+}
+
+// The least whole number from a start that has a category.
+fn least_number(call: &mut Call) {
+    let rules = PluralRules::from_data(call.rules());
+    let category = category(call);
+    let start = call.number();
+    match u16::try_from(start) {
+        Ok(start) => print_whole(call, least_from(&rules, category, start)),
+        Err(_) => call.not("a number of 16 bits"),
+    }
+}
+
+// The two least whole numbers that have a category.
+fn two_least_numbers(call: &mut Call) {
+    let rules = PluralRules::from_data(call.rules());
+    let category = category(call);
+    let (first, second) = two_least(&rules, category);
+    print_whole(call, first);
+    call.print(" ");
+    print_whole(call, second);
+}
+
+// Prints a whole number, or `none`.
+fn print_whole(call: &mut Call, number: Option<u16>) {
+    match number {
+        Some(number) => call.print_value(&number),
+        None => call.print("none"),
+    }
 }
 
 // The categories whose value is present in elements.

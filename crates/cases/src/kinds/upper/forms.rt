@@ -15,7 +15,9 @@ pub fn make(kind: &str, call: &mut Call) -> bool {
         "forms_question" => forms_question(call),
         "forms_list" => forms_list(call),
         "forms_number" => forms_number(call),
+        "forms_refusal" => forms_refusal(call),
         "forms_lines" => forms_lines(call),
+        "forms_bytes" => forms_bytes(call),
         "forms_gettext" => forms_gettext(call),
         "forms_check" => forms_check(call),
         _ => return false,
@@ -47,6 +49,28 @@ fn forms_list(call: &mut Call) {
     print_answer(call, text.as_slice(), answer);
 }
 
+// Why a locale has no forms: the text, whether the rules are at fault, and the status.
+fn forms_refusal(call: &mut Call) {
+    let (rules, locale) = (call.text(), call.text());
+    let answer = list_forms(
+        call.alloc,
+        Part::Cardinal,
+        locale.as_str(),
+        &mut rules.as_bytes(),
+        &mut Vec::new(call.alloc),
+    );
+    match answer {
+        Ok(_) => call.print("none"),
+        Err(error) => {
+            call.print_value(&error);
+            call.print(", ");
+            call.print_truth(error.is_of_rules());
+            call.print(", ");
+            call.print_value(&error.status());
+        }
+    }
+}
+
 // The category of a number.
 fn forms_number(call: &mut Call) {
     let (rules, locale, number) = (call.text(), call.text(), call.text());
@@ -67,13 +91,25 @@ fn forms_number(call: &mut Call) {
 // The categories of lines.
 fn forms_lines(call: &mut Call) {
     let (rules, locale, lines) = (call.text(), call.text(), call.text());
+    print_lines_by(call, rules.as_str(), locale.as_str(), lines.as_bytes());
+}
+
+// The categories of lines that are bytes.
+fn forms_bytes(call: &mut Call) {
+    let (rules, locale, lines) = (call.text(), call.text(), call.bytes());
+    print_lines_by(call, rules.as_str(), locale.as_str(), lines.as_slice());
+}
+
+// Prints the categories of lines by the rules of a locale.
+fn print_lines_by(call: &mut Call, rules: &str, locale: &str, lines: &[u8]) {
     let (mut text, mut notes) = (Vec::new(call.alloc), Vec::new(call.alloc));
+    let mut rest = lines;
     let answer = answer_lines(
         call.alloc,
         Part::Cardinal,
-        locale.as_str(),
+        locale,
         &mut rules.as_bytes(),
-        &mut lines.as_bytes(),
+        &mut rest,
         &mut text,
         &mut notes,
     );

@@ -1,0 +1,97 @@
+//! What is asked of the forms of a language, and what is written.
+
+use form_commands::{
+    FormsError, Verdict, answer_lines, answer_numbers, check_files, list_forms, write_gettext,
+};
+use message_report::MessageFile;
+use plural_fallback::Part;
+use serde_json::Value;
+use std::alloc::Global;
+use std::io::{Read, Write};
+
+// The rules that are asked, and the lines of numbers.
+pub(crate) const RULES: &[u8] = br#"{"cardinal":{"en":{"one":"i = 1 and v = 0"}}}"#;
+
+pub(crate) const LINES: &[u8] = b"1\n2";
+
+const MESSAGES: &str = r#"{"en-GB":{"cardinal":{"files":{"one":"a file","other":"{} files"}}}}"#;
+
+// The calls that write an answer.
+#[derive(Clone, Copy, Debug, PartialEq, Eq)]
+pub(crate) enum Asked {
+    List,
+    Numbers,
+    Lines,
+    Gettext,
+    Check,
+}
+
+pub(crate) const ASKED: [Asked; 5] = [
+    Asked::List,
+    Asked::Numbers,
+    Asked::Lines,
+    Asked::Gettext,
+    Asked::Check,
+];
+
+impl Asked {
+    // What is written by the rules.
+    pub(crate) fn text(self) -> &'static str {
+        match self {
+            Asked::List => {
+                "en-GB: cardinal rules of en, whole numbers below 10000\none: 1 alone\nother: 0, also 2\n"
+            }
+            Asked::Numbers => "one\nnumber 2: bad number\n",
+            Asked::Lines => "one\nother\n",
+            Asked::Gettext => "Plural-Forms: nplurals=2; plural=(n == 1 ? 0 : 1);\n",
+            Asked::Check => "messages: 1, forms: 2, faults: 0, numbers tried: 0 to 9999\n",
+        }
+    }
+
+    // What is written after it, into the notes.
+    pub(crate) fn notes(self) -> &'static str {
+        match self {
+            Asked::List => "",
+            Asked::Check => "plural_forms: a.json: en-GB: cardinal rules of en\n",
+            Asked::Numbers | Asked::Lines | Asked::Gettext => {
+                "plural_forms: en-GB: cardinal rules of en\n"
+            }
+        }
+    }
+}
+
+// Returns what the call answers for the locale `en-GB`.
+pub(crate) fn answer<R: Read, N: Read, W: Write, E: Write>(
+    alloc: Global,
+    asked: Asked,
+    rules: &mut R,
+    lines: &mut N,
+    writer: &mut W,
+    notes: &mut E,
+) -> Result<Verdict, FormsError> {
+    let (part, locale) = (Part::Cardinal, "en-GB");
+    match asked {
+        Asked::List => list_forms(alloc, part, locale, rules, writer),
+        Asked::Numbers => answer_numbers(alloc, part, locale, &["1", "x"], rules, writer, notes),
+        Asked::Lines => answer_lines(alloc, part, locale, rules, lines, writer, notes),
+        Asked::Gettext => write_gettext(alloc, part, locale, rules, writer, notes),
+        Asked::Check => check(alloc, rules, writer, notes),
+    }
+}
+
+// Returns what the check of a file of messages answers.
+fn check<R: Read, W: Write, E: Write>(
+    alloc: Global,
+    rules: &mut R,
+    writer: &mut W,
+    notes: &mut E,
+) -> Result<Verdict, FormsError> {
+    let Ok(document) = Value::from_str(alloc, MESSAGES) else {
+        return Err(FormsError::Memory);
+    };
+    let files = [MessageFile {
+        name: "a.json",
+        document: &document,
+    }];
+    check_files(alloc, &files, rules, writer, notes)
+}
