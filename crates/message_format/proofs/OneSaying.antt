@@ -10,13 +10,12 @@ use Rattle.plural_base.specs.DecimalChoice.{IsKeptChoice}
 use Rattle.plural_base.specs.FiveRules.{FiveRules}
 use Rattle.plural_base.specs.declared.category.PluralCategory.{PluralCategory}
 use Rattle.plural_base.specs.Categories.{name_of}
-use Rattle.message_pattern.specs.PatternParts.{Part, Piece, Text, Hash, Argument, Begin, Branch, End}
+use Rattle.message_pattern.specs.PatternParts.{Part, Piece, Text, Hash, Argument, Begin, Branch, End, Branching}
 use Rattle.message_pattern.specs.declared.part.ArgumentKind.{ArgumentKind}
 use Rattle.message_pattern.specs.declared.part.ArgumentKind.TheVariants.{Plural, Ordinal, Select}
 use Rattle.message_format.specs.declared.error.ArgumentFault.{ArgumentFault}
 use Rattle.message_format.specs.FormatArguments.{Value}
 use Rattle.message_format.specs.FormatArguments as argument
-use Rattle.message_pattern.specs.ArgumentBranches.{Branching}
 use Rattle.message_format.specs.FormatBranches.{behind_end, branch_or_other, IsBranchOfValue, HasBranchOfValue, IsBranchOfNumber}
 use Rattle.message_format.specs.FormatOffsets.{IsDifference, plain}
 use Rattle.message_format.specs.FormatSteps.{Step, Stops, Prints, Chooses, Fails, TwoRules, ReadsNumber, IsCounted, IsCountedBy, IsLess, IsCountedLess, IsPlural, IsChoice, IsStep}

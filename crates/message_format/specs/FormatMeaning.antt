@@ -1,10 +1,13 @@
 -- What a pattern says with its arguments: its text, or its first fault.
-use Rattle.std.specs.Prelude.{◌≡◌, ◌⊎◌, ℕ, List, [], ◌∷◌, ◌++◌, Option, Some, None}
+use Rattle.std.specs.Prelude.{◌≡◌, ◌⊎◌, ℕ, List, [], ◌∷◌, ◌++◌, Option, Some, None, codes}
 use Rattle.message_pattern.specs.PatternParts.{Part}
 use Rattle.message_format.specs.declared.error.ArgumentFault.{ArgumentFault}
 use Rattle.message_format.specs.FormatArguments.{Argument}
 use Rattle.message_format.specs.FormatBranches.{behind_end}
 use Rattle.message_format.specs.FormatSteps.{TwoRules, Stops, Prints, Chooses, Fails, IsStep}
+use Rattle.message_format.specs.declared.error.ArgumentFault.TheVariants.{Missing, WrongKind, NotANumber, OverLimit, CompactOffset}
+use Rattle.message_format.specs.declared.error.FormatError.{FormatError}
+use Rattle.message_format.specs.declared.error.FormatError.TheVariants as format
 
 -- what is said
 pub data Outcome : Type 0 where
@@ -43,3 +46,23 @@ PatternSays arguments rules parts outcome = Says arguments rules [] [] parts out
 pub record SaysExactly (arguments : List Argument) (rules : TwoRules) (parts : List Part) (outcome : Option Outcome) : Type 0 where
   pub only : (o : Outcome) → outcome ≡ Some o → PatternSays arguments rules parts o
   pub every : (o : Outcome) → PatternSays arguments rules parts o → (outcome ≡ Some o) ⊎ (outcome ≡ None)
+
+-- a pattern comes to at most one outcome: one text, or one fault with the name of its argument
+abbrev pub HaveOneOutcome : Type 0
+HaveOneOutcome =
+    (arguments : List Argument) (rules : TwoRules) (parts : List Part) (a b : Outcome)
+    → PatternSays arguments rules parts a → PatternSays arguments rules parts b → a ≡ b
+
+-- ---- The texts that the errors print
+
+abbrev pub argument_fault_text : ArgumentFault → List ℕ
+argument_fault_text Missing = codes "no argument has the name"
+argument_fault_text WrongKind = codes "the argument is of the wrong kind"
+argument_fault_text NotANumber = codes "bad number"
+argument_fault_text OverLimit = codes "number out of limits"
+argument_fault_text CompactOffset = codes "an offset from a compact number"
+
+-- the name of the argument isn't printed: it is any bytes
+abbrev pub format_error_text : FormatError → List ℕ
+format_error_text (format.Argument fault name) = argument_fault_text fault
+format_error_text format.Memory = codes "out of memory"

@@ -5,7 +5,7 @@ use Rattle.fixed_decimal.specs.Shown.{decimal_text}
 use Rattle.fixed_decimal.specs.Written.{CompactNumber, WritesUnsigned, WritesCompact, IsCompactOverLimit}
 use Rattle.fixed_decimal.specs.declared.decimal.Decimal.{Decimal}
 use Rattle.plural_base.specs.FiveRules.{FiveRules}
-use Rattle.message_pattern.specs.PatternParts.{Part, Piece, Hash, Begin, Branch, End}
+use Rattle.message_pattern.specs.PatternParts.{Part, Piece, Hash, Begin, Branch, End, Branching, branches_of}
 use Rattle.message_pattern.specs.PatternParts as piece
 use Rattle.message_pattern.specs.declared.part.ArgumentKind.{ArgumentKind}
 use Rattle.message_pattern.specs.declared.part.ArgumentKind.TheVariants.{Plural, Ordinal, Select}
@@ -13,7 +13,6 @@ use Rattle.message_format.specs.declared.error.ArgumentFault.{ArgumentFault}
 use Rattle.message_format.specs.declared.error.ArgumentFault.TheVariants.{Missing, WrongKind, NotANumber, OverLimit, CompactOffset}
 use Rattle.message_format.specs.FormatArguments.{Argument, Value, Number, Text, value_named}
 use Rattle.message_format.specs.FormatOffsets.{IsDifference, plain}
-use Rattle.message_pattern.specs.ArgumentBranches.{Branching, branches_of}
 use Rattle.message_format.specs.FormatBranches.{branch_or_other, IsBranchOfNumber}
 
 -- what a part does

@@ -1,7 +1,11 @@
 -- What the reader of patterns may return: what the text is read as, or out of memory.
-use Rattle.std.specs.Prelude.{◌≡◌, ◌⊎◌, ℕ, ◌-◌, false, List, [], length, Result, Ok, Err}
+use Rattle.std.specs.Prelude.{◌≡◌, ◌⊎◌, ℕ, ◌-◌, false, List, [], length, Result, Ok, Err, ◌++◌, codes}
+use Rattle.std.specs.Fmt.{decimal}
 use Rattle.message_pattern.specs.declared.error.Fault.{Fault}
 use Rattle.message_pattern.specs.declared.error.FaultKind.{FaultKind}
+use Rattle.message_pattern.specs.declared.error.FaultKind.TheVariants.{Unclosed, ExpectedName, BadNumber, ExpectedEnd, ExpectedType}
+use Rattle.message_pattern.specs.declared.error.FaultKind.TheVariants.{UnsupportedType, ExpectedStyle, ExpectedOffset, ExpectedSelector}
+use Rattle.message_pattern.specs.declared.error.FaultKind.TheVariants.{ExpectedValue, ExpectedBranch, MissingOther, TooDeep}
 use Rattle.message_pattern.specs.declared.error.PatternError as error
 use Rattle.message_pattern.specs.declared.error.PatternError.TheVariants as errors
 use Rattle.message_pattern.specs.declared.text.Context.TheVariants.{Whole}
@@ -54,3 +58,24 @@ IsPatternOrFaulty text = ((parts : List Part) × IsPattern text parts) ⊎ ((kin
 -- every text is a pattern, or has a fault
 abbrev pub EveryTextIsRead : Type 0
 EveryTextIsRead = (text : List ℕ) → IsPatternOrFaulty text
+
+-- ---- The texts that the errors print
+
+abbrev pub fault_kind_text : FaultKind → List ℕ
+fault_kind_text Unclosed = codes "a brace isn't closed"
+fault_kind_text ExpectedName = codes "expected the name of an argument"
+fault_kind_text BadNumber = codes "the number of an argument begins with a zero"
+fault_kind_text ExpectedEnd = codes "expected ',' or '}'"
+fault_kind_text ExpectedType = codes "expected the type of an argument"
+fault_kind_text UnsupportedType = codes "the type is none of plural, selectordinal and select"
+fault_kind_text ExpectedStyle = codes "expected ',' before the branches"
+fault_kind_text ExpectedOffset = codes "expected digits of an offset"
+fault_kind_text ExpectedSelector = codes "expected a selector"
+fault_kind_text ExpectedValue = codes "expected a number after '='"
+fault_kind_text ExpectedBranch = codes "expected '{' after a selector"
+fault_kind_text MissingOther = codes "no branch for 'other'"
+fault_kind_text TooDeep = codes "branches are nested too deep"
+
+abbrev pub pattern_error_text : error.PatternError → List ℕ
+pattern_error_text (errors.Fault kind place) = fault_kind_text kind ++ codes " at byte " ++ decimal place
+pattern_error_text errors.Memory = codes "out of memory"

@@ -13,8 +13,7 @@ use Rattle.plural_commands.specs.Queries.{Lookup, number_category, range_categor
 use Rattle.plural_commands.specs.Queries.{Query, of_document, truth}
 use Rattle.plural_commands.specs.Inner.CallAnswers.{GivesAfterReading, Text}
 use Rattle.plural_commands.specs.Steps.{After, ◌>>=◌, or_fault}
-use Rattle.plural_documents.specs.Inputs.{most_bytes}
-use Rattle.plural_documents.specs.JsonTexts.{json_of}
+use Rattle.plural_documents.specs.Inputs.{most_bytes, json_of}
 use Rattle.plural_commands.specs.declared.error.RunError.{RunError}
 use Rattle.plural_commands.specs.declared.error.RunError.TheVariants.{Usage, TooLong, Json, Document, Locale}
 

@@ -3,8 +3,7 @@ use Rattle.std.proofs.Common.{◌≡◌, ◌≤◌, ℕ, List, length, Option, S
 use Rattle.std.specs.Prelude.{⊤}
 use Rattle.std.specs.Io.KnownBytes.{Keeps}
 use Rattle.plural_commands.specs.Answer.{IsAnswered, IsNotRead, run_origin}
-use Rattle.plural_commands.specs.Inner.CallAnswers.{GivesAfterReading, GivesFault, GivesText, Text}
-use Rattle.plural_commands.specs.Inner.InputFaults.{input_fault}
+use Rattle.plural_commands.specs.Inner.CallAnswers.{GivesAfterReading, GivesFault, GivesText, Text, input_fault}
 use Rattle.plural_commands.specs.Input.{WholeDocument, document_in, document_of}
 use Rattle.plural_commands.specs.Steps.{After}
 use Rattle.plural_commands.specs.declared.error.RunError.{RunError}

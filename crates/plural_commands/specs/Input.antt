@@ -11,8 +11,7 @@ use Rattle.icu_plurals.specs.ElementsJson.{packed_of_json}
 use Rattle.icu_plurals.specs.FiveRules.{FiveRules}
 use Rattle.icu_plurals.specs.PackedElements.{PackedElements}
 use Rattle.icu_plurals.specs.Providers.{WithRanges}
-use Rattle.plural_documents.specs.Inputs.{within_limit}
-use Rattle.plural_documents.specs.JsonTexts.{json_of}
+use Rattle.plural_documents.specs.Inputs.{within_limit, json_of}
 use Rattle.plural_commands.specs.Steps.{◌>>=◌, or_fault}
 use Rattle.plural_commands.specs.declared.error.RunError.{RunError}
 use Rattle.plural_commands.specs.declared.error.RunError.TheVariants.{TooLong, Json, Document as BadDocument, Locale}

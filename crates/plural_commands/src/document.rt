@@ -8,7 +8,7 @@ ghost use Rattle.plural_commands.specs.Inner.CallAnswers.{GivesValue};
 ghost use Rattle.plural_commands.specs.Inner.PrivateViews.{document_view};
 ghost use Rattle.plural_commands.specs.Steps.{or_fault};
 ghost use Rattle.plural_commands.specs.declared.error.RunError.TheVariants.{Json};
-ghost use Rattle.plural_documents.specs.JsonTexts.{json_of};
+ghost use Rattle.plural_documents.specs.Inputs.{json_of};
 
 use crate::error::RunError;
 use icu_plurals::provider::PluralRulesData;

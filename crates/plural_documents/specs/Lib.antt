@@ -1,3 +1,1 @@
 pub mod Inputs
-pub mod JsonTexts
-pub mod Outputs

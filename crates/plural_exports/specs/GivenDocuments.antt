@@ -15,7 +15,7 @@ use Rattle.icu_plurals.specs.DocumentJson.{Document as Maps, Rows, document_of_j
 use Rattle.icu_plurals.specs.ElementsJson.{packed_of_json}
 use Rattle.icu_plurals.specs.FiveRules.{FiveRules}
 use Rattle.icu_plurals.specs.PackedElements.{PackedElements, ElementsBytes}
-use Rattle.plural_documents.specs.JsonTexts.{json_of}
+use Rattle.plural_documents.specs.Inputs.{json_of}
 use Rattle.plural_exports.specs.GivenBytes.{ReadsText}
 use Rattle.plural_exports.specs.GivenTexts.{PackRules}
 use Rattle.plural_exports.specs.Results.{Then}

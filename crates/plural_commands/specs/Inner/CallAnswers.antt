@@ -10,8 +10,10 @@ use Rattle.plural_commands.specs.NumberWords.{ReadsNumberWord, IsNumberOf}
 use Rattle.plural_commands.specs.Queries.{AsksDocument, CommandAsks, Query, of_document, truth}
 use Rattle.plural_commands.specs.Steps.{HasNoFault}
 use Rattle.plural_commands.specs.declared.error.RunError.{RunError}
-use Rattle.plural_commands.specs.declared.error.RunError.TheVariants.{Read, Write, Memory}
+use Rattle.plural_commands.specs.declared.error.RunError.TheVariants.{Read, Write, Memory, TooLong}
 use Rattle.plural_commands.specs.declared.query.Query.{Query as CodeQuery}
+use Rattle.plural_documents.specs.declared.InputError.{InputError}
+use Rattle.plural_documents.specs.declared.InputError.TheVariants as cause
 
 -- ---- Results
 
@@ -66,3 +68,10 @@ IsOfKind command (of_document lookup) = AsksDocument command × HasNoFault (Comm
 abbrev pub GivesQuery : Option Command → Result CodeQuery RunError → Type 0
 GivesQuery command (Ok query) = CommandAsks command (Ok (query_view query)) × IsOfKind command (query_view query)
 GivesQuery command (Err e) = GivesFault (λ fault. CommandAsks command (Err fault)) e
+
+-- ---- The fault that an error of the input becomes
+
+abbrev pub input_fault : InputError → RunError
+input_fault cause.Read = Read
+input_fault cause.TooLong = TooLong
+input_fault cause.Memory = Memory

@@ -3,7 +3,7 @@ use Rattle.std.proofs.lemmas.Result.{err_from_is_err_and}
 use Rattle.serde_json.specs.View.{view}
 use Rattle.icu_plurals.specs.DocumentJson.{document_of_json}
 use Rattle.plural_commands.specs.Input.{document_with, or_bad}
-use Rattle.plural_documents.specs.JsonTexts.{json_of}
+use Rattle.plural_documents.specs.Inputs.{json_of}
 use Rattle.plural_commands.specs.Inner.PrivateViews.{document_view}
 use Rattle.plural_commands.specs.Steps.{or_fault}
 use Rattle.plural_commands.specs.declared.error.RunError.TheVariants.{Json}
