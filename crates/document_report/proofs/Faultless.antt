@@ -28,7 +28,7 @@ use Rattle.icu_plurals.specs.RuleOfText.{TextsGiveOneAnswer, rule_of_text}
 use Rattle.icu_plurals.specs.RulesJson.{member_meant, named, optional_meant, rules_meant, text_under}
 use Rattle.plural_checker.specs.Findings.{Findings}
 use Rattle.plural_checker.specs.LanguageTexts.{SixTexts}
-use Rattle.plural_checker.specs.TextChecks.{IsFoundInText}
+use Rattle.plural_checker.specs.TextChecks.{IsFoundInCategoryText}
 use Rattle.plural_checker.specs.TextChecks as text
 use Rattle.plural_checker.specs.declared.Fault.{Fault}
 use Rattle.document_report.specs.CheckedDocument.{document_formed, has_form, locales_formed, members_at, members_or_none, part_formed}
@@ -171,7 +171,7 @@ Means {A} meant = (x : A) × (meant ≡ Ok x)
 module _ (one : TextsGiveOneAnswer) where
   -- a text without a fault gives a rule
   text_gives : (rules : Option FiveRules) (category : PluralCategory) (bytes : List ℕ) (all : Findings)
-      → IsFoundInText rules category bytes all → all.faults ≡ []
+      → IsFoundInCategoryText rules category bytes all → all.faults ≡ []
       → (rule : List PackedRelation) × (rule_of_text bytes ≡ Ok rule)
   text_gives rules category bytes all (inl (long, is)) none = absurd (let e = ap (λ (f : Findings). f.faults) is in cc)
   text_gives rules category bytes all (inr (short, inl (error, read, is))) none =

@@ -18,8 +18,8 @@ abbrev pub IsPattern : List ℕ → List Part → Type 0
 IsPattern text parts = IsReadAt (InMessage Whole 0 false) text parts []
 
 -- the text is none: its first fault is of this kind, at this byte
-abbrev pub HasFault : List ℕ → FaultKind → ℕ → Type 0
-HasFault text kind place =
+abbrev pub HasPatternFault : List ℕ → FaultKind → ℕ → Type 0
+HasPatternFault text kind place =
     (fault : Fault) × ReadsPattern text (Faulty fault) × (kind ≡ fault.kind) × (place ≡ length text - fault.left)
 
 -- the result is this one, unless memory ran out
@@ -28,7 +28,7 @@ IsUnlessMemory r answer = (r ≡ answer) ⊎ (r ≡ Err errors.Memory)
 
 -- the error is a fault that the text has, or out of memory
 abbrev pub IsFaultOf : List ℕ → error.PatternError → Type 0
-IsFaultOf text (errors.Fault kind place) = HasFault text kind place
+IsFaultOf text (errors.Fault kind place) = HasPatternFault text kind place
 IsFaultOf text errors.Memory = Unit {0}
 
 -- what is returned is what the text is read as
@@ -41,19 +41,19 @@ IsWhatIsRead text (Err e) = IsFaultOf text e
 pub record ParsesExactly (text : List ℕ) (r : Result (List Part) error.PatternError) : Type 0 where
   pub only : IsWhatIsRead text r
   pub read : (parts : List Part) → IsPattern text parts → IsUnlessMemory r (Ok parts)
-  pub fault : (kind : FaultKind) (place : ℕ) → HasFault text kind place → IsUnlessMemory r (Err (errors.Fault kind place))
+  pub fault : (kind : FaultKind) (place : ℕ) → HasPatternFault text kind place → IsUnlessMemory r (Err (errors.Fault kind place))
 
 -- a text has at most one list of parts; if it has one, it has no fault; it has at most one fault
 abbrev pub AreReadOneWay : Type 0
 AreReadOneWay =
     (text : List ℕ)
     → ((a b : List Part) → IsPattern text a → IsPattern text b → a ≡ b)
-    × ((parts : List Part) (kind : FaultKind) (place : ℕ) → IsPattern text parts → HasFault text kind place → ⊥)
-    × ((a b : FaultKind) (m n : ℕ) → HasFault text a m → HasFault text b n → (a ≡ b) × (m ≡ n))
+    × ((parts : List Part) (kind : FaultKind) (place : ℕ) → IsPattern text parts → HasPatternFault text kind place → ⊥)
+    × ((a b : FaultKind) (m n : ℕ) → HasPatternFault text a m → HasPatternFault text b n → (a ≡ b) × (m ≡ n))
 
 -- a text is a pattern, or has a fault
 abbrev pub IsPatternOrFaulty : List ℕ → Type 0
-IsPatternOrFaulty text = ((parts : List Part) × IsPattern text parts) ⊎ ((kind : FaultKind) × (place : ℕ) × HasFault text kind place)
+IsPatternOrFaulty text = ((parts : List Part) × IsPattern text parts) ⊎ ((kind : FaultKind) × (place : ℕ) × HasPatternFault text kind place)
 
 -- every text is a pattern, or has a fault
 abbrev pub EveryTextIsRead : Type 0

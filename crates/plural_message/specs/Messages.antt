@@ -18,16 +18,16 @@ abbrev pub placeholder : List ℕ
 placeholder = codes "{}"
 
 -- the pieces, with a text between any two
-abbrev pub joined_by : List ℕ → List (List ℕ) → List ℕ
-joined_by separator pieces = join_by (λ piece. piece) separator pieces
+abbrev pub pieces_joined : List ℕ → List (List ℕ) → List ℕ
+pieces_joined separator pieces = join_by (λ piece. piece) separator pieces
 
 -- The text is cut at its `{}` into pieces without one, and the pieces are joined by the number's
 -- text.
 pub record IsFilling (number text filled : List ℕ) : Type 0 where
   pub pieces : List (List ℕ)
   pub uncut : AllByRecursion (λ piece. ¬ (HasSubslice piece placeholder)) pieces
-  pub cut : text ≡ joined_by placeholder pieces
-  pub filled_is : filled ≡ joined_by number pieces
+  pub cut : text ≡ pieces_joined placeholder pieces
+  pub filled_is : filled ≡ pieces_joined number pieces
 
 -- ---- Every text is filled in exactly one way
 

@@ -4,7 +4,7 @@ use Rattle.message_pattern.specs.PatternParts.{Part}
 use Rattle.message_pattern.specs.PatternAnswers.{IsPattern, IsFaultOf}
 use Rattle.message_format.specs.declared.error.FormatError.TheVariants as format_error
 use Rattle.message_format.specs.FormatArguments.{Argument, Number}
-use Rattle.message_format.specs.FormatMeaning.{Outcome, Said, Faulty, PatternSays}
+use Rattle.message_format.specs.FormatMeaning.{PatternOutcome, Said, Faulty, PatternSays}
 use Rattle.message_format.specs.FormatSteps.{TwoRules}
 use Rattle.uses.specs.declared.notices.NoticeError.{NoticeError}
 use Rattle.uses.specs.declared.notices.NoticeError.TheVariants as notice_error
@@ -18,7 +18,7 @@ abbrev pub counts : List ℕ → List Argument
 counts count = record { name = codes "count"; value = Number count } ∷ []
 
 -- the text is a pattern that comes to the outcome
-abbrev pub ComesTo : TwoRules → List ℕ → List ℕ → Outcome → Type 0
+abbrev pub ComesTo : TwoRules → List ℕ → List ℕ → PatternOutcome → Type 0
 ComesTo rules text count outcome = (parts : List Part) × IsPattern text parts × PatternSays (counts count) rules parts outcome
 
 abbrev pub IsNotice : TwoRules → List ℕ → List ℕ → List ℕ → Type 0
