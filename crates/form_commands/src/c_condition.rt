@@ -5,7 +5,7 @@ ghost use Rattle.std.specs.Fmt.{decimal};
 ghost use Rattle.icu_plurals.specs.Truth.{is_in_ranges, under};
 ghost use Rattle.icu_plurals.specs.PackedRelations.{PackedRelation};
 ghost use Rattle.icu_plurals.specs.RuleKinds.{tree_operand_of};
-ghost use Rattle.icu_plurals.specs.RuleReading.{lent_relation};
+ghost use Rattle.icu_plurals.specs.RuleViews.{lent_relation};
 ghost use Rattle.form_commands.specs.CExpressions.{and_text, atom_text, comparison_text, condition_text, or_text, term_text};
 ghost use Rattle.form_commands.specs.RuleConditions.{atoms_under, condition_of, in_ranges, inside, is_of_number, outside};
 ghost use Rattle.form_commands.specs.Inner.ConditionSteps.{AreCut, IsGroup, Joins, begun_before, ended_before, group_texts};

@@ -55,3 +55,4 @@ pub use Rattle.plural_base.specs.PluralBaseErrors
 
 pub use Rattle.packed_list.specs.Inner.ListReading
 pub use Rattle.plural_runtime.specs.Inner.RuleReading
+pub use Rattle.plural_runtime.specs.Inner.RuleViews

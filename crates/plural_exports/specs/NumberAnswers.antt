@@ -12,7 +12,7 @@
 --         each `{}`
 use Rattle.std.specs.Prelude.{◌≡◌, ◌↔◌, ℕ, ◌≤◌, ◌^◌, ℤ, pos, List, length, map, Bool, true, false, IsTrue, Result, Ok, Err}
 use Rattle.icu_plurals.specs.declared.PluralCategory.{PluralCategory}
-use Rattle.icu_plurals.specs.declared.PluralCategory.TheVariants.{Zero, One, Two, Few, Many, Other}
+use Rattle.icu_plurals.specs.Categories.{place_of}
 use Rattle.icu_plurals.specs.CategoryTables.{integer_entry}
 use Rattle.icu_plurals.specs.DecimalChoice.{HasCategory, IsExactChoice}
 use Rattle.icu_plurals.specs.Elements.{HasElement, IsExactElement, IsKeptElement}
@@ -32,12 +32,7 @@ use Rattle.plural_exports.specs.declared.fault.Fault.TheVariants.{Memory, Outsid
 
 -- the number of a category
 abbrev pub category_number : PluralCategory → ℤ
-category_number Zero = pos 0
-category_number One = pos 1
-category_number Two = pos 2
-category_number Few = pos 3
-category_number Many = pos 4
-category_number Other = pos 5
+category_number category = pos (place_of category)
 
 -- 1 if it is true, else 0
 abbrev pub truth_number : Bool → ℤ

@@ -6,6 +6,7 @@ ghost use Rattle.plural_exports.specs.Results.{Answered};
 
 use crate::fault::Fault;
 use crate::given::{number_in, rules_in};
+use crate::ranges::number_of;
 use icu_plurals::{PluralCategory, PluralOperands};
 use std::alloc::Global;
 
@@ -81,12 +82,5 @@ fn is_exact_for(alloc: Global, rules: &[u8], number: &[u8]) -> Result<bool, Faul
 pub(crate) fn category_number(category: PluralCategory) -> i32
     ensures { result ≡ category_number category }
 {
-    match category {
-        PluralCategory::Zero => 0,
-        PluralCategory::One => 1,
-        PluralCategory::Two => 2,
-        PluralCategory::Few => 3,
-        PluralCategory::Many => 4,
-        PluralCategory::Other => 5,
-    }
+    i32::from(number_of(category))
 }

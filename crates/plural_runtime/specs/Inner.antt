@@ -1,3 +1,3 @@
 -- No definitions of the subject: readers and steps, for views and private contracts.
 pub mod RuleReading
-pub mod TreeWalk
+pub mod RuleViews

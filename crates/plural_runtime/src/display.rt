@@ -6,7 +6,7 @@ ghost use Rattle.plural_reference.specs.Serializer.{operand_text};
 ghost use Rattle.plural_runtime.specs.PackedRelations.{PackedRelation};
 ghost use Rattle.plural_runtime.specs.RuleKinds.{operator_of, tree_operand_of};
 ghost use Rattle.plural_runtime.specs.RuleText.{mark_text, modulus_text, range_shown, ranges_shown, relation_shown, relations_shown, operator_shown};
-ghost use Rattle.plural_runtime.specs.Inner.RuleReading.{lent_relation};
+ghost use Rattle.plural_runtime.specs.Inner.RuleViews.{lent_relation};
 
 use crate::kinds::{AndOr, Operand, Polarity};
 use crate::range::RangeOrValue;

@@ -43,7 +43,8 @@ pub struct Relation<'a> {
 impl<'a> RelationULE<'a> {
     ghost use Rattle.std.specs.Prelude.{◌≡◌, IsTrue};
     ghost use Rattle.plural_runtime.specs.PackedRelations.{relation_bytes, is_relation};
-    ghost use Rattle.plural_runtime.specs.Inner.RuleReading.{relation_in, item_relation, lent_relation};
+    ghost use Rattle.plural_runtime.specs.Inner.RuleReading.{relation_in};
+    ghost use Rattle.plural_runtime.specs.Inner.RuleViews.{item_relation, lent_relation};
 
     // The relation of an item that was checked.
     #[inline]
@@ -83,7 +84,7 @@ impl<'a> RelationULE<'a> {
 impl<'a> Relation<'a> {
     ghost use Rattle.std.specs.Prelude.{◌≡◌, ◌==◌, length, map, option_map, slice_get};
     ghost use Rattle.plural_runtime.specs.RuleKinds.{operator_of, range_or_value, tree_operand_of};
-    ghost use Rattle.plural_runtime.specs.Inner.RuleReading.{lent_relation};
+    ghost use Rattle.plural_runtime.specs.Inner.RuleViews.{lent_relation};
 
     /// Returns how it is joined to the previous one.
     #[inline]
@@ -159,7 +160,7 @@ impl<'a> PartialEq for Relation<'a> {
     ghost use Rattle.std.specs.Cmp.{on_per, partial_equiv_from_equiv};
     ghost use Rattle.std.specs.Cmp.Lexicographic.{nat_list_eq_equiv};
     ghost use Rattle.plural_runtime.specs.PackedRelations.{is_same_relation, relation_numbers};
-    ghost use Rattle.plural_runtime.specs.Inner.RuleReading.{lent_relation};
+    ghost use Rattle.plural_runtime.specs.Inner.RuleViews.{lent_relation};
 
     ghost eq = { λ relation other. is_same_relation (lent_relation relation) (lent_relation other) };
 
@@ -183,7 +184,7 @@ impl<'a> Eq for Relation<'a> {
     ghost use Rattle.std.specs.Cmp.{on_equiv};
     ghost use Rattle.std.specs.Cmp.Lexicographic.{nat_list_eq_equiv};
     ghost use Rattle.plural_runtime.specs.PackedRelations.{relation_numbers};
-    ghost use Rattle.plural_runtime.specs.Inner.RuleReading.{lent_relation};
+    ghost use Rattle.plural_runtime.specs.Inner.RuleViews.{lent_relation};
 
     ghost laws = { on_equiv (λ relation. relation_numbers (lent_relation relation)) nat_list_eq_equiv };
 }

@@ -4,7 +4,8 @@ ghost use Rattle.std.specs.Prelude.{◌≡◌, map, IsTrue, length, Some, IfSome
 ghost use Rattle.std.specs.List.{list_all};
 ghost use Rattle.std.specs.Iterator.{YieldsFirstBy, item_count, UpTo, at_most};
 ghost use Rattle.plural_runtime.specs.PackedRelations.{is_relation};
-ghost use Rattle.plural_runtime.specs.Inner.RuleReading.{relation_in, item_relation};
+ghost use Rattle.plural_runtime.specs.Inner.RuleReading.{relation_in};
+ghost use Rattle.plural_runtime.specs.Inner.RuleViews.{item_relation};
 
 use crate::relation::RelationULE;
 use packed_list::Items;

@@ -3,7 +3,8 @@
 ghost use Rattle.std.specs.Prelude.{◌≡◌, List, map, length, slice_get, option_map, IfOk, IsTrue, ◌==◌};
 ghost use Rattle.std.specs.List.{list_all};
 ghost use Rattle.plural_runtime.specs.PackedRelations.{RuleBytes, relation_bytes, is_relation};
-ghost use Rattle.plural_runtime.specs.Inner.RuleReading.{AreRuleBytes, relation_in, item_relation};
+ghost use Rattle.plural_runtime.specs.Inner.RuleReading.{AreRuleBytes, relation_in};
+ghost use Rattle.plural_runtime.specs.Inner.RuleViews.{item_relation};
 
 use crate::laws::one_encoding;
 use crate::relation::RelationULE;

@@ -4,7 +4,7 @@ ghost use Rattle.std.specs.Prelude.{◌≡◌, ◌<◌, ℕ, List, ◌&&◌, Boo
 ghost use Rattle.plural_reference.specs.Operands.{Operands};
 ghost use Rattle.plural_reference.specs.Truth.{holds_value, is_in_ranges, operand_value, remainder};
 ghost use Rattle.plural_reference.specs.declared.ast.Operand.TheVariants.{N};
-ghost use Rattle.plural_runtime.specs.Inner.RuleReading.{lent_relation};
+ghost use Rattle.plural_runtime.specs.Inner.RuleViews.{lent_relation};
 ghost use Rattle.plural_runtime.specs.PackedTruth.{is_true_at, packed_truth};
 ghost use Rattle.plural_base.specs.FiveRules.{first_category, passes, rules_of};
 ghost use Rattle.plural_base.specs.Inner.FractionClasses.{IsOfFractions};

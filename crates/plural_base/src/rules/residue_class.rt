@@ -4,7 +4,7 @@ ghost use Rattle.std.specs.Prelude.{◌≡◌, ℕ, ◌%◌, ◌&&◌, ◌||◌,
 ghost use Rattle.plural_reference.specs.Operands.{of_whole};
 ghost use Rattle.plural_reference.specs.Truth.{is_in_ranges, range_holds, remainder, under};
 ghost use Rattle.plural_runtime.specs.RuleKinds.{ends, operator_of, tree_operand_of};
-ghost use Rattle.plural_runtime.specs.Inner.RuleReading.{lent_relation};
+ghost use Rattle.plural_runtime.specs.Inner.RuleViews.{lent_relation};
 ghost use Rattle.plural_runtime.specs.PackedTruth.{is_true_at, packed_truth};
 ghost use Rattle.plural_base.specs.FiveRules.{passes, rules_of};
 ghost use Rattle.plural_base.specs.Inner.WholeNumbers.{earlier_after, Fits, group_after, IsInClass, IsTold, category_of_whole, whole_value};

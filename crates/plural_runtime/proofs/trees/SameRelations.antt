@@ -11,7 +11,8 @@ use Rattle.plural_runtime.specs.declared.kinds.AndOr.{AndOr}
 use Rattle.plural_runtime.specs.declared.kinds.AndOr.TheVariants.{And, Or}
 use Rattle.plural_runtime.specs.PackedRelations.{PackedRelation, and_or_bit, operator_bit, operand_number, relation_numbers}
 use Rattle.plural_runtime.specs.PackedRelations.{is_same_relation}
-use Rattle.plural_runtime.specs.Inner.RuleReading.{and_or_in, operator_in, operand_numbered, operand_or_n, ranges_in, lent_relation}
+use Rattle.plural_runtime.specs.Inner.RuleReading.{and_or_in, operator_in, operand_numbered, operand_or_n, ranges_in}
+use Rattle.plural_runtime.specs.Inner.RuleViews.{lent_relation}
 use Rattle.plural_runtime.specs.declared.first_byte.AndOrPolarityOperand.{AndOrPolarityOperand}
 use Rattle.plural_runtime.specs.declared.relation.Relation.{Relation}
 use Rattle.plural_runtime.specs.RuleKinds.{operator_of, tree_operand_of, polarity_of, packed_operand_of}

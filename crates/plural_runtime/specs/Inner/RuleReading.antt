@@ -9,9 +9,6 @@ use Rattle.plural_reference.specs.declared.ast.Operator.TheVariants.{Eq, NotEq}
 use Rattle.plural_runtime.specs.declared.kinds.AndOr.{AndOr}
 use Rattle.plural_runtime.specs.declared.kinds.AndOr.TheVariants.{And, Or}
 use Rattle.plural_runtime.specs.PackedRelations.{PackedRelation, head_length, RuleBytes}
-use Rattle.plural_runtime.specs.declared.relation.RelationULE.{RelationULE}
-use Rattle.plural_runtime.specs.declared.relation.Relation.{Relation}
-use Rattle.plural_runtime.specs.RuleKinds.{operator_of, tree_operand_of}
 
 -- the meaning of bit 7 of a byte
 abbrev pub and_or_in : ℕ → AndOr
@@ -70,21 +67,3 @@ relations_in bytes = map relation_in (items_in bytes)
 -- the bytes encode the relations that they hold
 abbrev pub AreRuleBytes : List ℕ → Type 0
 AreRuleBytes bytes = RuleBytes (relations_in bytes) bytes
-
--- ---- What contracts see of borrowed relations
-
--- the relation of an item's bytes
-abbrev pub item_relation : RelationULE → PackedRelation
-item_relation item = relation_in item.bytes.now
-
--- the relation that is borrowed
-abbrev pub lent_relation : Relation → PackedRelation
-lent_relation relation = record {
-  and_or = relation.kind.and_or;
-  meaning = record {
-    operand = tree_operand_of relation.kind.operand;
-    modulus = relation.modulo;
-    operator = operator_of relation.kind.polarity;
-    ranges = ranges_in relation.ranges.now;
-  };
-}

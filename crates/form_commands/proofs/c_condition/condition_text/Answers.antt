@@ -1,7 +1,7 @@
 use Rattle.std.proofs.Common.{◌≡◌, List, ◌∷◌, ap, codes, string_bytes, sym, subst, ◌∙◌}
 use Rattle.std.proofs.lemmas.Result.{IfOk-weaker}
 use Rattle.icu_plurals.specs.PackedRelations.{PackedRelation, groups}
-use Rattle.icu_plurals.specs.RuleReading.{lent_relation}
+use Rattle.icu_plurals.specs.RuleViews.{lent_relation}
 use Rattle.icu_plurals.specs.declared.provider.rules.runtime.ast.AndOr.{AndOr}
 use Rattle.form_commands.specs.CExpressions.{or_text}
 use Rattle.form_commands.specs.Inner.ConditionSteps.{AreCut, begun_before, ended_before, group_texts}

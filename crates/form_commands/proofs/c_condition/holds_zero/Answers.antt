@@ -1,6 +1,6 @@
 use Rattle.std.proofs.Common.{◌≡◌, ℕ, List, [], drop, arith, ap, sym, ◌∙◌}
 use Rattle.std.proofs.lemmas.List.{drop_all}
-use Rattle.icu_plurals.specs.RuleReading.{lent_relation}
+use Rattle.icu_plurals.specs.RuleViews.{lent_relation}
 use Rattle.icu_plurals.specs.Truth.{is_in_ranges}
 use Rattle.form_commands.proofs.JoinLemmas.{holds_here, holds_later}
 use Rattle.form_commands.proofs.c_condition.holds_zero.Goals as goal

@@ -1,6 +1,6 @@
 use Rattle.std.proofs.Common.{◌≡◌, drop}
 use Rattle.icu_plurals.specs.Truth.{is_in_ranges}
-use Rattle.icu_plurals.specs.RuleReading.{lent_relation}
+use Rattle.icu_plurals.specs.RuleViews.{lent_relation}
 use Rattle.form_commands.proofs.c_condition.holds_zero.Given as goal
 
 -- no range so far holds 0

@@ -1,5 +1,5 @@
 use Rattle.std.proofs.Common.{◌≡◌, ℕ, List, [], ◌∷◌, ◌++◌, codes, map, length, ap, sym, subst, ◌∙◌}
-use Rattle.icu_plurals.specs.RuleReading.{lent_relation}
+use Rattle.icu_plurals.specs.RuleViews.{lent_relation}
 use Rattle.form_commands.specs.CExpressions.{Comparison, and_text, atom_text, bracketed, comparison_text, or_text}
 use Rattle.form_commands.specs.Inner.ConditionSteps.{Joins}
 use Rattle.form_commands.specs.RuleConditions.{in_ranges, inside}

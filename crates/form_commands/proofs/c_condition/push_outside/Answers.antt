@@ -1,6 +1,6 @@
 use Rattle.std.proofs.Common.{◌≡◌, ℕ, ◌+◌, List, [], ◌∷◌, ◌++◌, arith, codes, map, take, ap, sym, ◌∙◌, subst}
 use Rattle.std.proofs.lemmas.List.{map-append, take_all}
-use Rattle.icu_plurals.specs.RuleReading.{lent_relation}
+use Rattle.icu_plurals.specs.RuleViews.{lent_relation}
 use Rattle.form_commands.specs.CExpressions.{atom_text}
 use Rattle.form_commands.specs.RuleConditions.{outside}
 use Rattle.form_commands.specs.Inner.ConditionSteps.{Joins}

@@ -1,5 +1,5 @@
 use Rattle.std.proofs.Common.{codes, map, take}
-use Rattle.icu_plurals.specs.RuleReading.{lent_relation}
+use Rattle.icu_plurals.specs.RuleViews.{lent_relation}
 use Rattle.form_commands.specs.CExpressions.{atom_text}
 use Rattle.form_commands.specs.RuleConditions.{outside}
 use Rattle.form_commands.specs.Inner.ConditionSteps.{Joins}

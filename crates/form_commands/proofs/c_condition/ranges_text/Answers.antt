@@ -1,7 +1,7 @@
 use Rattle.std.proofs.Common.{◌≡◌, ℕ, ◌+◌, List, [], ◌∷◌, ◌++◌, arith, codes, map, string_bytes, take, ap, sym, ◌∙◌, subst}
 use Rattle.std.proofs.lemmas.List.{map-append, take_all}
 use Rattle.std.proofs.lemmas.Result.{IfOk-weaker}
-use Rattle.icu_plurals.specs.RuleReading.{lent_relation}
+use Rattle.icu_plurals.specs.RuleViews.{lent_relation}
 use Rattle.form_commands.specs.CExpressions.{Comparison, and_text, comparison_text, or_text}
 use Rattle.form_commands.specs.RuleConditions.{inside}
 use Rattle.form_commands.specs.Inner.ConditionSteps.{AreJoined}

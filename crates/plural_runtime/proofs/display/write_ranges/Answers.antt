@@ -3,7 +3,7 @@ use Rattle.std.specs.Prelude.{codes, if◌then◌else◌}
 use Rattle.std.specs.Fmt.{HasWritten}
 use Rattle.std.proofs.lemmas.Grind.{put_two}
 use Rattle.plural_runtime.specs.RuleText.{range_shown, ranges_shown}
-use Rattle.plural_runtime.specs.Inner.RuleReading.{lent_relation}
+use Rattle.plural_runtime.specs.Inner.RuleViews.{lent_relation}
 use Rattle.plural_runtime.proofs.texts.RuleTexts.{ranges_all, ranges_from, ranges_more, ranges_none}
 use Rattle.plural_runtime.proofs.display.write_ranges.Goals as goal
 

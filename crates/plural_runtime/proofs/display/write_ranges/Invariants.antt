@@ -1,7 +1,7 @@
 use Rattle.std.proofs.Common.{◌≡◌, ◌++◌, List, ℕ}
 use Rattle.std.specs.Fmt.{HasWritten, IsPlainFormatter}
 use Rattle.plural_runtime.specs.RuleText.{ranges_shown}
-use Rattle.plural_runtime.specs.Inner.RuleReading.{lent_relation}
+use Rattle.plural_runtime.specs.Inner.RuleViews.{lent_relation}
 use Rattle.plural_runtime.proofs.texts.RuleTexts.{ranges_from}
 use Rattle.plural_runtime.proofs.display.write_ranges.Given as goal
 

@@ -1,7 +1,7 @@
 use Rattle.std.proofs.Common.{◌∙◌, ◌++◌, ◌∷◌, [], arith, length, map, sym, ap, append_assoc, append-nil}
 use Rattle.std.proofs.lemmas.List.{length-map}
 use Rattle.plural_runtime.specs.RuleKinds.{item_of, range_or_value}
-use Rattle.plural_runtime.specs.Inner.RuleReading.{lent_relation}
+use Rattle.plural_runtime.specs.Inner.RuleViews.{lent_relation}
 use Rattle.plural_runtime.proofs.truth.TreeGroups.{made_all}
 use Rattle.plural_runtime.proofs.unpack.ranges_of.Goals as goal
 

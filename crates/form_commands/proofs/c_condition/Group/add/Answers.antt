@@ -1,7 +1,7 @@
 use Rattle.std.proofs.Common.{◌≡◌, List, [], ◌∷◌, ◌++◌, Bool, true, false, codes, map, ap, sym, ◌∙◌, refl}
 use Rattle.std.specs.Prelude.{◌&&◌}
 use Rattle.icu_plurals.specs.PackedRelations.{PackedRelation}
-use Rattle.icu_plurals.specs.RuleReading.{lent_relation}
+use Rattle.icu_plurals.specs.RuleViews.{lent_relation}
 use Rattle.form_commands.specs.CExpressions.{atom_text}
 use Rattle.form_commands.specs.Inner.ConditionSteps.{IsGroup, Joins}
 use Rattle.form_commands.specs.RuleConditions.{atoms_under, is_of_number}

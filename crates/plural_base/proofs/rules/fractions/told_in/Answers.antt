@@ -2,7 +2,7 @@ use Rattle.std.proofs.Common.{subst}
 use Rattle.std.specs.Prelude.{option_map}
 use Rattle.plural_reference.specs.declared.ast.Operand.{Operand}
 use Rattle.plural_reference.specs.Truth.{holds_value, operand_value, remainder}
-use Rattle.plural_runtime.specs.Inner.RuleReading.{lent_relation}
+use Rattle.plural_runtime.specs.Inner.RuleViews.{lent_relation}
 use Rattle.plural_base.specs.Inner.WholeNumbers.{IsTold}
 use Rattle.plural_base.proofs.rules.fractions.told_in.Goals as goal
 

@@ -1,6 +1,6 @@
 use Rattle.std.proofs.Common.{◌≡◌, ◌∙◌, ℕ, sym, subst, arith}
 use Rattle.plural_reference.specs.Truth.{is_in_ranges, remainder}
-use Rattle.plural_runtime.specs.Inner.RuleReading.{lent_relation}
+use Rattle.plural_runtime.specs.Inner.RuleViews.{lent_relation}
 use Rattle.plural_base.specs.Inner.WholeNumbers.{IsTold}
 use Rattle.plural_base.proofs.rules.fractions.told_places.Goals as goal
 

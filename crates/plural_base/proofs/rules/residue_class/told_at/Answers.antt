@@ -1,6 +1,6 @@
 use Rattle.std.proofs.Common.{◌≡◌, ℕ, subst, Bool}
 use Rattle.plural_reference.specs.Truth.{range_holds}
-use Rattle.plural_runtime.specs.Inner.RuleReading.{lent_relation}
+use Rattle.plural_runtime.specs.Inner.RuleViews.{lent_relation}
 use Rattle.plural_base.specs.Inner.WholeNumbers.{IsTold}
 use Rattle.plural_base.proofs.integers.Lists.{range_at}
 use Rattle.plural_base.proofs.rules.residue_class.told_at.Goals as goal

@@ -1,7 +1,7 @@
 use Rattle.std.proofs.Common.{◌≡◌, ◌<◌, ℕ, length, sym, subst, arith, Bool}
 use Rattle.std.proofs.lemmas.List.Folds.{list_any_more}
 use Rattle.plural_reference.specs.Truth.{range_holds}
-use Rattle.plural_runtime.specs.Inner.RuleReading.{lent_relation}
+use Rattle.plural_runtime.specs.Inner.RuleViews.{lent_relation}
 use Rattle.plural_base.specs.Inner.WholeNumbers.{IsTold}
 use Rattle.plural_base.proofs.rules.residue_class.told_list.Goals as goal
 

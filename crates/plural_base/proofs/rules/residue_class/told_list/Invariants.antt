@@ -1,6 +1,6 @@
 use Rattle.std.proofs.Common.{◌≡◌, ℕ, take}
 use Rattle.plural_reference.specs.Truth.{is_in_ranges}
-use Rattle.plural_runtime.specs.Inner.RuleReading.{lent_relation}
+use Rattle.plural_runtime.specs.Inner.RuleViews.{lent_relation}
 use Rattle.plural_base.specs.Inner.WholeNumbers.{Fits, IsTold}
 use Rattle.plural_base.proofs.rules.residue_class.told_list.Given as goal
 

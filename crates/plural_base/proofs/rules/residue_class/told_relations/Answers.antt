@@ -1,7 +1,7 @@
 use Rattle.std.proofs.Common.{◌≡◌, ◌∷◌, ◌∙◌, refl, sym, ap, subst, Bool, true, false}
 use Rattle.plural_reference.specs.Operands.{of_whole}
 use Rattle.plural_runtime.specs.PackedTruth.{is_true_at}
-use Rattle.plural_runtime.specs.Inner.RuleReading.{lent_relation}
+use Rattle.plural_runtime.specs.Inner.RuleViews.{lent_relation}
 use Rattle.plural_base.specs.Inner.WholeNumbers.{earlier_after, group_after, IsTold}
 use Rattle.plural_base.proofs.integers.Walk.{truth_from, truth_from-is}
 use Rattle.plural_base.proofs.rules.residue_class.told_relations.Goals as goal

@@ -1,7 +1,7 @@
 use Rattle.std.proofs.Common.{◌≡◌, ap}
 use Rattle.std.proofs.lemmas.Bool.Decides.{same_from_decides}
 use Rattle.plural_runtime.specs.PackedRelations.{PackedRelation}
-use Rattle.plural_runtime.specs.Inner.RuleReading.{lent_relation}
+use Rattle.plural_runtime.specs.Inner.RuleViews.{lent_relation}
 use Rattle.plural_runtime.proofs.trees.SameRelations.{is_same_relation-Decides, lent_same}
 use Rattle.plural_runtime.proofs.relation.RelationPartialEq.eq.Goals as goal
 
