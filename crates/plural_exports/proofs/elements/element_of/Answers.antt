@@ -39,7 +39,7 @@ returns c =
         (
           Ok c.in_ok-number.number,
           c.in_ok-number.ensures,
-          (element, ap (λ (value : PackedValue). value.text) c.get.ensures, kept, exact),
+          (element, ap (λ (value : PackedValue). value.text) c.get.ensures, (kept, exact)),
         ),
       ),
     )
