@@ -5,7 +5,7 @@ use Rattle.serde_json.specs.Find.{get}
 use Rattle.icu_plurals.specs.declared.JsonError.{JsonError}
 use Rattle.icu_plurals.specs.declared.JsonError.TheVariants.{Shape}
 use Rattle.icu_plurals.specs.declared.PluralRuleType.{PluralRuleType}
-use Rattle.icu_plurals.specs.DocumentJson.{Document as Maps, Rows, found, document_of_json, rows_for}
+use Rattle.icu_plurals.specs.DocumentJson.{Document as Maps, found, document_of_json, rows_for}
 use Rattle.icu_plurals.specs.ElementsJson.{packed_of_json}
 use Rattle.icu_plurals.specs.FiveRules.{FiveRules}
 use Rattle.icu_plurals.specs.PackedElements.{PackedElements}
