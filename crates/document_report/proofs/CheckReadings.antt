@@ -18,8 +18,7 @@ use Rattle.document_report.specs.declared.place.Place.TheVariants as place
 use Rattle.document_report.specs.declared.report.Verdict.{Verdict}
 use Rattle.document_report.specs.declared.run.Answer.{Answer as CodeAnswer}
 use Rattle.document_report.proofs.CheckFaults.{mapped}
-use Rattle.plural_documents.specs.Inputs.{GivesInput, IsInput, IsRead, IsReadAfter, IsReadToEnd, input_origin, most_bytes}
-use Rattle.plural_documents.specs.JsonTexts.{json_of}
+use Rattle.plural_documents.specs.Inputs.{GivesInput, IsInput, IsRead, IsReadAfter, IsReadToEnd, input_origin, most_bytes, json_of}
 use Rattle.plural_documents.specs.declared.InputError.{InputError}
 use Rattle.plural_documents.specs.declared.InputError.TheVariants as cause
 use Rattle.plural_documents.proofs.InputLemmas.{all_is_some, beyond, some_input, within}

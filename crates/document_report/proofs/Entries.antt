@@ -6,7 +6,7 @@ use Rattle.icu_plurals.specs.declared.PluralCategory.{PluralCategory}
 use Rattle.icu_plurals.specs.declared.provider.RawPluralCategory.{RawPluralCategory}
 use Rattle.icu_plurals.specs.declared.provider.RawPluralCategory.TheVariants as raw
 use Rattle.icu_plurals.specs.declared.provider.UnvalidatedPluralRange.{UnvalidatedPluralRange}
-use Rattle.icu_plurals.specs.Categories.{category_number, category_of, name_of}
+use Rattle.icu_plurals.specs.Categories.{raw_number, category_of, name_of}
 use Rattle.icu_plurals.specs.Ranges.{range_key, IsKeyOfText}
 use Rattle.plural_checker.specs.LanguageTexts.{SixTexts}
 use Rattle.document_report.specs.DocumentReport.{HasEntryFault, HasRangeFault, IsRangeText}
@@ -15,7 +15,7 @@ use Rattle.document_report.specs.declared.entry.EntryFault.{EntryFault}
 
 -- ---- The start and the end of a range
 
-number_is_low : (category : RawPluralCategory) → category_number category < 16
+number_is_low : (category : RawPluralCategory) → raw_number category < 16
 number_is_low raw.Other = omega arith
 number_is_low raw.Zero = omega arith
 number_is_low raw.One = omega arith
@@ -23,7 +23,7 @@ number_is_low raw.Two = omega arith
 number_is_low raw.Few = omega arith
 number_is_low raw.Many = omega arith
 
-of_number : (category : RawPluralCategory) → category_numbered (category_number category) ≡ category_of category
+of_number : (category : RawPluralCategory) → category_numbered (raw_number category) ≡ category_of category
 of_number raw.Other = refl
 of_number raw.Zero = refl
 of_number raw.One = refl
@@ -43,8 +43,8 @@ pub of_range : (texts : SixTexts) (key : List ℕ) (value : Data) (fault : Optio
     → start ≡ category_numbered (range.0 / 16) → end ≡ category_numbered (range.0 % 16)
     → HasRangeFault texts start end value fault → HasEntryFault texts key value fault
 of_range texts key value fault range start end (first, last, text, byte) at_start at_end h =
-    let a = category_number first in
-    let b = category_number last in
+    let a = raw_number first in
+    let b = raw_number last in
     let whole : range.0 ≡ a * 16 + b = ap (λ (r : UnvalidatedPluralRange). r.0) byte in
     inr (
       start,

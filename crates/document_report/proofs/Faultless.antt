@@ -22,13 +22,13 @@ use Rattle.icu_plurals.specs.DocumentJson.{Document, Rows, document_of_json, fou
 use Rattle.icu_plurals.specs.FiveRules.{Five, five, FiveRules}
 use Rattle.icu_plurals.specs.Json.{Stands, ◌>>=◌, all_five, there_or}
 use Rattle.icu_plurals.specs.PackedRelations.{PackedRelation}
-use Rattle.icu_plurals.specs.Ranges.{Range, category_named, no_ranges, range_named, range_text, with_range}
+use Rattle.icu_plurals.specs.Ranges.{Range, raw_category_named, no_ranges, range_named, range_text, with_range}
 use Rattle.icu_plurals.specs.RangesJson.{category_meant, members_meant, ranges_meant}
 use Rattle.icu_plurals.specs.RuleOfText.{TextsGiveOneAnswer, rule_of_text}
-use Rattle.icu_plurals.specs.RulesJson.{member_meant, named, optional_meant, rules_meant, text_under}
+use Rattle.icu_plurals.specs.RulesJson.{member_meant, naming_category, optional_meant, rules_meant, text_under}
 use Rattle.plural_checker.specs.Findings.{Findings}
 use Rattle.plural_checker.specs.LanguageTexts.{SixTexts}
-use Rattle.plural_checker.specs.TextChecks.{IsFoundInText}
+use Rattle.plural_checker.specs.TextChecks.{IsFoundInCategoryText}
 use Rattle.plural_checker.specs.TextChecks as text
 use Rattle.plural_checker.specs.declared.Fault.{Fault}
 use Rattle.document_report.specs.CheckedDocument.{document_formed, has_form, locales_formed, members_at, members_or_none, part_formed}
@@ -171,7 +171,7 @@ Means {A} meant = (x : A) × (meant ≡ Ok x)
 module _ (one : TextsGiveOneAnswer) where
   -- a text without a fault gives a rule
   text_gives : (rules : Option FiveRules) (category : PluralCategory) (bytes : List ℕ) (all : Findings)
-      → IsFoundInText rules category bytes all → all.faults ≡ []
+      → IsFoundInCategoryText rules category bytes all → all.faults ≡ []
       → (rule : List PackedRelation) × (rule_of_text bytes ≡ Ok rule)
   text_gives rules category bytes all (inl (long, is)) none = absurd (let e = ap (λ (f : Findings). f.faults) is in cc)
   text_gives rules category bytes all (inr (short, inl (error, read, is))) none =
@@ -190,7 +190,7 @@ module _ (one : TextsGiveOneAnswer) where
   optional_means part name rules category (Some (number n)) all clear is none = absurd (omega arith)
   optional_means part name rules category (Some (string s)) all clear is none =
       let given = text_gives rules category s all is none in
-      (Some given.0, ap (λ answer. named (Some category) answer >>= λ rule. Ok (Some rule)) given.1)
+      (Some given.0, ap (λ answer. naming_category (Some category) answer >>= λ rule. Ok (Some rule)) given.1)
   optional_means part name rules category (Some (array items)) all clear is none = absurd (omega arith)
   optional_means part name rules category (Some (object fields)) all clear is none = absurd (omega arith)
 
@@ -278,8 +278,8 @@ range_named_as raw.Many raw.Few = refl
 range_named_as raw.Many raw.Many = refl
 
 -- each category is named by its name
-category_named_as : (category : PluralCategory) → (last : RawPluralCategory) × (category_named (name_of category) ≡ Some last)
-unfolding category_named
+category_named_as : (category : PluralCategory) → (last : RawPluralCategory) × (raw_category_named (name_of category) ≡ Some last)
+unfolding raw_category_named
 category_named_as Zero = (raw.Zero, refl)
 category_named_as One = (raw.One, refl)
 category_named_as Two = (raw.Two, refl)

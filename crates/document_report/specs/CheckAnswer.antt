@@ -7,8 +7,7 @@ use Rattle.serde_json.specs.Data.{Data}
 use Rattle.document_report.specs.CheckedDocument.{value_in}
 use Rattle.document_report.specs.DocumentReport.{IsReportOf}
 use Rattle.document_report.specs.ReportText.{report_text}
-use Rattle.plural_documents.specs.Outputs.{IsPartWritten}
-use Rattle.plural_documents.specs.Inputs.{Origin, from_reader, from_length, from_writer, from_memory, from_answer}
+use Rattle.plural_documents.specs.Inputs.{IsPartWritten, Origin, from_reader, from_length, from_writer, from_memory, from_answer}
 use Rattle.document_report.specs.declared.error.CheckError.{CheckError}
 use Rattle.document_report.specs.declared.error.CheckError.TheVariants.{Usage, Read, TooLong, Write, Memory}
 use Rattle.document_report.specs.declared.report.Report.{Report}

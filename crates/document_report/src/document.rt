@@ -8,7 +8,7 @@ ghost use Rattle.document_report.specs.CheckedDocument.{or_fault, value_of};
 ghost use Rattle.document_report.specs.Inner.CheckCalls.{GivesValue};
 ghost use Rattle.plural_fallback.specs.LocalesJson.{part_name};
 ghost use Rattle.document_report.specs.declared.error.CheckError.TheVariants.{Json};
-ghost use Rattle.plural_documents.specs.JsonTexts.{json_of};
+ghost use Rattle.plural_documents.specs.Inputs.{json_of};
 
 use crate::error::CheckError;
 use crate::form::check_document;

@@ -9,6 +9,8 @@ use Rattle.fixed_decimal.specs.Digits.{AreDigits, value_of, text_of}
 use Rattle.fixed_decimal.specs.Places.{Places, IsWritten, IsOverLimit}
 use Rattle.fixed_decimal.specs.declared.sign.Sign.{Sign}
 use Rattle.fixed_decimal.specs.declared.sign.Sign.TheVariants as sign
+use Rattle.fixed_decimal.specs.declared.error.DecimalError.{DecimalError}
+use Rattle.fixed_decimal.specs.declared.error.DecimalError.TheVariants.{Syntax, Limit, Memory}
 
 -- the decimal before the letter, and the exponent after it
 pub record CompactNumber : Type 0 where
@@ -76,3 +78,10 @@ OneSigned = (text : List ℕ) (x y : Decimal) → WritesDecimal text x → Write
 
 abbrev pub OneCompact : Type 0
 OneCompact = (text : List ℕ) (x y : CompactNumber) → WritesCompact text x → WritesCompact text y → x ≡ y
+
+-- ---- The texts that the errors print
+
+abbrev pub error_text : DecimalError → List ℕ
+error_text Syntax = codes "bad number"
+error_text Limit = codes "number out of limits"
+error_text Memory = codes "out of memory"

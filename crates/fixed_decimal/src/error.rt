@@ -1,7 +1,7 @@
 //! Why a decimal is refused.
 
 ghost use Rattle.std.specs.Prelude.{◌≡◌, Some};
-ghost use Rattle.fixed_decimal.specs.FixedDecimalErrors.{error_text};
+ghost use Rattle.fixed_decimal.specs.Written.{error_text};
 ghost use Rattle.fixed_decimal.specs.declared.error.DecimalError.TheVariants.{Memory};
 
 use std::alloc::{AllocError, AllocFailed};

@@ -4,7 +4,7 @@ use Rattle.std.specs.Prelude.{◌≢◌, ◌<◌, ◌≤◌, length}
 use Rattle.std.proofs.lemmas.List.{append-nil}
 use Rattle.std.proofs.Math.Seq.{take-nil}
 use Rattle.std.proofs.KnownBytes.{Appends-nil}
-use Rattle.plural_documents.specs.Outputs.{IsPartWritten}
+use Rattle.plural_documents.specs.Inputs.{IsPartWritten}
 use Rattle.icu_plurals.specs.FiveRules.{FiveRules}
 use Rattle.icu_plurals.specs.declared.PluralCategory.{PluralCategory}
 use Rattle.form_commands.specs.InputLines.{HasNoEnd, lines_of}

@@ -7,7 +7,7 @@ use Rattle.std.proofs.Math.Seq.{drop-cons}
 use Rattle.std.proofs.lemmas.List.{append-nil}
 use Rattle.message_report.specs.MessagesReportText.{report_text}
 use Rattle.message_report.specs.declared.file.MessageFile.{MessageFile}
-use Rattle.plural_documents.specs.Outputs.{IsPartWritten}
+use Rattle.plural_documents.specs.Inputs.{IsPartWritten}
 use Rattle.plural_fallback.specs.declared.locales.Part.{Part}
 use Rattle.plural_fallback.specs.declared.locales.Part.TheVariants.{Cardinal, Ordinal}
 use Rattle.serde_json.specs.Data.{Data, Members, no_members, member}

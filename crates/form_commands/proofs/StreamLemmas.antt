@@ -6,7 +6,7 @@ use Rattle.std.proofs.KnownBytes.{Appends-nil, Appends-trans, Consumes-trans}
 use Rattle.std.proofs.lemmas.List.{append-nil}
 use Rattle.std.specs.declared.alloc.AllocError.{AllocError}
 use Rattle.icu_plurals.specs.FiveRules.{FiveRules}
-use Rattle.plural_documents.specs.Outputs.{IsPartWritten}
+use Rattle.plural_documents.specs.Inputs.{IsPartWritten}
 use Rattle.form_commands.specs.FormsAnswers.{IsBegun, IsCutOff, IsStreamed}
 use Rattle.form_commands.specs.InputLines.{lines_of}
 use Rattle.form_commands.specs.Inner.LineSteps.{EndsLine, Forgets, Takes}

@@ -15,9 +15,8 @@ use Rattle.message_report.specs.declared.counts.Counts.{Counts}
 use Rattle.message_report.specs.declared.error.ReportError.{ReportError}
 use Rattle.message_report.specs.declared.error.ReportError.TheVariants as report
 use Rattle.message_report.specs.declared.file.MessageFile.{MessageFile}
-use Rattle.plural_documents.specs.Inputs.{Origin, from_reader, from_length, from_writer, from_memory, from_answer, most_bytes}
-use Rattle.plural_documents.specs.JsonTexts.{json_of}
-use Rattle.plural_documents.specs.Outputs.{IsPartWritten}
+use Rattle.plural_documents.specs.Inputs.{Origin, from_reader, from_length, from_writer, from_memory, from_answer, most_bytes, json_of}
+use Rattle.plural_documents.specs.Inputs.{IsPartWritten}
 use Rattle.plural_fallback.specs.LocalesJson.{keys_under, parent_in, part_name}
 use Rattle.plural_fallback.specs.declared.locales.Part.{Part}
 use Rattle.serde_json.specs.Data.{Data}

@@ -9,7 +9,7 @@ use Rattle.icu_plurals.specs.FiveRules.{FiveRules}
 use Rattle.icu_plurals.specs.Places.{IsWithinLimit}
 use Rattle.icu_plurals.specs.Written.{CompactNumber, WritesCompact, IsCompactOverLimit}
 use Rattle.icu_plurals.specs.declared.PluralCategory.{PluralCategory}
-use Rattle.plural_checker.specs.NumberChecks.{HasCategory}
+use Rattle.icu_plurals.specs.DecimalChoice.{HasCategory}
 use Rattle.form_commands.specs.PrintedTexts.{PrintedText, joined, nothing}
 use Rattle.form_commands.specs.declared.printed.NumberFault.{NumberFault}
 use Rattle.form_commands.specs.declared.printed.NumberFault.TheVariants.{TooLong, NotText, Syntax, Limit}

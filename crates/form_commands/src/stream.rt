@@ -5,7 +5,7 @@ ghost use Rattle.std.specs.Io.KnownBytes.{Appends};
 ghost use Rattle.form_commands.specs.FormsAnswers.{IsStreamed};
 ghost use Rattle.form_commands.specs.Inner.LineSteps.{EndsLine, Forgets, Takes};
 ghost use Rattle.form_commands.specs.Inner.StreamSteps.{FinishesLines, TakesAndWrites};
-ghost use Rattle.plural_documents.specs.Outputs.{IsPartWritten};
+ghost use Rattle.plural_documents.specs.Inputs.{IsPartWritten};
 
 use crate::error::{FormsError, Verdict};
 use crate::number::{MOST_NUMBER_BYTES, next_place, push_answer};

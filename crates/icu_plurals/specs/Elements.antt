@@ -14,6 +14,7 @@ use Rattle.plural_runtime.specs.PackedTruth.{packed_truth}
 use Rattle.plural_base.specs.FiveRules.{FiveRules, first_category, Five, moduli_of, Paired}
 use Rattle.plural_base.specs.declared.category.PluralCategory.{PluralCategory}
 use Rattle.plural_base.specs.declared.category.PluralCategory.TheVariants.{Zero, One, Two, Few, Many, Other}
+use Rattle.fixed_decimal.specs.Written.{CompactNumber}
 use Rattle.fixed_decimal.specs.Places.{Places, IsWritten}
 use Rattle.plural_reference.specs.declared.ast.Condition.{Condition}
 use Rattle.plural_reference.specs.Exactness.{IsWithinBound, exact_truth}
@@ -98,6 +99,7 @@ element_at e op rules = unwrap_or (explicit_at e op) (of_category e (first_categ
 -- ---- Which value of elements a written number has under five rules (UTS 35 Part 3, Language Plural Rules, Explicit 0 and 1)
 --     IsExactElement      within the bound: the one that the number itself has, whatever its length
 --     IsKeptElement      within the bound or not: the one that its kept operands choose
+--     HasElement e rules x value      both
 
 -- The value of the exact number: the explicit one if the number is exactly 0 or 1 and it is
 -- present, else that of the first of zero, one, two, few, many whose condition is present and true
@@ -120,6 +122,12 @@ IsExactElement e rules number exponent value =
 abbrev pub IsKeptElement : {T : Type 0} → Elements T → FiveRules → Places → ℕ → T → Type 0
 IsKeptElement e rules number exponent value =
     (kept : Operands) × AreKept number exponent kept × (value ≡ element_at e kept rules)
+
+-- The value of a number: the one that its kept operands choose, and within the bound that of the
+-- number itself (docs/EXACTNESS.md).
+abbrev pub HasElement : {T : Type 0} → Elements T → FiveRules → CompactNumber → T → Type 0
+HasElement e rules x value =
+    IsKeptElement e rules x.significand.absolute x.exponent value × IsExactElement e rules x.significand.absolute x.exponent value
 
 -- ---- The law
 

@@ -1,10 +1,11 @@
 -- What is wrong with bytes that aren't packed elements, in the order in which faults are looked
 -- for.
 use Rattle.std.specs.Prelude.{◌≡◌, ℕ, ◌+◌, ◌/◌, ◌%◌, ◌<◌, ◌≤◌, List, [], ◌∷◌, ◌++◌, length, if◌then◌else◌, nat_lt, IsTrue, IsFalse}
-use Rattle.std.specs.Prelude.{Option, Some, None}
+use Rattle.std.specs.Prelude.{Option, Some, None, codes}
+use Rattle.std.specs.Fmt.{decimal}
 use Rattle.std.specs.Option.{option_or}
 use Rattle.std.specs.Str.{is_utf8}
-use Rattle.packed_list.specs.ListBytes.{ListBytes, HasFault}
+use Rattle.packed_list.specs.ListBytes.{ListBytes, HasFault, list_error_text}
 use Rattle.icu_plurals.specs.declared.packed.error.ElementsBytesError.{ElementsBytesError}
 use Rattle.icu_plurals.specs.declared.packed.error.ElementsBytesError.TheVariants as errors
 
@@ -72,3 +73,16 @@ abbrev pub HasElementsFault : List ℕ → ElementsBytesError → Type 0
 HasElementsFault bytes errors.Empty = bytes ≡ []
 HasElementsFault bytes errors.Short = IsShort bytes
 HasElementsFault bytes fault = (parts : ElementsParts) × ArePartsOf parts bytes × HasPartsFault parts fault
+
+-- ---- the texts of the errors
+
+-- why bytes aren't packed elements
+abbrev pub elements_bytes_error_text : ElementsBytesError → List ℕ
+elements_bytes_error_text errors.Empty = codes "elements without a byte"
+elements_bytes_error_text errors.Short = codes "default of elements too short"
+elements_bytes_error_text errors.Padding = codes "bad first byte of elements"
+elements_bytes_error_text errors.DefaultText = codes "default of elements is not UTF-8"
+elements_bytes_error_text (errors.List fault) = list_error_text fault
+elements_bytes_error_text (errors.ItemEmpty place) = codes "element " ++ decimal place ++ codes " without a byte"
+elements_bytes_error_text (errors.Key place) = codes "bad key of element " ++ decimal place
+elements_bytes_error_text (errors.ItemText place) = codes "text of element " ++ decimal place ++ codes " is not UTF-8"

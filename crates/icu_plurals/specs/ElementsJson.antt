@@ -24,14 +24,14 @@ pair_of (Some metadata) (Some text) = Some (record { metadata = metadata; text =
 pair_of _ _ = None
 
 -- a value is a list of two: metadata and a text
-abbrev pub value_in : Data → Option PackedValue
-value_in value =
+abbrev pub packed_value_in : Data → Option PackedValue
+packed_value_in value =
     if is_some (at 2 value) then None else pair_of (option_and_then metadata_in (at 0 value)) (option_and_then as_str (at 1 value))
 
 -- a value that may be absent or null
 abbrev pub optional_in : Option Data → Option (Option PackedValue)
 optional_in None = Some None
-optional_in (Some value) = if is_some (as_null value) then Some None else option_map Some (value_in value)
+optional_in (Some value) = if is_some (as_null value) then Some None else option_map Some (packed_value_in value)
 
 -- eight values, if all are of their form
 abbrev pub all_eight : Option PackedValue → Option (Option PackedValue) → Option (Option PackedValue) → Option (Option PackedValue)
@@ -54,7 +54,7 @@ all_eight _ _ _ _ _ _ _ _ = None
 -- its other keys aren't read
 abbrev pub elements_in_json : Data → Option (Elements PackedValue)
 elements_in_json value =
-    all_eight (option_and_then value_in (get (codes "other") value)) (optional_in (get (codes "zero") value))
+    all_eight (option_and_then packed_value_in (get (codes "other") value)) (optional_in (get (codes "zero") value))
     (optional_in (get (codes "one") value))
     (optional_in (get (codes "two") value)) (optional_in (get (codes "few") value)) (optional_in (get (codes "many") value))
     (optional_in (get (codes "explicit_zero") value)) (optional_in (get (codes "explicit_one") value))

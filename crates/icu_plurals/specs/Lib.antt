@@ -5,8 +5,6 @@ pub mod ElementCalls
 pub mod PackedElements
 pub mod ElementsFaults
 pub mod ElementsJson
--- the texts of errors
-pub mod IcuPluralsErrors
 -- no definitions of the subject: the reader of bytes, steps, and what contracts see of borrowed
 -- values
 pub mod Inner
@@ -51,10 +49,7 @@ pub use Rattle.plural_base.specs.RulesJson
 pub use Rattle.plural_base.specs.RangesJson
 pub use Rattle.plural_base.specs.DocumentJson
 -- the texts of errors
-pub use Rattle.fixed_decimal.specs.FixedDecimalErrors
-pub use Rattle.packed_list.specs.PackedListErrors
 pub use Rattle.plural_reference.specs.PluralReferenceErrors
-pub use Rattle.plural_runtime.specs.PluralRuntimeErrors
 pub use Rattle.plural_base.specs.PluralBaseErrors
 -- ---- No definitions of the subject: readers of bytes and what contracts see of borrowed values, for laws and views
 

@@ -2,12 +2,12 @@
 
 ghost use Rattle.std.specs.Prelude.{◌≡◌, ◌≢◌, ◌↔◌, Err, Ok, IfErr, IfOk, IsFalse, IsTrue, None, OnOk, codes, option_map};
 ghost use Rattle.std.specs.Option.{option_and_then};
-ghost use Rattle.plural_base.specs.Json.{Answers};
+ghost use Rattle.plural_base.specs.Json.{GivesMeaning};
 ghost use Rattle.serde_json.specs.Find.{as_str};
 ghost use Rattle.serde_json.specs.View.{view, members_view};
 ghost use Rattle.serde_json.specs.Written.{has_float};
 ghost use Rattle.icu_plurals.specs.Elements.{each_by};
-ghost use Rattle.icu_plurals.specs.ElementsJson.{elements_in_json, elements_json, metadata_in, optional_in, packed_of_json, packs, value_in, value_json, with_value};
+ghost use Rattle.icu_plurals.specs.ElementsJson.{elements_in_json, elements_json, metadata_in, optional_in, packed_of_json, packs, packed_value_in, value_json, with_value};
 ghost use Rattle.icu_plurals.specs.Inner.ElementsViews.{lent_value, metadata_number};
 ghost use Rattle.icu_plurals.specs.PackedElements.{PackedElements, elements_of};
 
@@ -41,7 +41,7 @@ impl PluralElementsPackedCow<'static> {
         alloc: Global,
         value: &Value,
     ) -> Result<PluralElementsPackedCow<'static>, JsonError>
-        ensures answers { Answers (λ packed. packed) result (packed_of_json (view value.now)) }
+        ensures answers { GivesMeaning (λ packed. packed) result (packed_of_json (view value.now)) }
         // Both are checked before anything is allocated.
         ensures float { (result ≡ Err JsonError.Float) ↔ IsTrue (has_float (view value.now)) }
         ensures shape { (result ≡ Err JsonError.Shape) ↔ (IsFalse (has_float (view value.now)) × (elements_in_json (view value.now) ≡ None)) }
@@ -105,7 +105,7 @@ fn packed(
     alloc: Global,
     elements: &PluralElements<(FourBitMetadata, &str)>,
 ) -> Result<PluralElementsPackedCow<'static>, JsonError>
-    ensures answers { Answers (λ packed. packed) result (packs (each_by lent_value elements.now)) }
+    ensures answers { GivesMeaning (λ packed. packed) result (packs (each_by lent_value elements.now)) }
     ensures float { result ≢ Err JsonError.Float }
     ensures shape { result ≢ Err JsonError.Shape }
     ensures memory { result ≢ Err (JsonError.Pack ElementsPackError.Memory) }
@@ -183,7 +183,7 @@ fn read_optional(value: Option<&Value>) -> Option<Option<(FourBitMetadata, &str)
 
 // A list of metadata and a text.
 fn read_value(value: &Value) -> Option<(FourBitMetadata, &str)>
-    ensures { option_map lent_value result ≡ value_in (view value.now) }
+    ensures { option_map lent_value result ≡ packed_value_in (view value.now) }
 {
     if value.get(2usize).is_some() {
         return None;

@@ -5,9 +5,8 @@ use Rattle.std.specs.Str.{IsUtf8}
 use Rattle.fixed_decimal.specs.Places.{IsWithinLimit}
 use Rattle.fixed_decimal.specs.Written.{CompactNumber, WritesCompact, IsCompactOverLimit, OneCompact}
 use Rattle.plural_base.specs.FiveRules.{FiveRules}
-use Rattle.message_pattern.specs.PatternParts.{Part}
+use Rattle.message_pattern.specs.PatternParts.{Part, Branching}
 use Rattle.message_format.specs.FormatNumbers.{HaveSameValue}
-use Rattle.message_pattern.specs.ArgumentBranches.{Branching}
 use Rattle.message_format.specs.FormatBranches.{EqualsWritten, IsBranchOfNumber}
 use Rattle.message_format.specs.FormatSteps.{Chooses, IsCounted}
 use Rattle.message_format.proofs.Ascii.{number_is_utf8}

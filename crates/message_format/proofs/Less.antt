@@ -6,12 +6,11 @@ use Rattle.fixed_decimal.specs.Shown.{decimal_text, CompactReadAgain}
 use Rattle.fixed_decimal.specs.Written.{CompactNumber, WritesUnsigned, WritesCompact, IsCompactOverLimit, OneCompact}
 use Rattle.fixed_decimal.specs.declared.decimal.Decimal.{Decimal}
 use Rattle.plural_base.specs.FiveRules.{FiveRules}
-use Rattle.message_pattern.specs.PatternParts.{Part}
+use Rattle.message_pattern.specs.PatternParts.{Part, Branching}
 use Rattle.message_format.specs.declared.error.ArgumentFault.TheVariants.{NotANumber, OverLimit}
 use Rattle.message_format.specs.declared.error.FormatError.{FormatError}
 use Rattle.message_format.specs.declared.error.FormatError.TheVariants as error
 use Rattle.message_format.specs.declared.steps.Step as steps
-use Rattle.message_pattern.specs.ArgumentBranches.{Branching}
 use Rattle.message_format.specs.FormatBranches.{IsBranchOfNumber}
 use Rattle.message_format.specs.FormatOffsets.{IsDifference, plain}
 use Rattle.message_format.specs.FormatSteps.{Step, Chooses, Fails, IsCountedBy, IsLess, IsCountedLess}

@@ -10,17 +10,16 @@ use Rattle.plural_base.specs.DecimalChoice.{IsKeptChoice}
 use Rattle.plural_base.specs.FiveRules.{FiveRules}
 use Rattle.plural_base.specs.declared.category.PluralCategory.{PluralCategory}
 use Rattle.plural_base.specs.Categories.{name_of}
-use Rattle.message_pattern.specs.PatternParts.{Part, Piece, Text, Hash, Argument, Begin, Branch, End}
+use Rattle.message_pattern.specs.PatternParts.{Part, Piece, Text, Hash, Argument, Begin, Branch, End, Branching}
 use Rattle.message_pattern.specs.declared.part.ArgumentKind.{ArgumentKind}
 use Rattle.message_pattern.specs.declared.part.ArgumentKind.TheVariants.{Plural, Ordinal, Select}
 use Rattle.message_format.specs.declared.error.ArgumentFault.{ArgumentFault}
 use Rattle.message_format.specs.FormatArguments.{Value}
 use Rattle.message_format.specs.FormatArguments as argument
-use Rattle.message_pattern.specs.ArgumentBranches.{Branching}
 use Rattle.message_format.specs.FormatBranches.{behind_end, branch_or_other, IsBranchOfValue, HasBranchOfValue, IsBranchOfNumber}
 use Rattle.message_format.specs.FormatOffsets.{IsDifference, plain}
-use Rattle.message_format.specs.FormatSteps.{Step, Stops, Prints, Chooses, Fails, TwoRules, ReadsNumber, IsCounted, IsCountedBy, IsLess, IsCountedLess, IsPlural, IsChoice, IsStep}
-use Rattle.message_format.specs.FormatMeaning.{Outcome, Said, Faulty, Says, ends, stops, prints, chooses, breaks, fails}
+use Rattle.message_format.specs.FormatSteps.{Step, Stops, Prints, Chooses, Fails, TwoRules, StepsFromNumber, IsCounted, IsCountedBy, IsLess, IsCountedLess, IsPlural, IsChoice, IsStep}
+use Rattle.message_format.specs.FormatMeaning.{PatternOutcome, Said, Faulty, Says, ends, stops, prints, chooses, breaks, fails}
 use Rattle.message_format.proofs.OneDifference.{one_difference}
 
 -- a text writes one number
@@ -88,7 +87,7 @@ one_branch rules x y bs p q (inr h) (inr k) =
 
 -- where a text writes one number, what comes of it is one
 one_read : {A : Type 0} (Writes IsOver : A → Type 0) → ((x y : A) → Writes x → Writes y → x ≡ y) → (name : List ℕ) (Then : A → Step → Type 0)
-    → ((x : A) (s t : Step) → Then x s → Then x t → s ≡ t) → (s t : Step) → ReadsNumber Writes IsOver name Then s → ReadsNumber Writes IsOver name Then t → s ≡ t
+    → ((x : A) (s t : Step) → Then x s → Then x t → s ≡ t) → (s t : Step) → StepsFromNumber Writes IsOver name Then s → StepsFromNumber Writes IsOver name Then t → s ≡ t
 one_read Writes IsOver one name Then same s t (inl h) (inl k) = h.1 ∙ sym k.1
 one_read Writes IsOver one name Then same s t (inl h) (inr (inl k)) = absurd (h.0 k.0.0 k.0.1)
 one_read Writes IsOver one name Then same s t (inl h) (inr (inr k)) = absurd (h.0 k.0 k.1)
@@ -158,7 +157,7 @@ one_step one arguments rules hash depth End rest s t h k = h ∙ sym k
 -- ---- what a message says is one
 
 -- how a message goes on behind what its first part does
-abbrev pub GoesOn : List argument.Argument → TwoRules → List ℕ → List ℕ → Part → List Part → Step → Outcome → Type 0
+abbrev pub GoesOn : List argument.Argument → TwoRules → List ℕ → List ℕ → Part → List Part → Step → PatternOutcome → Type 0
 GoesOn arguments rules hash before p rest Stops o = Said before ≡ o
 GoesOn arguments rules hash before p rest (Prints text) o = Says arguments rules hash (before ++ text) rest o
 GoesOn arguments rules hash before p rest (Chooses number branch) o =
@@ -167,12 +166,12 @@ GoesOn arguments rules hash before p rest (Chooses number branch) o =
 GoesOn arguments rules hash before p rest (Fails fault name) o = Faulty fault name ≡ o
 
 -- how a message goes on
-abbrev pub Follows : List argument.Argument → TwoRules → List ℕ → List ℕ → List Part → Outcome → Type 0
+abbrev pub Follows : List argument.Argument → TwoRules → List ℕ → List ℕ → List Part → PatternOutcome → Type 0
 Follows arguments rules hash before [] o = Said before ≡ o
 Follows arguments rules hash before (p ∷ rest) o =
     (s : Step) × IsStep arguments rules hash p.depth p.piece rest s × GoesOn arguments rules hash before p rest s o
 
-follows : {arguments : List argument.Argument} {rules : TwoRules} {hash before : List ℕ} {parts : List Part} {o : Outcome}
+follows : {arguments : List argument.Argument} {rules : TwoRules} {hash before : List ℕ} {parts : List Part} {o : PatternOutcome}
     → Says arguments rules hash before parts o → Follows arguments rules hash before parts o
 follows (ends hash before) = refl
 follows (stops hash before p rest h) = (Stops, h, refl)
@@ -182,26 +181,27 @@ follows (breaks hash number before name p rest branch fault h j) = (Chooses numb
 follows (fails hash before name p rest fault h) = (Fails fault name, h, refl)
 
 -- where the first part does this, the message goes on so
-goes_on : {arguments : List argument.Argument} {rules : TwoRules} {hash before : List ℕ} {rest : List Part} {o : Outcome} → OneNumber → (p : Part) (s : Step)
+goes_on : {arguments : List argument.Argument} {rules : TwoRules} {hash before : List ℕ} {rest : List Part} {o : PatternOutcome} → OneNumber → (p : Part) (s : Step)
     → IsStep arguments rules hash p.depth p.piece rest s → Says arguments rules hash before (p ∷ rest) o → GoesOn arguments rules hash before p rest s o
 goes_on {arguments = arguments} {rules = rules} {hash = hash} {before = before} {rest = rest} {o = o} one p s h other =
     let f = follows other in
     subst (λ (t : Step). GoesOn arguments rules hash before p rest t o) (one_step one arguments rules hash p.depth p.piece rest f.0 s f.1 h) f.2
 
 -- how a message goes on behind the branch that it chose
-abbrev pub Behind : List argument.Argument → TwoRules → List ℕ → ℕ → List Part → Outcome → Outcome → Type 0
+abbrev pub Behind : List argument.Argument → TwoRules → List ℕ → ℕ → List Part → PatternOutcome → PatternOutcome → Type 0
 Behind arguments rules hash depth rest (Said said) o = Says arguments rules hash said (behind_end depth rest) o
 Behind arguments rules hash depth rest (Faulty fault name) o = Faulty fault name ≡ o
 
 -- a message says one thing
-pub one_outcome : {arguments : List argument.Argument} {rules : TwoRules} {hash before : List ℕ} {parts : List Part} {a b : Outcome} → OneNumber
+pub one_outcome : {arguments : List argument.Argument} {rules : TwoRules} {hash before : List ℕ} {parts : List Part} {a b : PatternOutcome} → OneNumber
     → Says arguments rules hash before parts a → Says arguments rules hash before parts b → a ≡ b
 one_outcome one (ends hash before) other = follows other
 one_outcome one (stops hash before p rest h) other = goes_on one p Stops h other
 one_outcome one (prints hash before text p rest o h k) other = one_outcome one k (goes_on one p (Prints text) h other)
 one_outcome {arguments = arguments} {rules = rules} {b = b} one (chooses hash number before said p rest branch o h j k) other =
     elim (goes_on one p (Chooses number branch) h other) [
-      | inl x ↦ one_outcome one k (subst (λ (m : Outcome). Behind arguments rules hash p.depth rest m b) (sym (one_outcome one j x.1)) x.2)
+      | inl x ↦ one_outcome one k
+          (subst (λ (m : PatternOutcome). Behind arguments rules hash p.depth rest m b) (sym (one_outcome one j x.1)) x.2)
       | inr x ↦ let e : Said said ≡ Faulty x.0 x.1 = one_outcome one j x.2 in cc
     ]
 one_outcome {b = b} one (breaks hash number before name p rest branch fault h j) other =

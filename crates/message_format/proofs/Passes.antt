@@ -6,8 +6,7 @@ use Rattle.fixed_decimal.specs.Written.{CompactNumber}
 use Rattle.message_pattern.specs.declared.part.Part as parts
 use Rattle.message_pattern.specs.declared.part.Piece.TheVariants as pieces
 use Rattle.message_pattern.specs.declared.part.Selector as selectors
-use Rattle.message_pattern.specs.PatternParts.{Part, parts_view, selector_view}
-use Rattle.message_pattern.specs.ArgumentBranches.{Branching, branches_of}
+use Rattle.message_pattern.specs.PatternParts.{Part, parts_view, selector_view, Branching, branches_of}
 use Rattle.message_format.specs.FormatBranches.{Equals, IsBranchOfValue}
 
 -- what stands for a part that isn't there

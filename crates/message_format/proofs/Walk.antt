@@ -7,7 +7,7 @@ use Rattle.message_format.specs.declared.error.FormatError.TheVariants as error
 use Rattle.message_format.specs.FormatArguments.{Argument}
 use Rattle.message_format.specs.FormatBranches.{behind_end}
 use Rattle.message_format.specs.FormatSteps.{Step, Stops, Prints, Chooses, TwoRules, IsStep}
-use Rattle.message_format.specs.FormatMeaning.{Outcome, Said, Faulty, Says, ends, stops, prints, chooses, breaks, fails, PatternSays, SaysExactly}
+use Rattle.message_format.specs.FormatMeaning.{PatternOutcome, Said, Faulty, Says, ends, stops, prints, chooses, breaks, fails, PatternSays, SaysExactly}
 use Rattle.message_format.specs.Inner.FormatViews.{GivesStep, GivesOutcome, outcome_of}
 use Rattle.message_format.proofs.OneSaying.{OneNumber, one_outcome}
 
@@ -29,7 +29,7 @@ at_stop arguments rules hash before ps p rest e h =
     (stops hash before (part_view p) (parts_view rest) h)
 
 -- a text is said
-pub at_text : (arguments : List Argument) (rules : TwoRules) (hash before text new : List ℕ) (ps : List parts.Part) (p : parts.Part) (rest : List parts.Part) (o : Outcome)
+pub at_text : (arguments : List Argument) (rules : TwoRules) (hash before text new : List ℕ) (ps : List parts.Part) (p : parts.Part) (rest : List parts.Part) (o : PatternOutcome)
     → ps ≡ p ∷ rest → PartIs arguments rules hash p rest (Prints text) → new ≡ before ++ text
     → Says arguments rules hash new (parts_view rest) o → Says arguments rules hash before (parts_view ps) o
 at_text arguments rules hash before text new ps p rest o e h n k =
@@ -37,7 +37,7 @@ at_text arguments rules hash before text new ps p rest o e h n k =
     (prints hash before text (part_view p) (parts_view rest) o h (subst (λ (t : List ℕ). Says arguments rules hash t (parts_view rest) o) n k))
 
 -- a branch is said
-pub at_branch : (arguments : List Argument) (rules : TwoRules) (hash number before said : List ℕ) (ps : List parts.Part) (p : parts.Part) (rest branch after : List parts.Part) (o : Outcome)
+pub at_branch : (arguments : List Argument) (rules : TwoRules) (hash number before said : List ℕ) (ps : List parts.Part) (p : parts.Part) (rest branch after : List parts.Part) (o : PatternOutcome)
     → ps ≡ p ∷ rest → PartIs arguments rules hash p rest (Chooses number (parts_view branch))
     → Says arguments rules number before (parts_view branch) (Said said) → parts_view after ≡ behind_end p.depth (parts_view rest)
     → Says arguments rules hash said (parts_view after) o → Says arguments rules hash before (parts_view ps) o
@@ -50,7 +50,7 @@ at_branch arguments rules hash number before said ps p rest branch after o e h j
 pub at_break : (arguments : List Argument) (rules : TwoRules) (hash number before inner old new : List ℕ) (whole ps : List parts.Part) (p : parts.Part) (rest branch : List parts.Part) (f : FormatError)
     → ps ≡ p ∷ rest → PartIs arguments rules hash p rest (Chooses number (parts_view branch))
     → GivesOutcome arguments rules number (parts_view branch) before inner (Err f)
-    → ((o : Outcome) → Says arguments rules hash before (parts_view ps) o → Says arguments rules hash old (parts_view whole) o)
+    → ((o : PatternOutcome) → Says arguments rules hash before (parts_view ps) o → Says arguments rules hash old (parts_view whole) o)
     → GivesOutcome arguments rules hash (parts_view whole) old new (Err f)
 at_break arguments rules hash number before inner old new whole ps p rest branch (error.Argument fault name) e h j says =
     says (Faulty fault name.now)
@@ -61,7 +61,7 @@ at_break arguments rules hash number before inner old new whole ps p rest branch
 -- an argument has a fault
 pub at_fault : (arguments : List Argument) (rules : TwoRules) (hash before old new : List ℕ) (whole ps : List parts.Part) (p : parts.Part) (rest : List parts.Part) (f : FormatError)
     → ps ≡ p ∷ rest → GivesStep (PartIs arguments rules hash p rest) (Err f)
-    → ((o : Outcome) → Says arguments rules hash before (parts_view ps) o → Says arguments rules hash old (parts_view whole) o)
+    → ((o : PatternOutcome) → Says arguments rules hash before (parts_view ps) o → Says arguments rules hash old (parts_view whole) o)
     → GivesOutcome arguments rules hash (parts_view whole) old new (Err f)
 at_fault arguments rules hash before old new whole ps p rest (error.Argument fault name) e h says =
     says (Faulty fault name.now)
@@ -72,18 +72,18 @@ at_fault arguments rules hash before old new whole ps p rest error.Memory e h sa
 -- ---- the whole pattern
 
 -- what is said is the only thing
-pub exactly : OneNumber → (arguments : List Argument) (rules : TwoRules) (ps : List Part) (outcome : Option Outcome)
-    → ((o : Outcome) → outcome ≡ Some o → PatternSays arguments rules ps o) → SaysExactly arguments rules ps outcome
+pub exactly : OneNumber → (arguments : List Argument) (rules : TwoRules) (ps : List Part) (outcome : Option PatternOutcome)
+    → ((o : PatternOutcome) → outcome ≡ Some o → PatternSays arguments rules ps o) → SaysExactly arguments rules ps outcome
 exactly one arguments rules ps None only = record { only = only; every = λ o h. inr refl }
 exactly one arguments rules ps (Some x) only =
     record { only = only; every = λ o h. inl (ap Some (one_outcome one (only x refl) h)) }
 
 -- an outcome of a walk over the whole pattern
-pub whole : (arguments : List Argument) (rules : TwoRules) (ps : List Part) (x o : Outcome) → PatternSays arguments rules ps x → Some x ≡ Some o → PatternSays arguments rules ps o
-whole arguments rules ps x o h e = let f : x ≡ o = cc in subst (λ (y : Outcome). PatternSays arguments rules ps y) f h
+pub whole : (arguments : List Argument) (rules : TwoRules) (ps : List Part) (x o : PatternOutcome) → PatternSays arguments rules ps x → Some x ≡ Some o → PatternSays arguments rules ps o
+whole arguments rules ps x o h e = let f : x ≡ o = cc in subst (λ (y : PatternOutcome). PatternSays arguments rules ps y) f h
 
 -- an error of a walk over the whole pattern
-pub whole_error : (arguments : List Argument) (rules : TwoRules) (qs ps : List Part) (old new : List ℕ) (f : FormatError) (o : Outcome) → qs ≡ ps → old ≡ []
+pub whole_error : (arguments : List Argument) (rules : TwoRules) (qs ps : List Part) (old new : List ℕ) (f : FormatError) (o : PatternOutcome) → qs ≡ ps → old ≡ []
     → GivesOutcome arguments rules [] qs old new (Err f) → outcome_of (Err f) ≡ Some o → PatternSays arguments rules ps o
 whole_error arguments rules qs ps old new (error.Argument fault name) o same e h k =
     let begun = subst (λ (t : List ℕ). Says arguments rules [] t qs (Faulty fault name.now)) e h in

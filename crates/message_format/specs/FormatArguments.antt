@@ -25,8 +25,8 @@ abbrev pub value_view : values.Value → Value
 value_view (value.Number number) = Number number.now
 value_view (value.Text text) = Text text.now
 
-abbrev pub argument_view : arguments.Argument → Argument
-argument_view a = record { name = a.name.now; value = value_view a.value }
+abbrev pub named_value_view : arguments.Argument → Argument
+named_value_view a = record { name = a.name.now; value = value_view a.value }
 
 abbrev pub arguments_view : List arguments.Argument → List Argument
-arguments_view list = map argument_view list
+arguments_view list = map named_value_view list

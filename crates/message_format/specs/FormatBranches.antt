@@ -5,8 +5,7 @@ use Rattle.plural_base.specs.Categories.{name_of}
 use Rattle.plural_base.specs.DecimalChoice.{IsExactChoice, IsKeptChoice}
 use Rattle.plural_base.specs.FiveRules.{FiveRules}
 use Rattle.plural_base.specs.declared.category.PluralCategory.{PluralCategory}
-use Rattle.message_pattern.specs.PatternParts.{Part, Selector, Exactly, Keyword, End}
-use Rattle.message_pattern.specs.ArgumentBranches.{Branching}
+use Rattle.message_pattern.specs.PatternParts.{Part, Selector, Exactly, Keyword, End, Branching}
 use Rattle.message_format.specs.FormatNumbers.{HaveSameValue}
 
 -- the parts that follow the end of an argument at a depth

@@ -5,7 +5,7 @@ use Rattle.fixed_decimal.specs.Shown.{decimal_text}
 use Rattle.fixed_decimal.specs.Written.{CompactNumber, WritesUnsigned, WritesCompact, IsCompactOverLimit}
 use Rattle.fixed_decimal.specs.declared.decimal.Decimal.{Decimal}
 use Rattle.plural_base.specs.FiveRules.{FiveRules}
-use Rattle.message_pattern.specs.PatternParts.{Part, Piece, Hash, Begin, Branch, End}
+use Rattle.message_pattern.specs.PatternParts.{Part, Piece, Hash, Begin, Branch, End, Branching, branches_of}
 use Rattle.message_pattern.specs.PatternParts as piece
 use Rattle.message_pattern.specs.declared.part.ArgumentKind.{ArgumentKind}
 use Rattle.message_pattern.specs.declared.part.ArgumentKind.TheVariants.{Plural, Ordinal, Select}
@@ -13,7 +13,6 @@ use Rattle.message_format.specs.declared.error.ArgumentFault.{ArgumentFault}
 use Rattle.message_format.specs.declared.error.ArgumentFault.TheVariants.{Missing, WrongKind, NotANumber, OverLimit, CompactOffset}
 use Rattle.message_format.specs.FormatArguments.{Argument, Value, Number, Text, value_named}
 use Rattle.message_format.specs.FormatOffsets.{IsDifference, plain}
-use Rattle.message_pattern.specs.ArgumentBranches.{Branching, branches_of}
 use Rattle.message_format.specs.FormatBranches.{branch_or_other, IsBranchOfNumber}
 
 -- what a part does
@@ -47,8 +46,8 @@ selected hash name bs (Some (Number number)) = Fails WrongKind name
 selected hash name bs (Some (Text text)) = Chooses hash (branch_or_other text bs)
 
 -- A text writes a number, from which the step comes; or it writes none, or one over a limit.
-abbrev pub ReadsNumber : {A : Type 0} → (A → Type 0) → (A → Type 0) → List ℕ → (A → Step → Type 0) → Step → Type 0
-ReadsNumber {A = A} Writes IsOver name Then step =
+abbrev pub StepsFromNumber : {A : Type 0} → (A → Type 0) → (A → Type 0) → List ℕ → (A → Step → Type 0) → Step → Type 0
+StepsFromNumber {A = A} Writes IsOver name Then step =
     (((x : A) → Writes x → ⊥) × (step ≡ Fails NotANumber name))
     ⊎ (((x : A) × Writes x × IsOver x) × (step ≡ Fails OverLimit name))
     ⊎ ((x : A) × Writes x × (IsOver x → ⊥) × Then x step)
@@ -56,7 +55,7 @@ ReadsNumber {A = A} Writes IsOver name Then step =
 -- A plural chooses by the number that the text of its argument writes, and `#` is this text.
 abbrev pub IsCounted : FiveRules → List ℕ → List Branching → List ℕ → Step → Type 0
 IsCounted rules name bs text step =
-    ReadsNumber (λ x. WritesCompact text x) (λ x. IsCompactOverLimit x) name
+    StepsFromNumber (λ x. WritesCompact text x) (λ x. IsCompactOverLimit x) name
     (λ x s. (parts : List Part) × IsBranchOfNumber rules x x bs parts × (s ≡ Chooses text parts)) step
 
 -- It chooses by a number and this number less the offset, and `#` is the text of the latter, which
@@ -71,13 +70,13 @@ abbrev pub IsLess : FiveRules → List ℕ → List Branching → List ℕ → C
 IsLess rules name bs digits x step =
     ((0 < x.exponent) × (step ≡ Fails CompactOffset name))
     ⊎ ((x.exponent ≡ 0)
-    × ReadsNumber (λ o. WritesUnsigned digits o) (λ o. IsOverLimit o) name
+    × StepsFromNumber (λ o. WritesUnsigned digits o) (λ o. IsOverLimit o) name
     (λ o s. (less : Decimal) × IsDifference x.significand o less × IsCountedBy rules name bs x less s) step)
 
 -- A plural with an offset chooses by the number that the text of its argument writes.
 abbrev pub IsCountedLess : FiveRules → List ℕ → List Branching → List ℕ → List ℕ → Step → Type 0
 IsCountedLess rules name bs digits text step =
-    ReadsNumber (λ x. WritesCompact text x) (λ x. IsCompactOverLimit x) name (λ x s. IsLess rules name bs digits x s) step
+    StepsFromNumber (λ x. WritesCompact text x) (λ x. IsCompactOverLimit x) name (λ x s. IsLess rules name bs digits x s) step
 
 -- A plural or an ordinal with these branches.
 abbrev pub IsPlural : FiveRules → List ℕ → Option (List ℕ) → List Branching → Option Value → Step → Type 0

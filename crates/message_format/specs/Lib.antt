@@ -5,7 +5,5 @@ pub mod FormatOffsets
 pub mod FormatBranches
 pub mod FormatSteps
 pub mod FormatMeaning
-pub mod FormatLaws
-pub mod FormatErrors
 -- not definitions of the subject
 pub mod Inner

@@ -1,8 +1,7 @@
 //! The branches of an argument.
 
 ghost use Rattle.std.specs.Prelude.{◌≡◌, ◌≤◌, ◌↔◌, length, IsTrue, IfOk, IfSome};
-ghost use Rattle.message_pattern.specs.PatternParts.{parts_view, selector_view};
-ghost use Rattle.message_pattern.specs.ArgumentBranches.{branches_of};
+ghost use Rattle.message_pattern.specs.PatternParts.{parts_view, selector_view, branches_of};
 ghost use Rattle.message_format.specs.FormatBranches.{behind_end, is_keyword, branch_of_keyword, branch_or_other, IsBranchOfValue, HasBranchOfValue, IsBranchOfNumber};
 ghost use Rattle.message_format.specs.Inner.FormatViews.{any_parts};
 

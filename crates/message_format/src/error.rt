@@ -21,7 +21,7 @@ pub enum ArgumentFault {
 
 impl fmt::Display for ArgumentFault {
     ghost use Rattle.std.specs.Prelude.{Some};
-    ghost use Rattle.message_format.specs.FormatErrors.{argument_fault_text};
+    ghost use Rattle.message_format.specs.FormatMeaning.{argument_fault_text};
 
     ghost output = { λ fault. Some (argument_fault_text fault) };
 
@@ -48,7 +48,7 @@ pub enum FormatError<'p> {
 
 impl<'p> fmt::Display for FormatError<'p> {
     ghost use Rattle.std.specs.Prelude.{Some};
-    ghost use Rattle.message_format.specs.FormatErrors.{format_error_text};
+    ghost use Rattle.message_format.specs.FormatMeaning.{format_error_text};
 
     ghost output = { λ error. Some (format_error_text error) };
 

@@ -1,6 +1,6 @@
 //! Laws of the definitions that the contracts name.
 
-ghost use Rattle.message_format.specs.FormatLaws.{HaveOneOutcome};
+ghost use Rattle.message_format.specs.FormatMeaning.{HaveOneOutcome};
 
 use fixed_decimal::laws::texts_write_one_number;
 

@@ -1,9 +1,8 @@
 //! What a part of a message does.
 
 ghost use Rattle.std.specs.Prelude.{◌≡◌, ◌≤◌, length, IfOk, Some};
-ghost use Rattle.message_pattern.specs.PatternParts.{parts_view, piece_view, offset_view};
+ghost use Rattle.message_pattern.specs.PatternParts.{parts_view, piece_view, offset_view, branches_of};
 ghost use Rattle.message_format.specs.FormatArguments.{arguments_view, value_view};
-ghost use Rattle.message_pattern.specs.ArgumentBranches.{branches_of};
 ghost use Rattle.message_format.specs.FormatSteps.{shown_value, selected, IsCounted, IsPlural, IsChoice, IsStep};
 ghost use Rattle.message_format.specs.Inner.FormatViews.{any_value, GivesStep, IsBehind, two_rules};
 

@@ -8,7 +8,7 @@ use Rattle.message_pattern.specs.PatternParts.{Part}
 use Rattle.message_pattern.specs.PatternReading.{InMessage, ReadOutcome, Read, Faulty, ReadsPattern}
 use Rattle.message_pattern.specs.PatternGrammar.{IsReadAt}
 use Rattle.message_pattern.specs.declared.text.Context.TheVariants.{Whole}
-use Rattle.message_pattern.specs.PatternAnswers.{IsPattern, HasFault, IsUnlessMemory, IsWhatIsRead, ParsesExactly, IsPatternOrFaulty}
+use Rattle.message_pattern.specs.PatternAnswers.{IsPattern, HasPatternFault, IsUnlessMemory, IsWhatIsRead, ParsesExactly, IsPatternOrFaulty}
 use Rattle.message_pattern.proofs.Readings.{one_outcome}
 use Rattle.message_pattern.proofs.GrammarReads.{read_again, reading_in}
 use Rattle.message_pattern.proofs.WholeTexts.{to_its_end}
@@ -31,13 +31,13 @@ one_list text a b h k =
     let e : Read a [] ≡ Read b [] = one_outcome (as_read text a h) (as_read text b k) in cc
 
 -- a pattern has no fault
-pub no_fault : (text : List ℕ) (a : List Part) (kind : FaultKind) (place : ℕ) → IsPattern text a → HasFault text kind place → ⊥
+pub no_fault : (text : List ℕ) (a : List Part) (kind : FaultKind) (place : ℕ) → IsPattern text a → HasPatternFault text kind place → ⊥
 no_fault text a kind place h k =
     let e : Read a [] ≡ Faulty k.0 = one_outcome (as_read text a h) k.1 in cc
 
 -- two faults of a text are one
-pub one_fault : (text : List ℕ) (kind kind' : FaultKind) (place place' : ℕ) → HasFault text kind place → HasFault text kind' place'
-    → (kind ≡ kind') × (place ≡ place')
+pub one_fault : (text : List ℕ) (kind kind' : FaultKind) (place place' : ℕ) → HasPatternFault text kind place
+    → HasPatternFault text kind' place' → (kind ≡ kind') × (place ≡ place')
 one_fault text kind kind' place place' h k =
     let e : Faulty h.0 ≡ Faulty k.0 = one_outcome h.1 k.1 in
     let f : h.0 ≡ k.0 = cc in
@@ -50,7 +50,7 @@ read_only text (Err (errors.Fault kind place)) h parts k = absurd (no_fault text
 read_only text (Err errors.Memory) h parts k = inr refl
 
 fault_only : (text : List ℕ) (r : Result (List Part) error.PatternError) → IsWhatIsRead text r
-    → (kind : FaultKind) (place : ℕ) → HasFault text kind place → IsUnlessMemory r (Err (errors.Fault kind place))
+    → (kind : FaultKind) (place : ℕ) → HasPatternFault text kind place → IsUnlessMemory r (Err (errors.Fault kind place))
 fault_only text (Ok a) h kind place k = absurd (no_fault text a kind place h k)
 fault_only text (Err (errors.Fault kind' place')) h kind place k =
     let same : (kind' ≡ kind) × (place' ≡ place) = one_fault text kind' kind place' place h k in

@@ -6,7 +6,7 @@ use Rattle.message_pattern.specs.declared.error.Fault.{Fault}
 use Rattle.message_pattern.specs.declared.error.FaultKind.TheVariants.{ExpectedName, BadNumber, ExpectedType, ExpectedOffset, ExpectedSelector, ExpectedValue, MissingOther}
 use Rattle.message_pattern.specs.declared.part.ArgumentKind.{ArgumentKind}
 use Rattle.message_pattern.specs.declared.part.ArgumentKind.TheVariants.{Plural, Ordinal, Select}
-use Rattle.message_pattern.specs.PatternBytes.{comma, equals, opening, closing, is_empty, begins, behind_run, after_white, after_word}
+use Rattle.message_pattern.specs.PatternBytes.{comma, equals, opening, closing, is_empty_text, begins, behind_run, after_white, after_word}
 use Rattle.message_pattern.specs.PatternParts.{Selector, Exactly, Keyword}
 use Rattle.message_pattern.specs.PatternHeads.{◌>>=◌, fault_at, missing, Head, Plain, Choice, is_bad_number, name_front, kind_named, kind_before, kind_front, offset_behind, offset_front, behind_name, head_front, is_counting, is_number, exact_front, keyword_front, selector_front, branch_opens, next_branch, branch_front, BranchFront}
 use Rattle.message_pattern.specs.PatternHeads as branch
@@ -19,8 +19,8 @@ after_name s w u a b = if a then Err (missing ExpectedName s) else if b then Err
 
 name_again : (s name t : List ℕ) → IsNameOrNumber s name t → name_front s ≡ Ok (name, after_white t)
 name_again s name t h =
-    ap (λ (w : List ℕ). after_name s w (behind_run Name s) (is_empty w) (is_bad_number w)) (longest_run Name s name t h.bytes)
-    ∙ (ap (λ (u : List ℕ). after_name s name u (is_empty name) (is_bad_number name)) (longest_rest Name s name t h.bytes)
+    ap (λ (w : List ℕ). after_name s w (behind_run Name s) (is_empty_text w) (is_bad_number w)) (longest_run Name s name t h.bytes)
+    ∙ (ap (λ (u : List ℕ). after_name s name u (is_empty_text name) (is_bad_number name)) (longest_rest Name s name t h.bytes)
     ∙ (ap (λ (a : Bool). after_name s name t a (is_bad_number name)) (empty_false name h.nonempty)
     ∙ ap (λ (b : Bool). after_name s name t false b) h.no_zeros))
 
@@ -29,7 +29,7 @@ after_type s a k r = if a then Err (missing ExpectedType s) else kind_before s k
 
 kind_again : (s : List ℕ) (kind : ArgumentKind) (v w : List ℕ) → IsArgumentType s kind v → after_white v ≡ comma ∷ w → kind_front s ≡ Ok (kind, w)
 kind_again s kind v w h e =
-    ap (λ (x : List ℕ). after_type s (is_empty x) (kind_named x) (after_white (behind_run Letter s))) (longest_run Letter s h.word v h.letters)
+    ap (λ (x : List ℕ). after_type s (is_empty_text x) (kind_named x) (after_white (behind_run Letter s))) (longest_run Letter s h.word v h.letters)
     ∙ (ap (λ (a : Bool). after_type s a (kind_named h.word) (after_white (behind_run Letter s))) (empty_false h.word h.nonempty)
     ∙ (ap (λ (k : Option ArgumentKind). after_type s false k (after_white (behind_run Letter s))) h.named
     ∙ (ap (λ (u : List ℕ). after_type s false (Some kind) (after_white u)) (longest_rest Letter s h.word v h.letters)
@@ -47,8 +47,8 @@ value_again s None rest h = ap (λ (o : Option (List ℕ)). offset_behind o s) h
 value_again s (Some digits) rest h =
     let u = after_white h.0 in
     ap (λ (o : Option (List ℕ)). offset_behind o s) h.1
-    ∙ (ap (λ (d : List ℕ). after_digits u (is_empty d) d (behind_run Digit u)) (longest_run Digit u digits rest h.2)
-    ∙ (ap (λ (r : List ℕ). after_digits u (is_empty digits) digits r) (longest_rest Digit u digits rest h.2)
+    ∙ (ap (λ (d : List ℕ). after_digits u (is_empty_text d) d (behind_run Digit u)) (longest_run Digit u digits rest h.2)
+    ∙ (ap (λ (r : List ℕ). after_digits u (is_empty_text digits) digits r) (longest_rest Digit u digits rest h.2)
     ∙ ap (λ (a : Bool). after_digits u a digits rest) (empty_false digits h.3)))
 
 offset_again : (kind : ArgumentKind) (s : List ℕ) (offset : Option (List ℕ)) (rest : List ℕ) → IsOffset kind s offset rest
@@ -91,8 +91,8 @@ after_keyword s a w r = if a then Err (missing ExpectedSelector s) else Ok (Keyw
 
 keyword_again : (s word rest : List ℕ) → IsLongest Name s word rest → word ≢ [] → keyword_front s ≡ Ok (Keyword word, rest)
 keyword_again s word rest l n =
-    ap (λ (x : List ℕ). after_keyword s (is_empty x) x (behind_run Name s)) (longest_run Name s word rest l)
-    ∙ (ap (λ (r : List ℕ). after_keyword s (is_empty word) word r) (longest_rest Name s word rest l)
+    ap (λ (x : List ℕ). after_keyword s (is_empty_text x) x (behind_run Name s)) (longest_run Name s word rest l)
+    ∙ (ap (λ (r : List ℕ). after_keyword s (is_empty_text word) word r) (longest_rest Name s word rest l)
     ∙ ap (λ (a : Bool). after_keyword s a word rest) (empty_false word n))
 
 not_by : (b n : ℕ) (s : List ℕ) (v : Bool) → (b == n) ≡ v → begins Name (b ∷ s) ≡ true → begins Name (n ∷ s) ≡ false → (b == n) ≡ false

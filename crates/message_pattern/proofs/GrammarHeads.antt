@@ -6,7 +6,8 @@ use Rattle.message_pattern.specs.declared.error.Fault.{Fault}
 use Rattle.message_pattern.specs.declared.error.FaultKind.TheVariants.{ExpectedName, BadNumber, ExpectedEnd, ExpectedType, ExpectedStyle, ExpectedOffset, ExpectedSelector, ExpectedValue, ExpectedBranch, MissingOther}
 use Rattle.message_pattern.specs.declared.part.ArgumentKind.{ArgumentKind}
 use Rattle.message_pattern.specs.declared.part.ArgumentKind.TheVariants.{Plural, Ordinal, Select}
-use Rattle.message_pattern.specs.PatternBytes.{comma, equals, opening, closing, is_empty, class_front, behind_run, after_white, after_word}
+use Rattle.message_pattern.specs.PatternBytes.{comma, equals, opening, closing, is_empty_text, class_front}
+use Rattle.message_pattern.specs.PatternBytes.{behind_run, after_white, after_word}
 use Rattle.message_pattern.specs.PatternParts.{Selector, Exactly}
 use Rattle.message_pattern.specs.PatternHeads.{◌>>=◌, fault_at, unclosed, missing, Head, Plain, Choice, is_bad_number, name_front, kind_named, style_front, kind_before, kind_front, digits_front, offset_behind, offset_front, choice_front, behind_name, head_front, is_counting, is_number, exact_front, keyword_front, selector_front, branch_opens, next_branch, branch_front, BranchFront}
 use Rattle.message_pattern.specs.PatternHeads as branch
@@ -32,11 +33,11 @@ guard_ok : {A : Type 0} (b : Bool) (d : Fault) (r : Result A Fault) (y : A) → 
 guard_ok true d r y e = absurd (no_ok e)
 guard_ok false d r y e = (refl, e)
 
-nonempty_of : (w : List ℕ) → is_empty w ≡ false → w ≢ []
+nonempty_of : (w : List ℕ) → is_empty_text w ≡ false → w ≢ []
 nonempty_of [] e h = let t : true ≡ false = e in cc
 nonempty_of (b ∷ w) e h = cc
 
-pub empty_false : (w : List ℕ) → w ≢ [] → is_empty w ≡ false
+pub empty_false : (w : List ℕ) → w ≢ [] → is_empty_text w ≡ false
 empty_false [] h = absurd (h refl)
 empty_false (b ∷ w) h = refl
 
@@ -44,7 +45,7 @@ empty_false (b ∷ w) h = refl
 
 pub name_sound : (s : List ℕ) (x : List ℕ × List ℕ) → name_front s ≡ Ok x → (t : List ℕ) × IsNameOrNumber s x.0 t × (after_white t ≡ x.1)
 name_sound s x e =
-    let g = guard_ok (is_empty (class_front Name s)) (missing ExpectedName s) _ x e in
+    let g = guard_ok (is_empty_text (class_front Name s)) (missing ExpectedName s) _ x e in
     let k = guard_ok (is_bad_number (class_front Name s)) (fault_at BadNumber s) _ x g.1 in
     subst (λ (y : List ℕ × List ℕ). (t : List ℕ) × IsNameOrNumber s y.0 t × (after_white t ≡ y.1)) (same_ok k.1)
     (behind_run Name s, record { bytes = is_longest Name s; nonempty = nonempty_of (class_front Name s) g.0; no_zeros = k.0 }, refl)
@@ -67,7 +68,7 @@ before_sound s (Some kind) r x e = let h = style_sound kind r x e in (ap Some h.
 
 pub kind_sound : (s : List ℕ) (x : ArgumentKind × List ℕ) → kind_front s ≡ Ok x → (t : List ℕ) × IsArgumentType s x.0 t × (after_white t ≡ comma ∷ x.1)
 kind_sound s x e =
-    let g = guard_ok (is_empty (class_front Letter s)) (missing ExpectedType s) _ x e in
+    let g = guard_ok (is_empty_text (class_front Letter s)) (missing ExpectedType s) _ x e in
     let h = before_sound s (kind_named (class_front Letter s)) (after_white (behind_run Letter s)) x g.1 in
     (behind_run Letter s, record { word = class_front Letter s; letters = is_longest Letter s; nonempty = nonempty_of (class_front Letter s) g.0; named = h.0 }, h.1)
 
@@ -75,7 +76,7 @@ offset_step : (s : List ℕ) (o : Option (List ℕ)) (x : Option (List ℕ) × L
     → IsOffsetValue s x.0 x.1
 offset_step s None x h e = subst (λ (y : Option (List ℕ) × List ℕ). IsOffsetValue s y.0 y.1) (same_ok e) (h, refl)
 offset_step s (Some t) x h e =
-    let g = guard_ok (is_empty (class_front Digit (after_white t))) (missing ExpectedOffset (after_white t)) _ x e in
+    let g = guard_ok (is_empty_text (class_front Digit (after_white t))) (missing ExpectedOffset (after_white t)) _ x e in
     subst (λ (y : Option (List ℕ) × List ℕ). IsOffsetValue s y.0 y.1) (same_ok g.1)
     (t, h, is_longest Digit (after_white t), nonempty_of (class_front Digit (after_white t)) g.0)
 
@@ -149,7 +150,7 @@ exact_sound kind b s x h c e = exact_by kind b s (is_number (class_front Number 
 
 keyword_sound : (kind : ArgumentKind) (s : List ℕ) (x : Selector × List ℕ) → keyword_front s ≡ Ok x → IsSelector kind s x.0 x.1
 keyword_sound kind s x e =
-    let g = guard_ok (is_empty (class_front Name s)) (missing ExpectedSelector s) _ x e in
+    let g = guard_ok (is_empty_text (class_front Name s)) (missing ExpectedSelector s) _ x e in
     subst (λ (y : Selector × List ℕ). IsSelector kind s y.0 y.1) (same_ok g.1) (is_longest Name s, nonempty_of (class_front Name s) g.0)
 
 and_true : (a b : Bool) → (a && b) ≡ true → (a ≡ true) × (b ≡ true)

@@ -18,8 +18,8 @@ comma = 44
 abbrev pub minus_sign : ℕ
 minus_sign = 45
 
-abbrev pub point : ℕ
-point = 46
+abbrev pub decimal_point : ℕ
+decimal_point = 46
 
 abbrev pub equals : ℕ
 equals = 61
@@ -71,7 +71,7 @@ is_letter b = is_between 65 90 b || is_between 97 122 b
 -- text has digits, `-` and `.`; plain text is all but `'`, `{`, `}` and `#`
 abbrev pub is_in : Class → ℕ → Bool
 is_in Name b = is_letter b || is_digit b || b == 95 || nat_le 128 b
-is_in Number b = is_digit b || b == minus_sign || b == point
+is_in Number b = is_digit b || b == minus_sign || b == decimal_point
 is_in Digit b = is_digit b
 is_in Letter b = is_letter b
 is_in Plain b = not (b == apostrophe || b == opening || b == closing || b == hash)
@@ -94,9 +94,9 @@ abbrev pub behind_run : Class → List ℕ → List ℕ
 behind_run class [] = []
 behind_run class (b ∷ s) = if begins class (b ∷ s) then behind_run class s else b ∷ s
 
-abbrev pub is_empty : List ℕ → Bool
-is_empty [] = true
-is_empty (b ∷ s) = false
+abbrev pub is_empty_text : List ℕ → Bool
+is_empty_text [] = true
+is_empty_text (b ∷ s) = false
 
 -- ---- words
 

@@ -8,7 +8,7 @@ use Rattle.message_pattern.specs.declared.error.FaultKind.{FaultKind}
 use Rattle.message_pattern.specs.declared.error.FaultKind.TheVariants.{Unclosed, ExpectedName, BadNumber, ExpectedEnd, ExpectedType, UnsupportedType, ExpectedStyle, ExpectedOffset, ExpectedSelector, ExpectedValue, ExpectedBranch, MissingOther}
 use Rattle.message_pattern.specs.declared.part.ArgumentKind.{ArgumentKind}
 use Rattle.message_pattern.specs.declared.part.ArgumentKind.TheVariants.{Plural, Ordinal, Select}
-use Rattle.message_pattern.specs.PatternBytes.{comma, minus_sign, point, equals, opening, closing, is_empty, class_front, behind_run, after_white, after_word}
+use Rattle.message_pattern.specs.PatternBytes.{comma, minus_sign, decimal_point, equals, opening, closing, is_empty_text, class_front, behind_run, after_white, after_word}
 use Rattle.message_pattern.specs.PatternParts.{Selector, Exactly, Keyword}
 
 infixl 10 ◌>>=◌
@@ -43,12 +43,12 @@ pub data Head : Type 0 where
 -- a number with a zero before other digits, which is no name
 abbrev pub is_bad_number : List ℕ → Bool
 is_bad_number [] = false
-is_bad_number (a ∷ s) = (a == 48 && not (is_empty s)) && is_empty (behind_run Digit s)
+is_bad_number (a ∷ s) = (a == 48 && not (is_empty_text s)) && is_empty_text (behind_run Digit s)
 
 -- the name in front of s, and what follows it and white space
 abbrev pub name_front : List ℕ → Result (List ℕ × List ℕ) Fault
 name_front s =
-    if is_empty (class_front Name s) then Err (missing ExpectedName s)
+    if is_empty_text (class_front Name s) then Err (missing ExpectedName s)
     else if is_bad_number (class_front Name s) then Err (fault_at BadNumber s)
     else Ok (class_front Name s, after_white (behind_run Name s))
 
@@ -73,13 +73,13 @@ kind_before s (Some kind) rest = style_front kind rest
 -- the type in front of s, which chooses, and what follows it and its comma
 abbrev pub kind_front : List ℕ → Result (ArgumentKind × List ℕ) Fault
 kind_front s =
-    if is_empty (class_front Letter s) then Err (missing ExpectedType s)
+    if is_empty_text (class_front Letter s) then Err (missing ExpectedType s)
     else kind_before s (kind_named (class_front Letter s)) (after_white (behind_run Letter s))
 
 -- the digits in front of s
 abbrev pub digits_front : List ℕ → Result (Option (List ℕ) × List ℕ) Fault
 digits_front s =
-    if is_empty (class_front Digit s) then Err (missing ExpectedOffset s)
+    if is_empty_text (class_front Digit s) then Err (missing ExpectedOffset s)
     else Ok (Some (class_front Digit s), behind_run Digit s)
 
 -- the offset behind `offset:`, if that is in front of s
@@ -125,12 +125,12 @@ is_counting _ = true
 -- a point and digits
 abbrev pub is_fraction : List ℕ → Bool
 is_fraction [] = false
-is_fraction (b ∷ s) = (b == point && not (is_empty s)) && is_empty (behind_run Digit s)
+is_fraction (b ∷ s) = (b == decimal_point && not (is_empty_text s)) && is_empty_text (behind_run Digit s)
 
 -- digits, with a fraction or none
 abbrev pub is_unsigned : List ℕ → Bool
 is_unsigned s =
-    not (is_empty (class_front Digit s)) && (is_empty (behind_run Digit s) || is_fraction (behind_run Digit s))
+    not (is_empty_text (class_front Digit s)) && (is_empty_text (behind_run Digit s) || is_fraction (behind_run Digit s))
 
 -- a number, with a minus or none
 abbrev pub is_number : List ℕ → Bool
@@ -146,7 +146,7 @@ exact_front s =
 -- the keyword in front of s
 abbrev pub keyword_front : List ℕ → Result (Selector × List ℕ) Fault
 keyword_front s =
-    if is_empty (class_front Name s) then Err (missing ExpectedSelector s)
+    if is_empty_text (class_front Name s) then Err (missing ExpectedSelector s)
     else Ok (Keyword (class_front Name s), behind_run Name s)
 
 -- the selector in front of a text: an argument that counts may compare with a number
@@ -172,7 +172,7 @@ branch_front kind has_other s = next_branch kind has_other (after_white s)
 -- the word `other`
 abbrev pub is_other_word : Option (List ℕ) → Bool
 is_other_word None = false
-is_other_word (Some rest) = is_empty rest
+is_other_word (Some rest) = is_empty_text rest
 
 abbrev pub is_other : Selector → Bool
 is_other (Exactly number) = false

@@ -1,5 +1,5 @@
 -- The parts of a pattern, as a flat list with depths.
-use Rattle.std.specs.Prelude.{ℕ, List, map, Option, Some, None}
+use Rattle.std.specs.Prelude.{ℕ, List, map, Option, Some, None, [], ◌∷◌, nat_lt, if◌then◌else◌}
 use Rattle.std.specs.Borrow.{Bor}
 use Rattle.message_pattern.specs.declared.part.ArgumentKind.{ArgumentKind}
 use Rattle.message_pattern.specs.declared.part.Part as parts
@@ -57,3 +57,21 @@ part_view p = record { depth = p.depth; piece = piece_view p.piece }
 
 abbrev pub parts_view : List parts.Part → List Part
 parts_view ps = map part_view ps
+
+-- ---- The branches of an argument that chooses
+
+-- a selector, and the parts from its branch on
+pub record Branching : Type 0 where
+  pub selector : Selector
+  pub parts : List Part
+
+-- The branches of an argument at a depth, of which these parts follow its beginning: their
+-- selectors have its depth, and what is deeper is in a branch.
+abbrev pub branches_of : ℕ → List Part → List Branching
+branches_of depth [] = []
+branches_of depth (p ∷ ps) =
+    if nat_lt depth p.depth then branches_of depth ps
+    else elim p.piece as (λ _. List Branching) [
+      | Branch selector ↦ record { selector = selector; parts = ps } ∷ branches_of depth ps
+      | _ ↦ []
+    ]

@@ -38,7 +38,7 @@ pub enum FaultKind {
 
 impl fmt::Display for FaultKind {
     ghost use Rattle.std.specs.Prelude.{Some};
-    ghost use Rattle.message_pattern.specs.PatternErrors.{fault_kind_text};
+    ghost use Rattle.message_pattern.specs.PatternAnswers.{fault_kind_text};
 
     ghost output = { λ kind. Some (fault_kind_text kind) };
 
@@ -72,7 +72,7 @@ pub enum PatternError {
 
 impl fmt::Display for PatternError {
     ghost use Rattle.std.specs.Prelude.{Some};
-    ghost use Rattle.message_pattern.specs.PatternErrors.{pattern_error_text};
+    ghost use Rattle.message_pattern.specs.PatternAnswers.{pattern_error_text};
 
     ghost output = { λ error. Some (pattern_error_text error) };
 

@@ -3,7 +3,7 @@ use Rattle.std.proofs.Common.{◌≡◌, ℕ, ◌<◌, ◌≤◌, true, false, L
 use Rattle.std.proofs.Common.{refl, ◌∙◌, arith}
 use Rattle.std.specs.Prelude.{nat_lt, Option}
 use Rattle.std.proofs.lemmas.Bool.Decides.{nat_tests}
-use Rattle.message_pattern.specs.PatternParts.{Selector, parts_view, selector_view}
+use Rattle.message_pattern.specs.PatternParts.{Selector, parts_view, selector_view, branches_of}
 use Rattle.message_pattern.specs.declared.part.Part as parts
 use Rattle.message_pattern.specs.declared.part.Piece as pieces
 use Rattle.message_pattern.specs.declared.part.Piece.TheVariants as piece
@@ -13,7 +13,6 @@ use Rattle.message_report.specs.FoundInMessages.{Found}
 use Rattle.message_report.specs.Inner.ArgumentViews.{branching}
 use Rattle.message_report.specs.Inner.ToldLines.{Tells, remembered}
 use Rattle.message_report.specs.MessagesReport.{branch_lines, fault_lines, most_compared, selector_name}
-use Rattle.message_pattern.specs.ArgumentBranches.{branches_of}
 use Rattle.message_report.specs.PatternFaults.{PluralArgument, branch_fault}
 use Rattle.message_report.specs.declared.branch_fault.BranchFault.{BranchFault}
 use Rattle.message_report.proofs.TellLemmas.{Going, completes, continues, remembers}

@@ -3,7 +3,7 @@ use Rattle.std.proofs.Common.{◌≡◌, ◌↔◌, ℕ, Bool, true, false, List
 use Rattle.std.specs.Prelude.{IsTrue, Result, Ok, Err, IfOk}
 use Rattle.fixed_decimal.specs.Written.{CompactNumber, WritesCompact}
 use Rattle.message_format.specs.FormatBranches.{HasBranchOfValue}
-use Rattle.message_pattern.specs.ArgumentBranches.{Branching}
+use Rattle.message_pattern.specs.PatternParts.{Branching}
 use Rattle.message_report.specs.PatternBranches.{IsOwn}
 
 -- behind an offset none has

@@ -1,7 +1,7 @@
 -- What is found in a text, of what the reader of patterns returns.
 use Rattle.std.proofs.Common.{◌≡◌, ℕ, List, inl, inr, refl, subst}
 use Rattle.std.specs.Prelude.{Ok, Err}
-use Rattle.message_pattern.specs.PatternAnswers.{ParsesExactly, HasFault, IsPattern}
+use Rattle.message_pattern.specs.PatternAnswers.{ParsesExactly, HasPatternFault, IsPattern}
 use Rattle.message_pattern.specs.PatternParts.{Part}
 use Rattle.message_pattern.specs.declared.error.FaultKind.{FaultKind}
 use Rattle.message_pattern.specs.declared.error.PatternError.TheVariants as error
@@ -26,6 +26,6 @@ pub fault_found : (two : TwoLanguages) (place text bytes : List ℕ) (kind : Fau
     → Adds (IsFoundInText two place text) old new
 fault_found two place text bytes kind byte old new same answers added = (
   one_fault (no_pattern_line place kind byte),
-  inr (kind, byte, subst (λ (b : List ℕ). HasFault b kind byte) same answers.only, refl),
+  inr (kind, byte, subst (λ (b : List ℕ). HasPatternFault b kind byte) same answers.only, refl),
   added,
 )

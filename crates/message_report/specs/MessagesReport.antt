@@ -15,10 +15,8 @@ use Rattle.icu_plurals.specs.declared.PluralCategory.{PluralCategory}
 use Rattle.icu_plurals.specs.declared.PluralCategory.TheVariants.{Zero, One, Two, Few, Many, Other}
 use Rattle.icu_plurals.specs.declared.PluralRuleType.{PluralRuleType}
 use Rattle.icu_plurals.specs.declared.PluralRuleType.TheVariants.{Cardinal, Ordinal}
-use Rattle.message_pattern.specs.ArgumentBranches.{Branching}
-use Rattle.message_pattern.specs.PatternAnswers.{HasFault, IsPattern}
-use Rattle.message_pattern.specs.PatternErrors.{pattern_error_text}
-use Rattle.message_pattern.specs.PatternParts.{Part, Piece, Selector, Exactly, Keyword, Begin}
+use Rattle.message_pattern.specs.PatternParts.{Branching, Part, Piece, Selector, Exactly, Keyword, Begin}
+use Rattle.message_pattern.specs.PatternAnswers.{HasPatternFault, IsPattern, pattern_error_text}
 use Rattle.message_pattern.specs.declared.error.FaultKind.{FaultKind}
 use Rattle.message_pattern.specs.declared.error.PatternError.TheVariants as error
 use Rattle.message_report.specs.FormFaults.{Language, HasFormFault, IsLanguageOf, form_fault_text}
@@ -249,7 +247,7 @@ IsFoundInArguments two place parts found =
 abbrev pub IsFoundInText : TwoLanguages → List ℕ → List ℕ → Found → Type 0
 IsFoundInText two place text found =
     ((parts : List Part) × IsPattern text parts × IsFoundInArguments two place parts found)
-    ⊎ ((kind : FaultKind) × (byte : ℕ) × HasFault text kind byte × (found ≡ one_fault (no_pattern_line place kind byte)))
+    ⊎ ((kind : FaultKind) × (byte : ℕ) × HasPatternFault text kind byte × (found ≡ one_fault (no_pattern_line place kind byte)))
 
 -- of a value, which should be a text
 abbrev pub IsFoundInTextIf : TwoLanguages → List ℕ → Option (List ℕ) → Found → Type 0

@@ -2,7 +2,7 @@
 --     IsReported source files old new result      the report of the files was written, and nothing else
 use Rattle.std.specs.Prelude.{◌≡◌, ℕ, ◌==◌, List, Option, Result, Ok, Err, if◌then◌else◌}
 use Rattle.std.specs.Io.KnownBytes.{Appends, Keeps}
-use Rattle.plural_documents.specs.Outputs.{IsPartWritten}
+use Rattle.plural_documents.specs.Inputs.{IsPartWritten}
 use Rattle.message_report.specs.MessagesReport.{IsFoundInFiles}
 use Rattle.message_report.specs.MessagesReportText.{counts_of, report_text}
 use Rattle.message_report.specs.FoundInMessages.{Found}

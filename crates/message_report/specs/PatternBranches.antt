@@ -6,8 +6,7 @@ use Rattle.fixed_decimal.specs.Written.{CompactNumber, WritesCompact}
 use Rattle.icu_plurals.specs.Categories.{name_of}
 use Rattle.icu_plurals.specs.declared.PluralCategory.{PluralCategory}
 use Rattle.message_format.specs.FormatBranches.{HasBranchOfValue, branch_of_keyword}
-use Rattle.message_pattern.specs.ArgumentBranches.{Branching}
-use Rattle.message_pattern.specs.PatternParts.{Part, Selector, Exactly, Keyword, Hash, Argument}
+use Rattle.message_pattern.specs.PatternParts.{Branching, Part, Selector, Exactly, Keyword, Hash, Argument}
 
 -- the parts that are deeper than the argument, up to the next that isn't
 abbrev pub inside_of : ℕ → List Part → List Part

@@ -8,8 +8,7 @@ use Rattle.icu_plurals.specs.declared.PluralCategory.TheVariants.{Zero, One, Two
 use Rattle.icu_plurals.specs.declared.PluralRuleType.{PluralRuleType}
 use Rattle.icu_plurals.specs.declared.PluralRuleType.TheVariants.{Cardinal, Ordinal}
 use Rattle.icu_plurals.specs.Categories.{name_of}
-use Rattle.message_pattern.specs.ArgumentBranches.{Branching, branches_of}
-use Rattle.message_pattern.specs.PatternParts.{Part, Selector, Exactly, Keyword}
+use Rattle.message_pattern.specs.PatternParts.{Branching, branches_of, Part, Selector, Exactly, Keyword}
 use Rattle.message_pattern.specs.declared.part.ArgumentKind.{ArgumentKind}
 use Rattle.message_pattern.specs.declared.part.ArgumentKind.TheVariants as kind
 use Rattle.message_report.specs.FormFaults.{Language, are_text, missing_text}

@@ -2,8 +2,7 @@
 
 ghost use Rattle.std.specs.Prelude.{◌≡◌, ◌<◌, IfOk, is_some, map};
 ghost use Rattle.message_format.specs.FormatBranches.{branch_of_keyword, is_keyword};
-ghost use Rattle.message_pattern.specs.ArgumentBranches.{branches_of};
-ghost use Rattle.message_pattern.specs.PatternParts.{Exactly, Keyword, part_view, parts_view, selector_view};
+ghost use Rattle.message_pattern.specs.PatternParts.{branches_of, Exactly, Keyword, part_view, parts_view, selector_view};
 ghost use Rattle.message_report.specs.Inner.ArgumentViews.{argument_view};
 ghost use Rattle.message_report.specs.PatternFaults.{IsArgumentAt};
 ghost use Rattle.message_report.specs.PatternBranches.{IsOwn, has_category_branch, has_number, inside_of};

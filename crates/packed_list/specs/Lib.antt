@@ -1,3 +1,2 @@
 pub mod ListBytes
 pub mod Inner
-pub mod PackedListErrors

@@ -1,11 +1,13 @@
 -- The bytes of a list of byte items: the count, the starts of all items but the first, and the
 -- items.
 use Rattle.std.specs.Prelude.{◌≡◌, ℕ, ◌+◌, ◌/◌, ◌%◌, ◌≤◌, List, [], ◌∷◌, ◌++◌, length, drop, flat_map, map, Bool, nat_lt, IsFalse}
-use Rattle.std.specs.Prelude.{◌⊎◌, zero, suc, ◌*◌, ◌<◌, slice_index}
+use Rattle.std.specs.Prelude.{◌⊎◌, zero, suc, ◌*◌, ◌<◌, slice_index, codes}
 use Rattle.std.specs.List.{concat, list_any}
 use Rattle.std.specs.Borrow.{Bor}
 use Rattle.packed_list.specs.declared.error.ListError.{ListError}
 use Rattle.packed_list.specs.declared.error.ListError.TheVariants.{Header, ZeroCount, Start}
+use Rattle.packed_list.specs.declared.error.PackError.{PackError}
+use Rattle.packed_list.specs.declared.error.PackError.TheVariants.{CountLimit, StartLimit, Memory}
 
 -- the lists that are borrowed
 abbrev pub lent : List (Bor (List ℕ)) → List (List ℕ)
@@ -80,3 +82,17 @@ abbrev pub HasFault : List ℕ → ListError → Type 0
 HasFault bytes Header = HasShortHeader bytes
 HasFault bytes ZeroCount = HasZeroCount bytes
 HasFault bytes Start = HasBadStart bytes
+
+-- ---- The texts that the errors print
+
+-- why bytes aren't a list
+abbrev pub list_error_text : ListError → List ℕ
+list_error_text Header = codes "list header too short"
+list_error_text ZeroCount = codes "list without items"
+list_error_text Start = codes "bad start of a list item"
+
+-- why items can't be packed
+abbrev pub pack_error_text : PackError → List ℕ
+pack_error_text CountLimit = codes "too many list items"
+pack_error_text StartLimit = codes "list too long"
+pack_error_text Memory = codes "out of memory"

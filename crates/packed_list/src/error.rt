@@ -17,7 +17,7 @@ pub enum ListError {
 
 impl fmt::Display for ListError {
     ghost use Rattle.std.specs.Prelude.{Some};
-    ghost use Rattle.packed_list.specs.PackedListErrors.{list_error_text};
+    ghost use Rattle.packed_list.specs.ListBytes.{list_error_text};
 
     ghost output = { λ error. Some (list_error_text error) };
 
@@ -45,7 +45,7 @@ pub enum PackError {
 
 impl fmt::Display for PackError {
     ghost use Rattle.std.specs.Prelude.{Some};
-    ghost use Rattle.packed_list.specs.PackedListErrors.{pack_error_text};
+    ghost use Rattle.packed_list.specs.ListBytes.{pack_error_text};
 
     ghost output = { λ error. Some (pack_error_text error) };
 

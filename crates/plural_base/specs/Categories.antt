@@ -51,13 +51,13 @@ abbrev pub raw_name_of : RawPluralCategory → List ℕ
 raw_name_of raw = name_of (category_of raw)
 
 -- its number
-abbrev pub category_number : RawPluralCategory → ℕ
-category_number raw.Other = 0
-category_number raw.Zero = 1
-category_number raw.One = 2
-category_number raw.Two = 3
-category_number raw.Few = 4
-category_number raw.Many = 5
+abbrev pub raw_number : RawPluralCategory → ℕ
+raw_number raw.Other = 0
+raw_number raw.Zero = 1
+raw_number raw.One = 2
+raw_number raw.Two = 3
+raw_number raw.Few = 4
+raw_number raw.Many = 5
 
 -- all six, in the order of their numbers
 abbrev pub all_raw_categories : List RawPluralCategory

@@ -1,6 +1,7 @@
 -- Which category a written number has under five rules (UTS 35 Part 3, Language Plural Rules).
 --     IsExactChoice      within the bound: the one that the number itself has, whatever its length
 --     IsKeptChoice      within the bound or not: the one that its kept operands choose
+--     HasCategory rules x category      both
 --     IsTextChoice      that of the number that a text writes
 use Rattle.std.specs.Prelude.{◌≡◌, ◌≤◌, ℕ, List, Option}
 use Rattle.fixed_decimal.specs.Places.{Places, IsWithinLimit}
@@ -30,10 +31,15 @@ abbrev pub IsKeptChoice : FiveRules → Places → ℕ → PluralCategory → Ty
 IsKeptChoice rules number exponent category =
     (kept : Operands) × AreKept number exponent kept × (category ≡ first_category (packed_truth kept) rules)
 
+-- The category of a number: the one that its kept operands choose, and within the bound that of the
+-- number itself (docs/EXACTNESS.md).
+abbrev pub HasCategory : FiveRules → CompactNumber → PluralCategory → Type 0
+HasCategory rules x category =
+    IsKeptChoice rules x.significand.absolute x.exponent category × IsExactChoice rules x.significand.absolute x.exponent category
+
 -- The text writes a compact decimal within the limits: at most 32767 places on each side, and an
 -- exponent of at most 255. The category is both choices for its digits and its exponent.
 abbrev pub IsTextChoice : FiveRules → List ℕ → PluralCategory → Type 0
 IsTextChoice rules text category =
     (x : CompactNumber) × WritesCompact text x × IsWithinLimit x.significand.absolute × (x.exponent ≤ 255)
-    × IsKeptChoice rules x.significand.absolute x.exponent category
-    × IsExactChoice rules x.significand.absolute x.exponent category
+    × HasCategory rules x category

@@ -1,13 +1,16 @@
 -- What a JSON document means: maps from locales to rules and to ranges (docs/JSON.md).
 --     found locale rows      what the first row of the locale has
+--     rows_for type document      the maps of a type
 --     document_of_json value      the maps of a document, or its first refusal
 --     document_for locale value      what these maps have for a locale alone, or the first refusal
---     IsReadAt value rules      both are absent, or the rules come from the texts in the value
+--     AreRulesAt value rules      both are absent, or the rules come from the texts in the value
 --     AreRangesAt value ranges      both are absent, or the ranges are those that the value means
 use Rattle.std.specs.Prelude.{◌≡◌, ℕ, List, [], ◌∷◌, codes, Option, Some, None, is_some, Ok, Err, bytes_eq, if◌then◌else◌}
 use Rattle.std.specs.Map.{lookup}
 use Rattle.std.specs.Option.{option_and_then}
 use Rattle.plural_base.specs.declared.json.error.JsonError.TheVariants.{Shape}
+use Rattle.plural_base.specs.declared.provider.options.PluralRuleType.{PluralRuleType}
+use Rattle.plural_base.specs.declared.provider.options.PluralRuleType.TheVariants.{Cardinal, Ordinal}
 use Rattle.plural_base.specs.declared.ranges.PluralRanges.{PluralRanges}
 use Rattle.plural_base.specs.FiveRules.{FiveRules, Paired}
 use Rattle.plural_base.specs.RangesJson.{ranges_meant}
@@ -31,6 +34,11 @@ pub record Document : Type 0 where
   pub cardinal : Rows FiveRules
   pub ordinal : Rows FiveRules
   pub ranges : Rows PluralRanges
+
+-- the maps of a type
+abbrev pub rows_for : PluralRuleType → Document → Rows FiveRules
+rows_for Cardinal document = document.cardinal
+rows_for Ordinal document = document.ordinal
 
 -- ---- Reading
 
@@ -101,8 +109,8 @@ abbrev pub value_of_locale : List ℕ → List ℕ → Data → Option Data
 value_of_locale key locale value = option_and_then (get locale) (get key value)
 
 -- the rules come from the texts in the value, or both are absent
-abbrev pub IsReadAt : Option Data → Option FiveRules → Type 0
-IsReadAt = Paired (λ value rules. AreRulesOf (texts_in value) rules)
+abbrev pub AreRulesAt : Option Data → Option FiveRules → Type 0
+AreRulesAt = Paired (λ value rules. AreRulesOf (texts_in value) rules)
 
 -- the ranges are those that the value means, or both are absent
 abbrev pub AreRangesAt : Option Data → Option PluralRanges → Type 0

@@ -3,7 +3,7 @@
 -- show of them.
 --     Stands A      what a value means, or its refusal
 --     unless_float meant      floats are refused before all else
---     Answers seen result stands      the call returns what the value means, or its refusal, or
+--     GivesMeaning seen result stands      the call returns what the value means, or its refusal, or
 --         runs out of memory
 use Rattle.std.specs.Prelude.{◌≡◌, ⊤, Option, Some, None, Result, Ok, Err, if◌then◌else◌}
 use Rattle.plural_base.specs.declared.json.error.JsonError.{JsonError}
@@ -52,6 +52,6 @@ IsRefusal Memory stands = ⊤
 IsRefusal error stands = stands ≡ Err error
 
 -- the call returns what the value means, as `seen`, or its refusal, or runs out of memory
-abbrev pub Answers : {A B : Type 0} → (A → B) → Result A JsonError → Stands B → Type 0
-Answers seen (Ok x) stands = stands ≡ Ok (seen x)
-Answers seen (Err error) stands = IsRefusal error stands
+abbrev pub GivesMeaning : {A B : Type 0} → (A → B) → Result A JsonError → Stands B → Type 0
+GivesMeaning seen (Ok x) stands = stands ≡ Ok (seen x)
+GivesMeaning seen (Err error) stands = IsRefusal error stands

@@ -15,7 +15,6 @@ pub use Rattle.plural_runtime.specs.PackedRelations
 pub use Rattle.plural_runtime.specs.PackedTruth
 pub use Rattle.plural_runtime.specs.PackedTree
 pub use Rattle.plural_runtime.specs.RuleOfText
-pub use Rattle.plural_runtime.specs.PluralRuntimeErrors
 -- categories
 pub mod Categories
 pub mod FiveRules

@@ -2,9 +2,10 @@
 -- packing elements and of sure categories.
 use Rattle.std.specs.Prelude.{ℕ, List, ◌++◌, codes, Option, Some, None}
 use Rattle.std.specs.Fmt.{decimal}
-use Rattle.fixed_decimal.specs.FixedDecimalErrors.{error_text}
-use Rattle.packed_list.specs.PackedListErrors.{list_error_text}
-use Rattle.plural_runtime.specs.PluralRuntimeErrors.{rule_error_text, rule_bytes_error_text}
+use Rattle.fixed_decimal.specs.Written.{error_text}
+use Rattle.packed_list.specs.ListBytes.{list_error_text}
+use Rattle.plural_runtime.specs.PackedRelations.{rule_bytes_error_text}
+use Rattle.plural_runtime.specs.RuleOfText.{rule_error_text}
 use Rattle.plural_base.specs.declared.category.PluralCategory.{PluralCategory}
 use Rattle.plural_base.specs.Categories.{name_of}
 use Rattle.plural_base.specs.declared.elements_pack_error.ElementsPackError.{ElementsPackError}

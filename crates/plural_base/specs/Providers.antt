@@ -25,10 +25,10 @@ LoadsRanges there (Ok ranges) = there ≡ Some ranges
 LoadsRanges there (Err error) = there ≡ None
 
 -- the value for a type; no type means cardinal
-abbrev pub of_type : {A : Type 0} → Option PluralRuleType → A → A → A
-of_type None cardinal ordinal = cardinal
-of_type (Some Cardinal) cardinal ordinal = cardinal
-of_type (Some Ordinal) cardinal ordinal = ordinal
+abbrev pub value_for_type : {A : Type 0} → Option PluralRuleType → A → A → A
+value_for_type None cardinal ordinal = cardinal
+value_for_type (Some Cardinal) cardinal ordinal = cardinal
+value_for_type (Some Ordinal) cardinal ordinal = ordinal
 
 -- ---- Rules with the categories of ranges, made from a provider's.
 --     WithRanges R      rules of some kind, and ranges

@@ -10,7 +10,7 @@ use Rattle.std.specs.Prelude.{None, is_some, option_map, unwrap_or, count_by, su
 use Rattle.plural_base.specs.declared.category.by_category.ByCategory.{ByCategory}
 use Rattle.plural_base.specs.declared.category.raw.RawPluralCategory.{RawPluralCategory}
 use Rattle.plural_base.specs.declared.category.raw.RawPluralCategory.TheVariants.{Other, Zero, One, Two, Few, Many}
-use Rattle.plural_base.specs.Categories.{category_number, raw_name_of, all_raw_categories, category_of, raw_category_of}
+use Rattle.plural_base.specs.Categories.{raw_number, raw_name_of, all_raw_categories, category_of, raw_category_of}
 use Rattle.plural_base.specs.declared.ranges.key.UnvalidatedPluralRange.{UnvalidatedPluralRange}
 use Rattle.plural_base.specs.declared.category.PluralCategory.{PluralCategory}
 use Rattle.plural_base.specs.declared.ranges.PluralRanges.{PluralRanges}
@@ -27,13 +27,13 @@ at things Few = things.few
 at things Many = things.many
 
 abbrev pub put_at : {A : Type 0} → ByCategory A → RawPluralCategory → A → ByCategory A
-put_at things category thing = each (λ c. if category_number c == category_number category then thing else at things c)
+put_at things category thing = each (λ c. if raw_number c == raw_number category then thing else at things c)
 
 -- ---- A range of numbers by the categories of its start and its end (UTS 35 Part 3, Plural Ranges; docs/RANGES.md).
 --     range_key start end      the byte: 16 times the start's number, plus the end's number
 --     range_text start end      the text: the start's name, two hyphens, the end's name
 --     IsKeyOfText text key      the text and the byte are those of one range
---     range_named text, category_named text      the range, or the category, whose text this is, if
+--     range_named text, raw_category_named text      the range, or the category, whose text this is, if
 --         there is one
 
 -- a start and an end
@@ -47,7 +47,7 @@ all_category_ranges = flat_map (λ start. map (λ end. (start, end)) all_raw_cat
 -- ---- Bytes
 
 abbrev pub range_byte : RawPluralCategory → RawPluralCategory → ℕ
-range_byte start end = category_number start * 16 + category_number end
+range_byte start end = raw_number start * 16 + raw_number end
 
 abbrev pub range_key : RawPluralCategory → RawPluralCategory → UnvalidatedPluralRange
 range_key start end = record { 0 = range_byte start end }
@@ -72,8 +72,8 @@ unfoldable pub range_named : List ℕ → Option Range
 range_named text = find (λ range. bytes_eq text (range_text range.0 range.1)) all_category_ranges
 
 -- the category of a name
-unfoldable pub category_named : List ℕ → Option RawPluralCategory
-category_named text = find (λ category. bytes_eq text (raw_name_of category)) all_raw_categories
+unfoldable pub raw_category_named : List ℕ → Option RawPluralCategory
+raw_category_named text = find (λ category. bytes_eq text (raw_name_of category)) all_raw_categories
 
 -- ---- Categories of ranges (UTS 35 Part 3, Plural Ranges): a finite map from pairs of categories, start and end, to categories.
 --     category_at ranges start end      the category of a pair, if it has one

@@ -11,7 +11,7 @@ use Rattle.plural_base.specs.declared.ranges.key.UnvalidatedPluralRange.{Unvalid
 use Rattle.plural_base.specs.declared.ranges.PluralRanges.{PluralRanges}
 use Rattle.plural_base.specs.declared.category.raw.RawPluralCategory.{RawPluralCategory}
 use Rattle.plural_base.specs.Categories.{raw_name_of}
-use Rattle.plural_base.specs.Ranges.{Range, range_key, range_named, range_text, category_named, category_at, no_ranges, with_range}
+use Rattle.plural_base.specs.Ranges.{Range, range_key, range_named, range_text, raw_category_named, category_at, no_ranges, with_range}
 use Rattle.plural_base.specs.Json.{Stands, ◌>>=◌, there_or, unless_float}
 use Rattle.serde_json.specs.Data.{Data, string, object, Members, no_members, member}
 use Rattle.serde_json.specs.Find.{get, get_member, as_str, as_object}
@@ -29,7 +29,7 @@ key_meant value = do
 abbrev pub category_meant : Data → Stands RawPluralCategory
 category_meant value = do
   text ← there_or Shape (as_str value)
-  there_or RangeValue (category_named text)
+  there_or RangeValue (raw_category_named text)
 
 -- each member gives its range its category; the members are in the order of the keys' bytes, a key
 -- is checked before its value

@@ -18,13 +18,13 @@ use Rattle.serde_json.specs.Find.{get, as_null, as_str, as_object}
 -- ---- Reading rules
 
 -- what a text gives; a refusal names the category whose rule it would be
-abbrev pub named : Option PluralCategory → RuleAnswer → Stands (List PackedRelation)
-named category (Ok rule) = Ok rule
-named category (Err fault) = Err (Rule category fault)
+abbrev pub naming_category : Option PluralCategory → RuleAnswer → Stands (List PackedRelation)
+naming_category category (Ok rule) = Ok rule
+naming_category category (Err fault) = Err (Rule category fault)
 
 abbrev pub text_meant : Option PluralCategory → Option (List ℕ) → Stands (List PackedRelation)
 text_meant category None = Err Shape
-text_meant category (Some text) = named category (rule_of_text text)
+text_meant category (Some text) = naming_category category (rule_of_text text)
 
 -- a rule is a text
 abbrev pub rule_meant : Option PluralCategory → Data → Stands (List PackedRelation)

@@ -6,7 +6,7 @@ ghost use Rattle.fixed_decimal.specs.Digits.{value_of};
 ghost use Rattle.fixed_decimal.specs.Places.{IsWritten, shift_right};
 ghost use Rattle.plural_reference.specs.Exactness.{IsWithinBound};
 ghost use Rattle.plural_runtime.specs.Inner.RuleViews.{lent_relation};
-ghost use Rattle.plural_base.specs.Inner.ModulusTests.{divides_ten_to_18};
+ghost use Rattle.plural_base.specs.Inner.RulesSteps.{divides_ten_to_18};
 ghost use Rattle.plural_base.specs.FiveRules.{moduli_of, moduli_of_rule, moduli_of_relation};
 
 use crate::rules::PluralRules;

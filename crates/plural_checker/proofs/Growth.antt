@@ -3,7 +3,7 @@ use Rattle.std.proofs.Common.{◌≡◌, ◌⊎◌, ℕ, ◌+◌, ◌<◌, ◌�
 use Rattle.std.proofs.Common.{subst, inl, inr, arith, append_assoc}
 use Rattle.std.proofs.lemmas.List.{append-nil, take_more}
 use Rattle.plural_checker.specs.Findings.{Findings, no_findings, fault_alone, both, FindsBoth, EachFinds, most_counted, IsCountOf, GrowsBy, AddsFindings}
-use Rattle.plural_checker.specs.Findings.{IsReportOf}
+use Rattle.plural_checker.specs.Findings.{IsReportOfFindings}
 use Rattle.plural_checker.specs.declared.fault.Fault.{Fault}
 use Rattle.plural_checker.specs.declared.report.Report.{Report}
 
@@ -84,7 +84,7 @@ grows_by_fault a c fault is =
     (ap (λ (r : Report). r.faults) is, inl (omega arith))
 
 -- an empty report that grows is the report of what was found
-pub reported : (a c : Report) (found : Findings) → a.faults ≡ [] → a.numbers ≡ 0 → GrowsBy a found c → IsReportOf found c
+pub reported : (a c : Report) (found : Findings) → a.faults ≡ [] → a.numbers ≡ 0 → GrowsBy a found c → IsReportOfFindings found c
 reported a c found empty zero_counted (faults, counted) = (
   faults ∙ ap (λ l. l ++ found.faults) empty,
   subst (λ n. IsCountOf c.numbers n) (let e : a.numbers + found.numbers ≡ found.numbers = omega arith in e) counted,

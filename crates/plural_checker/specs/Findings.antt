@@ -48,5 +48,5 @@ abbrev pub AddsFindings : (Findings → Type 0) → Report → Report → Type 0
 AddsFindings Finds old new = (found : Findings) × Finds found × GrowsBy old found new
 
 -- the report of what was found
-abbrev pub IsReportOf : Findings → Report → Type 0
-IsReportOf found report = (report.faults ≡ found.faults) × IsCountOf report.numbers found.numbers
+abbrev pub IsReportOfFindings : Findings → Report → Type 0
+IsReportOfFindings found report = (report.faults ≡ found.faults) × IsCountOf report.numbers found.numbers

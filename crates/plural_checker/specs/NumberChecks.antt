@@ -10,23 +10,17 @@ use Rattle.std.specs.Prelude.{◌≡◌, ◌≢◌, ◌⊎◌, ℕ, ◌<◌, Lis
 use Rattle.icu_plurals.specs.declared.DecimalError.{DecimalError}
 use Rattle.icu_plurals.specs.declared.PluralCategory.{PluralCategory}
 use Rattle.icu_plurals.specs.declared.provider.rules.reference.ast.SampleRange.{SampleRange}
-use Rattle.icu_plurals.specs.DecimalChoice.{IsExactChoice, IsKeptChoice}
+use Rattle.icu_plurals.specs.DecimalChoice.{HasCategory}
 use Rattle.icu_plurals.specs.FiveRules.{FiveRules}
 use Rattle.icu_plurals.specs.SureChoice.{IsBounded}
 use Rattle.icu_plurals.specs.Written.{CompactNumber}
-use Rattle.plural_checker.specs.SampleNumbers.{GivesSampleNumber, AreNumbersOf, count_of, number_at}
+use Rattle.plural_checker.specs.SampleNumbers.{GivesSampleNumber, AreNumbersOfRange, count_of, number_at}
 use Rattle.plural_checker.specs.declared.fault.NumberFault.{NumberFault}
 use Rattle.plural_checker.specs.declared.fault.NumberFault.TheVariants.{Text, Outside, Category}
 use Rattle.plural_checker.specs.declared.fault.RangeFault.{RangeFault}
 use Rattle.plural_checker.specs.declared.fault.SampleFault.{SampleFault}
 use Rattle.plural_checker.specs.declared.fault.SampleFault.TheVariants.{Range, Number}
 use Rattle.plural_checker.specs.declared.sample_range.SampleNumbers.{SampleNumbers}
-
--- the rules choose this category for the number: for what is kept of it, and, within the bound, for
--- the number itself
-abbrev pub HasCategory : FiveRules → CompactNumber → PluralCategory → Type 0
-HasCategory rules x category =
-    IsKeptChoice rules x.significand.absolute x.exponent category × IsExactChoice rules x.significand.absolute x.exponent category
 
 -- the number has the category under which it is listed, or another, or is outside the bound
 abbrev pub IsCheckedBy : FiveRules → PluralCategory → CompactNumber → Option NumberFault → Type 0
@@ -70,6 +64,6 @@ AreCheckedNumbers rules category numbers (Some (Range range fault)) = ⊥
 -- the range has numbers, and this is wrong with them; or it has none
 abbrev pub IsCheckedRange : Option FiveRules → PluralCategory → SampleRange → Option SampleFault → ℕ → Type 0
 IsCheckedRange rules category range fault count =
-    ((why : RangeFault) × AreNumbersOf range (Err why) × (fault ≡ Some (Range range why)) × (count ≡ 0))
+    ((why : RangeFault) × AreNumbersOfRange range (Err why) × (fault ≡ Some (Range range why)) × (count ≡ 0))
     ⊎ ((numbers : SampleNumbers)
-    × AreNumbersOf range (Ok numbers) × AreCheckedNumbers rules category numbers fault × (count ≡ count_of numbers))
+    × AreNumbersOfRange range (Ok numbers) × AreCheckedNumbers rules category numbers fault × (count ≡ count_of numbers))

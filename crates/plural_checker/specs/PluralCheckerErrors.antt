@@ -2,8 +2,8 @@
 use Rattle.std.specs.Prelude.{ℕ, List, ◌++◌, codes}
 use Rattle.std.specs.Fmt.{decimal}
 use Rattle.icu_plurals.specs.Categories.{name_of}
-use Rattle.icu_plurals.specs.FixedDecimalErrors.{error_text}
-use Rattle.icu_plurals.specs.PluralRuntimeErrors.{rule_error_text}
+use Rattle.icu_plurals.specs.Written.{error_text}
+use Rattle.icu_plurals.specs.RuleOfText.{rule_error_text}
 use Rattle.icu_plurals.specs.Serializer.{sample_range_text}
 use Rattle.plural_checker.specs.declared.fault.Fault.{Fault}
 use Rattle.plural_checker.specs.declared.fault.NumberFault.{NumberFault}

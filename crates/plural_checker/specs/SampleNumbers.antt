@@ -4,7 +4,7 @@
 --     number_text places parts exponent      the text of parts / 10 ^ places, with an exponent
 --     numbers_between a b      those from a to b in steps of the last visible digit, or why there
 --         are none
---     AreNumbersOf range answer      the numbers of a range, or why it has none
+--     AreNumbersOfRange range answer      the numbers of a range, or why it has none
 --     count_of numbers, number_at numbers k      how many there are, and the text of each, counted
 --         from 0
 use Rattle.std.specs.Prelude.{◌≡◌, ◌⊎◌, ◌≤◌, ℕ, zero, suc, ◌+◌, ◌-◌, ◌/◌, ◌%◌, ◌==◌, nat_lt, Bool, not, if◌then◌else◌, ◌&&◌, ◌||◌}
@@ -117,8 +117,8 @@ abbrev pub AreNumbersFrom : DecimalValue → Option DecimalValue → Result Samp
 AreNumbersFrom lower None answer = answer ≡ Ok (Single (text_with_c lower))
 AreNumbersFrom lower (Some upper) answer = AreNumbersBetween lower upper answer
 
-abbrev pub AreNumbersOf : SampleRange → Result SampleNumbers RangeFault → Type 0
-AreNumbersOf range answer = AreNumbersFrom range.lower_val range.upper_val answer
+abbrev pub AreNumbersOfRange : SampleRange → Result SampleNumbers RangeFault → Type 0
+AreNumbersOfRange range answer = AreNumbersFrom range.lower_val range.upper_val answer
 
 -- ---- Each number
 

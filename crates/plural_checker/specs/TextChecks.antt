@@ -1,7 +1,7 @@
 -- What is wrong with the texts of a language's rules.
 --     AreRulesIfRead texts rules      the rules of the five texts, if none is too long and each gives
 --         its rule
---     IsFoundInText rules category text found      the faults of one text
+--     IsFoundInCategoryText rules category text found      the faults of one text
 --     AreFindingsOf texts report      the faults of all six, in the order zero, one, two, few,
 --         many, other
 use Rattle.std.specs.Prelude.{◌≡◌, ◌≢◌, ◌⊎◌, ℕ, List, [], ◌∷◌, length, filter, Bool, true, false, Option, Some, None, Result, Ok, Err, IsTrue, IsFalse}
@@ -23,7 +23,7 @@ use Rattle.icu_plurals.specs.RuleOfText.{TextGives}
 use Rattle.icu_plurals.specs.RuleTexts.{AreRulesOf, IsFirstRefused}
 use Rattle.icu_plurals.specs.Samples.{ReadsRule, TextIsRule}
 use Rattle.icu_plurals.specs.Serializer.{rule_text}
-use Rattle.plural_checker.specs.Findings.{Findings, no_findings, fault_alone, FindsBoth, EachFinds, IsReportOf}
+use Rattle.plural_checker.specs.Findings.{Findings, no_findings, fault_alone, FindsBoth, EachFinds, IsReportOfFindings}
 use Rattle.plural_checker.specs.LanguageTexts.{SixTexts, has_long, is_long}
 use Rattle.plural_checker.specs.NumberChecks.{IsCheckedRange}
 use Rattle.plural_checker.specs.declared.fault.Fault.{Fault}
@@ -140,15 +140,15 @@ IsFoundInRule rules category text found =
     (FindsBoth (IsFoundInCondition category rule) (IsFoundInSamples rules category rule.samples)) found)
 
 -- a long text isn't read
-abbrev pub IsFoundInText : Option FiveRules → PluralCategory → List ℕ → Findings → Type 0
-IsFoundInText rules category text found =
+abbrev pub IsFoundInCategoryText : Option FiveRules → PluralCategory → List ℕ → Findings → Type 0
+IsFoundInCategoryText rules category text found =
     (IsTrue (is_long text) × (found ≡ fault_alone (record { category = category; kind = TooLong (length text) })))
     ⊎ (IsFalse (is_long text) × IsFoundInRule rules category text found)
 
 -- in a text, if it is present
 abbrev pub IsFoundIn : Option FiveRules → PluralCategory → Option (List ℕ) → Findings → Type 0
 IsFoundIn rules category None found = found ≡ no_findings
-IsFoundIn rules category (Some text) found = IsFoundInText rules category text found
+IsFoundIn rules category (Some text) found = IsFoundInCategoryText rules category text found
 
 -- ---- All six
 
@@ -160,7 +160,7 @@ IsFoundInSix rules texts =
 
 -- under the rules, if there are any
 abbrev pub AreFindingsUnder : Option FiveRules → SixTexts → Report → Type 0
-AreFindingsUnder rules texts report = (found : Findings) × IsFoundInSix rules texts found × IsReportOf found report
+AreFindingsUnder rules texts report = (found : Findings) × IsFoundInSix rules texts found × IsReportOfFindings found report
 
 -- under the rules of the texts themselves
 abbrev pub AreFindingsOf : SixTexts → Report → Type 0

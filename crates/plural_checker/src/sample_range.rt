@@ -1,7 +1,7 @@
 //! The numbers of a sample, or of a range of samples.
 
 ghost use Rattle.std.specs.Prelude.{◌≡◌, IfOk};
-ghost use Rattle.plural_checker.specs.SampleNumbers.{AreNumbersBetween, AreNumbersOf, count_of, numbers_between, number_at};
+ghost use Rattle.plural_checker.specs.SampleNumbers.{AreNumbersBetween, AreNumbersOfRange, count_of, numbers_between, number_at};
 
 use crate::fault::RangeFault;
 use crate::number_text::number_text;
@@ -51,7 +51,7 @@ impl SampleNumbers {
         alloc: Global,
         range: &SampleRange,
     ) -> Result<Result<SampleNumbers, RangeFault>, AllocError>
-        ensures { IfOk result (λ answer. AreNumbersOf range.now answer) }
+        ensures { IfOk result (λ answer. AreNumbersOfRange range.now answer) }
     {
         match &range.upper_val {
             Some(upper) => between(alloc, &range.lower_val, upper),

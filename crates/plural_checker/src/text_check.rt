@@ -4,7 +4,7 @@ ghost use Rattle.std.specs.Prelude.{◌≡◌, ◌≢◌, IfOk, OnOk, MatchBool}
 ghost use Rattle.std.specs.Option.{option_copied};
 ghost use Rattle.plural_checker.specs.Findings.{AddsFindings, GrowsBy};
 ghost use Rattle.plural_checker.specs.TextChecks.{HaveOtherTokens, HaveSameTokens, IsReadAsRule, IsTreeOf};
-ghost use Rattle.plural_checker.specs.TextChecks.{condition_findings, IsFoundIn, IsFoundInReading, IsFoundInRule, IsFoundInText};
+ghost use Rattle.plural_checker.specs.TextChecks.{condition_findings, IsFoundIn, IsFoundInReading, IsFoundInRule, IsFoundInCategoryText};
 
 use crate::fault::{Fault, TextFault};
 use crate::list_order::is_out_of_order;
@@ -44,7 +44,7 @@ fn check_text(
     text: &str,
     report: &mut Report,
 ) -> Result<(), AllocError>
-    ensures { OnOk result (AddsFindings (IsFoundInText (option_copied rules.entry) category text.now) report.old report.new) }
+    ensures { OnOk result (AddsFindings (IsFoundInCategoryText (option_copied rules.entry) category text.now) report.old report.new) }
 {
     if is_long(text) {
         let kind = TextFault::TooLong(text.len());

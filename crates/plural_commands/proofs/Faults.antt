@@ -2,14 +2,14 @@
 use Rattle.std.proofs.Common.{◌≡◌, ℕ, List, Result, Ok, Err, refl, sym, ◌∙◌, ap, subst}
 use Rattle.std.specs.Cow.{cow_str_bytes}
 use Rattle.plural_commands.specs.Answer.{AnswersFrom}
-use Rattle.plural_commands.specs.Inner.CallAnswers.{Gives, GivesFault, GivesText, GivesValue, Text}
-use Rattle.plural_commands.specs.Steps.{After, HasNoFault, Then, ◌>>=◌}
+use Rattle.plural_commands.specs.Inner.CallAnswers.{GivesAnswer, GivesRunFault, GivesText, GivesValue, Text}
+use Rattle.plural_documents.specs.Steps.{After, HasNoFault, Then, ◌>>=◌}
 use Rattle.plural_commands.specs.declared.error.RunError.{RunError}
 use Rattle.plural_commands.specs.declared.error.RunError.TheVariants.{Usage, Condition, Number, Read, TooLong}
 use Rattle.plural_commands.specs.declared.error.RunError.TheVariants.{Json, Document, Locale, Write, Memory}
 
 -- a call that gives a fault of one kind also gives a fault of a wider kind
-pub mapped : (P Q : RunError → Type 0) → ((fault : RunError) → P fault → Q fault) → (e : RunError) → GivesFault P e → GivesFault Q e
+pub mapped : (P Q : RunError → Type 0) → ((fault : RunError) → P fault → Q fault) → (e : RunError) → GivesRunFault P e → GivesRunFault Q e
 mapped P Q f Usage h = f _ h
 mapped P Q f (Condition k) h = f _ h
 mapped P Q f (Number k) h = f _ h
@@ -41,13 +41,13 @@ no_error h = cc
 
 -- a fault of the first is a fault of both
 pub fault_of_first : {A B : Type 0} (First : Result A RunError → Type 0) (Next : A → Result B RunError → Type 0) (e : RunError)
-    → GivesFault (λ fault. First (Err fault)) e → GivesFault (λ fault. Then First Next (Err fault)) e
+    → GivesRunFault (λ fault. First (Err fault)) e → GivesRunFault (λ fault. Then First Next (Err fault)) e
 fault_of_first First Next e h =
     mapped (λ fault. First (Err fault)) (λ fault. Then First Next (Err fault)) (λ fault there. (Err fault, there, refl)) e h
 
 -- so is a fault of the second, after the first
 pub fault_of_second : {A B : Type 0} (First : Result A RunError → Type 0) (Next : A → Result B RunError → Type 0) (x : A) (e : RunError)
-    → First (Ok x) → GivesFault (λ fault. Next x (Err fault)) e → GivesFault (λ fault. Then First Next (Err fault)) e
+    → First (Ok x) → GivesRunFault (λ fault. Next x (Err fault)) e → GivesRunFault (λ fault. Then First Next (Err fault)) e
 fault_of_second First Next x e is h =
     mapped (λ fault. Next x (Err fault)) (λ fault. Then First Next (Err fault)) (λ fault there. (Ok x, is, there)) e h
 
@@ -64,25 +64,26 @@ no_fault_of_both {A} {B} First Next none nones fault h = of_either h.0 h.1 h.2
 
 -- a fault in place of the value is a fault of both
 pub fault_of_value : {A B : Type 0} (Next : A → Result B RunError → Type 0) (given : Result A RunError) (e : RunError)
-    → GivesFault (λ fault. given ≡ Err fault) e → GivesFault (λ fault. After Next given (Err fault)) e
+    → GivesRunFault (λ fault. given ≡ Err fault) e → GivesRunFault (λ fault. After Next given (Err fault)) e
 fault_of_value Next given e h =
     mapped (λ fault. given ≡ Err fault) (λ fault. After Next given (Err fault)) (λ fault there. rw there refl) e h
 
 -- and a call that gives it gives the result of both
 pub value_fault : {A B D : Type 0} (seen : D → B) (Next : A → Result B RunError → Type 0) (given : Result A RunError)
-    (e : RunError) (r : Result D RunError) → r ≡ Err e → GivesFault (λ fault. given ≡ Err fault) e → Gives seen (After Next given) r
+    (e : RunError) (r : Result D RunError) → r ≡ Err e → GivesRunFault (λ fault. given ≡ Err fault) e
+    → GivesAnswer seen (After Next given) r
 value_fault seen Next given e r is h = rw is (fault_of_value Next given e h)
 
 -- the result after the value is the result of both
 pub value_answer : {A B D : Type 0} (seen : D → B) (Next : A → Result B RunError → Type 0) (given : Result A RunError)
-    (x : A) (r : Result D RunError) → given ≡ Ok x → Gives seen (Next x) r → Gives seen (After Next given) r
-value_answer {A} seen Next given x r there h = subst (λ (v : Result A RunError). Gives seen (After Next v) r) (sym there) h
+    (x : A) (r : Result D RunError) → given ≡ Ok x → GivesAnswer seen (Next x) r → GivesAnswer seen (After Next given) r
+value_answer {A} seen Next given x r there h = subst (λ (v : Result A RunError). GivesAnswer seen (After Next v) r) (sym there) h
 
 -- ---- Two values
 
 -- a fault of the first is the fault of both
 pub refused_first : {A B D : Type 0} (seen : D → B) (value : Result A RunError) (next : A → Result B RunError)
-    (e : RunError) (r : Result D RunError) → r ≡ Err e → GivesFault (λ fault. value ≡ Err fault) e → GivesValue seen (value >>= next) r
+    (e : RunError) (r : Result D RunError) → r ≡ Err e → GivesRunFault (λ fault. value ≡ Err fault) e → GivesValue seen (value >>= next) r
 refused_first seen value next e r is h =
     rw is (mapped (λ fault. value ≡ Err fault) (λ fault. (value >>= next) ≡ Err fault) (λ fault there. rw there refl) e h)
 
@@ -100,7 +101,7 @@ after value x next y there e = rw there e
 
 -- if no value is given, its fault is the answer
 pub nothing_given : {A : Type 0} (IsText : A → List ℕ → Type 0) (given : Result A RunError) (e : RunError) (r : Result Text RunError)
-    → r ≡ Err e → GivesFault (λ fault. given ≡ Err fault) e → GivesText (AnswersFrom IsText given) r
+    → r ≡ Err e → GivesRunFault (λ fault. given ≡ Err fault) e → GivesText (AnswersFrom IsText given) r
 nothing_given IsText given e r is h =
     rw is (mapped (λ fault. given ≡ Err fault) (λ fault. AnswersFrom IsText given (Err fault)) (λ fault there. rw there refl) e h)
 

@@ -4,17 +4,16 @@ use Rattle.serde_json.specs.Data.{Data}
 use Rattle.serde_json.specs.Find.{get}
 use Rattle.icu_plurals.specs.declared.JsonError.{JsonError}
 use Rattle.icu_plurals.specs.declared.PluralRuleType.{PluralRuleType}
-use Rattle.icu_plurals.specs.DocumentJson.{document_of_json, found}
+use Rattle.icu_plurals.specs.DocumentJson.{document_of_json, found, rows_for}
 use Rattle.plural_commands.specs.Answer.{AnswersFrom, AnswersLookup, AnswersQuery}
-use Rattle.plural_commands.specs.Input.{WholeDocument, document_in, document_of, document_with, or_bad}
-use Rattle.plural_commands.specs.Input.{elements_at_key, elements_for, ranged_for, rows_for, rules_for, ruled_with}
+use Rattle.plural_commands.specs.Input.{WholeDocument, document_in, document_of, document_of_value, or_bad}
+use Rattle.plural_commands.specs.Input.{elements_at_key, elements_for, ranged_for, rules_for, ruled_with}
 use Rattle.plural_commands.specs.Lines.{AreRuleLines, IsCategoryLine, IsElementLine, IsMessageLine, IsRangeLine}
 use Rattle.plural_commands.specs.Queries.{Lookup, number_category, range_category, number_element, number_message, printed_rules}
 use Rattle.plural_commands.specs.Queries.{Query, of_document, truth}
-use Rattle.plural_commands.specs.Inner.CallAnswers.{GivesAfterReading, Text}
-use Rattle.plural_commands.specs.Steps.{After, ◌>>=◌, or_fault}
-use Rattle.plural_documents.specs.Inputs.{most_bytes}
-use Rattle.plural_documents.specs.JsonTexts.{json_of}
+use Rattle.plural_commands.specs.Inner.CallAnswers.{GivesTextAfterReading, Text}
+use Rattle.plural_documents.specs.Steps.{After, ◌>>=◌, or_fault}
+use Rattle.plural_documents.specs.Inputs.{most_bytes, json_of}
 use Rattle.plural_commands.specs.declared.error.RunError.{RunError}
 use Rattle.plural_commands.specs.declared.error.RunError.TheVariants.{Usage, TooLong, Json, Document, Locale}
 
@@ -60,7 +59,7 @@ of_refusal fault other (Err e) h = other.not_document e (fault_of (Document e) f
 -- nor the document of bytes
 of_bytes : (fault : RunError) → IsOther fault → (bytes : List ℕ) → document_of bytes ≡ Err fault → ⊥
 of_bytes fault other bytes =
-    of_steps fault (or_fault Json (json_of bytes)) document_with (of_value fault other (json_of bytes))
+    of_steps fault (or_fault Json (json_of bytes)) document_of_value (of_value fault other (json_of bytes))
     (λ value. of_steps fault (or_bad (document_of_json value)) (λ maps. Ok (record { value = value; maps = maps }))
     (of_refusal fault other (document_of_json value)) (λ maps h. cc))
 
@@ -137,8 +136,8 @@ query_not_usage (of_document lookup) input h =
 
 -- nor a call that gives it
 pub answer_not_usage : (query : Query) (input : List ℕ) (r : Result Text RunError)
-    → GivesAfterReading (AnswersQuery query input) r → r ≡ Err Usage → ⊥
+    → GivesTextAfterReading (AnswersQuery query input) r → r ≡ Err Usage → ⊥
 answer_not_usage query input r given is =
-    let there : GivesAfterReading (AnswersQuery query input) (Err Usage)
-    = subst (λ (a : Result Text RunError). GivesAfterReading (AnswersQuery query input) a) is given in
+    let there : GivesTextAfterReading (AnswersQuery query input) (Err Usage)
+    = subst (λ (a : Result Text RunError). GivesTextAfterReading (AnswersQuery query input) a) is given in
     query_not_usage query input there

@@ -7,11 +7,11 @@ use Rattle.icu_plurals.specs.declared.DecimalError.{DecimalError}
 use Rattle.icu_plurals.specs.declared.DecimalError.TheVariants as decimal
 use Rattle.icu_plurals.specs.Written.{CompactNumber, WritesCompact, IsCompactOverLimit}
 use Rattle.plural_commands.specs.Commands.{Command, test, category, range, print, select, message}
-use Rattle.plural_commands.specs.Inner.CallAnswers.{GivesFault, GivesQuery, IsOfDocument, IsOfKind}
-use Rattle.plural_commands.specs.NumberWords.{ReadsConditionWord, ReadsNumberWord, IsNumberFault, IsNumberOf, integer_of, is_numeral}
+use Rattle.plural_commands.specs.Inner.CallAnswers.{GivesRunFault, GivesQuery, IsOfDocument, IsOfKind}
+use Rattle.plural_commands.specs.NumberWords.{ReadsConditionWord, ReadsNumberWord, IsNumberWordFault, IsNumberOf, integer_of, is_numeral}
 use Rattle.plural_commands.specs.Queries.{AsksDocument, CommandAsks, IsAsked, Query, of_document, truth}
 use Rattle.plural_commands.specs.Queries.{number_category, range_category, printed_rules, number_element, number_message}
-use Rattle.plural_commands.specs.Steps.{After, HasNoFault, Then}
+use Rattle.plural_documents.specs.Steps.{After, HasNoFault, Then}
 use Rattle.plural_commands.specs.declared.error.RunError.{RunError}
 use Rattle.plural_commands.specs.declared.error.RunError.TheVariants.{Usage, Number}
 use Rattle.plural_commands.specs.declared.query.Query.{Query as CodeQuery}
@@ -28,7 +28,7 @@ pub read_has_no_fault : (word : List ℕ) (r : Result CompactNumber DecimalError
     → HasNoFault (ReadsNumberWord word)
 read_has_no_fault word r no_syntax no_limit syntax limit e h = of_fault h.0 h.2
   where
-    of_fault : (fault : DecimalError) → IsNumberFault word fault → ⊥
+    of_fault : (fault : DecimalError) → IsNumberWordFault word fault → ⊥
     of_fault decimal.Syntax there = no_syntax (syntax.1 there)
     of_fault decimal.Limit there = no_limit (limit.1 there)
     of_fault decimal.Memory there = there
@@ -106,7 +106,7 @@ command_not_usage command r given is =
 
 -- `?` passes on a fault of the command
 pub refused_command : (command : Option Command) (e : RunError) (r : Result CodeQuery RunError)
-    → r ≡ Err e → GivesFault (λ fault. CommandAsks command (Err fault)) e → GivesQuery command r
+    → r ≡ Err e → GivesRunFault (λ fault. CommandAsks command (Err fault)) e → GivesQuery command r
 refused_command command e r is h = rw is h
 
 -- a number that was read is asked for, and its words have no fault

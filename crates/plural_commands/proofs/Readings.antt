@@ -3,10 +3,9 @@ use Rattle.std.proofs.Common.{◌≡◌, ◌≤◌, ℕ, List, length, Option, S
 use Rattle.std.specs.Prelude.{⊤}
 use Rattle.std.specs.Io.KnownBytes.{Keeps}
 use Rattle.plural_commands.specs.Answer.{IsAnswered, IsNotRead, run_origin}
-use Rattle.plural_commands.specs.Inner.CallAnswers.{GivesAfterReading, GivesFault, GivesText, Text}
-use Rattle.plural_commands.specs.Inner.InputFaults.{input_fault}
+use Rattle.plural_commands.specs.Inner.CallAnswers.{GivesTextAfterReading, GivesRunFault, GivesText, Text, input_fault}
 use Rattle.plural_commands.specs.Input.{WholeDocument, document_in, document_of}
-use Rattle.plural_commands.specs.Steps.{After}
+use Rattle.plural_documents.specs.Steps.{After}
 use Rattle.plural_commands.specs.declared.error.RunError.{RunError}
 use Rattle.plural_commands.specs.declared.error.RunError.TheVariants.{Usage, Condition, Number, Read, TooLong}
 use Rattle.plural_commands.specs.declared.error.RunError.TheVariants.{Json, Document, Locale, Write, Memory}
@@ -19,7 +18,7 @@ use Rattle.plural_documents.proofs.InputLemmas.{all_is_some, beyond, none_read, 
 
 -- what a call without reading gives, a call with reading may give
 pub without_reading : (IsAnswer : Result (List ℕ) RunError → Type 0) (r : Result Text RunError)
-    → GivesText IsAnswer r → GivesAfterReading IsAnswer r
+    → GivesText IsAnswer r → GivesTextAfterReading IsAnswer r
 without_reading IsAnswer (Ok text) h = h
 without_reading IsAnswer (Err Usage) h = h
 without_reading IsAnswer (Err (Condition k)) h = h
@@ -34,7 +33,7 @@ without_reading IsAnswer (Err Memory) h = tt
 
 -- a call that gives an answer of one kind also gives an answer of a wider kind
 pub implied : (P Q : Result (List ℕ) RunError → Type 0) → ((a : Result (List ℕ) RunError) → P a → Q a)
-    → (r : Result Text RunError) → GivesAfterReading P r → GivesAfterReading Q r
+    → (r : Result Text RunError) → GivesTextAfterReading P r → GivesTextAfterReading Q r
 implied P Q f (Ok text) h = f _ h
 implied P Q f (Err Usage) h = f _ h
 implied P Q f (Err (Condition k)) h = f _ h
@@ -52,7 +51,7 @@ implied P Q f (Err Memory) h = tt
 -- if the input is too long or can't be read, that fault is the answer
 of_input : (Next : WholeDocument → Result (List ℕ) RunError → Type 0) (left : Option (List ℕ)) (e : InputError)
     → GivesInput left (Err e)
-    → (bytes : List ℕ) × IsInput left bytes × GivesAfterReading (After Next (document_in bytes)) (Err (input_fault e))
+    → (bytes : List ℕ) × IsInput left bytes × GivesTextAfterReading (After Next (document_in bytes)) (Err (input_fault e))
 of_input Next left cause.Read h = let i = some_input left in (i.0, i.1, tt)
 of_input Next left cause.TooLong h = (
   h.0,
@@ -65,7 +64,7 @@ of_input Next left cause.Memory h = let i = some_input left in (i.0, i.1, tt)
 -- `?` passes on such a fault
 pub no_input : (Next : WholeDocument → Result (List ℕ) RunError → Type 0) (left : Option (List ℕ)) (e : InputError)
     (r : Result Text RunError) → r ≡ Err (input_fault e) → GivesInput left (Err e)
-    → (bytes : List ℕ) × IsInput left bytes × GivesAfterReading (After Next (document_in bytes)) r
+    → (bytes : List ℕ) × IsInput left bytes × GivesTextAfterReading (After Next (document_in bytes)) r
 no_input Next left e r is h = rw is (of_input Next left e h)
 
 -- what was read at an error of the input was read at its fault
@@ -85,10 +84,10 @@ read_on old new e r is h = rw is (read_at old new e h)
 -- the answer to the bytes is the answer to the input
 pub of_all : (Next : WholeDocument → Result (List ℕ) RunError → Type 0) (whole bytes : List ℕ)
     → length whole ≤ most_bytes → bytes ≡ whole → (r : Result Text RunError)
-    → GivesText (After Next (document_of bytes)) r → GivesAfterReading (After Next (document_in whole)) r
+    → GivesText (After Next (document_of bytes)) r → GivesTextAfterReading (After Next (document_in whole)) r
 of_all Next whole bytes short same r h =
     let all = subst (λ (read : List ℕ). GivesText (After Next (document_of read)) r) same h in
-    subst (λ (document : Result WholeDocument RunError). GivesAfterReading (After Next document) r) (sym (within TooLong document_of whole short))
+    subst (λ (document : Result WholeDocument RunError). GivesTextAfterReading (After Next document) r) (sym (within TooLong document_of whole short))
     (without_reading (After Next (document_of whole)) r all)
 
 -- if no answer says that the input is too long, it was read to its end
@@ -111,7 +110,7 @@ to_the_end IsAnswer old new none end (Err Memory) h = all_is_some old new end
 
 -- if the words have no fault, the only error is out of memory
 pub faultless : (A : Type 0) (IsFault : RunError → Type 0) (left : Option (List ℕ)) → ((fault : RunError) → ¬ (IsFault fault))
-    → (e : RunError) → GivesFault IsFault e → IsRead {A = A} run_origin left left (Err e)
+    → (e : RunError) → GivesRunFault IsFault e → IsRead {A = A} run_origin left left (Err e)
 faultless A IsFault left none Usage h = absurd (none _ h)
 faultless A IsFault left none (Condition k) h = absurd (none _ h)
 faultless A IsFault left none (Number k) h = absurd (none _ h)
@@ -124,7 +123,7 @@ faultless A IsFault left none Write h = absurd h
 faultless A IsFault left none Memory h = none_read left
 
 -- a fault of words is no read error
-pub not_blamed : (A : Type 0) (IsFault : RunError → Type 0) (e : RunError) → GivesFault IsFault e → IsNotRead {A = A} (Err e)
+pub not_blamed : (A : Type 0) (IsFault : RunError → Type 0) (e : RunError) → GivesRunFault IsFault e → IsNotRead {A = A} (Err e)
 not_blamed A IsFault Usage h = tt
 not_blamed A IsFault (Condition k) h = tt
 not_blamed A IsFault (Number k) h = tt
@@ -145,7 +144,7 @@ kept (Some xs) = refl
 
 -- a fault is the answer, and nothing is written
 of_fault : (IsAnswer : Result (List ℕ) RunError → Type 0) (known : Option (List ℕ)) (e : RunError)
-    → GivesAfterReading IsAnswer (Err e) → IsAnswered IsAnswer known known (Err e)
+    → GivesTextAfterReading IsAnswer (Err e) → IsAnswered IsAnswer known known (Err e)
 of_fault IsAnswer known Usage h = (h, kept known)
 of_fault IsAnswer known (Condition k) h = (h, kept known)
 of_fault IsAnswer known (Number k) h = (h, kept known)
@@ -159,5 +158,5 @@ of_fault IsAnswer known Memory h = kept known
 
 -- `?` passes on such a fault
 pub not_written : (IsAnswer : Result (List ℕ) RunError → Type 0) (known : Option (List ℕ)) (e : RunError) (r : Result ⊤ RunError)
-    → r ≡ Err e → GivesAfterReading IsAnswer (Err e) → IsAnswered IsAnswer known known r
+    → r ≡ Err e → GivesTextAfterReading IsAnswer (Err e) → IsAnswered IsAnswer known known r
 not_written IsAnswer known e r is h = rw is (of_fault IsAnswer known e h)

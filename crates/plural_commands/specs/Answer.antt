@@ -9,9 +9,8 @@ use Rattle.plural_commands.specs.Input.{WholeDocument, document_in, elements_for
 use Rattle.plural_commands.specs.Lines.{AreRuleLines, IsCategoryLine, IsElementLine, IsMessageLine, IsRangeLine}
 use Rattle.plural_commands.specs.Queries.{Asks, Lookup, number_category, range_category, printed_rules, number_element, number_message}
 use Rattle.plural_commands.specs.Queries.{Query, of_document, truth}
-use Rattle.plural_commands.specs.Steps.{After, Then}
-use Rattle.plural_documents.specs.Outputs.{IsPartWritten}
-use Rattle.plural_documents.specs.Inputs.{Origin, from_reader, from_length, from_writer, from_memory, from_answer}
+use Rattle.plural_documents.specs.Steps.{After, Then}
+use Rattle.plural_documents.specs.Inputs.{IsPartWritten, Origin, from_reader, from_length, from_writer, from_memory, from_answer}
 use Rattle.plural_commands.specs.declared.error.RunError.{RunError}
 use Rattle.plural_commands.specs.declared.error.RunError.TheVariants.{Usage, Read, TooLong, Write, Memory}
 

@@ -5,15 +5,13 @@ use Rattle.serde_json.specs.Find.{get}
 use Rattle.icu_plurals.specs.declared.JsonError.{JsonError}
 use Rattle.icu_plurals.specs.declared.JsonError.TheVariants.{Shape}
 use Rattle.icu_plurals.specs.declared.PluralRuleType.{PluralRuleType}
-use Rattle.icu_plurals.specs.declared.PluralRuleType.TheVariants.{Cardinal, Ordinal}
-use Rattle.icu_plurals.specs.DocumentJson.{Document as Maps, Rows, found, document_of_json}
+use Rattle.icu_plurals.specs.DocumentJson.{Document as Maps, found, document_of_json, rows_for}
 use Rattle.icu_plurals.specs.ElementsJson.{packed_of_json}
 use Rattle.icu_plurals.specs.FiveRules.{FiveRules}
 use Rattle.icu_plurals.specs.PackedElements.{PackedElements}
 use Rattle.icu_plurals.specs.Providers.{WithRanges}
-use Rattle.plural_documents.specs.Inputs.{within_limit}
-use Rattle.plural_documents.specs.JsonTexts.{json_of}
-use Rattle.plural_commands.specs.Steps.{◌>>=◌, or_fault}
+use Rattle.plural_documents.specs.Inputs.{within_limit, json_of}
+use Rattle.plural_documents.specs.Steps.{◌>>=◌, or_fault}
 use Rattle.plural_commands.specs.declared.error.RunError.{RunError}
 use Rattle.plural_commands.specs.declared.error.RunError.TheVariants.{TooLong, Json, Document as BadDocument, Locale}
 
@@ -30,14 +28,14 @@ or_bad (Ok x) = Ok x
 or_bad (Err refusal) = Err (BadDocument refusal)
 
 -- the document with this value
-abbrev pub document_with : Data → Result WholeDocument RunError
-document_with value = do
+abbrev pub document_of_value : Data → Result WholeDocument RunError
+document_of_value value = do
   maps ← or_bad (document_of_json value)
   Ok (record { value = value; maps = maps })
 
 -- the document of the bytes
 abbrev pub document_of : List ℕ → Result WholeDocument RunError
-document_of bytes = or_fault Json (json_of bytes) >>= document_with
+document_of bytes = or_fault Json (json_of bytes) >>= document_of_value
 
 -- the document of an input, whose length is checked first
 abbrev pub document_in : List ℕ → Result WholeDocument RunError
@@ -53,11 +51,6 @@ RangedRules = WithRanges FiveRules
 pub record RuledElements : Type 0 where
   pub elements : PackedElements
   pub rules : FiveRules
-
--- the maps of a type
-abbrev pub rows_for : PluralRuleType → Maps → Rows FiveRules
-rows_for Cardinal maps = maps.cardinal
-rows_for Ordinal maps = maps.ordinal
 
 -- the rules of a locale
 abbrev pub rules_for : PluralRuleType → List ℕ → WholeDocument → Result FiveRules RunError

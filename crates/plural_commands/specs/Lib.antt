@@ -1,5 +1,4 @@
 pub mod Commands
-pub mod Steps
 pub mod NumberWords
 pub mod Queries
 pub mod Input

@@ -4,14 +4,14 @@ use Rattle.icu_plurals.specs.declared.PluralCategory.{PluralCategory}
 use Rattle.icu_plurals.specs.declared.PluralCategory.TheVariants.{Zero, One, Two, Few, Many}
 use Rattle.icu_plurals.specs.Categories.{name_of}
 use Rattle.icu_plurals.specs.Written.{CompactNumber}
-use Rattle.icu_plurals.specs.DecimalChoice.{IsExactChoice, IsKeptChoice}
+use Rattle.icu_plurals.specs.DecimalChoice.{HasCategory}
+use Rattle.icu_plurals.specs.Elements.{HasElement, IsExactElement, IsKeptElement}
 use Rattle.icu_plurals.specs.FiveRules.{FiveRules}
 use Rattle.icu_plurals.specs.PackedRelations.{PackedRelation}
 use Rattle.icu_plurals.specs.PackedTree.{unpacked}
 use Rattle.icu_plurals.specs.Ranges.{resolved}
 use Rattle.icu_plurals.specs.Serializer.{condition_text}
 use Rattle.plural_commands.specs.Input.{RangedRules, RuledElements}
-use Rattle.icu_plurals.specs.Elements.{IsExactElement, IsKeptElement}
 use Rattle.icu_plurals.specs.PackedElements.{PackedValue, elements_of}
 use Rattle.plural_message.specs.Messages.{IsMessageWith}
 
@@ -19,23 +19,16 @@ use Rattle.plural_message.specs.Messages.{IsMessageWith}
 abbrev pub line : List ℕ → List ℕ
 line text = text ++ 10 ∷ []
 
--- The category of a number: the one that its kept operands choose, and within the exactness bound that of the number itself
--- (docs/EXACTNESS.md).
-abbrev pub IsCategoryOf : CompactNumber → FiveRules → PluralCategory → Type 0
-IsCategoryOf x rules category =
-    IsKeptChoice rules x.significand.absolute x.exponent category
-    × IsExactChoice rules x.significand.absolute x.exponent category
-
 -- the line with the name of a number's category
 abbrev pub IsCategoryLine : CompactNumber → FiveRules → List ℕ → Type 0
-IsCategoryLine x rules text = (category : PluralCategory) × (text ≡ line (name_of category)) × IsCategoryOf x rules category
+IsCategoryLine x rules text = (category : PluralCategory) × (text ≡ line (name_of category)) × HasCategory rules x category
 
 -- The line with the name of the category of a range: the one that the ranges have for the categories of its start and its end,
 -- else the end's.
 abbrev pub IsRangeLine : CompactNumber → CompactNumber → RangedRules → List ℕ → Type 0
 IsRangeLine x y ranged text =
     (start : PluralCategory) × (end : PluralCategory) × (text ≡ line (name_of (resolved ranged.ranges start end)))
-    × IsCategoryOf x ranged.rules start × IsCategoryOf y ranged.rules end
+    × HasCategory ranged.rules x start × HasCategory ranged.rules y end
 
 -- a rule, if present, is a line: its category's name, a colon, a space and its text
 abbrev pub rule_line : PluralCategory → Option (List PackedRelation) → List ℕ
@@ -52,16 +45,10 @@ AreRuleLines rules text = text ≡ rule_lines rules
 
 -- ---- The lines that are printed of elements
 
--- The element of a number: the one that its kept operands choose, and within the exactness bound that of the number itself
--- (docs/EXACTNESS.md).
-abbrev pub IsElementOf : CompactNumber → RuledElements → PackedValue → Type 0
-IsElementOf x given element =
-    IsKeptElement (elements_of given.elements) given.rules x.significand.absolute x.exponent element
-    × IsExactElement (elements_of given.elements) given.rules x.significand.absolute x.exponent element
-
--- the line with its text
+-- the line with the text of a number's element
 abbrev pub IsElementLine : CompactNumber → RuledElements → List ℕ → Type 0
-IsElementLine x given text = (element : PackedValue) × (text ≡ line element.text) × IsElementOf x given element
+IsElementLine x given text =
+    (element : PackedValue) × (text ≡ line element.text) × HasElement (elements_of given.elements) given.rules x element
 
 -- The line with the message of a number: the text of the element that the number chooses, filled by the number's word
 -- (docs/MESSAGES.md); within the exactness bound the element is that of the number itself.

@@ -14,7 +14,8 @@ use Rattle.icu_plurals.specs.declared.provider.rules.reference.ast.Condition.{Co
 use Rattle.icu_plurals.specs.Parser.{Reads, Faulty}
 use Rattle.icu_plurals.specs.Places.{IsWithinLimit}
 use Rattle.icu_plurals.specs.Lexer.{TextReads, TextFaulty}
-use Rattle.icu_plurals.specs.Written.{CompactNumber, WritesCompact, IsCompactOverLimit}
+use Rattle.icu_plurals.specs.SureChoice.{WritesNone, WritesOver}
+use Rattle.icu_plurals.specs.Written.{CompactNumber, WritesCompact}
 use Rattle.plural_commands.specs.declared.error.RunError.{RunError}
 use Rattle.plural_commands.specs.declared.error.RunError.TheVariants.{Condition, Number}
 
@@ -38,12 +39,12 @@ abbrev pub IsNumberOf : List ℕ → CompactNumber → Type 0
 IsNumberOf word x = WritesCompact word x × IsWithinLimit x.significand.absolute × (x.exponent ≤ 255)
 
 -- why a word is no number: it is out of form, or what it writes is over a limit
-abbrev pub IsNumberFault : List ℕ → DecimalError → Type 0
-IsNumberFault word decimal.Syntax = (x : CompactNumber) → ¬ (WritesCompact word x)
-IsNumberFault word decimal.Limit = (x : CompactNumber) × WritesCompact word x × IsCompactOverLimit x
-IsNumberFault word decimal.Memory = ⊥
+abbrev pub IsNumberWordFault : List ℕ → DecimalError → Type 0
+IsNumberWordFault word decimal.Syntax = WritesNone word
+IsNumberWordFault word decimal.Limit = WritesOver word
+IsNumberWordFault word decimal.Memory = ⊥
 
 -- the number, or the fault
 abbrev pub ReadsNumberWord : List ℕ → Result CompactNumber RunError → Type 0
 ReadsNumberWord word (Ok x) = IsNumberOf word x
-ReadsNumberWord word (Err e) = (fault : DecimalError) × (e ≡ Number fault) × IsNumberFault word fault
+ReadsNumberWord word (Err e) = (fault : DecimalError) × (e ≡ Number fault) × IsNumberWordFault word fault

@@ -9,7 +9,7 @@ use Rattle.icu_plurals.specs.declared.provider.rules.reference.ast.Condition.{Co
 use Rattle.icu_plurals.specs.Written.{CompactNumber}
 use Rattle.plural_commands.specs.Commands.{Command, command_of, test, category, range, print, select, message}
 use Rattle.plural_commands.specs.NumberWords.{ReadsConditionWord, ReadsNumberWord, integer_of}
-use Rattle.plural_commands.specs.Steps.{After, HasNoFault, Then}
+use Rattle.plural_documents.specs.Steps.{After, HasNoFault, Then}
 use Rattle.plural_commands.specs.declared.error.RunError.{RunError}
 use Rattle.plural_commands.specs.declared.error.RunError.TheVariants.{Usage}
 

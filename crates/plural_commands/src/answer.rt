@@ -4,7 +4,7 @@ ghost use Rattle.plural_commands.specs.Answer.{AnswersLookup};
 ghost use Rattle.plural_commands.specs.Input.{document_of};
 ghost use Rattle.plural_commands.specs.Inner.CallAnswers.{GivesText};
 ghost use Rattle.plural_commands.specs.Inner.PrivateViews.{document_view, lookup_view};
-ghost use Rattle.plural_commands.specs.Steps.{After};
+ghost use Rattle.plural_documents.specs.Steps.{After};
 
 use crate::category_command::category_line;
 use crate::document::{Document, document_of};

@@ -1,6 +1,6 @@
 //! The word CONDITION of a command.
 
-ghost use Rattle.plural_commands.specs.Inner.CallAnswers.{Gives};
+ghost use Rattle.plural_commands.specs.Inner.CallAnswers.{GivesAnswer};
 ghost use Rattle.plural_commands.specs.NumberWords.{ReadsConditionWord};
 
 use crate::error::RunError;
@@ -11,7 +11,7 @@ use std::alloc::Global;
 
 // The condition that a word writes.
 pub(crate) fn condition(alloc: Global, word: &str) -> Result<Condition, RunError>
-    ensures { Gives (λ tree. tree) (ReadsConditionWord word.now) result }
+    ensures { GivesAnswer (λ tree. tree) (ReadsConditionWord word.now) result }
 {
     // The result is that of the word's tokens, which are one list.
     one_list_of_tokens();

@@ -6,9 +6,9 @@ ghost use Rattle.icu_plurals.specs.FiveRules.{rules_of as data_of};
 ghost use Rattle.plural_commands.specs.Input.{document_of, or_bad, ranged_for, rules_for};
 ghost use Rattle.plural_commands.specs.Inner.CallAnswers.{GivesValue};
 ghost use Rattle.plural_commands.specs.Inner.PrivateViews.{document_view};
-ghost use Rattle.plural_commands.specs.Steps.{or_fault};
+ghost use Rattle.plural_documents.specs.Steps.{or_fault};
 ghost use Rattle.plural_commands.specs.declared.error.RunError.TheVariants.{Json};
-ghost use Rattle.plural_documents.specs.JsonTexts.{json_of};
+ghost use Rattle.plural_documents.specs.Inputs.{json_of};
 
 use crate::error::RunError;
 use icu_plurals::provider::PluralRulesData;

@@ -1,7 +1,7 @@
 //! Why the program fails.
 
 ghost use Rattle.plural_commands.specs.Answer.{status_of};
-ghost use Rattle.plural_commands.specs.Inner.InputFaults.{input_fault};
+ghost use Rattle.plural_commands.specs.Inner.CallAnswers.{input_fault};
 ghost use Rattle.std.specs.Prelude.{◌≡◌};
 
 use icu_plurals::provider::rules::reference::ParseError;

@@ -3,7 +3,7 @@
 ghost use Rattle.std.specs.Prelude.{◌≡◌, ◌≢◌, ◌↔◌, Err, IfErr, List, None, ℕ, map};
 ghost use Rattle.plural_commands.specs.Answer.{AnswersQuery, AnswersWords, IsAnswered, IsNotRead, run_origin};
 ghost use Rattle.plural_commands.specs.Commands.{command_of};
-ghost use Rattle.plural_commands.specs.Inner.CallAnswers.{GivesAfterReading, IsOfDocument};
+ghost use Rattle.plural_commands.specs.Inner.CallAnswers.{GivesTextAfterReading, IsOfDocument};
 ghost use Rattle.plural_commands.specs.Inner.PrivateViews.{lookup_view, query_view};
 ghost use Rattle.plural_commands.specs.Queries.{MayRunOut, NeedsInput, of_document};
 ghost use Rattle.plural_documents.specs.Inputs.{IsInput, IsRead};
@@ -74,7 +74,7 @@ fn answer<R: Read>(
     reader: &mut R,
 ) -> Result<CowStr<'static>, RunError>
     ensures answers { (input : List ℕ) × IsInput (R.remaining reader.old) input
-        × GivesAfterReading (AnswersQuery (query_view query.now) input) result }
+        × GivesTextAfterReading (AnswersQuery (query_view query.now) input) result }
     ensures reads { IsOfDocument (query_view query.now) → IsRead run_origin (R.remaining reader.old) (R.remaining reader.new) result }
     ensures reads_nothing { ¬ (IsOfDocument (query_view query.now)) → (reader.new ≡ reader.old) × IsNotRead result }
     ensures not_usage { result ≢ Err RunError.Usage }
@@ -93,7 +93,7 @@ fn looked_up<R: Read>(
     reader: &mut R,
 ) -> Result<CowStr<'static>, RunError>
     ensures answers { (input : List ℕ) × IsInput (R.remaining reader.old) input
-        × GivesAfterReading (AnswersQuery (of_document (lookup_view lookup.now)) input) result }
+        × GivesTextAfterReading (AnswersQuery (of_document (lookup_view lookup.now)) input) result }
     ensures reads { IsRead run_origin (R.remaining reader.old) (R.remaining reader.new) result }
 {
     let input = read_input(alloc, reader)?;

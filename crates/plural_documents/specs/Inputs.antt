@@ -1,12 +1,22 @@
--- An input of limited length, and what is read of it.
+-- An input of limited length, what is read of it, the JSON value that its bytes write, and what a
+-- writer took of an output.
 --     IsInput left input      the input is what remains in the reader, if that is known
 --     within_limit fault value input      the value of an input, or this fault if it is too long
 --     IsRead origin old new result      what was read of the reader when a call has this result
-use Rattle.std.specs.Prelude.{◌≡◌, ℕ, ◌+◌, ◌≤◌, ◌<◌, List, length, Option, Some, None, Result, Ok, Err, ⊤, Vec, nat_lt, if◌then◌else◌}
-use Rattle.std.specs.Io.KnownBytes.{Consumes, IsAtEnd}
+--     IsPartWritten old new bytes      a beginning of the bytes was written, and nothing else
+--     json_of bytes      the value, if the bytes are a JSON text
+use Rattle.std.specs.Prelude.{◌≡◌, ℕ, ◌+◌, ◌≤◌, ◌<◌, List, length, Option, Some, None, Result, Ok, Err, ⊤, Vec, nat_lt, ◌++◌, if◌then◌else◌}
+use Rattle.std.specs.Io.KnownBytes.{Consumes, IsAtEnd, Appends}
 use Rattle.std.specs.declared.alloc.Global.{Global}
 use Rattle.plural_documents.specs.declared.input.InputError.{InputError}
 use Rattle.plural_documents.specs.declared.input.InputError.TheVariants.{Read, TooLong, Memory}
+use Rattle.std.specs.Str.{is_utf8}
+use Rattle.serde_json.specs.Data.{Data}
+use Rattle.serde_json.specs.Read.{read}
+use Rattle.serde_json.specs.View.{view}
+use Rattle.serde_json.specs.declared.Value.{Value}
+use Rattle.plural_documents.specs.declared.json_text.JsonTextError.{JsonTextError}
+use Rattle.plural_documents.specs.declared.json_text.JsonTextError.TheVariants as json
 
 -- the most bytes that an input may have
 abbrev pub most_bytes : ℕ
@@ -68,3 +78,21 @@ IsReadAfter from_answer old new = IsReadToEnd old new
 abbrev pub IsRead : {A E : Type 0} → (E → Origin) → Option (List ℕ) → Option (List ℕ) → Result A E → Type 0
 IsRead origin old new (Ok x) = IsReadToEnd old new
 IsRead origin old new (Err fault) = IsReadAfter (origin fault) old new
+
+-- ---- What is written
+
+-- What the writer took is a beginning of the bytes: nothing, some of them, or all.
+abbrev pub IsPartWritten : Option (List ℕ) → Option (List ℕ) → List ℕ → Type 0
+IsPartWritten old new bytes = (taken rest : List ℕ) × (bytes ≡ taken ++ rest) × Appends old new taken
+
+-- ---- The JSON value that bytes write, as serde_json reads it
+
+-- the JSON value that the bytes write
+abbrev pub json_of : List ℕ → Option Data
+json_of bytes = if is_utf8 bytes then read bytes else None
+
+-- the value, or there is none, or memory ran out, which needs a byte
+abbrev pub GivesJson : List ℕ → Result Value JsonTextError → Type 0
+GivesJson bytes (Ok value) = json_of bytes ≡ Some (view value)
+GivesJson bytes (Err json.Json) = json_of bytes ≡ None
+GivesJson bytes (Err json.Memory) = 0 < length bytes

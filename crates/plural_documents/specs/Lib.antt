@@ -1,3 +1,2 @@
 pub mod Inputs
-pub mod JsonTexts
-pub mod Outputs
+pub mod Steps

@@ -1,6 +1,6 @@
 //! The JSON value that bytes write.
 
-ghost use Rattle.plural_documents.specs.JsonTexts.{GivesJson};
+ghost use Rattle.plural_documents.specs.Inputs.{GivesJson};
 
 use serde_json::Value;
 use std::alloc::Global;

@@ -2,7 +2,7 @@
 
 ghost use Rattle.std.specs.Prelude.{OnErr, OnOk};
 ghost use Rattle.std.specs.Io.KnownBytes.{Appends};
-ghost use Rattle.plural_documents.specs.Outputs.{IsPartWritten};
+ghost use Rattle.plural_documents.specs.Inputs.{IsPartWritten};
 
 use std::io::{ErrorKind, Write};
 

@@ -6,9 +6,9 @@ use Rattle.icu_plurals.specs.declared.DecimalError.TheVariants as decimal
 use Rattle.icu_plurals.specs.FiveRules.{FiveRules}
 use Rattle.icu_plurals.specs.PackedElements.{PackedElements}
 use Rattle.icu_plurals.specs.Written.{CompactNumber, WritesCompact, IsCompactOverLimit}
-use Rattle.plural_exports.specs.GivenBytes.{ReadsElements, ReadsNumber, ReadsRules, WritesNumber}
+use Rattle.plural_exports.specs.GivenBytes.{ReadsElements, ReadsNumberBytes, ReadsRules, WritesNumber}
 use Rattle.plural_exports.specs.Inner.Conversions.{decimal_fault}
-use Rattle.plural_exports.specs.Inner.GivenResults.{Gives}
+use Rattle.plural_exports.specs.Inner.GivenResults.{GivesSeen}
 use Rattle.plural_exports.specs.NumberAnswers.{AfterAll}
 use Rattle.plural_exports.specs.declared.fault.Fault.{Fault}
 
@@ -33,13 +33,13 @@ number_refused text decimal.Memory r is syntax limit short =
 -- elements that are refused after rules
 pub refused_elements : {B D : Type 0} (seen : D → B) (Is : FiveRules → PackedElements → CompactNumber → Result B Fault → Type 0)
     (rules elements number : List ℕ) (five : FiveRules) (e : Fault) (r : Result D Fault)
-    → r ≡ Err e → ReadsRules rules (Ok five) → ReadsElements elements (Err e) → Gives seen (AfterAll Is rules elements number) r
+    → r ≡ Err e → ReadsRules rules (Ok five) → ReadsElements elements (Err e) → GivesSeen seen (AfterAll Is rules elements number) r
 refused_elements seen Is rules elements number five e r is read h = rw is (Ok five, read, (Err e, h, refl))
 
 -- a number that is refused after rules and elements
 pub refused_number : {B D : Type 0} (seen : D → B) (Is : FiveRules → PackedElements → CompactNumber → Result B Fault → Type 0)
     (rules elements number : List ℕ) (five : FiveRules) (values : PackedElements) (e : Fault) (r : Result D Fault)
-    → r ≡ Err e → ReadsRules rules (Ok five) → ReadsElements elements (Ok values) → ReadsNumber number (Err e)
-    → Gives seen (AfterAll Is rules elements number) r
+    → r ≡ Err e → ReadsRules rules (Ok five) → ReadsElements elements (Ok values) → ReadsNumberBytes number (Err e)
+    → GivesSeen seen (AfterAll Is rules elements number) r
 refused_number seen Is rules elements number five values e r is read packed h =
     rw is (Ok five, read, (Ok values, packed, (Err e, h, refl)))

@@ -2,7 +2,7 @@
 use Rattle.std.proofs.Common.{◌≡◌, ℕ, ◌-◌, ◌≤◌, ◌<◌, ◌++◌, List, [], ◌∷◌, length, take, drop, get_or, Result, Ok, Err, inl, inr, refl, subst, sym, ap, ◌∙◌, arith}
 use Rattle.std.proofs.lemmas.List.{append-nil, append_assoc, map-append, take_all}
 use Rattle.message_format.specs.declared.arguments.Argument as arguments
-use Rattle.message_format.specs.FormatArguments.{Argument, argument_view, arguments_view}
+use Rattle.message_format.specs.FormatArguments.{Argument, named_value_view, arguments_view}
 use Rattle.plural_exports.specs.GivenArguments.{AreArguments, ReadsArgument}
 use Rattle.plural_exports.specs.declared.arguments.GivenArgument.{GivenArgument}
 use Rattle.plural_exports.specs.declared.fault.Fault.{Fault}
@@ -30,17 +30,17 @@ headed (g ∷ given) d n h e = ap (λ (l : List GivenArgument). g ∷ l) (sym (t
 
 -- one argument more
 pub goes_on : (given : List GivenArgument) (read new : List arguments.Argument) (left rest : List GivenArgument) (first : GivenArgument) (x : arguments.Argument)
-    → left ≡ first ∷ rest → ReadsArgument first (Ok (argument_view x)) → new ≡ read ++ (x ∷ [])
+    → left ≡ first ∷ rest → ReadsArgument first (Ok (named_value_view x)) → new ≡ read ++ (x ∷ [])
     → IsReadBefore given (arguments_view read) left → IsReadBefore given (arguments_view new) rest
 goes_on given read new left rest first x parts one pushed before (Ok others) is =
     subst (λ (all : List Argument). AreArguments given (Ok all))
-    (sym (ap (λ (l : List arguments.Argument). arguments_view l ++ others) pushed ∙ ap (λ (l : List Argument). l ++ others) (map-append argument_view read (x ∷ []))
-    ∙ append_assoc (arguments_view read) (argument_view x ∷ []) others))
-    (before (Ok (argument_view x ∷ others))
-    (subst (λ (l : List GivenArgument). AreArguments l (Ok (argument_view x ∷ others))) (sym parts) (Ok (argument_view x), one, inl (Ok others, is, refl))))
+    (sym (ap (λ (l : List arguments.Argument). arguments_view l ++ others) pushed ∙ ap (λ (l : List Argument). l ++ others) (map-append named_value_view read (x ∷ []))
+    ∙ append_assoc (arguments_view read) (named_value_view x ∷ []) others))
+    (before (Ok (named_value_view x ∷ others))
+    (subst (λ (l : List GivenArgument). AreArguments l (Ok (named_value_view x ∷ others))) (sym parts) (Ok (named_value_view x), one, inl (Ok others, is, refl))))
 goes_on given read new left rest first x parts one pushed before (Err fault) is =
     before (Err fault)
-    (subst (λ (l : List GivenArgument). AreArguments l (Err fault)) (sym parts) (Ok (argument_view x), one, inl (Err fault, is, refl)))
+    (subst (λ (l : List GivenArgument). AreArguments l (Err fault)) (sym parts) (Ok (named_value_view x), one, inl (Err fault, is, refl)))
 
 -- no argument is left
 pub ends : (given : List GivenArgument) (read : List Argument) (left : List GivenArgument) → length left < 1 → IsReadBefore given read left

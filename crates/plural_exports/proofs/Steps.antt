@@ -1,7 +1,7 @@
 -- One step after another.
 use Rattle.std.proofs.Common.{◌≡◌, Result, Ok, Err, refl, ◌∙◌, ap}
-use Rattle.plural_exports.specs.Inner.GivenResults.{Gives}
-use Rattle.plural_exports.specs.Results.{Then}
+use Rattle.plural_exports.specs.Inner.GivenResults.{GivesSeen}
+use Rattle.plural_documents.specs.Steps.{Then}
 use Rattle.plural_exports.specs.declared.fault.Fault.{Fault}
 
 -- what `?` hands on is the fault that an error becomes
@@ -15,11 +15,11 @@ passed_on r e p = p.1 ∙ ap Err p.2
 
 -- a fault of the first is the result of both
 pub refused_first : {A B D : Type 0} (seen : D → B) (First : Result A Fault → Type 0) (Next : A → Result B Fault → Type 0)
-    (e : Fault) (r : Result D Fault) → r ≡ Err e → First (Err e) → Gives seen (Then First Next) r
+    (e : Fault) (r : Result D Fault) → r ≡ Err e → First (Err e) → GivesSeen seen (Then First Next) r
 refused_first seen First Next e r is h = rw is (Err e, h, refl)
 
 -- what a call gives after a value of the first, it gives for both
 pub of_second : {A B D : Type 0} (seen : D → B) (First : Result A Fault → Type 0) (Next : A → Result B Fault → Type 0)
-    (x : A) (r : Result D Fault) → First (Ok x) → Gives seen (Next x) r → Gives seen (Then First Next) r
+    (x : A) (r : Result D Fault) → First (Ok x) → GivesSeen seen (Next x) r → GivesSeen seen (Then First Next) r
 of_second seen First Next x (Ok y) h next = (Ok x, h, next)
 of_second seen First Next x (Err e) h next = (Ok x, h, next)

@@ -10,7 +10,7 @@ use Rattle.icu_plurals.specs.ListBytes.{has_high_start}
 use Rattle.icu_plurals.specs.RulesBytes.{rule_items}
 use Rattle.plural_exports.specs.GivenTexts.{AreRulesFrom, AreUtf8, GiveRules, PackRules, ReadsTexts, text_given}
 use Rattle.plural_exports.specs.Inner.Conversions.{rules_pack_fault}
-use Rattle.plural_exports.specs.Inner.GivenResults.{Gives}
+use Rattle.plural_exports.specs.Inner.GivenResults.{GivesSeen}
 use Rattle.plural_exports.specs.declared.fault.Fault.{Fault}
 use Rattle.plural_exports.specs.declared.fault.Fault.TheVariants.{Utf8}
 
@@ -24,7 +24,7 @@ bytes_of block = block.items
 
 -- one of the texts isn't UTF-8
 pub not_texts : (texts : Five (List ℕ)) (e : Fault) (r : Block)
-    → r ≡ Err e → e ≡ Utf8 → ¬ (AreUtf8 texts) → Gives bytes_of (AreRulesFrom texts) r
+    → r ≡ Err e → e ≡ Utf8 → ¬ (AreUtf8 texts) → GivesSeen bytes_of (AreRulesFrom texts) r
 not_texts texts e r is same none = rw is (Err e, (same, none), refl)
 
 -- each of the texts was read
@@ -37,20 +37,20 @@ texts_read bytes zero one two few many z o t f m =
 
 -- the texts give no rules
 pub refused_texts : (bytes : Five (List ℕ)) (texts : Five (Option (List ℕ))) (e : Fault) (r : Block)
-    → r ≡ Err e → ReadsTexts bytes (Ok texts) → GiveRules texts (Err e) → Gives bytes_of (AreRulesFrom bytes) r
+    → r ≡ Err e → ReadsTexts bytes (Ok texts) → GiveRules texts (Err e) → GivesSeen bytes_of (AreRulesFrom bytes) r
 refused_texts bytes texts e r is read h = rw is (Ok texts, read, (Err e, h, refl))
 
 -- the rules of the texts are packed, or can't be
 pub packed_texts : (bytes : Five (List ℕ)) (texts : Five (Option (List ℕ))) (rules : FiveRules) (r : Block)
-    → ReadsTexts bytes (Ok texts) → GiveRules texts (Ok rules) → Gives bytes_of (PackRules rules) r
-    → Gives bytes_of (AreRulesFrom bytes) r
+    → ReadsTexts bytes (Ok texts) → GiveRules texts (Ok rules) → GivesSeen bytes_of (PackRules rules) r
+    → GivesSeen bytes_of (AreRulesFrom bytes) r
 packed_texts bytes texts rules (Ok block) read given packed = (Ok texts, read, (Ok rules, given, packed))
 packed_texts bytes texts rules (Err e) read given packed = (Ok texts, read, (Ok rules, given, packed))
 
 -- the fault of rules that can't be packed
 pub pack_refused : (rules : FiveRules) (e : RulesPackError) (r : Block) → r ≡ Err (rules_pack_fault e)
     → ◌≡◌ {A = Result (Vec ℕ Global) RulesPackError} (Err e) (Err packing.StartLimit) ↔ IsTrue (has_high_start (rule_items rules))
-    → Gives bytes_of (PackRules rules) r
+    → GivesSeen bytes_of (PackRules rules) r
 pack_refused rules packing.StartLimit r is limit = rw is (limit.0 refl)
 pack_refused rules packing.Memory r is limit =
     rw is (λ high. (let same : ◌≡◌ {A = Result (Vec ℕ Global) RulesPackError} (Err packing.Memory) (Err packing.StartLimit) = limit.1 high in absurd cc))

@@ -7,19 +7,19 @@ use Rattle.icu_plurals.specs.FiveRules.{FiveRules}
 use Rattle.message_format.specs.FormatArguments.{Argument}
 use Rattle.message_format.specs.FormatMeaning.{Said, Faulty, PatternSays}
 use Rattle.message_format.specs.FormatSteps.{TwoRules}
-use Rattle.message_pattern.specs.PatternAnswers.{HasFault, IsPattern}
+use Rattle.message_pattern.specs.PatternAnswers.{HasPatternFault, IsPattern}
 use Rattle.message_pattern.specs.PatternParts.{Part}
 use Rattle.plural_exports.specs.declared.arguments.GivenArgument.{GivenArgument}
 use Rattle.plural_exports.specs.declared.fault.Fault.{Fault}
 use Rattle.plural_exports.specs.declared.fault.Fault.TheVariants as fault
 use Rattle.plural_exports.specs.GivenArguments.{AreArguments}
 use Rattle.plural_exports.specs.GivenBytes.{ReadsRules}
-use Rattle.plural_exports.specs.Results.{Then}
+use Rattle.plural_documents.specs.Steps.{Then}
 
 -- the pattern that a text is, or its first fault; or memory ran out
 abbrev pub ReadsPatternText : List ℕ → Result (List Part) Fault → Type 0
 ReadsPatternText text (Ok parts) = IsPattern text parts
-ReadsPatternText text (Err (fault.Pattern kind)) = (place : ℕ) × HasFault text kind place
+ReadsPatternText text (Err (fault.Pattern kind)) = (place : ℕ) × HasPatternFault text kind place
 ReadsPatternText text (Err fault.Memory) = Unit {0}
 ReadsPatternText text (Err _) = ⊥
 

@@ -7,7 +7,7 @@ use Rattle.plural_exports.specs.declared.arguments.GivenArgument.{GivenArgument}
 use Rattle.plural_exports.specs.declared.fault.Fault.{Fault}
 use Rattle.plural_exports.specs.declared.fault.Fault.TheVariants.{Memory, ArgumentKind}
 use Rattle.plural_exports.specs.GivenBytes.{ReadsText}
-use Rattle.plural_exports.specs.Results.{Then}
+use Rattle.plural_documents.specs.Steps.{Then}
 
 -- a text as a value: 0 is the kind of numbers, 1 that of texts
 abbrev pub value_of_kind : ℕ → List ℕ → Result Value Fault

@@ -2,7 +2,7 @@
 --     ReadsRules bytes answer      the rules of a block (docs/FORMATS.md)
 --     ReadsElements bytes answer      the elements of packed bytes (docs/FORMATS.md)
 --     ReadsText bytes answer      the text
---     ReadsNumber bytes answer      the number that a text writes within the limits
+--     ReadsNumberBytes bytes answer      the number that a text writes within the limits
 --         (docs/NUMBERS.md)
 use Rattle.std.specs.Prelude.{◌≡◌, ℕ, ◌≤◌, ◌<◌, List, length, Result, Ok, Err}
 use Rattle.std.specs.Str.{IsUtf8}
@@ -14,8 +14,9 @@ use Rattle.icu_plurals.specs.FiveRules.{FiveRules}
 use Rattle.icu_plurals.specs.PackedElements.{PackedElements, ElementsBytes}
 use Rattle.icu_plurals.specs.Places.{IsWithinLimit}
 use Rattle.icu_plurals.specs.RulesBytes.{RulesBytes, HasRulesFault}
-use Rattle.icu_plurals.specs.Written.{CompactNumber, WritesCompact, IsCompactOverLimit}
-use Rattle.plural_exports.specs.Results.{Then}
+use Rattle.icu_plurals.specs.SureChoice.{WritesNone, WritesOver}
+use Rattle.icu_plurals.specs.Written.{CompactNumber, WritesCompact}
+use Rattle.plural_documents.specs.Steps.{Then}
 use Rattle.plural_exports.specs.declared.fault.Fault.{Fault}
 use Rattle.plural_exports.specs.declared.fault.Fault.TheVariants.{Memory, Utf8, Number, Rules, Elements}
 
@@ -34,27 +35,19 @@ abbrev pub ReadsText : List ℕ → Result (List ℕ) Fault → Type 0
 ReadsText bytes (Ok text) = IsUtf8 bytes × (text ≡ bytes)
 ReadsText bytes (Err fault) = (fault ≡ Utf8) × ¬ (IsUtf8 bytes)
 
--- the text isn't of a number's form
-abbrev pub WritesNone : List ℕ → Type 0
-WritesNone text = (x : CompactNumber) → ¬ (WritesCompact text x)
-
--- it writes a number over a limit
-abbrev pub WritesOverLimit : List ℕ → Type 0
-WritesOverLimit text = (x : CompactNumber) × WritesCompact text x × IsCompactOverLimit x
-
 -- why a text gives no number: it is out of form, or what it writes is over a limit; or neither, and
 -- memory ran out for a text of more than 16 bytes
-abbrev pub IsNumberFault : List ℕ → Fault → Type 0
-IsNumberFault text Memory = ¬ (WritesNone text) × ¬ (WritesOverLimit text) × (16 < length text)
-IsNumberFault text (Number decimal.Syntax) = WritesNone text
-IsNumberFault text (Number decimal.Limit) = WritesOverLimit text
-IsNumberFault text fault = ⊥
+abbrev pub IsGivenNumberFault : List ℕ → Fault → Type 0
+IsGivenNumberFault text Memory = ¬ (WritesNone text) × ¬ (WritesOver text) × (16 < length text)
+IsGivenNumberFault text (Number decimal.Syntax) = WritesNone text
+IsGivenNumberFault text (Number decimal.Limit) = WritesOver text
+IsGivenNumberFault text fault = ⊥
 
 -- the number that a text writes within the limits
 abbrev pub WritesNumber : List ℕ → Result CompactNumber Fault → Type 0
 WritesNumber text (Ok x) = WritesCompact text x × IsWithinLimit x.significand.absolute × (x.exponent ≤ 255)
-WritesNumber text (Err fault) = IsNumberFault text fault
+WritesNumber text (Err fault) = IsGivenNumberFault text fault
 
 -- the number of bytes that are a text
-abbrev pub ReadsNumber : List ℕ → Result CompactNumber Fault → Type 0
-ReadsNumber bytes = Then (ReadsText bytes) WritesNumber
+abbrev pub ReadsNumberBytes : List ℕ → Result CompactNumber Fault → Type 0
+ReadsNumberBytes bytes = Then (ReadsText bytes) WritesNumber

@@ -11,14 +11,14 @@ use Rattle.serde_json.specs.Find.{as_object}
 use Rattle.serde_json.specs.Written.{has_float}
 use Rattle.icu_plurals.specs.declared.PluralRuleType.{PluralRuleType}
 use Rattle.icu_plurals.specs.declared.PluralRuleType.TheVariants.{Cardinal, Ordinal}
-use Rattle.icu_plurals.specs.DocumentJson.{Document as Maps, Rows, document_of_json, found}
+use Rattle.icu_plurals.specs.DocumentJson.{Document as Maps, Rows, document_of_json, found, rows_for}
 use Rattle.icu_plurals.specs.ElementsJson.{packed_of_json}
 use Rattle.icu_plurals.specs.FiveRules.{FiveRules}
 use Rattle.icu_plurals.specs.PackedElements.{PackedElements, ElementsBytes}
-use Rattle.plural_documents.specs.JsonTexts.{json_of}
+use Rattle.plural_documents.specs.Inputs.{json_of}
 use Rattle.plural_exports.specs.GivenBytes.{ReadsText}
 use Rattle.plural_exports.specs.GivenTexts.{PackRules}
-use Rattle.plural_exports.specs.Results.{Then}
+use Rattle.plural_documents.specs.Steps.{Then}
 use Rattle.plural_exports.specs.declared.fault.Fault.{Fault}
 use Rattle.plural_exports.specs.declared.fault.Fault.TheVariants.{Memory, RuleType, Json, Document, Locale}
 
@@ -41,11 +41,6 @@ ReadsJson bytes (Ok value) = json_of bytes ≡ Some value
 ReadsJson bytes (Err fault) = IsJsonFault bytes fault
 
 -- ---- Rules
-
--- the maps of a type
-abbrev pub rows_for : PluralRuleType → Maps → Rows FiveRules
-rows_for Cardinal maps = maps.cardinal
-rows_for Ordinal maps = maps.ordinal
 
 -- the rules of a locale, if present
 abbrev pub HasRulesAt : List ℕ → Rows FiveRules → Result FiveRules Fault → Type 0

@@ -10,7 +10,7 @@ use Rattle.icu_plurals.specs.Elements.{Elements}
 use Rattle.icu_plurals.specs.PackedElements.{PackedElements, PackedValue, pack_fault, packed_of}
 use Rattle.plural_exports.specs.GivenDocuments.{AreBytesOf}
 use Rattle.plural_exports.specs.GivenTexts.{text_given}
-use Rattle.plural_exports.specs.Results.{Then}
+use Rattle.plural_documents.specs.Steps.{Then}
 use Rattle.plural_exports.specs.declared.fault.Fault.{Fault}
 use Rattle.plural_exports.specs.declared.fault.Fault.TheVariants.{Memory, Utf8, Document}
 

@@ -13,7 +13,7 @@ use Rattle.icu_plurals.specs.DocumentJson.{Rows, found}
 use Rattle.icu_plurals.specs.Ranges.{resolved}
 use Rattle.plural_exports.specs.GivenBytes.{ReadsText}
 use Rattle.plural_exports.specs.GivenDocuments.{MeansMaps, ReadsJson}
-use Rattle.plural_exports.specs.Results.{Then}
+use Rattle.plural_documents.specs.Steps.{Then}
 use Rattle.plural_exports.specs.declared.fault.Fault.{Fault}
 use Rattle.plural_exports.specs.declared.fault.Fault.TheVariants.{Memory, Locale}
 

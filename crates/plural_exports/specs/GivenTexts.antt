@@ -12,7 +12,7 @@ use Rattle.icu_plurals.specs.ListBytes.{has_high_start}
 use Rattle.icu_plurals.specs.RuleTexts.{AreRulesOf, IsFirstRefused}
 use Rattle.icu_plurals.specs.RulesBytes.{RulesBytes, rule_items}
 use Rattle.icu_plurals.specs.Samples.{TextIsRule}
-use Rattle.plural_exports.specs.Results.{Then}
+use Rattle.plural_documents.specs.Steps.{Then}
 use Rattle.plural_exports.specs.declared.fault.Fault.{Fault}
 use Rattle.plural_exports.specs.declared.fault.Fault.TheVariants.{Memory, Utf8, Text, RulesLimit}
 

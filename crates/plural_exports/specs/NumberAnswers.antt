@@ -4,7 +4,7 @@
 --     IsCategoryOfInteger rules n answer      the category of an integer
 --     AreCategoriesOfIntegers rules numbers answer      the number of the category of each integer,
 --         in their order
---     IsCategoryOf rules number answer      the category of the number that a text writes
+--     IsCategoryOfNumber rules number answer      the category of the number that a text writes
 --     IsSureCategoryOf rules number answer      this category within the exactness bound
 --     IsExactnessOf rules number answer      whether this category is exact
 --     IsElementOf rules elements number answer      the text of the element that the number chooses
@@ -12,10 +12,10 @@
 --         each `{}`
 use Rattle.std.specs.Prelude.{◌≡◌, ◌↔◌, ℕ, ◌≤◌, ◌^◌, ℤ, pos, List, length, map, Bool, true, false, IsTrue, Result, Ok, Err}
 use Rattle.icu_plurals.specs.declared.PluralCategory.{PluralCategory}
-use Rattle.icu_plurals.specs.declared.PluralCategory.TheVariants.{Zero, One, Two, Few, Many, Other}
+use Rattle.icu_plurals.specs.Categories.{place_of}
 use Rattle.icu_plurals.specs.CategoryTables.{integer_entry}
-use Rattle.icu_plurals.specs.DecimalChoice.{IsExactChoice, IsKeptChoice}
-use Rattle.icu_plurals.specs.Elements.{IsExactElement, IsKeptElement}
+use Rattle.icu_plurals.specs.DecimalChoice.{HasCategory, IsExactChoice}
+use Rattle.icu_plurals.specs.Elements.{HasElement, IsExactElement, IsKeptElement}
 use Rattle.icu_plurals.specs.Exactness.{IsWithinBound}
 use Rattle.icu_plurals.specs.FiveRules.{FiveRules, first_category, moduli_of}
 use Rattle.icu_plurals.specs.Operands.{Operands, of_whole}
@@ -23,8 +23,8 @@ use Rattle.icu_plurals.specs.PackedElements.{PackedElements, PackedValue, elemen
 use Rattle.icu_plurals.specs.PackedTruth.{packed_truth}
 use Rattle.icu_plurals.specs.Written.{CompactNumber}
 use Rattle.plural_message.specs.Messages.{IsMessageWith}
-use Rattle.plural_exports.specs.GivenBytes.{ReadsElements, ReadsNumber, ReadsRules}
-use Rattle.plural_exports.specs.Results.{Then}
+use Rattle.plural_exports.specs.GivenBytes.{ReadsElements, ReadsNumberBytes, ReadsRules}
+use Rattle.plural_documents.specs.Steps.{Then}
 use Rattle.plural_exports.specs.declared.fault.Fault.{Fault}
 use Rattle.plural_exports.specs.declared.fault.Fault.TheVariants.{Memory, OutsideBound}
 
@@ -32,12 +32,7 @@ use Rattle.plural_exports.specs.declared.fault.Fault.TheVariants.{Memory, Outsid
 
 -- the number of a category
 abbrev pub category_number : PluralCategory → ℤ
-category_number Zero = pos 0
-category_number One = pos 1
-category_number Two = pos 2
-category_number Few = pos 3
-category_number Many = pos 4
-category_number Other = pos 5
+category_number category = pos (place_of category)
 
 -- 1 if it is true, else 0
 abbrev pub truth_number : Bool → ℤ
@@ -68,14 +63,12 @@ AreCategoriesOfIntegers rules numbers = Then (ReadsRules rules) (HaveCategories 
 
 -- The category of a number: the one that its kept operands choose, and within the exactness bound
 -- that of the number itself (docs/EXACTNESS.md).
-abbrev pub HasCategory : FiveRules → CompactNumber → Result PluralCategory Fault → Type 0
-HasCategory rules x (Ok category) =
-    IsKeptChoice rules x.significand.absolute x.exponent category
-    × IsExactChoice rules x.significand.absolute x.exponent category
-HasCategory rules x (Err fault) = ⊥
+abbrev pub HasNumberCategory : FiveRules → CompactNumber → Result PluralCategory Fault → Type 0
+HasNumberCategory rules x (Ok category) = HasCategory rules x category
+HasNumberCategory rules x (Err fault) = ⊥
 
-abbrev pub IsCategoryOf : List ℕ → List ℕ → Result PluralCategory Fault → Type 0
-IsCategoryOf rules number = Then (ReadsRules rules) (λ five. Then (ReadsNumber number) (HasCategory five))
+abbrev pub IsCategoryOfNumber : List ℕ → List ℕ → Result PluralCategory Fault → Type 0
+IsCategoryOfNumber rules number = Then (ReadsRules rules) (λ five. Then (ReadsNumberBytes number) (HasNumberCategory five))
 
 -- the category of the number itself, within the exactness bound of the rules; else that it is
 -- outside
@@ -86,7 +79,7 @@ HasSureCategory rules x (Ok category) =
 HasSureCategory rules x (Err fault) = (fault ≡ OutsideBound) × ¬ (IsWithinBound x.significand.absolute x.exponent (moduli_of rules))
 
 abbrev pub IsSureCategoryOf : List ℕ → List ℕ → Result PluralCategory Fault → Type 0
-IsSureCategoryOf rules number = Then (ReadsRules rules) (λ five. Then (ReadsNumber number) (HasSureCategory five))
+IsSureCategoryOf rules number = Then (ReadsRules rules) (λ five. Then (ReadsNumberBytes number) (HasSureCategory five))
 
 -- whether the number is within the exactness bound of the rules
 abbrev pub HasExactness : FiveRules → CompactNumber → Result Bool Fault → Type 0
@@ -94,7 +87,7 @@ HasExactness rules x (Ok is_exact) = IsTrue is_exact ↔ IsWithinBound x.signifi
 HasExactness rules x (Err fault) = ⊥
 
 abbrev pub IsExactnessOf : List ℕ → List ℕ → Result Bool Fault → Type 0
-IsExactnessOf rules number = Then (ReadsRules rules) (λ five. Then (ReadsNumber number) (HasExactness five))
+IsExactnessOf rules number = Then (ReadsRules rules) (λ five. Then (ReadsNumberBytes number) (HasExactness five))
 
 -- ---- Texts
 
@@ -102,19 +95,17 @@ IsExactnessOf rules number = Then (ReadsRules rules) (λ five. Then (ReadsNumber
 abbrev pub AfterAll : {B : Type 0} → (FiveRules → PackedElements → CompactNumber → Result B Fault → Type 0)
     → List ℕ → List ℕ → List ℕ → Result B Fault → Type 0
 AfterAll Is rules elements number =
-    Then (ReadsRules rules) (λ five. Then (ReadsElements elements) (λ values. Then (ReadsNumber number) (Is five values)))
+    Then (ReadsRules rules) (λ five. Then (ReadsElements elements) (λ values. Then (ReadsNumberBytes number) (Is five values)))
 
 -- The text of the element of a number: the one that its kept operands choose, and within the
 -- exactness bound that of the number itself.
-abbrev pub HasElement : FiveRules → PackedElements → CompactNumber → Result (List ℕ) Fault → Type 0
-HasElement rules elements x (Ok text) =
-    (element : PackedValue) × (text ≡ element.text)
-    × IsKeptElement (elements_of elements) rules x.significand.absolute x.exponent element
-    × IsExactElement (elements_of elements) rules x.significand.absolute x.exponent element
-HasElement rules elements x (Err fault) = ⊥
+abbrev pub HasNumberElement : FiveRules → PackedElements → CompactNumber → Result (List ℕ) Fault → Type 0
+HasNumberElement rules elements x (Ok text) =
+    (element : PackedValue) × (text ≡ element.text) × HasElement (elements_of elements) rules x element
+HasNumberElement rules elements x (Err fault) = ⊥
 
 abbrev pub IsElementOf : List ℕ → List ℕ → List ℕ → Result (List ℕ) Fault → Type 0
-IsElementOf = AfterAll HasElement
+IsElementOf = AfterAll HasNumberElement
 
 -- The text of the element that the number chooses, filled by the number's text (docs/MESSAGES.md);
 -- within the exactness bound the element is that of the number itself. Memory is out only for a

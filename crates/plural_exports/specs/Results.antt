@@ -2,7 +2,6 @@
 --     Answered Is number result      some answer is right, and the result is its number
 --     Written Is old new result      some answer is right: its bytes are written if they fit, and
 --         the result is how many they are
---     Then First Next      one relation after another: a fault of the first is the answer
 use Rattle.std.specs.Prelude.{◌≡◌, ℕ, ℤ, pos, List, ◌++◌, length, drop, nat_le, if◌then◌else◌, Result, Ok, Err}
 use Rattle.plural_exports.specs.Faults.{fault_number}
 use Rattle.plural_exports.specs.declared.fault.Fault.{Fault}
@@ -28,14 +27,3 @@ IsToldWritten old new result (Err fault) = (result ≡ fault_number fault) × (n
 -- some answer is right, and it is written so
 abbrev pub Written : (Result (List ℕ) Fault → Type 0) → List ℕ → List ℕ → ℤ → Type 0
 Written Is old new result = (answer : Result (List ℕ) Fault) × Is answer × IsToldWritten old new result answer
-
--- ---- One after another
-
--- the answer after a first one
-abbrev pub After : {A B : Type 0} → (A → Result B Fault → Type 0) → Result A Fault → Result B Fault → Type 0
-After Next (Ok x) answer = Next x answer
-After Next (Err fault) answer = answer ≡ Err fault
-
--- the answer after some first one
-abbrev pub Then : {A B : Type 0} → (Result A Fault → Type 0) → (A → Result B Fault → Type 0) → Result B Fault → Type 0
-Then {A} First Next answer = (first : Result A Fault) × First first × After Next first answer

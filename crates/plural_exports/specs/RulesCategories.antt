@@ -7,7 +7,7 @@ use Rattle.icu_plurals.specs.declared.PluralCategory.{PluralCategory}
 use Rattle.icu_plurals.specs.declared.PluralCategory.TheVariants.{Zero, One, Two, Few, Many, Other}
 use Rattle.icu_plurals.specs.FiveRules.{FiveRules, categories_of}
 use Rattle.plural_exports.specs.GivenBytes.{ReadsRules}
-use Rattle.plural_exports.specs.Results.{Then}
+use Rattle.plural_documents.specs.Steps.{Then}
 use Rattle.plural_exports.specs.declared.fault.Fault.{Fault}
 
 -- the bit whose place is the number of the category

@@ -12,7 +12,7 @@ use Rattle.icu_plurals.specs.Operands.{of_whole}
 use Rattle.icu_plurals.specs.PackedTruth.{packed_truth}
 use Rattle.plural_exports.specs.GivenBytes.{ReadsRules}
 use Rattle.plural_exports.specs.NumberAnswers.{category_number}
-use Rattle.plural_exports.specs.Results.{Then}
+use Rattle.plural_documents.specs.Steps.{Then}
 use Rattle.plural_exports.specs.declared.fault.Fault.{Fault}
 use Rattle.plural_exports.specs.declared.fault.Fault.TheVariants.{TableLength}
 

@@ -1,8 +1,8 @@
 //! The arguments of a pattern.
 
-ghost use Rattle.message_format.specs.FormatArguments.{argument_view, arguments_view, value_view};
+ghost use Rattle.message_format.specs.FormatArguments.{named_value_view, arguments_view, value_view};
 ghost use Rattle.plural_exports.specs.GivenArguments.{AreArguments, HasKind, ReadsArgument};
-ghost use Rattle.plural_exports.specs.Inner.GivenResults.{Gives};
+ghost use Rattle.plural_exports.specs.Inner.GivenResults.{GivesSeen};
 
 use crate::fault::Fault;
 use crate::given::text_in;
@@ -26,7 +26,7 @@ pub(crate) fn arguments_in<'a>(
     alloc: Global,
     given: &[GivenArgument<'a>],
 ) -> Result<Vec<Argument<'a>>, Fault>
-    ensures { Gives (λ arguments. arguments_view arguments.items) (AreArguments given.now) result }
+    ensures { GivesSeen (λ arguments. arguments_view arguments.items) (AreArguments given.now) result }
 {
     let mut arguments = Vec::new(alloc);
     let mut left = given;
@@ -42,7 +42,7 @@ pub(crate) fn arguments_in<'a>(
 
 // The argument.
 fn argument_in<'a>(given: &GivenArgument<'a>) -> Result<Argument<'a>, Fault>
-    ensures { Gives argument_view (ReadsArgument given.now) result }
+    ensures { GivesSeen named_value_view (ReadsArgument given.now) result }
 {
     let name = text_in(given.name)?;
     let text = text_in(given.value)?;
@@ -52,7 +52,7 @@ fn argument_in<'a>(given: &GivenArgument<'a>) -> Result<Argument<'a>, Fault>
 
 // A text as the value of a kind.
 fn value_in<'a>(kind: u32, text: &'a str) -> Result<Value<'a>, Fault>
-    ensures { Gives value_view (HasKind kind text.now) result }
+    ensures { GivesSeen value_view (HasKind kind text.now) result }
 {
     match kind {
         0 => Ok(Value::Number(text)),

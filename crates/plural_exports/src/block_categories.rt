@@ -3,7 +3,7 @@
 ghost use Rattle.std.specs.Prelude.{◌≡◌, ◌≤◌, sum_by};
 ghost use Rattle.icu_plurals.specs.FiveRules.{categories_of, listed, rules_of};
 ghost use Rattle.plural_exports.specs.GivenBytes.{ReadsRules};
-ghost use Rattle.plural_exports.specs.Inner.GivenResults.{Gives};
+ghost use Rattle.plural_exports.specs.Inner.GivenResults.{GivesSeen};
 ghost use Rattle.plural_exports.specs.Results.{Answered};
 ghost use Rattle.plural_exports.specs.RulesCategories.{AreCategoriesOf, bits_number, category_bit};
 
@@ -26,7 +26,7 @@ pub fn categories(rules: &[u8]) -> i32
 
 // The rules of a block, borrowed from it.
 fn data_in(bytes: &[u8]) -> Result<PluralRulesData<'_>, Fault>
-    ensures { Gives rules_of (ReadsRules bytes.now) result }
+    ensures { GivesSeen rules_of (ReadsRules bytes.now) result }
 {
     Ok(PluralRulesData::from_bytes(bytes)?)
 }

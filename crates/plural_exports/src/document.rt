@@ -3,8 +3,9 @@
 ghost use Rattle.std.specs.Prelude.{◌≡◌};
 ghost use Rattle.serde_json.specs.View.{view};
 ghost use Rattle.icu_plurals.specs.FiveRules.{rules_of};
-ghost use Rattle.plural_exports.specs.GivenDocuments.{HasRulesAt, MeansMaps, ReadsJson, rows_for, type_numbered};
-ghost use Rattle.plural_exports.specs.Inner.GivenResults.{Gives};
+ghost use Rattle.icu_plurals.specs.DocumentJson.{rows_for};
+ghost use Rattle.plural_exports.specs.GivenDocuments.{HasRulesAt, MeansMaps, ReadsJson, type_numbered};
+ghost use Rattle.plural_exports.specs.Inner.GivenResults.{GivesSeen};
 
 use crate::fault::Fault;
 use icu_plurals::provider::PluralRulesData;
@@ -26,7 +27,7 @@ pub(crate) fn rule_type_of(number: u8) -> Result<PluralRuleType, Fault>
 
 // The JSON value that the bytes write.
 pub(crate) fn value_in(alloc: Global, bytes: &[u8]) -> Result<Value, Fault>
-    ensures { Gives view (ReadsJson bytes.now) result }
+    ensures { GivesSeen view (ReadsJson bytes.now) result }
 {
     match json_value(alloc, bytes) {
         Ok(value) => Ok(value),
@@ -48,7 +49,7 @@ pub(crate) fn rules_for<'a>(
     locale: &str,
     rule_type: PluralRuleType,
 ) -> Result<PluralRulesData<'a>, Fault>
-    ensures { Gives rules_of (HasRulesAt locale.now (rows_for rule_type maps.now)) result }
+    ensures { GivesSeen rules_of (HasRulesAt locale.now (rows_for rule_type maps.now)) result }
 {
     let found = match rule_type {
         PluralRuleType::Cardinal => maps.load_cardinal(locale),

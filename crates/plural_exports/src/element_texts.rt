@@ -3,7 +3,7 @@
 ghost use Rattle.icu_plurals.specs.Elements.{each_by};
 ghost use Rattle.icu_plurals.specs.PackedElements.{packed_of, plain_value};
 ghost use Rattle.plural_exports.specs.GivenElements.{AreElementsFrom, ArePackedAs, CanBePacked, HasElementsFrom, eight};
-ghost use Rattle.plural_exports.specs.Inner.GivenResults.{Gives};
+ghost use Rattle.plural_exports.specs.Inner.GivenResults.{GivesSeen};
 ghost use Rattle.plural_exports.specs.Results.{Written};
 
 use crate::buffer::put;
@@ -88,7 +88,7 @@ fn texts_in<'a>(
     explicit_zero: &'a [u8],
     explicit_one: &'a [u8],
 ) -> Result<PluralElements<&'a str>, Fault>
-    ensures { Gives (λ texts. packed_of (each_by plain_value texts)) (ArePackedAs (eight other.now zero.now one.now two.now few.now many.now explicit_zero.now explicit_one.now)) result }
+    ensures { GivesSeen (λ texts. packed_of (each_by plain_value texts)) (ArePackedAs (eight other.now zero.now one.now two.now few.now many.now explicit_zero.now explicit_one.now)) result }
 {
     let other = text_in(other)?;
     let zero = given(zero)?;

@@ -2,7 +2,7 @@
 
 ghost use Rattle.serde_json.specs.View.{view};
 ghost use Rattle.plural_exports.specs.GivenDocuments.{AreElementsIn, HasElements, MeansElements};
-ghost use Rattle.plural_exports.specs.Inner.GivenResults.{Gives};
+ghost use Rattle.plural_exports.specs.Inner.GivenResults.{GivesSeen};
 ghost use Rattle.plural_exports.specs.NumberAnswers.{IsElementOf};
 ghost use Rattle.plural_exports.specs.Results.{Written};
 
@@ -67,7 +67,7 @@ fn element_of<'a>(
     elements: &'a [u8],
     number: &[u8],
 ) -> Result<&'a str, Fault>
-    ensures { Gives (λ text. text.now) (IsElementOf rules.now elements.now number.now) result }
+    ensures { GivesSeen (λ text. text.now) (IsElementOf rules.now elements.now number.now) result }
 {
     // Within the exactness bound the element is that of the number itself.
     kept_element_is_exact();

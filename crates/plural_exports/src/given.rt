@@ -1,8 +1,8 @@
 //! What the bytes that are passed mean.
 
 ghost use Rattle.icu_plurals.specs.Inner.ElementsViews.{lent_elements};
-ghost use Rattle.plural_exports.specs.GivenBytes.{ReadsElements, ReadsNumber, ReadsRules, ReadsText, WritesNumber};
-ghost use Rattle.plural_exports.specs.Inner.GivenResults.{Gives};
+ghost use Rattle.plural_exports.specs.GivenBytes.{ReadsElements, ReadsNumberBytes, ReadsRules, ReadsText, WritesNumber};
+ghost use Rattle.plural_exports.specs.Inner.GivenResults.{GivesSeen};
 
 use crate::fault::Fault;
 use icu_plurals::provider::{PluralElementsPackedULE, PluralRulesData};
@@ -20,14 +20,14 @@ pub(crate) fn rules_in(bytes: &[u8]) -> Result<PluralRules<'_>, Fault>
 
 // The packed elements, borrowed from their bytes.
 pub(crate) fn elements_in(bytes: &[u8]) -> Result<PluralElementsPackedULE<'_>, Fault>
-    ensures { Gives lent_elements (ReadsElements bytes.now) result }
+    ensures { GivesSeen lent_elements (ReadsElements bytes.now) result }
 {
     Ok(PluralElementsPackedULE::parse_bytes(bytes)?)
 }
 
 // The text.
 pub(crate) fn text_in(bytes: &[u8]) -> Result<&str, Fault>
-    ensures { Gives (λ text. text.now) (ReadsText bytes.now) result }
+    ensures { GivesSeen (λ text. text.now) (ReadsText bytes.now) result }
 {
     match std::str::from_utf8(bytes) {
         Ok(text) => Ok(text),
@@ -37,7 +37,7 @@ pub(crate) fn text_in(bytes: &[u8]) -> Result<&str, Fault>
 
 // The number that a text writes.
 pub(crate) fn number_in(alloc: Global, bytes: &[u8]) -> Result<CompactDecimal, Fault>
-    ensures { ReadsNumber bytes.now result }
+    ensures { ReadsNumberBytes bytes.now result }
 {
     let text = text_in(bytes)?;
     number_of(alloc, text)

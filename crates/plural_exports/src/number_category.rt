@@ -1,11 +1,12 @@
 //! The category of a number under a block of rules.
 
 ghost use Rattle.std.specs.Prelude.{◌≡◌};
-ghost use Rattle.plural_exports.specs.NumberAnswers.{IsCategoryOf, IsCategoryOfInteger, IsExactnessOf, category_number, truth_number};
+ghost use Rattle.plural_exports.specs.NumberAnswers.{IsCategoryOfNumber, IsCategoryOfInteger, IsExactnessOf, category_number, truth_number};
 ghost use Rattle.plural_exports.specs.Results.{Answered};
 
 use crate::fault::Fault;
 use crate::given::{number_in, rules_in};
+use crate::ranges::number_of;
 use icu_plurals::{PluralCategory, PluralOperands};
 use std::alloc::Global;
 
@@ -29,7 +30,7 @@ pub fn category_of_integer(rules: &[u8], number: u64) -> i32
 /// A fault is negative: one of the rules, else one of the number. It allocates for a number of more
 /// than 16 bytes.
 pub fn category(alloc: Global, rules: &[u8], number: &[u8]) -> i32
-    ensures { Answered (IsCategoryOf rules.now number.now) category_number result }
+    ensures { Answered (IsCategoryOfNumber rules.now number.now) category_number result }
 {
     match category_of(alloc, rules, number) {
         Ok(category) => category_number(category),
@@ -61,7 +62,7 @@ fn integer_category(rules: &[u8], number: u64) -> Result<PluralCategory, Fault>
 
 // The category of the number that a text writes.
 fn category_of(alloc: Global, rules: &[u8], number: &[u8]) -> Result<PluralCategory, Fault>
-    ensures { IsCategoryOf rules.now number.now result }
+    ensures { IsCategoryOfNumber rules.now number.now result }
 {
     let rules = rules_in(rules)?;
     let number = number_in(alloc, number)?;
@@ -81,12 +82,5 @@ fn is_exact_for(alloc: Global, rules: &[u8], number: &[u8]) -> Result<bool, Faul
 pub(crate) fn category_number(category: PluralCategory) -> i32
     ensures { result ≡ category_number category }
 {
-    match category {
-        PluralCategory::Zero => 0,
-        PluralCategory::One => 1,
-        PluralCategory::Two => 2,
-        PluralCategory::Few => 3,
-        PluralCategory::Many => 4,
-        PluralCategory::Other => 5,
-    }
+    i32::from(number_of(category))
 }

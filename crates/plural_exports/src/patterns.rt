@@ -1,7 +1,7 @@
 //! What a pattern says.
 
 ghost use Rattle.plural_exports.specs.FormattedPatterns.{IsPatternFormatted, ReadsPatternText};
-ghost use Rattle.plural_exports.specs.Inner.GivenResults.{Gives};
+ghost use Rattle.plural_exports.specs.Inner.GivenResults.{GivesSeen};
 ghost use Rattle.plural_exports.specs.Results.{Written};
 
 use crate::arguments::{GivenArgument, arguments_in};
@@ -44,7 +44,7 @@ fn formatted(
     pattern: &[u8],
     arguments: &[GivenArgument<'_>],
 ) -> Result<Vec<u8>, Fault>
-    ensures { Gives (λ text. text.items) (IsPatternFormatted cardinal.now ordinal.now pattern.now arguments.now) result }
+    ensures { GivesSeen (λ text. text.items) (IsPatternFormatted cardinal.now ordinal.now pattern.now arguments.now) result }
 {
     let cardinal = rules_in(cardinal)?;
     let ordinal = rules_in(ordinal)?;

@@ -3,7 +3,7 @@
 ghost use Rattle.std.specs.Prelude.{◌≡◌};
 ghost use Rattle.icu_plurals.specs.Categories.{place_of};
 ghost use Rattle.plural_exports.specs.GivenRanges.{AreRangesIn, HasRangesAt, HasRangesFor, IsRangeTable, range_number, table_row};
-ghost use Rattle.plural_exports.specs.Inner.GivenResults.{Gives};
+ghost use Rattle.plural_exports.specs.Inner.GivenResults.{GivesSeen};
 ghost use Rattle.plural_exports.specs.Results.{Written};
 
 use crate::buffer::put;
@@ -32,7 +32,7 @@ pub fn ranges_from_document(alloc: Global, json: &[u8], locale: &[u8], out: &mut
 
 // The table of the ranges that a document has.
 fn ranges_of_document(alloc: Global, json: &[u8], locale: &[u8]) -> Result<Vec<u8>, Fault>
-    ensures { Gives (λ table. table.items) (AreRangesIn json.now locale.now) result }
+    ensures { GivesSeen (λ table. table.items) (AreRangesIn json.now locale.now) result }
 {
     let locale = text_in(locale)?;
     let ranges = ranges_in(alloc, json, locale)?;
@@ -60,7 +60,7 @@ fn ranges_for(maps: &JsonProvider, locale: &str) -> Result<PluralRanges, Fault>
 
 // The rows of all starts, one after another.
 fn table_of(alloc: Global, ranges: &PluralRanges) -> Result<Vec<u8>, Fault>
-    ensures { Gives (λ table. table.items) (IsRangeTable ranges.now) result }
+    ensures { GivesSeen (λ table. table.items) (IsRangeTable ranges.now) result }
 {
     let rows = [
         row_of(ranges, PluralCategory::Zero),

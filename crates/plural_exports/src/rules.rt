@@ -7,7 +7,7 @@ ghost use Rattle.plural_exports.specs.GivenBytes.{ReadsRules};
 ghost use Rattle.plural_exports.specs.GivenDocuments.{AreRulesIn};
 ghost use Rattle.icu_plurals.specs.RuleTexts.{texts_of};
 ghost use Rattle.plural_exports.specs.GivenTexts.{AreRulesFrom, GiveRules, PackRules};
-ghost use Rattle.plural_exports.specs.Inner.GivenResults.{Gives, ReadsGiven};
+ghost use Rattle.plural_exports.specs.Inner.GivenResults.{GivesSeen, ReadsGiven};
 ghost use Rattle.plural_exports.specs.Results.{Answered, Written};
 
 use crate::buffer::put;
@@ -79,7 +79,7 @@ fn rules_of_document(
     locale: &[u8],
     rule_type: u8,
 ) -> Result<Vec<u8>, Fault>
-    ensures { Gives (λ block. block.items) (AreRulesIn json.now locale.now rule_type) result }
+    ensures { GivesSeen (λ block. block.items) (AreRulesIn json.now locale.now rule_type) result }
 {
     let rule_type = rule_type_of(rule_type)?;
     let locale = text_in(locale)?;
@@ -98,7 +98,7 @@ fn rules_of_texts(
     few: &[u8],
     many: &[u8],
 ) -> Result<Vec<u8>, Fault>
-    ensures { Gives (λ block. block.items) (AreRulesFrom (five zero.now one.now two.now few.now many.now)) result }
+    ensures { GivesSeen (λ block. block.items) (AreRulesFrom (five zero.now one.now two.now few.now many.now)) result }
 {
     let zero = given(zero)?;
     let one = given(one)?;
@@ -111,7 +111,7 @@ fn rules_of_texts(
 
 // The text of a rule, if it has any byte.
 pub(crate) fn given(bytes: &[u8]) -> Result<Option<&str>, Fault>
-    ensures { Gives option_copied (ReadsGiven bytes.now) result }
+    ensures { GivesSeen option_copied (ReadsGiven bytes.now) result }
 {
     if bytes.is_empty() {
         return Ok(None);
@@ -128,7 +128,7 @@ fn read(
     few: Option<&str>,
     many: Option<&str>,
 ) -> Result<PluralRulesData<'static>, Fault>
-    ensures { Gives rules_of (GiveRules (texts_of zero.entry one.entry two.entry few.entry many.entry)) result }
+    ensures { GivesSeen rules_of (GiveRules (texts_of zero.entry one.entry two.entry few.entry many.entry)) result }
 {
     match PluralRulesData::from_texts(alloc, zero, one, two, few, many) {
         Ok(rules) => Ok(rules),
@@ -138,7 +138,7 @@ fn read(
 
 // The block of the rules.
 fn packed(alloc: Global, rules: &PluralRulesData<'_>) -> Result<Vec<u8>, Fault>
-    ensures { Gives (λ block. block.items) (PackRules (rules_of rules.now)) result }
+    ensures { GivesSeen (λ block. block.items) (PackRules (rules_of rules.now)) result }
 {
     Ok(rules.to_bytes(alloc)?)
 }

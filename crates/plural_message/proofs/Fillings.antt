@@ -10,7 +10,7 @@ use Rattle.std.proofs.Math.Seq.{get_or-append_seam, take-append-add, take-append
 use Rattle.std.proofs.lemmas.Bool.{cases_lt}
 use Rattle.std.proofs.lemmas.Str.{len_utf8_ascii}
 use Rattle.std.proofs.lemmas.Str.Pattern.{NoCharPasses-char}
-use Rattle.plural_message.specs.Messages.{placeholder, joined_by, IsFilling}
+use Rattle.plural_message.specs.Messages.{placeholder, pieces_joined, IsFilling}
 
 -- none of the pieces contains a placeholder
 abbrev AreUncut : List (List ℕ) → Type 0
@@ -29,12 +29,12 @@ filling-nil number (x ∷ rest) none = absurd (omega (arith, none))
 
 -- an empty piece before others
 joined_by-empty : (separator p : List ℕ) (ps : List (List ℕ))
-    → separator ++ joined_by separator (p ∷ ps) ≡ joined_by separator ([] ∷ p ∷ ps)
+    → separator ++ pieces_joined separator (p ∷ ps) ≡ pieces_joined separator ([] ∷ p ∷ ps)
 joined_by-empty separator p ps = sym (append_assoc separator p (flat_map (λ q. separator ++ q) ps))
 
 -- a placeholder before a text, given the text's pieces
 placeholder_more : (number text filled : List ℕ) (pieces : List (List ℕ)) → AreUncut pieces
-    → text ≡ joined_by placeholder pieces → filled ≡ joined_by number pieces
+    → text ≡ pieces_joined placeholder pieces → filled ≡ pieces_joined number pieces
     → IsFilling number (placeholder ++ text) (number ++ filled)
 placeholder_more number text filled [] uncut cut filled_is =
     record {
@@ -61,7 +61,7 @@ filling-placeholder number text filled filling =
 
 -- a first piece with such a character before it contains no placeholder
 none_behind : (x : ℕ) (text piece : List ℕ) (pieces : List (List ℕ)) → ((rest : List ℕ) → x ∷ text ≡ placeholder ++ rest → ⊥)
-    → ¬ (HasSubslice piece placeholder) → text ≡ joined_by placeholder (piece ∷ pieces)
+    → ¬ (HasSubslice piece placeholder) → text ≡ pieces_joined placeholder (piece ∷ pieces)
     → (a b : List ℕ) → x ∷ piece ≡ a ++ (placeholder ++ b) → ⊥
 none_behind x text piece pieces begins none cut [] b e =
     let behind = flat_map (λ q. placeholder ++ q) pieces in
@@ -71,7 +71,8 @@ none_behind x text piece pieces begins none cut (y ∷ a) b e = none (a, b, ap (
 -- the character joins the first piece
 character_more : (number : List ℕ) (x : ℕ) (text filled : List ℕ) (pieces : List (List ℕ))
     → ((rest : List ℕ) → x ∷ text ≡ placeholder ++ rest → ⊥)
-    → AreUncut pieces → text ≡ joined_by placeholder pieces → filled ≡ joined_by number pieces → IsFilling number (x ∷ text) (x ∷ filled)
+    → AreUncut pieces → text ≡ pieces_joined placeholder pieces → filled ≡ pieces_joined number pieces
+    → IsFilling number (x ∷ text) (x ∷ filled)
 character_more number x text filled [] begins uncut cut filled_is =
     record {
       pieces = (x ∷ []) ∷ [];

@@ -5,7 +5,7 @@ use Rattle.std.proofs.Common.{append-nil, arith, length-append, ⊎_elim}
 use Rattle.std.specs.List.{AllByRecursion}
 use Rattle.std.specs.Str.Iter.{HasSubslice}
 use Rattle.std.proofs.lemmas.Bool.Decides.{eqb_tells}
-use Rattle.plural_message.specs.Messages.{joined_by, OneFilling}
+use Rattle.plural_message.specs.Messages.{pieces_joined, OneFilling}
 
 abbrev mark : ℕ → ℕ → List ℕ
 mark o c = o ∷ c ∷ []
@@ -42,22 +42,22 @@ same_cut o c apart (x ∷ a) (y ∷ b) xs ys none other e =
 
 -- a piece before others
 joined_by-cons : (separator p q : List ℕ) (ps : List (List ℕ))
-    → joined_by separator (p ∷ q ∷ ps) ≡ p ++ (separator ++ joined_by separator (q ∷ ps))
+    → pieces_joined separator (p ∷ q ∷ ps) ≡ p ++ (separator ++ pieces_joined separator (q ∷ ps))
 joined_by-cons separator p q ps = ap (λ l. p ++ l) (append_assoc separator q (flat_map (λ r. separator ++ r) ps))
 
 -- a piece without a placeholder equals no text with one
 no_more : (o c : ℕ) (p q r : List ℕ) (ps : List (List ℕ)) → Lacks o c p
-    → joined_by (mark o c) (p ∷ []) ≡ joined_by (mark o c) (q ∷ r ∷ ps) → ⊥
-no_more o c p q r ps none e = none (q, joined_by (mark o c) (r ∷ ps), sym (append-nil p) ∙ e ∙ joined_by-cons (mark o c) q r ps)
+    → pieces_joined (mark o c) (p ∷ []) ≡ pieces_joined (mark o c) (q ∷ r ∷ ps) → ⊥
+no_more o c p q r ps none e = none (q, pieces_joined (mark o c) (r ∷ ps), sym (append-nil p) ∙ e ∙ joined_by-cons (mark o c) q r ps)
 
 -- two lists of pieces of one text are filled alike
 same_pieces : (o c : ℕ) → ¬ (o ≡ c) → (number p q : List ℕ) (ps qs : List (List ℕ)) → AreUncut o c (p ∷ ps) → AreUncut o c (q ∷ qs)
-    → joined_by (mark o c) (p ∷ ps) ≡ joined_by (mark o c) (q ∷ qs) → joined_by number (p ∷ ps) ≡ joined_by number (q ∷ qs)
+    → pieces_joined (mark o c) (p ∷ ps) ≡ pieces_joined (mark o c) (q ∷ qs) → pieces_joined number (p ∷ ps) ≡ pieces_joined number (q ∷ qs)
 same_pieces o c apart number p q [] [] left right e = e
 same_pieces o c apart number p q [] (r ∷ qs) left right e = absurd (no_more o c p q r qs left.0 e)
 same_pieces o c apart number p q (r ∷ ps) [] left right e = absurd (no_more o c q p r ps right.0 (sym e))
 same_pieces o c apart number p q (r ∷ ps) (s ∷ qs) left right e =
-    let cut = same_cut o c apart p q (joined_by (mark o c) (r ∷ ps)) (joined_by (mark o c) (s ∷ qs)) left.0 right.0
+    let cut = same_cut o c apart p q (pieces_joined (mark o c) (r ∷ ps)) (pieces_joined (mark o c) (s ∷ qs)) left.0 right.0
     (sym (joined_by-cons (mark o c) p r ps) ∙ e ∙ joined_by-cons (mark o c) q s qs) in
     joined_by-cons number p r ps
     ∙ (λ k. cut.0 k ++ (number ++ same_pieces o c apart number r s ps qs left.1 right.1 cut.1 k))
@@ -68,7 +68,7 @@ record IsSomePieces (o c : ℕ) (pieces : List (List ℕ)) : Type 0 where
   first : List ℕ
   rest : List (List ℕ)
   uncut : AreUncut o c (first ∷ rest)
-  alike : (separator : List ℕ) → joined_by separator pieces ≡ joined_by separator (first ∷ rest)
+  alike : (separator : List ℕ) → pieces_joined separator pieces ≡ pieces_joined separator (first ∷ rest)
 
 -- every list of pieces joins like one that has a first piece
 some_pieces : (o c : ℕ) (pieces : List (List ℕ)) → AreUncut o c pieces → IsSomePieces o c pieces
@@ -77,7 +77,7 @@ some_pieces o c (p ∷ ps) uncut = record { first = p; rest = ps; uncut = uncut;
 
 -- two cuts of one text are filled alike
 same_joins : (o c : ℕ) → ¬ (o ≡ c) → (number : List ℕ) (ps qs : List (List ℕ)) → AreUncut o c ps → AreUncut o c qs
-    → joined_by (mark o c) ps ≡ joined_by (mark o c) qs → joined_by number ps ≡ joined_by number qs
+    → pieces_joined (mark o c) ps ≡ pieces_joined (mark o c) qs → pieces_joined number ps ≡ pieces_joined number qs
 same_joins o c apart number ps qs left right e =
     let p = some_pieces o c ps left in
     let q = some_pieces o c qs right in
@@ -92,7 +92,7 @@ record IsCut (o c : ℕ) (text : List ℕ) : Type 0 where
   first : List ℕ
   rest : List (List ℕ)
   uncut : AreUncut o c (first ∷ rest)
-  whole : text ≡ joined_by (mark o c) (first ∷ rest)
+  whole : text ≡ pieces_joined (mark o c) (first ∷ rest)
 
 -- a placeholder at the front
 cut-placeholder : (o c x y : ℕ) (text : List ℕ) → x ≡ o → y ≡ c → IsCut o c text → IsCut o c (x ∷ y ∷ text)
@@ -143,7 +143,7 @@ pub one_filling : OneFilling
 one_filling number text =
     let cut = every_cut 123 125 text in
     let pieces = cut.first ∷ cut.rest in (
-      joined_by number pieces,
+      pieces_joined number pieces,
       record { pieces = pieces; uncut = cut.uncut; cut = cut.whole; filled_is = refl },
       λ other filling.
           filling.filled_is ∙ same_joins 123 125 apart number filling.pieces pieces filling.uncut cut.uncut (sym filling.cut ∙ cut.whole),

@@ -1,3 +1,2 @@
 -- messages
 pub mod Messages
-pub mod PluralMessageErrors

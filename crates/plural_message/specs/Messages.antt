@@ -7,22 +7,27 @@ use Rattle.std.specs.Str.Iter.{HasSubslice}
 use Rattle.icu_plurals.specs.Written.{CompactNumber, WritesCompact}
 use Rattle.icu_plurals.specs.Places.{Places}
 use Rattle.icu_plurals.specs.PackedElements.{PackedValue}
+use Rattle.fixed_decimal.specs.Written.{error_text}
+use Rattle.fixed_decimal.specs.declared.error.DecimalError.{DecimalError}
+use Rattle.fixed_decimal.specs.declared.error.DecimalError.TheVariants as decimal
+use Rattle.plural_message.specs.declared.error.MessageError.{MessageError}
+use Rattle.plural_message.specs.declared.error.MessageError.TheVariants.{Number, Memory}
 
 -- the number's place in an element's text
 abbrev pub placeholder : List ℕ
 placeholder = codes "{}"
 
 -- the pieces, with a text between any two
-abbrev pub joined_by : List ℕ → List (List ℕ) → List ℕ
-joined_by separator pieces = join_by (λ piece. piece) separator pieces
+abbrev pub pieces_joined : List ℕ → List (List ℕ) → List ℕ
+pieces_joined separator pieces = join_by (λ piece. piece) separator pieces
 
 -- The text is cut at its `{}` into pieces without one, and the pieces are joined by the number's
 -- text.
 pub record IsFilling (number text filled : List ℕ) : Type 0 where
   pub pieces : List (List ℕ)
   pub uncut : AllByRecursion (λ piece. ¬ (HasSubslice piece placeholder)) pieces
-  pub cut : text ≡ joined_by placeholder pieces
-  pub filled_is : filled ≡ joined_by number pieces
+  pub cut : text ≡ pieces_joined placeholder pieces
+  pub filled_is : filled ≡ pieces_joined number pieces
 
 -- ---- Every text is filled in exactly one way
 
@@ -58,3 +63,15 @@ pub record IsWrittenTo (old new : List ℕ) (told : ℕ) (message : List ℕ) : 
   pub told_is : told ≡ min (length message) (2 ^ 64 - 1)
   pub fits : length message ≤ length old → new ≡ message ++ drop (length message) old
   pub too_long : length old < length message → new ≡ old
+
+-- ---- Why there is no message, and the texts that the errors print
+
+-- the message error that a number error becomes: out of memory isn't a fault of the text
+abbrev pub number_error : DecimalError → MessageError
+number_error decimal.Syntax = Number decimal.Syntax
+number_error decimal.Limit = Number decimal.Limit
+number_error decimal.Memory = Memory
+
+abbrev pub message_error_text : MessageError → List ℕ
+message_error_text (Number fault) = error_text fault
+message_error_text Memory = codes "out of memory"

@@ -38,7 +38,7 @@ pub enum MessageError {
 
 impl fmt::Display for MessageError {
     ghost use Rattle.std.specs.Prelude.{Some};
-    ghost use Rattle.plural_message.specs.PluralMessageErrors.{message_error_text};
+    ghost use Rattle.plural_message.specs.Messages.{message_error_text};
 
     ghost output = { λ error. Some (message_error_text error) };
 
@@ -55,7 +55,7 @@ impl Error for MessageError {}
 /// `Number`, but `Memory` if memory ran out.
 impl From<DecimalError> for MessageError {
     ghost use Rattle.std.specs.Prelude.{◌≡◌};
-    ghost use Rattle.plural_message.specs.PluralMessageErrors.{number_error};
+    ghost use Rattle.plural_message.specs.Messages.{number_error};
 
     ghost from_gives = { λ fault error. error ≡ number_error fault };
 

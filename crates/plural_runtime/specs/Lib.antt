@@ -2,7 +2,6 @@ pub mod PackedRelations
 pub mod PackedTruth
 pub mod PackedTree
 pub mod RuleKinds
-pub mod PluralRuntimeErrors
 pub mod RuleText
 pub mod RuleOfText
 -- not definitions of the subject

@@ -1,13 +1,14 @@
 -- The relations of a packed rule, and its groups (UTS 35 Part 3, Plural Rules Syntax:
 -- and-conditions joined by `or`).
 use Rattle.std.specs.Prelude.{◌≡◌, ◌<◌, ◌^◌, List, [], ◌∷◌, ℕ, ◌+◌, ◌++◌, map, flat_map, ◌-◌, ◌%◌, length, slice_index, Bool}
-use Rattle.std.specs.Prelude.{if◌then◌else◌, ◌==◌, ◌&&◌, nat_lt, nat_le, not, Option, Some, None, nat_eq}
+use Rattle.std.specs.Prelude.{if◌then◌else◌, ◌==◌, ◌&&◌, nat_lt, nat_le, not, Option, Some, None, nat_eq, codes}
+use Rattle.std.specs.Fmt.{decimal}
 use Rattle.std.specs.List.{AllByRecursion}
 use Rattle.plural_reference.specs.Truth.{RelationMeaning}
 use Rattle.plural_runtime.specs.declared.kinds.AndOr.{AndOr}
 use Rattle.plural_runtime.specs.declared.kinds.AndOr.TheVariants.{And, Or}
 use Rattle.std.specs.Int.{w32, to_le_bytes}
-use Rattle.packed_list.specs.ListBytes.{ListBytes, list_bytes, HasFault}
+use Rattle.packed_list.specs.ListBytes.{ListBytes, list_bytes, HasFault, list_error_text}
 use Rattle.plural_reference.specs.declared.ast.Operand.{Operand}
 use Rattle.plural_reference.specs.declared.ast.Operand.TheVariants.{N, I, V, W, F, T, C, E}
 use Rattle.plural_reference.specs.declared.ast.Operator.{Operator}
@@ -129,6 +130,12 @@ first_relation_fault place (item ∷ items) = or_else (relation_fault place item
 abbrev pub HasRuleFault : List ℕ → RuleBytesError → Type 0
 HasRuleFault bytes (errors.List fault) = HasFault bytes fault
 HasRuleFault bytes fault = (items : List (List ℕ)) × ListBytes items bytes × (first_relation_fault 0 items ≡ Some fault)
+
+-- why bytes aren't a rule, as the error prints it
+abbrev pub rule_bytes_error_text : RuleBytesError → List ℕ
+rule_bytes_error_text (errors.List fault) = list_error_text fault
+rule_bytes_error_text (errors.ItemLength place) = codes "bad length of relation " ++ decimal place
+rule_bytes_error_text (errors.Operand place) = codes "bad operand of relation " ++ decimal place
 
 -- ---- When two packed relations are equal.
 

@@ -4,14 +4,15 @@
 --     TextGives text answer      the text gives this, by the grammar
 --     rule_of_text text      what the text gives, by a reader
 -- The last two agree (`laws::texts_give_one_answer`).
-use Rattle.std.specs.Prelude.{◌≡◌, ◌⊎◌, ◌↔◌, ℕ, List, Result, Ok, Err}
+use Rattle.std.specs.Prelude.{◌≡◌, ◌⊎◌, ◌↔◌, ℕ, List, Result, Ok, Err, codes}
 use Rattle.plural_reference.specs.declared.ast.Condition.{Condition}
 use Rattle.plural_reference.specs.declared.error.ParseError.{ParseError}
 use Rattle.plural_reference.specs.Lexer.{TextReads, TextFaulty}
 use Rattle.plural_reference.specs.Samples.{ReadsCondition, FaultyRule}
 use Rattle.plural_reference.specs.Inner.RuleReader.{condition_of_text}
+use Rattle.plural_reference.specs.PluralReferenceErrors.{parse_error_text}
 use Rattle.plural_runtime.specs.declared.error.RuleError.{RuleError}
-use Rattle.plural_runtime.specs.declared.error.RuleError.TheVariants.{Parse}
+use Rattle.plural_runtime.specs.declared.error.RuleError.TheVariants.{Parse, StartLimit, Memory}
 use Rattle.plural_runtime.specs.PackedRelations.{PackedRelation}
 use Rattle.plural_runtime.specs.PackedTree.{packing}
 
@@ -41,3 +42,11 @@ rule_of_text text = packing_of (condition_of_text text)
 -- every text gives exactly one result: that of the function
 abbrev pub TextsGiveOneAnswer : Type 0
 TextsGiveOneAnswer = (text : List ℕ) (answer : RuleAnswer) → TextGives text answer ↔ (answer ≡ rule_of_text text)
+
+-- ---- The texts that the errors print
+
+-- why a rule can't be packed
+abbrev pub rule_error_text : RuleError → List ℕ
+rule_error_text (Parse fault) = parse_error_text fault
+rule_error_text StartLimit = codes "rule too long"
+rule_error_text Memory = codes "out of memory"

@@ -18,7 +18,7 @@ pub enum RuleBytesError {
 
 impl fmt::Display for RuleBytesError {
     ghost use Rattle.std.specs.Prelude.{Some};
-    ghost use Rattle.plural_runtime.specs.PluralRuntimeErrors.{rule_bytes_error_text};
+    ghost use Rattle.plural_runtime.specs.PackedRelations.{rule_bytes_error_text};
 
     ghost output = { λ error. Some (rule_bytes_error_text error) };
 
@@ -47,7 +47,7 @@ pub enum RuleError {
 
 impl fmt::Display for RuleError {
     ghost use Rattle.std.specs.Prelude.{Some};
-    ghost use Rattle.plural_runtime.specs.PluralRuntimeErrors.{rule_error_text};
+    ghost use Rattle.plural_runtime.specs.RuleOfText.{rule_error_text};
 
     ghost output = { λ error. Some (rule_error_text error) };
 

@@ -3,7 +3,7 @@
 ghost use Rattle.std.specs.Prelude.{◌≡◌, List, map, length, slice_get, option_map, IfOk, IsTrue, ◌==◌};
 ghost use Rattle.std.specs.List.{list_all};
 ghost use Rattle.plural_runtime.specs.PackedRelations.{RuleBytes, relation_bytes, is_relation};
-ghost use Rattle.plural_runtime.specs.Inner.RuleReading.{IsRule, relation_in};
+ghost use Rattle.plural_runtime.specs.Inner.RuleReading.{AreRuleBytes, relation_in};
 ghost use Rattle.plural_runtime.specs.Inner.RuleViews.{item_relation};
 
 use crate::laws::one_encoding;
@@ -39,17 +39,17 @@ impl<'data> Model for Rule<'data> {
 
     ghost Value = { List PackedRelation };
 
-    ghost use Rattle.plural_runtime.specs.Inner.RuleReading.{relations_in, IsRule};
+    ghost use Rattle.plural_runtime.specs.Inner.RuleReading.{relations_in, AreRuleBytes};
 
     ghost view = { λ rule. relations_in (cow_slice_items rule.bytes) };
 
-    ghost invariant = { λ rule. IsRule (cow_slice_items rule.bytes) };
+    ghost invariant = { λ rule. AreRuleBytes (cow_slice_items rule.bytes) };
 }
 
 impl<'data> Rule<'data> {
     // The rule in bytes that are known to be one.
     pub(crate) fn lent(bytes: &'data [u8]) -> Rule<'data>
-        requires { IsRule bytes.now }
+        requires { AreRuleBytes bytes.now }
         ensures { RuleBytes result bytes.now }
     {
         Rule {
@@ -59,7 +59,7 @@ impl<'data> Rule<'data> {
 
     // The rule in owned bytes that are known to be one.
     pub(crate) fn owned(bytes: Vec<u8>) -> Rule<'data>
-        requires { IsRule bytes.items }
+        requires { AreRuleBytes bytes.items }
         ensures { RuleBytes result bytes.items }
     {
         Rule {

@@ -5,7 +5,7 @@ ghost use Rattle.std.specs.Int.{w32, to_le_bytes};
 ghost use Rattle.plural_reference.specs.Truth.{ends_of, modulus_of};
 ghost use Rattle.plural_runtime.specs.PackedRelations.{first_byte, range_bytes};
 ghost use Rattle.plural_runtime.specs.PackedTree.{packed};
-ghost use Rattle.plural_runtime.specs.Inner.TreeWalk.{relations_left};
+ghost use Rattle.plural_runtime.specs.Inner.RuleViews.{relations_left};
 
 use crate::first_byte::AndOrPolarityOperand;
 use crate::item::{HEAD_LENGTH, RANGE_LENGTH};
@@ -54,7 +54,7 @@ impl<'a> TreeRelations<'a> {
 impl<'a> ByteItems for TreeRelations<'a> {
     ghost use Rattle.std.specs.Prelude.{map};
     ghost use Rattle.plural_runtime.specs.PackedRelations.{relation_bytes};
-    ghost use Rattle.plural_runtime.specs.Inner.TreeWalk.{relations_left};
+    ghost use Rattle.plural_runtime.specs.Inner.RuleViews.{relations_left};
 
     type Item = TreeRelation<'a>;
 

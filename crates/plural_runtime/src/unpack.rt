@@ -2,8 +2,7 @@
 
 ghost use Rattle.std.specs.Prelude.{◌≡◌, map, IfOk, OnOk, None};
 ghost use Rattle.plural_runtime.specs.PackedTree.{unpacked_relation, unpacked_range, unpacked};
-ghost use Rattle.plural_runtime.specs.Inner.RuleViews.{lent_relation};
-ghost use Rattle.plural_runtime.specs.Inner.TreeWalk.{done_before, open_before};
+ghost use Rattle.plural_runtime.specs.Inner.RuleViews.{lent_relation, done_before, open_before};
 
 use crate::kinds::AndOr;
 use crate::relation::Relation;

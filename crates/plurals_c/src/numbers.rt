@@ -1,6 +1,6 @@
 //! The categories of the numbers that texts write.
 
-ghost use Rattle.plural_exports.specs.NumberAnswers.{IsCategoryOf, IsExactnessOf, IsSureCategoryOf, category_number, truth_number};
+ghost use Rattle.plural_exports.specs.NumberAnswers.{IsCategoryOfNumber, IsExactnessOf, IsSureCategoryOf, category_number, truth_number};
 ghost use Rattle.plural_exports.specs.Results.{Answered};
 
 use std::alloc::Global;
@@ -13,7 +13,7 @@ use std::alloc::Global;
 /// than 16 bytes.
 #[unsafe(no_mangle)]
 pub extern "C" fn plurals_category(alloc: Global, rules: &[u8], number: &[u8]) -> i32
-    ensures { Answered (IsCategoryOf rules.now number.now) category_number result }
+    ensures { Answered (IsCategoryOfNumber rules.now number.now) category_number result }
 {
     plural_exports::category(alloc, rules, number)
 }

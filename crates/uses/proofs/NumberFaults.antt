@@ -4,7 +4,7 @@ use Rattle.icu_plurals.specs.declared.DecimalError.{DecimalError}
 use Rattle.icu_plurals.specs.declared.DecimalError.TheVariants.{Syntax, Limit, Memory as no_memory}
 use Rattle.plural_message.specs.declared.MessageError.{MessageError}
 use Rattle.plural_message.specs.declared.MessageError.TheVariants.{Number}
-use Rattle.plural_message.specs.PluralMessageErrors.{number_error}
+use Rattle.plural_message.specs.Messages.{number_error}
 
 -- a fault of syntax is passed on, and no other error becomes one
 pub handed_on : {T U P : Type 0} (r : Result T DecimalError) (answer : Result U MessageError) (fault : DecimalError)

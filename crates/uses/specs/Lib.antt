@@ -3,5 +3,4 @@ pub mod RelativeTime
 pub mod CompactUnits
 pub mod Store
 pub mod RangeLabels
-pub mod Translation
 pub mod Notice

@@ -2,7 +2,7 @@
 
 ghost use Rattle.std.specs.Prelude.{IfOk};
 ghost use Rattle.serde_json.specs.View.{view};
-ghost use Rattle.uses.specs.Translation.{IsComplete};
+ghost use Rattle.uses.specs.Notice.{IsComplete};
 
 use message_report::run::run;
 use message_report::{MessageFile, ReportError, RulesOfLocales};

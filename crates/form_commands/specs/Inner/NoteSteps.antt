@@ -5,7 +5,7 @@ use Rattle.std.specs.declared.alloc.AllocError.{AllocError}
 use Rattle.form_commands.specs.Inner.RunSteps.{WritesAnswer}
 use Rattle.form_commands.specs.PrintedTexts.{PrintedText}
 use Rattle.form_commands.specs.declared.error.LanguageError.{LanguageError}
-use Rattle.plural_documents.specs.Outputs.{IsPartWritten}
+use Rattle.plural_documents.specs.Inputs.{IsPartWritten}
 use Rattle.form_commands.specs.declared.error.FormsError.{FormsError}
 use Rattle.form_commands.specs.declared.error.FormsError.TheVariants.{Write, Memory}
 use Rattle.form_commands.specs.declared.error.Verdict.{Verdict}

@@ -8,9 +8,7 @@ use Rattle.message_report.specs.MessagesRun.{IsReported}
 use Rattle.message_report.specs.declared.counts.Counts.{Counts}
 use Rattle.message_report.specs.declared.error.ReportError.{ReportError}
 use Rattle.message_report.specs.declared.file.MessageFile.{MessageFile}
-use Rattle.plural_documents.specs.Inputs.{most_bytes}
-use Rattle.plural_documents.specs.JsonTexts.{json_of}
-use Rattle.plural_documents.specs.Outputs.{IsPartWritten}
+use Rattle.plural_documents.specs.Inputs.{most_bytes, IsPartWritten, json_of}
 use Rattle.plural_fallback.specs.declared.locales.Part.{Part}
 use Rattle.serde_json.specs.Data.{Data}
 use Rattle.serde_json.specs.View.{view}

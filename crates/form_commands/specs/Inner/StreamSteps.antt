@@ -2,7 +2,7 @@
 use Rattle.std.specs.Prelude.{◌≡◌, ◌⊎◌, ℕ, List, [], ◌++◌, Option, Result, Ok, Err, ⊤}
 use Rattle.std.specs.Io.KnownBytes.{Appends}
 use Rattle.icu_plurals.specs.FiveRules.{FiveRules}
-use Rattle.plural_documents.specs.Outputs.{IsPartWritten}
+use Rattle.plural_documents.specs.Inputs.{IsPartWritten}
 use Rattle.form_commands.specs.InputLines.{lines_of}
 use Rattle.form_commands.specs.NumberAnswers.{AreLineAnswers}
 use Rattle.form_commands.specs.PrintedTexts.{PrintedText, verdict_of}

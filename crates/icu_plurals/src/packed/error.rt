@@ -31,7 +31,7 @@ pub enum ElementsBytesError {
 
 impl fmt::Display for ElementsBytesError {
     ghost use Rattle.std.specs.Prelude.{Some};
-    ghost use Rattle.icu_plurals.specs.IcuPluralsErrors.{elements_bytes_error_text};
+    ghost use Rattle.icu_plurals.specs.ElementsFaults.{elements_bytes_error_text};
 
     ghost output = { λ error. Some (elements_bytes_error_text error) };
 

@@ -16,7 +16,7 @@ use Rattle.message_format.specs.declared.steps.Step.TheVariants as step
 use Rattle.message_format.specs.FormatArguments.{Argument, Value, value_view}
 use Rattle.message_format.specs.FormatNumbers.{digit_of}
 use Rattle.message_format.specs.FormatSteps.{Step, Stops, Prints, Chooses, Fails, TwoRules}
-use Rattle.message_format.specs.FormatMeaning.{Outcome, Said, Faulty, Says}
+use Rattle.message_format.specs.FormatMeaning.{PatternOutcome, Said, Faulty, Says}
 
 abbrev pub any_value : Option values.Value → Option Value
 any_value None = None
@@ -58,7 +58,7 @@ GivesOutcome arguments rules hash parts old new (Err (error.Argument fault name)
 GivesOutcome arguments rules hash parts old new (Err error.Memory) = Unit {0}
 
 -- the outcome that a result has, or none if memory ran out
-abbrev pub outcome_of : Result (Vec ℕ Global) FormatError → Option Outcome
+abbrev pub outcome_of : Result (Vec ℕ Global) FormatError → Option PatternOutcome
 outcome_of (Ok text) = Some (Said text.items)
 outcome_of (Err (error.Argument fault name)) = Some (Faulty fault name.now)
 outcome_of (Err error.Memory) = None

@@ -2,8 +2,7 @@
 use Rattle.std.specs.Prelude.{List, option_map}
 use Rattle.message_pattern.specs.declared.part.Part as parts
 use Rattle.message_pattern.specs.declared.part.Selector as selectors
-use Rattle.message_pattern.specs.ArgumentBranches.{Branching, branches_of}
-use Rattle.message_pattern.specs.PatternParts.{parts_view, selector_view}
+use Rattle.message_pattern.specs.PatternParts.{Branching, branches_of, parts_view, selector_view}
 use Rattle.message_report.specs.Inner.LanguageViews.{language_view}
 use Rattle.message_report.specs.PatternFaults.{PluralArgument, TwoLanguages}
 use Rattle.message_report.specs.declared.argument.Argument.{Argument}

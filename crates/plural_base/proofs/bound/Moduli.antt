@@ -9,7 +9,7 @@ use Rattle.std.proofs.lemmas.List.Elements.{Contains-append_left, Contains-appen
 use Rattle.std.proofs.lemmas.List.Elements.{Contains-push_cases}
 use Rattle.std.proofs.lemmas.List.Folds.{list_all-append}
 use Rattle.plural_reference.specs.Exactness.{AllDivide}
-use Rattle.plural_base.specs.Inner.ModulusTests.{divides_ten_to_18}
+use Rattle.plural_base.specs.Inner.RulesSteps.{divides_ten_to_18}
 
 -- ---- One modulus
 

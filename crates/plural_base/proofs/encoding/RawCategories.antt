@@ -6,7 +6,7 @@ use Rattle.plural_base.specs.declared.category.by_category.ByCategory.{ByCategor
 use Rattle.plural_base.specs.declared.category.raw.RawPluralCategory.{RawPluralCategory}
 use Rattle.plural_base.specs.declared.category.raw.RawPluralCategory.TheVariants.{Other, Zero, One, Two, Few, Many}
 use Rattle.plural_base.specs.Ranges.{each, at, put_at, range_byte}
-use Rattle.plural_base.specs.Categories.{category_number}
+use Rattle.plural_base.specs.Categories.{raw_number}
 
 -- what holds of each of the six holds of all
 pub by_category : (P : RawPluralCategory → Type 0) → P Other → P Zero → P One → P Two → P Few → P Many → (c : RawPluralCategory) → P c
@@ -27,16 +27,16 @@ numbered (suc (suc (suc (suc zero)))) = Few
 numbered _ = Many
 
 -- the number of a category gives it back
-numbered_back : (c : RawPluralCategory) → numbered (category_number c) ≡ c
-numbered_back = by_category (λ c. numbered (category_number c) ≡ c) refl refl refl refl refl refl
+numbered_back : (c : RawPluralCategory) → numbered (raw_number c) ≡ c
+numbered_back = by_category (λ c. numbered (raw_number c) ≡ c) refl refl refl refl refl refl
 
 -- no two have one number
-pub same_number : (c d : RawPluralCategory) → category_number c ≡ category_number d → c ≡ d
+pub same_number : (c d : RawPluralCategory) → raw_number c ≡ raw_number d → c ≡ d
 same_number c d same = sym (numbered_back c) ∙ ap numbered same ∙ numbered_back d
 
 -- numbers of categories are below 6
-number_below : (c : RawPluralCategory) → category_number c < 6
-number_below = by_category (λ c. category_number c < 6) (lit< tt) (lit< tt) (lit< tt) (lit< tt) (lit< tt) (lit< tt)
+number_below : (c : RawPluralCategory) → raw_number c < 6
+number_below = by_category (λ c. raw_number c < 6) (lit< tt) (lit< tt) (lit< tt) (lit< tt) (lit< tt) (lit< tt)
 
 -- nor have two ranges one byte
 pub same_byte : (start end start' end' : RawPluralCategory) → range_byte start end ≡ range_byte start' end'
@@ -59,17 +59,17 @@ at-each f = by_category (λ c. at (each f) c ≡ f c) refl refl refl refl refl r
 
 module _ {A : Type 0} (things : ByCategory A) (c : RawPluralCategory) (thing : A) (d : RawPluralCategory) where
   -- the value of a category is the new one, if the category is the changed one, else the old one
-  pub at-put_at : at (put_at things c thing) d ≡ if category_number d == category_number c then thing else at things d
-  at-put_at = at-each (λ d. if category_number d == category_number c then thing else at things d) d
+  pub at-put_at : at (put_at things c thing) d ≡ if raw_number d == raw_number c then thing else at things d
+  at-put_at = at-each (λ d. if raw_number d == raw_number c then thing else at things d) d
 
   -- another category keeps what it has
   pub at-put_at_other : d ≢ c → at (put_at things c thing) d ≡ at things d
-  at-put_at_other other = at-put_at ∙ (rw (ne_eqb (category_number d) (category_number c) (λ same. other (same_number d c same))) refl)
+  at-put_at_other other = at-put_at ∙ (rw (ne_eqb (raw_number d) (raw_number c) (λ same. other (same_number d c same))) refl)
 
 -- the value of another pair stays
 module _ {A : Type 0} (rows : ByCategory (ByCategory A)) (start end : RawPluralCategory) (thing : A) (s e : RawPluralCategory) where
   -- in the row of the pair another end keeps what it has
-  in_row : e ≢ end → (b : Bool) → (category_number s == category_number start) ≡ b
+  in_row : e ≢ end → (b : Bool) → (raw_number s == raw_number start) ≡ b
       → at (if b then put_at (at rows start) end thing else at rows s) e ≡ at (at rows s) e
   in_row other true same =
       at-put_at_other (at rows start) end thing e other ∙ ap (λ r. at (at rows r) e) (sym (same_number s start (eqb-true _ _ same)))
@@ -80,4 +80,4 @@ module _ {A : Type 0} (rows : ByCategory (ByCategory A)) (start end : RawPluralC
   others_stay (inl other) = ap (λ row. at row e) (at-put_at_other rows start (put_at (at rows start) end thing) s other)
   others_stay (inr other) =
       ap (λ row. at row e) (at-put_at rows start (put_at (at rows start) end thing) s)
-      ∙ in_row other (category_number s == category_number start) refl
+      ∙ in_row other (raw_number s == raw_number start) refl

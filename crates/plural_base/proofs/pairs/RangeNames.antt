@@ -6,7 +6,7 @@ use Rattle.plural_base.specs.declared.category.raw.RawPluralCategory.TheVariants
 use Rattle.plural_base.specs.declared.category.PluralCategory.{PluralCategory}
 use Rattle.plural_base.specs.declared.category.PluralCategory.TheVariants as category
 use Rattle.plural_base.specs.Categories.{name_of, raw_category_of, raw_name_of, all_raw_categories}
-use Rattle.plural_base.specs.Ranges.{Range, all_category_ranges, range_text, range_named, category_named}
+use Rattle.plural_base.specs.Ranges.{Range, all_category_ranges, range_text, range_named, raw_category_named}
 use Rattle.plural_base.proofs.encoding.RawCategories.{by_category}
 
 -- what is found passes
@@ -28,23 +28,23 @@ none_there (Some x) never = absurd (never x refl)
 -- ---- Categories
 
 -- a text that names a category is its name
-pub category_named_is : (text : List ℕ) (c : RawPluralCategory) → category_named text ≡ Some c → text ≡ raw_name_of c
-unfolding category_named
+pub category_named_is : (text : List ℕ) (c : RawPluralCategory) → raw_category_named text ≡ Some c → text ≡ raw_name_of c
+unfolding raw_category_named
 category_named_is text c found =
     (bytes_eq-Decides text (raw_name_of c)).0 (find_passes (λ c. bytes_eq text (raw_name_of c)) all_raw_categories c found)
 
 -- a name names its category
-pub category_named_as : (c : RawPluralCategory) → category_named (raw_name_of c) ≡ Some c
-unfolding category_named
-category_named_as = by_category (λ c. category_named (raw_name_of c) ≡ Some c) refl refl refl refl refl refl
+pub category_named_as : (c : RawPluralCategory) → raw_category_named (raw_name_of c) ≡ Some c
+unfolding raw_category_named
+category_named_as = by_category (λ c. raw_category_named (raw_name_of c) ≡ Some c) refl refl refl refl refl refl
 
 -- so does a text that equals it
-pub named_category : (text : List ℕ) (c : RawPluralCategory) → text ≡ raw_name_of c → Some c ≡ category_named text
+pub named_category : (text : List ℕ) (c : RawPluralCategory) → text ≡ raw_name_of c → Some c ≡ raw_category_named text
 named_category text c is = rw is (sym (category_named_as c))
 
 -- a text that isn't a category's name names none
-pub category_named_none : (text : List ℕ) → ((c : RawPluralCategory) → text ≡ raw_name_of c → ⊥) → category_named text ≡ None
-category_named_none text never = none_there (category_named text) (λ c found. never c (category_named_is text c found))
+pub category_named_none : (text : List ℕ) → ((c : RawPluralCategory) → text ≡ raw_name_of c → ⊥) → raw_category_named text ≡ None
+category_named_none text never = none_there (raw_category_named text) (λ c found. never c (category_named_is text c found))
 
 -- a category and the numbered one have one name
 pub same_name : (c : PluralCategory) → raw_name_of (raw_category_of c) ≡ name_of c

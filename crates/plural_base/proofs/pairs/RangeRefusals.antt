@@ -6,9 +6,9 @@ use Rattle.plural_base.specs.declared.category.PluralCategory.{PluralCategory}
 use Rattle.plural_base.specs.declared.json.error.JsonError.{JsonError}
 use Rattle.plural_base.specs.declared.json.error.JsonError.TheVariants.{Float, Shape, Rule, RangeKey, RangeValue, Pack, Memory}
 use Rattle.plural_base.specs.declared.ranges.PluralRanges.{PluralRanges}
-use Rattle.plural_base.specs.Ranges.{range_named, category_named, no_ranges, with_range}
+use Rattle.plural_base.specs.Ranges.{range_named, raw_category_named, no_ranges, with_range}
 use Rattle.plural_base.specs.RangesJson.{category_meant, members_meant, ranges_meant}
-use Rattle.plural_base.specs.Json.{Stands, ◌>>=◌, there_or, Answers}
+use Rattle.plural_base.specs.Json.{Stands, ◌>>=◌, there_or, GivesMeaning}
 use Rattle.serde_json.specs.Data.{Data, Members, no_members, member}
 use Rattle.serde_json.specs.Find.{get, as_object, as_str}
 
@@ -30,7 +30,7 @@ module _ (bad : JsonError) where
     never_category : (value : Data) → category_meant value ≢ Err bad
     never_category value =
         never_then (there_or Shape (as_str value)) _ (never_there Shape (as_str value) no_shape)
-        (λ text. never_there RangeValue (category_named text) no_value)
+        (λ text. never_there RangeValue (raw_category_named text) no_value)
 
     -- nor are members
     never_members : (ms : Members) (ranges : PluralRanges) → members_meant ranges ms ≢ Err bad
@@ -59,7 +59,7 @@ pub ranges_no_float : (value : Data) → ranges_meant value ≢ Err Float
 ranges_no_float = never_ranges Float (λ h. absurd cc) (λ h. absurd cc) (λ h. absurd cc)
 
 -- if the result is exactly what is expected, the call returns it
-pub exactly_answered : {A : Type 0} (result stands : Stands A) → result ≡ stands → Answers (λ x. x) result stands
+pub exactly_answered : {A : Type 0} (result stands : Stands A) → result ≡ stands → GivesMeaning (λ x. x) result stands
 exactly_answered (Ok x) stands is = sym is
 exactly_answered (Err Float) stands is = sym is
 exactly_answered (Err Shape) stands is = sym is

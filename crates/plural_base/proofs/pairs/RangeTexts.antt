@@ -5,7 +5,7 @@ use Rattle.std.proofs.lemmas.Str.Pattern.{split_text_parts}
 use Rattle.plural_base.specs.declared.ranges.key.UnvalidatedPluralRange.{UnvalidatedPluralRange}
 use Rattle.plural_base.specs.declared.category.raw.RawPluralCategory.{RawPluralCategory}
 use Rattle.plural_base.specs.Categories.{raw_name_of}
-use Rattle.plural_base.specs.Ranges.{Range, range_key, range_text, range_named, category_named, IsKeyOfText}
+use Rattle.plural_base.specs.Ranges.{Range, range_key, range_text, range_named, raw_category_named, IsKeyOfText}
 use Rattle.plural_base.proofs.encoding.RawCategories.{by_category}
 use Rattle.plural_base.proofs.pairs.RangeNames.{category_named_is, category_named_as, range_named_is, named_range, range_named_none}
 use Rattle.plural_base.proofs.pairs.FirstHyphens.{has_no_hyphen, SplitsAtHyphens, split_after_front}
@@ -27,19 +27,19 @@ module _ (text : List ℕ) where
 
   module _ (x : Bor (List ℕ) × Bor (List ℕ)) (h : SplitsAtHyphens text (Some x)) where
     -- nor does one whose front names no category
-    pub start_unnamed : None ≡ category_named x.0.now → None ≡ range_named text
+    pub start_unnamed : None ≡ raw_category_named x.0.now → None ≡ range_named text
     start_unnamed none = sym (range_named_none text (λ start end is.
-        let named : category_named x.0.now ≡ Some start = ap category_named (split_between (Some x) h start end is).0
+        let named : raw_category_named x.0.now ≡ Some start = ap raw_category_named (split_between (Some x) h start end is).0
         ∙ category_named_as start in cc))
 
     -- nor does one whose back names none
-    pub end_unnamed : None ≡ category_named x.1.now → None ≡ range_named text
+    pub end_unnamed : None ≡ raw_category_named x.1.now → None ≡ range_named text
     end_unnamed none = sym (range_named_none text (λ start end is.
-        let named : category_named x.1.now ≡ Some end = ap category_named (split_between (Some x) h start end is).1
+        let named : raw_category_named x.1.now ≡ Some end = ap raw_category_named (split_between (Some x) h start end is).1
         ∙ category_named_as end in cc))
 
     -- a text whose front and back name categories names their range
-    pub both_named : (start end : RawPluralCategory) → Some start ≡ category_named x.0.now → Some end ≡ category_named x.1.now
+    pub both_named : (start end : RawPluralCategory) → Some start ≡ raw_category_named x.0.now → Some end ≡ raw_category_named x.1.now
         → Some (start, end) ≡ range_named text
     both_named start end first last =
         let parts : text ≡ x.0.now ++ codes "--" ++ x.1.now = split_text_parts (codes "--") text (Some x) h

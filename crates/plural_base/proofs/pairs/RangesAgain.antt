@@ -12,7 +12,7 @@ use Rattle.plural_base.specs.declared.json.error.JsonError.TheVariants.{Float, R
 use Rattle.plural_base.specs.declared.ranges.PluralRanges.{PluralRanges}
 use Rattle.plural_base.specs.declared.category.raw.RawPluralCategory.{RawPluralCategory}
 use Rattle.plural_base.specs.Ranges.{at, each, put_at, Range, range_named, range_text, category_at, no_ranges, with_range}
-use Rattle.plural_base.specs.Categories.{category_number}
+use Rattle.plural_base.specs.Categories.{raw_number}
 use Rattle.plural_base.specs.RangesJson.{AreMembersOf, IsJsonOfRanges, category_meant, keys_in, members_meant, name_json, object_under}
 use Rattle.plural_base.specs.RangesJson.{ranges_of_json, ranges_meant}
 use Rattle.plural_base.specs.Json.{◌>>=◌, there_or}
@@ -107,8 +107,8 @@ module _ (ranges : PluralRanges) where
 -- ---- A table with one pair more
 
 -- a number equals itself
-same_test : (c : RawPluralCategory) → (category_number c == category_number c) ≡ true
-same_test = by_category (λ c. (category_number c == category_number c) ≡ true) refl refl refl refl refl refl
+same_test : (c : RawPluralCategory) → (raw_number c == raw_number c) ≡ true
+same_test = by_category (λ c. (raw_number c == raw_number c) ≡ true) refl refl refl refl refl refl
 
 module _ (acc : PluralRanges) (start end category : RawPluralCategory) where
   -- a pair has the category that it was given last
@@ -122,16 +122,16 @@ module _ (acc : PluralRanges) (start end category : RawPluralCategory) where
   module _ (s e : RawPluralCategory) (P : Option RawPluralCategory → Type 0) (same : s ≡ start → e ≡ end → P (Some category))
       (other : P (category_at acc s e)) where
     -- at an end of its row: the new category at the pair's own, else what was there
-    in_row : (b : Bool) → (category_number e == category_number end) ≡ b → s ≡ start → P (if b then Some category else at (at acc start) e)
+    in_row : (b : Bool) → (raw_number e == raw_number end) ≡ b → s ≡ start → P (if b then Some category else at (at acc start) e)
     in_row true is start_is = same start_is (same_number e end (eqb-true _ _ is))
     in_row false is start_is = subst (λ r. P (at (at acc r) e)) start_is other
 
     -- in a row: the changed one at the pair's start, else what was there
-    at_row : (b : Bool) → (category_number s == category_number start) ≡ b
+    at_row : (b : Bool) → (raw_number s == raw_number start) ≡ b
         → P (at (if b then put_at (at acc start) end (Some category) else at acc s) e)
     at_row true is =
         subst P (sym (at-put_at (at acc start) end (Some category) e))
-        (in_row (category_number e == category_number end) refl (same_number s start (eqb-true _ _ is)))
+        (in_row (raw_number e == raw_number end) refl (same_number s start (eqb-true _ _ is)))
     at_row false is = other
 
     -- what holds of the new category at its pair, and of what was there at the others, holds
@@ -139,7 +139,7 @@ module _ (acc : PluralRanges) (start end category : RawPluralCategory) where
     with_any : P (category_at (with_range acc start end category) s e)
     with_any =
         subst (λ row. P (at row e)) (sym (at-put_at acc start (put_at (at acc start) end (Some category)) s))
-        (at_row (category_number s == category_number start) refl)
+        (at_row (raw_number s == raw_number start) refl)
 
 -- without pairs none has a category
 none_at : (s e : RawPluralCategory) → category_at no_ranges s e ≡ None

@@ -15,10 +15,10 @@ use Rattle.plural_base.specs.declared.json.error.JsonError.TheVariants.{Shape}
 use Rattle.plural_base.specs.declared.ranges.PluralRanges.{PluralRanges}
 use Rattle.plural_base.specs.DocumentJson.{Rows, all_maps, document_meant, found, map_meant, row_of, rows_meant, with_locale}
 use Rattle.plural_base.specs.FiveRules.{Five, FiveRules, Paired, five}
-use Rattle.plural_base.specs.Inner.JsonSteps.{GivesRule, Passes, alone, row_meant}
-use Rattle.plural_base.specs.Json.{Answers, IsRefusal, Stands, ◌>>=◌, all_five}
+use Rattle.plural_base.specs.Inner.JsonSteps.{GivesRule, Passes, row_alone, row_meant}
+use Rattle.plural_base.specs.Json.{GivesMeaning, IsRefusal, Stands, ◌>>=◌, all_five}
 use Rattle.plural_base.specs.RangesJson.{ranges_meant}
-use Rattle.plural_base.specs.RulesJson.{named, rule_meant, rules_meant}
+use Rattle.plural_base.specs.RulesJson.{naming_category, rule_meant, rules_meant}
 use Rattle.plural_base.proofs.reading.DocumentRefusals.{refused_with, third_of_three}
 use Rattle.plural_base.proofs.reading.RulesRead.{rows_read}
 use Rattle.serde_json.specs.Data.{Data, Members, member}
@@ -27,8 +27,8 @@ use Rattle.serde_json.specs.Find.{as_object, as_str, get, get_member}
 -- ---- One rule
 
 -- a text that is named as a rule gives one
-of_answer : (category : Option PluralCategory) (answer : RuleAnswer) (rule : List PackedRelation) → named category answer ≡ Ok rule
-    → (r : List PackedRelation) × (answer ≡ Ok r)
+of_answer : (category : Option PluralCategory) (answer : RuleAnswer) (rule : List PackedRelation)
+    → naming_category category answer ≡ Ok rule → (r : List PackedRelation) × (answer ≡ Ok r)
 of_answer category (Ok r) rule h = (r, refl)
 of_answer category (Err e) rule h = absurd cc
 
@@ -96,18 +96,18 @@ module _ {A : Type 0} (meant : Data → Stands A) where
   -- where all rows pass, the row of a locale is what its member means
   pub row_found : (locale : List ℕ) (ms : Members) (passed : (rows : Rows A) × (rows_meant meant ms ≡ Ok rows))
       → row_meant meant locale (get_member locale ms)
-      ≡ alone locale (rows_meant meant ms)
+      ≡ row_alone locale (rows_meant meant ms)
   row_found locale ms passed =
       let paired = rows_read meant (λ v y. meant v ≡ Ok y) (λ v y read. read) locale ms passed.0 passed.1 in
       row_paired locale (get_member locale ms) (found locale passed.0) paired
-      ∙ sym (ap (λ (s : Stands (Rows A)). alone locale s) passed.1)
+      ∙ sym (ap (λ (s : Stands (Rows A)). row_alone locale s) passed.1)
 
 -- ---- A document
 
 -- of three maps it is the row of each
 pub maps_alone : (locale : List ℕ) (cardinal ordinal : Stands (Rows FiveRules)) (ranges : Stands (Rows PluralRanges))
     → with_locale locale (all_maps cardinal ordinal ranges)
-    ≡ all_maps (alone locale cardinal) (alone locale ordinal) (alone locale ranges)
+    ≡ all_maps (row_alone locale cardinal) (row_alone locale ordinal) (row_alone locale ranges)
 maps_alone locale (Err e) ordinal ranges = refl
 maps_alone locale (Ok c) (Err e) ranges = refl
 maps_alone locale (Ok c) (Ok o) (Err e) = refl
@@ -117,18 +117,18 @@ maps_alone locale (Ok c) (Ok o) (Ok r) = refl
 pub locale_refused : (locale : List ℕ) (value : Data) (a b r : Option Data) (c o : Rows FiveRules) (e : JsonError)
     → true ≡ is_some (as_object value)
     → a ≡ get (codes "cardinal") value → b ≡ get (codes "ordinal") value → r ≡ get (codes "ranges") value
-    → alone locale (map_meant rules_meant a) ≡ Ok c → alone locale (map_meant rules_meant b) ≡ Ok o
-    → IsRefusal e (alone locale (map_meant ranges_meant r)) → IsRefusal e (with_locale locale (document_meant value))
+    → row_alone locale (map_meant rules_meant a) ≡ Ok c → row_alone locale (map_meant rules_meant b) ≡ Ok o
+    → IsRefusal e (row_alone locale (map_meant ranges_meant r)) → IsRefusal e (with_locale locale (document_meant value))
 locale_refused locale value a b r c o e is_object a_is b_is r_is first second third =
     let cardinal = map_meant rules_meant (get (codes "cardinal") value) in
     let ordinal = map_meant rules_meant (get (codes "ordinal") value) in
     let ranges = map_meant ranges_meant (get (codes "ranges") value) in
-    refused_with e (alone locale (map_meant ranges_meant r)) (with_locale locale (document_meant value))
+    refused_with e (row_alone locale (map_meant ranges_meant r)) (with_locale locale (document_meant value))
     (λ refused.
     ap (λ is. with_locale locale (if is then all_maps cardinal ordinal ranges else Err Shape)) (sym is_object)
     ∙ maps_alone locale cardinal ordinal ranges
-    ∙ third_of_three (alone locale cardinal) (alone locale ordinal) (alone locale ranges) c o e
-    (ap (λ d. alone locale (map_meant rules_meant d)) (sym a_is) ∙ first)
-    (ap (λ d. alone locale (map_meant rules_meant d)) (sym b_is) ∙ second)
-    (ap (λ d. alone locale (map_meant ranges_meant d)) (sym r_is) ∙ refused))
+    ∙ third_of_three (row_alone locale cardinal) (row_alone locale ordinal) (row_alone locale ranges) c o e
+    (ap (λ d. row_alone locale (map_meant rules_meant d)) (sym a_is) ∙ first)
+    (ap (λ d. row_alone locale (map_meant rules_meant d)) (sym b_is) ∙ second)
+    (ap (λ d. row_alone locale (map_meant ranges_meant d)) (sym r_is) ∙ refused))
     third

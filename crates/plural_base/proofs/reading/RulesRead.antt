@@ -12,12 +12,12 @@ use Rattle.plural_base.specs.declared.category.PluralCategory.TheVariants.{Zero,
 use Rattle.plural_base.specs.declared.json.error.JsonError.{JsonError}
 use Rattle.plural_base.specs.declared.json.error.JsonError.TheVariants.{Shape}
 use Rattle.plural_base.specs.DocumentJson.{Rows, Document, found, rows_meant, map_meant, all_maps, document_meant, value_of_locale}
-use Rattle.plural_base.specs.DocumentJson.{IsReadAt, AreRangesAt}
+use Rattle.plural_base.specs.DocumentJson.{AreRulesAt, AreRangesAt}
 use Rattle.plural_base.specs.declared.ranges.PluralRanges.{PluralRanges}
 use Rattle.plural_base.specs.FiveRules.{Five, FiveRules, Paired}
 use Rattle.plural_base.specs.RangesJson.{ranges_meant}
-use Rattle.plural_base.specs.Json.{Stands, ◌>>=◌, all_five, Answers}
-use Rattle.plural_base.specs.RulesJson.{named, optional_meant, member_meant, rules_meant, texts_in}
+use Rattle.plural_base.specs.Json.{Stands, ◌>>=◌, all_five, GivesMeaning}
+use Rattle.plural_base.specs.RulesJson.{naming_category, optional_meant, member_meant, rules_meant, texts_in}
 use Rattle.plural_base.specs.RuleTexts.{AreRulesOf, IsRuleOf}
 use Rattle.serde_json.specs.Data.{Data, null, boolean, number, string, array, object, Members, no_members, member}
 use Rattle.serde_json.specs.Find.{get, get_member, as_object, as_str}
@@ -42,7 +42,7 @@ are_given one_answer text = (one_answer text (rule_of_text text)).1 refl
 
 -- the rule that a text stands for is the one that it gives
 taken_text : (text : List ℕ) (answer : RuleAnswer) → TextGives text answer → (category : PluralCategory) (rule : Option Rule)
-    → (named (Some category) answer >>= λ r. Ok (Some r)) ≡ Ok rule → IsRuleOf (Some text) rule
+    → (naming_category (Some category) answer >>= λ r. Ok (Some r)) ≡ Ok rule → IsRuleOf (Some text) rule
 taken_text text (Ok r) (inl given) category rule h = subst (λ x. IsRuleOf (Some text) x) (same_ok _ _ h) given
 taken_text text (Ok r) (inr fault) category rule h = absurd (let e = fault.2 in cc)
 taken_text text (Err e) given category rule h = absurd cc
@@ -171,23 +171,23 @@ module _ (given : AreGiven) (value : Data) where
   maps_of document h = are_maps _ _ _ document (if_read (is_some (as_object value)) Shape _ document h)
 
   -- the rules for cardinal numbers of a locale come from the texts under it
-  pub cardinal_read : (read : Result Document JsonError) → Answers (λ d. d) read (document_meant value)
-      → IfOk read (λ d. (locale : List ℕ) → IsReadAt (value_of_locale (codes "cardinal") locale value) (found locale d.cardinal))
+  pub cardinal_read : (read : Result Document JsonError) → GivesMeaning (λ d. d) read (document_meant value)
+      → IfOk read (λ d. (locale : List ℕ) → AreRulesAt (value_of_locale (codes "cardinal") locale value) (found locale d.cardinal))
   cardinal_read (Err e) h = tt
   cardinal_read (Ok document) h = λ locale.
       map_read rules_meant (λ v rules. AreRulesOf (texts_in v) rules) (rules_taken given) locale _ document.cardinal
       (maps_of document h).cardinal_is
 
   -- so are those for ordinal numbers
-  pub ordinal_read : (read : Result Document JsonError) → Answers (λ d. d) read (document_meant value)
-      → IfOk read (λ d. (locale : List ℕ) → IsReadAt (value_of_locale (codes "ordinal") locale value) (found locale d.ordinal))
+  pub ordinal_read : (read : Result Document JsonError) → GivesMeaning (λ d. d) read (document_meant value)
+      → IfOk read (λ d. (locale : List ℕ) → AreRulesAt (value_of_locale (codes "ordinal") locale value) (found locale d.ordinal))
   ordinal_read (Err e) h = tt
   ordinal_read (Ok document) h = λ locale.
       map_read rules_meant (λ v rules. AreRulesOf (texts_in v) rules) (rules_taken given) locale _ document.ordinal
       (maps_of document h).ordinal_is
 
   -- the ranges of a locale are those that the value under it stands for
-  pub ranges_read : (read : Result Document JsonError) → Answers (λ d. d) read (document_meant value)
+  pub ranges_read : (read : Result Document JsonError) → GivesMeaning (λ d. d) read (document_meant value)
       → IfOk read (λ d. (locale : List ℕ) → AreRangesAt (value_of_locale (codes "ranges") locale value) (found locale d.ranges))
   ranges_read (Err e) h = tt
   ranges_read (Ok document) h = λ locale.

@@ -12,7 +12,7 @@ use Rattle.plural_base.specs.declared.category.PluralCategory.TheVariants.{Zero,
 use Rattle.plural_base.specs.Categories.{place_of}
 use Rattle.plural_base.specs.CategoryTables.{IsTableOf, TableTells, integer_entry, table_bound}
 use Rattle.plural_base.specs.FiveRules.{FiveRules, first_category}
-use Rattle.plural_base.specs.Inner.TableEntries.{entry_number}
+use Rattle.plural_base.specs.Inner.RulesSteps.{entry_number}
 use Rattle.plural_base.specs.Inner.WholeNumbers.{IsTold}
 
 -- ---- Categories and their numbers

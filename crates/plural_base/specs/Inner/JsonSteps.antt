@@ -70,5 +70,5 @@ row_meant meant locale None = Ok []
 row_meant meant locale (Some value) = meant value >>= λ x. Ok ((locale, x) ∷ [])
 
 -- the row of a locale alone
-abbrev pub alone : {A : Type 0} → List ℕ → Stands (Rows A) → Stands (Rows A)
-alone locale stands = stands >>= λ rows. Ok (row_of locale (found locale rows))
+abbrev pub row_alone : {A : Type 0} → List ℕ → Stands (Rows A) → Stands (Rows A)
+row_alone locale stands = stands >>= λ rows. Ok (row_of locale (found locale rows))

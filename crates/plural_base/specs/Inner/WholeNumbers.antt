@@ -15,8 +15,8 @@ use Rattle.plural_base.specs.declared.rules.residue_class.Known.TheVariants.{Is,
 use Rattle.plural_base.specs.FiveRules.{FiveRules, first_category}
 
 -- the category of a whole number
-abbrev pub whole_category : FiveRules → ℕ → PluralCategory
-whole_category rules n = first_category (packed_truth (of_whole n)) rules
+abbrev pub category_of_whole : FiveRules → ℕ → PluralCategory
+category_of_whole rules n = first_category (packed_truth (of_whole n)) rules
 
 -- an operand's value at a whole number
 abbrev pub whole_value : Operand → ℕ → ℕ
@@ -61,10 +61,10 @@ group_after Or group truth = truth
 -- ---- The tables
 
 -- each entry is the category of the number of its place
-abbrev pub AreLow : FiveRules → List PluralCategory → Type 0
-AreLow rules low = (n : ℕ) → n < 128 → slice_index_or low n Zero ≡ whole_category rules n
+abbrev pub AreLowEntries : FiveRules → List PluralCategory → Type 0
+AreLowEntries rules low = (n : ℕ) → n < 128 → slice_index_or low n Zero ≡ category_of_whole rules n
 
 -- each entry, if it is a category, is that of all numbers from the bound on that leave the number of
 -- its place by 100
 abbrev pub AreTold : FiveRules → ℕ → List (Option PluralCategory) → Type 0
-AreTold rules bound cycle = (n : ℕ) → bound ≤ n → IsTold (whole_category rules n) (slice_index_or cycle (n % 100) None)
+AreTold rules bound cycle = (n : ℕ) → bound ≤ n → IsTold (category_of_whole rules n) (slice_index_or cycle (n % 100) None)

@@ -3,8 +3,8 @@
 ghost use Rattle.std.specs.Prelude.{◌≡◌, ◌≢◌, ◌↔◌, Option, Some, None, Err, IsTrue, IsFalse, option_map};
 ghost use Rattle.plural_base.specs.declared.category.PluralCategory.{PluralCategory};
 ghost use Rattle.plural_base.specs.DocumentJson.{document_for, document_meant, map_meant, rows_meant, with_locale};
-ghost use Rattle.plural_base.specs.Inner.JsonSteps.{Passes, alone, row_meant, rows_by};
-ghost use Rattle.plural_base.specs.Json.{Answers};
+ghost use Rattle.plural_base.specs.Inner.JsonSteps.{Passes, row_alone, row_meant, rows_by};
+ghost use Rattle.plural_base.specs.Json.{GivesMeaning};
 ghost use Rattle.serde_json.specs.Find.{as_object, get_member};
 ghost use Rattle.serde_json.specs.View.{view, members_view};
 ghost use Rattle.serde_json.specs.Written.{has_float};
@@ -27,7 +27,7 @@ impl JsonProvider {
     /// [`JsonProvider::from_value`], whichever locale the refusal is of. It allocates; out of
     /// memory is [`JsonError::Memory`].
     pub fn of_locale(alloc: Global, value: &Value, locale: &str) -> Result<JsonProvider, JsonError>
-        ensures answers { Answers (λ provider. provider) result (document_for locale.now (view value.now)) }
+        ensures answers { GivesMeaning (λ provider. provider) result (document_for locale.now (view value.now)) }
         // Both are checked before anything is allocated.
         ensures float { (result ≡ Err JsonError.Float) ↔ IsTrue (has_float (view value.now)) }
         ensures shape { IsFalse (has_float (view value.now)) → as_object (view value.now) ≡ None → result ≡ Err JsonError.Shape }
@@ -42,7 +42,7 @@ impl JsonProvider {
 
 // What a document without floats has for a locale.
 fn read_locale(alloc: Global, value: &Value, locale: &str) -> Result<JsonProvider, JsonError>
-    ensures answers { Answers (λ provider. provider) result
+    ensures answers { GivesMeaning (λ provider. provider) result
         (with_locale locale.now (document_meant (view value.now))) }
     ensures float { result ≢ Err JsonError.Float }
     ensures shape { as_object (view value.now) ≡ None → result ≡ Err JsonError.Shape }
@@ -66,8 +66,8 @@ fn read_row<'v, T: FromJson>(
     locale: &str,
     known: &mut KnownTexts<'v>,
 ) -> Result<BTreeMap<String, T>, JsonError>
-    ensures answers { Answers (λ rows. rows_by T.seen rows.entries) result
-        (alone locale.now (map_meant T.meant (option_map (λ v. view v.now) value.entry))) }
+    ensures answers { GivesMeaning (λ rows. rows_by T.seen rows.entries) result
+        (row_alone locale.now (map_meant T.meant (option_map (λ v. view v.now) value.entry))) }
     ensures float { result ≢ Err JsonError.Float }
     ensures memory { (category : Option PluralCategory) → result ≢ Err (JsonError.Rule category RuleError.Memory) }
 {
@@ -90,8 +90,8 @@ fn read_alone<'v, T: FromJson>(
     locale: &str,
     known: &mut KnownTexts<'v>,
 ) -> Result<BTreeMap<String, T>, JsonError>
-    ensures answers { Answers (λ rows. rows_by T.seen rows.entries) result
-        (alone locale.now (rows_meant T.meant (members_view members.now.entries))) }
+    ensures answers { GivesMeaning (λ rows. rows_by T.seen rows.entries) result
+        (row_alone locale.now (rows_meant T.meant (members_view members.now.entries))) }
     ensures float { result ≢ Err JsonError.Float }
     ensures memory { (category : Option PluralCategory) → result ≢ Err (JsonError.Rule category RuleError.Memory) }
 {
@@ -121,7 +121,7 @@ fn keep_row<T: FromJson>(
     members: &Map<String, Value>,
     locale: &str,
 ) -> Result<BTreeMap<String, T>, JsonError>
-    ensures answers { Answers (λ rows. rows_by T.seen rows.entries) result
+    ensures answers { GivesMeaning (λ rows. rows_by T.seen rows.entries) result
         (row_meant T.meant locale.now (get_member locale.now (members_view members.now.entries))) }
     ensures float { result ≢ Err JsonError.Float }
     ensures memory { (category : Option PluralCategory) → result ≢ Err (JsonError.Rule category RuleError.Memory) }
@@ -138,7 +138,7 @@ fn row_with<T: FromJson>(
     locale: &str,
     value: &Value,
 ) -> Result<BTreeMap<String, T>, JsonError>
-    ensures answers { Answers (λ rows. rows_by T.seen rows.entries) result (row_meant T.meant locale.now (Some (view value.now))) }
+    ensures answers { GivesMeaning (λ rows. rows_by T.seen rows.entries) result (row_meant T.meant locale.now (Some (view value.now))) }
     ensures float { result ≢ Err JsonError.Float }
     ensures memory { (category : Option PluralCategory) → result ≢ Err (JsonError.Rule category RuleError.Memory) }
 {

@@ -5,7 +5,7 @@ ghost use Rattle.plural_base.specs.declared.category.PluralCategory.{PluralCateg
 ghost use Rattle.plural_base.specs.DocumentJson.{document_meant, found};
 ghost use Rattle.plural_base.specs.Inner.JsonSteps.{range_rows_of, rows_of};
 ghost use Rattle.plural_base.specs.Providers.{Loads, LoadsRanges};
-ghost use Rattle.plural_base.specs.Json.{Answers};
+ghost use Rattle.plural_base.specs.Json.{GivesMeaning};
 ghost use Rattle.serde_json.specs.Find.{as_object};
 ghost use Rattle.serde_json.specs.View.{view};
 ghost use Rattle.serde_json.specs.Written.{has_float};
@@ -45,7 +45,7 @@ impl Model for JsonProvider {
 }
 
 impl JsonProvider {
-    ghost use Rattle.plural_base.specs.DocumentJson.{found, document_of_json, value_of_locale, AreRangesAt, IsReadAt};
+    ghost use Rattle.plural_base.specs.DocumentJson.{found, document_of_json, value_of_locale, AreRangesAt, AreRulesAt};
 
     /// Returns the provider of a document: an object with an object from locales to rules, as
     /// [`PluralRulesData::from_json`] reads them, under each of `cardinal` and `ordinal`, and one
@@ -76,11 +76,11 @@ impl JsonProvider {
     /// their bytes, each as [`PluralRulesData::from_json`] or [`PluralRanges::from_json`] refuses
     /// it. It allocates; out of memory is [`JsonError::Memory`].
     pub fn from_value(alloc: Global, value: &Value) -> Result<JsonProvider, JsonError>
-        ensures answers { Answers (λ provider. provider) result (document_of_json (view value.now)) }
+        ensures answers { GivesMeaning (λ provider. provider) result (document_of_json (view value.now)) }
         // A locale has rules if and only if its key is present, and they are those of the texts
         // under it.
-        ensures cardinal { IfOk result (λ provider. (locale : List ℕ) → IsReadAt (value_of_locale (codes "cardinal") locale (view value.now)) (found locale provider.cardinal)) }
-        ensures ordinal { IfOk result (λ provider. (locale : List ℕ) → IsReadAt (value_of_locale (codes "ordinal") locale (view value.now)) (found locale provider.ordinal)) }
+        ensures cardinal { IfOk result (λ provider. (locale : List ℕ) → AreRulesAt (value_of_locale (codes "cardinal") locale (view value.now)) (found locale provider.cardinal)) }
+        ensures ordinal { IfOk result (λ provider. (locale : List ℕ) → AreRulesAt (value_of_locale (codes "ordinal") locale (view value.now)) (found locale provider.ordinal)) }
         // A locale has ranges if and only if its key is present, and they are those that the value
         // under it means.
         ensures ranges { IfOk result (λ provider. (locale : List ℕ) → AreRangesAt (value_of_locale (codes "ranges") locale (view value.now)) (found locale provider.ranges)) }
@@ -147,7 +147,7 @@ fn load_copied(
 
 // The provider of a document without floats.
 fn read_document(alloc: Global, value: &Value) -> Result<JsonProvider, JsonError>
-    ensures answers { Answers (λ provider. provider) result (document_meant (view value.now)) }
+    ensures answers { GivesMeaning (λ provider. provider) result (document_meant (view value.now)) }
     ensures float { result ≢ Err JsonError.Float }
     ensures shape { as_object (view value.now) ≡ None → result ≡ Err JsonError.Shape }
     ensures memory { (category : Option PluralCategory) → result ≢ Err (JsonError.Rule category RuleError.Memory) }

@@ -7,7 +7,7 @@ ghost use Rattle.std.specs.Ordering.{nat_cmp};
 ghost use Rattle.plural_base.specs.declared.category.PluralCategory.{PluralCategory};
 ghost use Rattle.plural_base.specs.DocumentJson.{map_meant, rows_meant};
 ghost use Rattle.plural_base.specs.Inner.JsonSteps.{rows_by, Passes};
-ghost use Rattle.plural_base.specs.Json.{Answers, Stands};
+ghost use Rattle.plural_base.specs.Json.{GivesMeaning, Stands};
 ghost use Rattle.serde_json.specs.Data.{Data};
 ghost use Rattle.serde_json.specs.View.{view, members_view};
 
@@ -29,7 +29,7 @@ pub(crate) trait FromJson: Drop {
     ghost meant: { Data → Stands Seen };
 
     fn read(alloc: Global, value: &Value) -> Result<Self, JsonError>
-        ensures answers { Answers seen result (meant (view value.now)) }
+        ensures answers { GivesMeaning seen result (meant (view value.now)) }
         ensures float { result ≢ Err JsonError.Float }
         ensures memory { (category : Option PluralCategory) → result ≢ Err (JsonError.Rule category RuleError.Memory) };
 
@@ -49,7 +49,8 @@ pub(crate) fn read_map<T: FromJson>(
     alloc: Global,
     value: Option<&Value>,
 ) -> Result<BTreeMap<String, T>, JsonError>
-    ensures answers { Answers (λ rows. rows_by T.seen rows.entries) result (map_meant T.meant (option_map (λ v. view v.now) value.entry)) }
+    ensures answers { GivesMeaning (λ rows. rows_by T.seen rows.entries) result
+        (map_meant T.meant (option_map (λ v. view v.now) value.entry)) }
     ensures float { result ≢ Err JsonError.Float }
     ensures memory { (category : Option PluralCategory) → result ≢ Err (JsonError.Rule category RuleError.Memory) }
 {
@@ -70,7 +71,7 @@ fn read_rows<T: FromJson>(
     alloc: Global,
     members: &Map<String, Value>,
 ) -> Result<BTreeMap<String, T>, JsonError>
-    ensures answers { Answers (λ rows. rows_by T.seen rows.entries) result (rows_meant T.meant (members_view members.now.entries)) }
+    ensures answers { GivesMeaning (λ rows. rows_by T.seen rows.entries) result (rows_meant T.meant (members_view members.now.entries)) }
     ensures float { result ≢ Err JsonError.Float }
     ensures memory { (category : Option PluralCategory) → result ≢ Err (JsonError.Rule category RuleError.Memory) }
 {

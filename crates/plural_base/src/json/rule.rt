@@ -3,7 +3,7 @@
 ghost use Rattle.std.specs.Prelude.{◌≡◌, ◌≢◌, ◌↔◌, Option, Some, None, Err, IfOk, IfErr, IsTrue, IsFalse};
 ghost use Rattle.plural_base.specs.declared.category.PluralCategory.{PluralCategory as Category};
 ghost use Rattle.plural_base.specs.Inner.JsonSteps.{refusal_of};
-ghost use Rattle.plural_base.specs.Json.{Answers};
+ghost use Rattle.plural_base.specs.Json.{GivesMeaning};
 ghost use Rattle.plural_base.specs.RulesJson.{rule_meant, rule_of_json, rule_json};
 ghost use Rattle.plural_base.specs.RuleTexts.{IsRuleOf};
 ghost use Rattle.serde_json.specs.Find.{as_str};
@@ -34,7 +34,7 @@ use std::alloc::Global;
 /// assert!(rt; rule == Rule::from_str(alloc, "i % 10 = 1 or n = 2..4")?);
 /// ```
 pub fn rule_from_json(alloc: Global, value: &Value) -> Result<Rule<'static>, JsonError>
-    ensures answers { Answers (λ rule. rule) result (rule_of_json (view value.now)) }
+    ensures answers { GivesMeaning (λ rule. rule) result (rule_of_json (view value.now)) }
     ensures read { IfOk result (λ rule. IsRuleOf (as_str (view value.now)) (Some rule)) }
     // Both are checked before anything is allocated.
     ensures float { (result ≡ Err JsonError.Float) ↔ IsTrue (has_float (view value.now)) }
@@ -62,7 +62,7 @@ pub(crate) fn read_rule(
     value: &Value,
     category: Option<PluralCategory>,
 ) -> Result<Rule<'static>, JsonError>
-    ensures answers { Answers (λ rule. rule) result (rule_meant category (view value.now)) }
+    ensures answers { GivesMeaning (λ rule. rule) result (rule_meant category (view value.now)) }
     ensures read { IfOk result (λ rule. IsRuleOf (as_str (view value.now)) (Some rule)) }
     ensures float { result ≢ Err JsonError.Float }
     ensures shape { (result ≡ Err JsonError.Shape) ↔ (as_str (view value.now) ≡ None) }

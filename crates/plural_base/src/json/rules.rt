@@ -5,7 +5,7 @@ ghost use Rattle.std.specs.Option.{option_and_then};
 ghost use Rattle.plural_base.specs.declared.category.PluralCategory.{PluralCategory as Category};
 ghost use Rattle.plural_base.specs.RuleTexts.{AreRulesOf, IsRuleOf};
 ghost use Rattle.plural_base.specs.FiveRules.{rules_of, five};
-ghost use Rattle.plural_base.specs.Json.{Answers};
+ghost use Rattle.plural_base.specs.Json.{GivesMeaning};
 ghost use Rattle.plural_base.specs.RulesJson.{member_meant, optional_rule_json, optional_meant, rules_meant, text_under, texts_in};
 ghost use Rattle.plural_base.specs.RulesJson as written;
 ghost use Rattle.serde_json.specs.Find.{as_str, as_object};
@@ -50,7 +50,7 @@ impl PluralRulesData<'static> {
     /// if the text gives no rule. It allocates for each rule; out of memory is
     /// [`JsonError::Memory`], never where none of the five is a text.
     pub fn from_json(alloc: Global, value: &Value) -> Result<PluralRulesData<'static>, JsonError>
-        ensures answers { Answers rules_of result (rules_of_json (view value.now)) }
+        ensures answers { GivesMeaning rules_of result (rules_of_json (view value.now)) }
         // The rules come from the texts under the five keys.
         ensures read { IfOk result (λ rules. AreRulesOf (texts_in (view value.now)) (rules_of rules)) }
         // Both are checked before anything is allocated.
@@ -110,7 +110,7 @@ impl FromJson for PluralRulesData<'static> {
 
 // The five rules of a value without floats.
 fn read_rules(alloc: Global, value: &Value) -> Result<PluralRulesData<'static>, JsonError>
-    ensures answers { Answers rules_of result (rules_meant (view value.now)) }
+    ensures answers { GivesMeaning rules_of result (rules_meant (view value.now)) }
     ensures read { IfOk result (λ rules. AreRulesOf (texts_in (view value.now)) (rules_of rules)) }
     ensures float { result ≢ Err JsonError.Float }
     ensures shape { as_object (view value.now) ≡ None → result ≡ Err JsonError.Shape }
@@ -135,7 +135,7 @@ fn read_member(
     value: &Value,
     category: PluralCategory,
 ) -> Result<Option<Rule<'static>>, JsonError>
-    ensures answers { Answers (λ rule. rule) result (member_meant category (view value.now)) }
+    ensures answers { GivesMeaning (λ rule. rule) result (member_meant category (view value.now)) }
     ensures read { IfOk result (λ rule. IsRuleOf (text_under category (view value.now)) rule) }
     ensures float { result ≢ Err JsonError.Float }
     ensures memory { (c : Option Category) → result ≢ Err (JsonError.Rule c RuleError.Memory) }
@@ -154,7 +154,7 @@ fn read_optional(
     value: Option<&Value>,
     category: PluralCategory,
 ) -> Result<Option<Rule<'static>>, JsonError>
-    ensures answers { Answers (λ rule. rule) result (optional_meant category (option_map (λ v. view v.now) value.entry)) }
+    ensures answers { GivesMeaning (λ rule. rule) result (optional_meant category (option_map (λ v. view v.now) value.entry)) }
     ensures read { IfOk result (λ rule. IsRuleOf (option_and_then as_str (option_map (λ v. view v.now) value.entry)) rule) }
     ensures float { result ≢ Err JsonError.Float }
     ensures memory { (c : Option Category) → result ≢ Err (JsonError.Rule c RuleError.Memory) }

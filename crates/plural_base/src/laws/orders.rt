@@ -2,7 +2,7 @@
 
 ghost use Rattle.std.specs.Prelude.{◌≡◌, None};
 ghost use Rattle.std.specs.Ordering.{nat_cmp};
-ghost use Rattle.plural_base.specs.Categories.{category_number, place_of};
+ghost use Rattle.plural_base.specs.Categories.{raw_number, place_of};
 
 use crate::category::PluralCategory;
 use crate::category::raw::RawPluralCategory;
@@ -20,7 +20,7 @@ pub fn order_of_categories(first: PluralCategory, second: PluralCategory) -> Ord
 
 /// Numbered categories are in the order of their numbers.
 pub fn order_of_raw_categories(first: RawPluralCategory, second: RawPluralCategory) -> Ordering
-    ensures { result ≡ nat_cmp (category_number first) (category_number second) }
+    ensures { result ≡ nat_cmp (raw_number first) (raw_number second) }
 {
     first.cmp(&second)
 }

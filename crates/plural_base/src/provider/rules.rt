@@ -5,7 +5,7 @@ use crate::provider::{DataError, PluralsProvider};
 use crate::rules::PluralRules;
 
 impl<'data> PluralRules<'data> {
-    ghost use Rattle.plural_base.specs.Providers.{Makes, of_type};
+    ghost use Rattle.plural_base.specs.Providers.{Makes, value_for_type};
 
     /// Returns the rules of a locale, of the type of the options; no type means cardinal. They are
     /// borrowed from the provider. [`DataError::NotFound`] if and only if it has none. It allocates
@@ -34,7 +34,7 @@ impl<'data> PluralRules<'data> {
         locale: &str,
         options: PluralRulesOptions,
     ) -> Result<PluralRules<'data>, DataError>
-        ensures { Makes (of_type options.rule_type (P.cardinal provider.now locale.now) (P.ordinal provider.now locale.now)) result }
+        ensures { Makes (value_for_type options.rule_type (P.cardinal provider.now locale.now) (P.ordinal provider.now locale.now)) result }
     {
         match options.rule_type {
             Some(PluralRuleType::Ordinal) => PluralRules::try_new_ordinal_unstable(

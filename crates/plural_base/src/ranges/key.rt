@@ -3,8 +3,8 @@
 ghost use Rattle.std.specs.Prelude.{◌≡◌, ◌↔◌, Some};
 ghost use Rattle.plural_base.specs.declared.category.raw.RawPluralCategory.{RawPluralCategory as Category};
 ghost use Rattle.plural_base.specs.declared.ranges.key.UnvalidatedPluralRange.{UnvalidatedPluralRange as Key};
-ghost use Rattle.plural_base.specs.Categories.{category_number};
-ghost use Rattle.plural_base.specs.Ranges.{category_named, range_byte, range_key, range_named, IsKeyOfText};
+ghost use Rattle.plural_base.specs.Categories.{raw_number};
+ghost use Rattle.plural_base.specs.Ranges.{raw_category_named, range_byte, range_key, range_named, IsKeyOfText};
 
 use crate::category::PluralCategory;
 use crate::category::raw::RawPluralCategory;
@@ -74,14 +74,14 @@ pub(crate) fn range_of_text(text: &str) -> Option<(RawPluralCategory, RawPluralC
 
 // The category of a name, if it has one.
 pub(crate) fn category_of_name(name: &str) -> Option<RawPluralCategory>
-    ensures { result ≡ category_named name.now }
+    ensures { result ≡ raw_category_named name.now }
 {
     Some(RawPluralCategory::from(PluralCategory::get_for_cldr_string(name)?))
 }
 
 // The category of a number, if it has one.
 fn numbered(number: u8) -> Option<RawPluralCategory>
-    ensures { (category : Category) → (result ≡ Some category) ↔ (number ≡ category_number category) }
+    ensures { (category : Category) → (result ≡ Some category) ↔ (number ≡ raw_number category) }
 {
     match number {
         0 => Some(RawPluralCategory::Other),

@@ -3,7 +3,7 @@
 ghost use Rattle.std.specs.Prelude.{◌≡◌};
 ghost use Rattle.plural_runtime.specs.PackedTruth.{packed_truth};
 ghost use Rattle.plural_base.specs.FiveRules.{first_category};
-ghost use Rattle.plural_base.specs.Providers.{of_type, MakesBoth, MakesWith};
+ghost use Rattle.plural_base.specs.Providers.{value_for_type, MakesBoth, MakesWith};
 ghost use Rattle.plural_base.specs.Ranges.{resolved};
 
 use crate::category::PluralCategory;
@@ -126,7 +126,7 @@ impl<'data> PluralRulesWithRanges<PluralRules<'data>> {
         locale: &str,
         options: PluralRulesOptions,
     ) -> Result<PluralRulesWithRanges<PluralRules<'data>>, DataError>
-        ensures { MakesBoth (of_type options.rule_type (P.cardinal provider.now locale.now) (P.ordinal provider.now locale.now))
+        ensures { MakesBoth (value_for_type options.rule_type (P.cardinal provider.now locale.now) (P.ordinal provider.now locale.now))
             (P.ranges provider.now locale.now) result }
     {
         let rules = PluralRules::try_new_unstable(provider, locale, options)?;

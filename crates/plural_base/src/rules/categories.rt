@@ -30,7 +30,7 @@ impl Model for Categories {
 
     ghost Value = { List PluralCategory };
 
-    ghost use Rattle.plural_base.specs.Inner.CategoriesLeft.{categories_left};
+    ghost use Rattle.plural_base.specs.Inner.RulesSteps.{categories_left};
 
     ghost view = { categories_left };
 }

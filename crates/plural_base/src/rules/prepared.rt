@@ -6,7 +6,7 @@ ghost use Rattle.plural_runtime.specs.PackedTruth.{packed_truth};
 ghost use Rattle.plural_base.specs.FiveRules.{first_category, categories_of, rules_of};
 ghost use Rattle.plural_base.specs.CategoryTables.{IsTableOf};
 ghost use Rattle.plural_base.specs.Inner.FractionClasses.{IsFractionCategory};
-ghost use Rattle.plural_base.specs.Inner.WholeNumbers.{AreLow, AreTold, IsTold};
+ghost use Rattle.plural_base.specs.Inner.WholeNumbers.{AreLowEntries, AreTold, IsTold};
 
 use crate::category::PluralCategory;
 use crate::rules::PluralRules;
@@ -38,12 +38,12 @@ impl<'data> Model for PreparedRules<'data> {
     ghost Value = { FiveRules };
 
     ghost use Rattle.plural_base.specs.Inner.FractionClasses.{AreFractionCategories};
-    ghost use Rattle.plural_base.specs.Inner.WholeNumbers.{AreLow, AreTold};
+    ghost use Rattle.plural_base.specs.Inner.WholeNumbers.{AreLowEntries, AreTold};
 
     ghost view = { λ prepared. prepared.rules };
 
     ghost invariant = { λ prepared.
-        AreLow prepared.rules prepared.low × AreTold prepared.rules prepared.bound prepared.cycle
+        AreLowEntries prepared.rules prepared.low × AreTold prepared.rules prepared.bound prepared.cycle
         × AreFractionCategories prepared.rules prepared.shown prepared.not_zero };
 }
 
@@ -151,7 +151,7 @@ fn asked(rules: &PluralRules<'_>, number: u64) -> PluralCategory
 
 // The categories of the numbers below 128.
 fn low_categories(rules: &PluralRules<'_>) -> [PluralCategory; 128]
-    ensures { AreLow rules.now result }
+    ensures { AreLowEntries rules.now result }
 {
     let mut low = [PluralCategory::Other; 128];
     for k in 0..128usize {

@@ -7,7 +7,7 @@ ghost use Rattle.plural_runtime.specs.RuleKinds.{ends, operator_of, tree_operand
 ghost use Rattle.plural_runtime.specs.Inner.RuleViews.{lent_relation};
 ghost use Rattle.plural_runtime.specs.PackedTruth.{is_true_at, packed_truth};
 ghost use Rattle.plural_base.specs.FiveRules.{passes, rules_of};
-ghost use Rattle.plural_base.specs.Inner.WholeNumbers.{earlier_after, Fits, group_after, IsInClass, IsTold, whole_category, whole_value};
+ghost use Rattle.plural_base.specs.Inner.WholeNumbers.{earlier_after, Fits, group_after, IsInClass, IsTold, category_of_whole, whole_value};
 
 use crate::category::PluralCategory;
 use crate::rules::data::PluralRulesData;
@@ -49,7 +49,7 @@ pub(crate) fn told_category(
     rules: &PluralRulesData<'_>,
     class: ResidueClass,
 ) -> Option<PluralCategory>
-    ensures { (n : ℕ) → IsInClass class n → IsTold (whole_category (rules_of rules.now) n) result }
+    ensures { (n : ℕ) → IsInClass class n → IsTold (category_of_whole (rules_of rules.now) n) result }
 {
     if told_rule(&rules.zero, class)? {
         return Some(PluralCategory::Zero);

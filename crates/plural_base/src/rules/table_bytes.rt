@@ -3,7 +3,7 @@
 ghost use Rattle.std.specs.Prelude.{◌≡◌, ◌+◌, ◌<◌, ℕ, length, slice_index, slice_index_or, None};
 ghost use Rattle.plural_base.specs.Categories.{place_of};
 ghost use Rattle.plural_base.specs.CategoryTables.{EntryTells, table_bound};
-ghost use Rattle.plural_base.specs.Inner.TableEntries.{IsTableByte, entry_number};
+ghost use Rattle.plural_base.specs.Inner.RulesSteps.{IsTableByte, entry_number};
 ghost use Rattle.plural_base.specs.declared.category.PluralCategory.TheVariants.{Zero};
 
 use crate::category::PluralCategory;

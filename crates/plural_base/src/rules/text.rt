@@ -2,7 +2,7 @@
 
 ghost use Rattle.std.specs.Prelude.{◌≡◌, ◌≢◌, ◌++◌, ◌⊎◌, Some, Ok, Err, codes, IfOk, IfErr};
 ghost use Rattle.std.specs.Option.{option_copied};
-ghost use Rattle.plural_runtime.specs.PluralRuntimeErrors.{rule_error_text};
+ghost use Rattle.plural_runtime.specs.RuleOfText.{rule_error_text};
 ghost use Rattle.plural_runtime.specs.RuleOfText.{IsPackedFrom, TextGives, rule_of_text};
 ghost use Rattle.plural_base.specs.Categories.{name_of};
 ghost use Rattle.plural_base.specs.RuleTexts.{IsRuleOf, IsRefused, IsFirstRefused};

@@ -8,28 +8,30 @@ use Rattle.plural_commands.specs.Commands.{Command}
 use Rattle.plural_commands.specs.Inner.PrivateViews.{query_view}
 use Rattle.plural_commands.specs.NumberWords.{ReadsNumberWord, IsNumberOf}
 use Rattle.plural_commands.specs.Queries.{AsksDocument, CommandAsks, Query, of_document, truth}
-use Rattle.plural_commands.specs.Steps.{HasNoFault}
+use Rattle.plural_documents.specs.Steps.{HasNoFault}
 use Rattle.plural_commands.specs.declared.error.RunError.{RunError}
-use Rattle.plural_commands.specs.declared.error.RunError.TheVariants.{Read, Write, Memory}
+use Rattle.plural_commands.specs.declared.error.RunError.TheVariants.{Read, Write, Memory, TooLong}
 use Rattle.plural_commands.specs.declared.query.Query.{Query as CodeQuery}
+use Rattle.plural_documents.specs.declared.InputError.{InputError}
+use Rattle.plural_documents.specs.declared.InputError.TheVariants as cause
 
 -- ---- Results
 
 -- a fault of this kind, or out of memory; nothing is read or written
-abbrev pub GivesFault : (RunError → Type 0) → RunError → Type 0
-GivesFault IsFault Memory = ⊤
-GivesFault IsFault Read = ⊥
-GivesFault IsFault Write = ⊥
-GivesFault IsFault fault = IsFault fault
+abbrev pub GivesRunFault : (RunError → Type 0) → RunError → Type 0
+GivesRunFault IsFault Memory = ⊤
+GivesRunFault IsFault Read = ⊥
+GivesRunFault IsFault Write = ⊥
+GivesRunFault IsFault fault = IsFault fault
 
 -- the result, in the words of the definitions, or out of memory
-abbrev pub Gives : {A B : Type 0} → (A → B) → (Result B RunError → Type 0) → Result A RunError → Type 0
-Gives seen IsAnswer (Ok x) = IsAnswer (Ok (seen x))
-Gives seen IsAnswer (Err e) = GivesFault (λ fault. IsAnswer (Err fault)) e
+abbrev pub GivesAnswer : {A B : Type 0} → (A → B) → (Result B RunError → Type 0) → Result A RunError → Type 0
+GivesAnswer seen IsAnswer (Ok x) = IsAnswer (Ok (seen x))
+GivesAnswer seen IsAnswer (Err e) = GivesRunFault (λ fault. IsAnswer (Err fault)) e
 
--- as `Gives`, with one possible result
+-- as `GivesAnswer`, with one possible result
 abbrev pub GivesValue : {A B : Type 0} → (A → B) → Result B RunError → Result A RunError → Type 0
-GivesValue seen value = Gives seen (λ answer. value ≡ answer)
+GivesValue seen value = GivesAnswer seen (λ answer. value ≡ answer)
 
 -- ---- Texts
 
@@ -38,19 +40,19 @@ abbrev pub Text : Type 0
 Text = CowStr Global
 
 abbrev pub GivesText : (Result (List ℕ) RunError → Type 0) → Result Text RunError → Type 0
-GivesText = Gives cow_str_bytes
+GivesText = GivesAnswer cow_str_bytes
 
 -- as `GivesText`, of a call that reads, and may fail at it
-abbrev pub GivesAfterReading : (Result (List ℕ) RunError → Type 0) → Result Text RunError → Type 0
-GivesAfterReading IsAnswer (Err Read) = ⊤
-GivesAfterReading IsAnswer result = GivesText IsAnswer result
+abbrev pub GivesTextAfterReading : (Result (List ℕ) RunError → Type 0) → Result Text RunError → Type 0
+GivesTextAfterReading IsAnswer (Err Read) = ⊤
+GivesTextAfterReading IsAnswer result = GivesText IsAnswer result
 
 -- ---- Words
 
 -- a number, for a word without a fault, or the word's fault
 abbrev pub GivesNumber : List ℕ → Result CompactNumber RunError → Type 0
 GivesNumber word (Ok x) = IsNumberOf word x × HasNoFault (ReadsNumberWord word)
-GivesNumber word (Err e) = GivesFault (λ fault. ReadsNumberWord word (Err fault)) e
+GivesNumber word (Err e) = GivesRunFault (λ fault. ReadsNumberWord word (Err fault)) e
 
 -- the query needs a document
 abbrev pub IsOfDocument : Query → Type 0
@@ -65,4 +67,11 @@ IsOfKind command (of_document lookup) = AsksDocument command × HasNoFault (Comm
 -- what a command asks for, or the fault of its words
 abbrev pub GivesQuery : Option Command → Result CodeQuery RunError → Type 0
 GivesQuery command (Ok query) = CommandAsks command (Ok (query_view query)) × IsOfKind command (query_view query)
-GivesQuery command (Err e) = GivesFault (λ fault. CommandAsks command (Err fault)) e
+GivesQuery command (Err e) = GivesRunFault (λ fault. CommandAsks command (Err fault)) e
+
+-- ---- The fault that an error of the input becomes
+
+abbrev pub input_fault : InputError → RunError
+input_fault cause.Read = Read
+input_fault cause.TooLong = TooLong
+input_fault cause.Memory = Memory

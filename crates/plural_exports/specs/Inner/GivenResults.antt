@@ -11,9 +11,9 @@ use Rattle.plural_exports.specs.declared.integers.Chooser.{Chooser}
 use Rattle.plural_exports.specs.declared.integers.Chooser.TheVariants.{Rules, Tables}
 
 -- the result, with its value seen so
-abbrev pub Gives : {A B : Type 0} → (A → B) → (Result B Fault → Type 0) → Result A Fault → Type 0
-Gives seen Is (Ok x) = Is (Ok (seen x))
-Gives seen Is (Err fault) = Is (Err fault)
+abbrev pub GivesSeen : {A B : Type 0} → (A → B) → (Result B Fault → Type 0) → Result A Fault → Type 0
+GivesSeen seen Is (Ok x) = Is (Ok (seen x))
+GivesSeen seen Is (Err fault) = Is (Err fault)
 
 -- the text of a rule, if it has any byte, or the fault of bytes that aren't UTF-8
 abbrev pub ReadsGiven : List ℕ → Result (Option (List ℕ)) Fault → Type 0

@@ -12,7 +12,7 @@ use Rattle.packed_list.specs.Inner.ListReading.{AreBytes, items_in, IsList}
 use Rattle.packed_list.specs.ListBytes.{ListBytes}
 use Rattle.plural_runtime.specs.PackedRelations.{PackedRelation, FitsBytes, relation_bytes, RuleBytes, is_item_length, is_relation}
 use Rattle.plural_runtime.specs.PackedRelations.{relation_fault, or_else, first_relation_fault}
-use Rattle.plural_runtime.specs.Inner.RuleReading.{relation_in, relations_in, IsRule}
+use Rattle.plural_runtime.specs.Inner.RuleReading.{relation_in, relations_in, AreRuleBytes}
 use Rattle.plural_runtime.specs.declared.error.RuleBytesError.{RuleBytesError}
 use Rattle.plural_runtime.specs.declared.error.RuleBytesError.TheVariants as errors
 use Rattle.plural_runtime.proofs.bytes.ItemBytes.{packed_is_relation, relation-fits, relation_again, relation_spelled}
@@ -56,7 +56,7 @@ relations_in_one law relations bytes h = ap (map relation_in) (law (map relation
 
 -- bytes of a packed list whose items pass are a rule
 pub is_rule : (bytes : List ℕ) → IsList bytes → AllByRecursion AreBytes (items_in bytes)
-    → list_all is_relation (items_in bytes) ≡ true → IsRule bytes
+    → list_all is_relation (items_in bytes) ≡ true → AreRuleBytes bytes
 unfolding relations_in
 is_rule bytes list are pass = record {
   fit = relations-fit (items_in bytes) are;

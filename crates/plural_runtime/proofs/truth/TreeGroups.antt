@@ -10,7 +10,7 @@ use Rattle.plural_runtime.specs.RuleKinds.{item_of, range_or_value}
 use Rattle.plural_runtime.specs.PackedRelations.{PackedRelation, groups, at_front, cut_before}
 use Rattle.plural_runtime.specs.PackedTree.{packed_relation, packed_groups, packed, unpacked_range}
 use Rattle.plural_runtime.specs.PackedTree.{unpacked_relation, unpacked_groups, unpacked}
-use Rattle.plural_runtime.specs.Inner.TreeWalk.{done_before, open_before}
+use Rattle.plural_runtime.specs.Inner.RuleViews.{done_before, open_before}
 use Rattle.plural_runtime.proofs.truth.Meanings.{meaning_again}
 use Rattle.plural_runtime.proofs.trees.TreeWalks.{all_and}
 use Rattle.plural_runtime.proofs.walks.Walks.{first_group}

@@ -65,5 +65,5 @@ unfoldable pub relations_in : List ℕ → List PackedRelation
 relations_in bytes = map relation_in (items_in bytes)
 
 -- the bytes encode the relations that they hold
-abbrev pub IsRule : List ℕ → Type 0
-IsRule bytes = RuleBytes (relations_in bytes) bytes
+abbrev pub AreRuleBytes : List ℕ → Type 0
+AreRuleBytes bytes = RuleBytes (relations_in bytes) bytes

@@ -3,7 +3,7 @@ use Rattle.std.proofs.lemmas.Result.{err_from_is_err_and}
 use Rattle.serde_json.specs.View.{view}
 use Rattle.document_report.specs.CheckedDocument.{document_formed, document_with, or_fault}
 use Rattle.document_report.specs.declared.error.CheckError.TheVariants.{Json}
-use Rattle.plural_documents.specs.JsonTexts.{json_of}
+use Rattle.plural_documents.specs.Inputs.{json_of}
 use Rattle.document_report.proofs.CheckFaults.{after, handed_on, of_second, refused_first}
 use Rattle.document_report.proofs.document.value_of.Goals as goal
 

@@ -1,6 +1,5 @@
 use Rattle.std.proofs.Common.{◌≡◌, ◌≤◌, length}
-use Rattle.message_pattern.specs.PatternParts.{parts_view}
-use Rattle.message_pattern.specs.ArgumentBranches.{branches_of}
+use Rattle.message_pattern.specs.PatternParts.{parts_view, branches_of}
 use Rattle.message_format.specs.FormatBranches.{branch_of_keyword}
 use Rattle.message_format.proofs.branches.branch_of_keyword.Given as goal
 

@@ -1,6 +1,5 @@
 use Rattle.std.proofs.Common.{List, Option, ◌≤◌, length}
-use Rattle.message_pattern.specs.PatternParts.{Part, parts_view}
-use Rattle.message_pattern.specs.ArgumentBranches.{branches_of}
+use Rattle.message_pattern.specs.PatternParts.{Part, parts_view, branches_of}
 use Rattle.message_format.specs.FormatBranches.{IsBranchOfValue}
 use Rattle.message_format.proofs.branches.branch_of_value.Given as goal
 

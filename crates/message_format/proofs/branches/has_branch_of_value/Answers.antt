@@ -1,6 +1,5 @@
 use Rattle.std.proofs.Common.{◌≡◌, true, false, None}
-use Rattle.message_pattern.specs.ArgumentBranches.{branches_of}
-use Rattle.message_pattern.specs.PatternParts.{parts_view}
+use Rattle.message_pattern.specs.PatternParts.{branches_of, parts_view}
 use Rattle.message_format.specs.FormatBranches.{IsBranchOfValue}
 use Rattle.message_format.proofs.OneSaying.{none_of_value}
 use Rattle.message_format.proofs.branches.has_branch_of_value.Goals as goal

@@ -1,6 +1,5 @@
 use Rattle.std.proofs.Common.{◌∙◌, ap, Err}
-use Rattle.message_pattern.specs.PatternParts.{parts_view}
-use Rattle.message_pattern.specs.ArgumentBranches.{branches_of}
+use Rattle.message_pattern.specs.PatternParts.{parts_view, branches_of}
 use Rattle.message_format.proofs.Less.{chosen, over, no_text}
 use Rattle.message_format.proofs.offsets.counted_by.Goals as goal
 

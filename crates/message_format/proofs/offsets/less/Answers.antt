@@ -1,7 +1,6 @@
 use Rattle.std.proofs.Common.{◌≡◌, ◌∙◌, ap, sym, subst, List, ℕ, Err, arith}
 use Rattle.fixed_decimal.specs.Written.{WritesUnsigned}
-use Rattle.message_pattern.specs.PatternParts.{parts_view}
-use Rattle.message_pattern.specs.ArgumentBranches.{branches_of}
+use Rattle.message_pattern.specs.PatternParts.{parts_view, branches_of}
 use Rattle.message_format.proofs.Ascii.{unsigned_is_utf8}
 use Rattle.message_format.proofs.Less.{no_offset, offset_over, offset_gives}
 use Rattle.message_format.proofs.offsets.less.Goals as goal

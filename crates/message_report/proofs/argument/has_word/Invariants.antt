@@ -1,8 +1,7 @@
 use Rattle.std.proofs.Common.{◌≡◌, length}
 use Rattle.std.specs.Prelude.{is_some}
 use Rattle.message_format.specs.FormatBranches.{branch_of_keyword}
-use Rattle.message_pattern.specs.ArgumentBranches.{branches_of}
-use Rattle.message_pattern.specs.PatternParts.{parts_view}
+use Rattle.message_pattern.specs.PatternParts.{branches_of, parts_view}
 use Rattle.message_report.proofs.argument.has_word.Given as goal
 
 -- no branch that was passed is of the keyword

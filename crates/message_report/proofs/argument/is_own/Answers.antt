@@ -1,5 +1,4 @@
-use Rattle.message_pattern.specs.ArgumentBranches.{branches_of}
-use Rattle.message_pattern.specs.PatternParts.{parts_view}
+use Rattle.message_pattern.specs.PatternParts.{branches_of, parts_view}
 use Rattle.message_report.proofs.OwnBranches.{none_own, value_own}
 use Rattle.message_report.proofs.argument.is_own.Goals as goal
 

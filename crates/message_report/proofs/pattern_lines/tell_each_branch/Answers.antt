@@ -1,11 +1,10 @@
 use Rattle.std.proofs.Common.{◌-◌, [], List, length, map, take, drop, get_or, refl, ap, ◌∙◌}
-use Rattle.message_pattern.specs.PatternParts.{parts_view, selector_view}
+use Rattle.message_pattern.specs.PatternParts.{parts_view, selector_view, branches_of}
 use Rattle.message_pattern.specs.declared.part.Part as parts
 use Rattle.message_pattern.specs.declared.part.Selector as selectors
 use Rattle.message_report.specs.Inner.ArgumentViews.{argument_view, branching}
 use Rattle.message_report.specs.Inner.LanguageViews.{language_view}
 use Rattle.message_report.specs.MessagesReport.{branch_lines}
-use Rattle.message_pattern.specs.ArgumentBranches.{branches_of}
 use Rattle.message_report.specs.PatternFaults.{branch_fault}
 use Rattle.message_report.proofs.BranchLemmas.{ends_branches, no_part, other_part, passes, tells_branch}
 use Rattle.message_report.proofs.TellLemmas.{headed, none_left, starts}

@@ -1,6 +1,6 @@
 use Rattle.std.proofs.Common.{◌≡◌, flat_map}
 use Rattle.std.specs.List.{list_all}
-use Rattle.plural_base.specs.Inner.ModulusTests.{divides_ten_to_18}
+use Rattle.plural_base.specs.Inner.RulesSteps.{divides_ten_to_18}
 use Rattle.plural_base.specs.FiveRules.{moduli_of_relation}
 use Rattle.plural_base.proofs.exactness.moduli_divide.Given as goal
 

@@ -1,5 +1,5 @@
 use Rattle.std.proofs.Common.{◌≡◌, rules, subst}
-use Rattle.plural_checker.specs.NumberChecks.{HasCategory}
+use Rattle.icu_plurals.specs.DecimalChoice.{HasCategory}
 use Rattle.plural_checker.proofs.number_check.check_by.Goals as goal
 
 pub returns-then-eq : goal.returns-then-eq

@@ -5,7 +5,7 @@ use Rattle.plural_commands.specs.Inner.PrivateViews.{command_view}
 use Rattle.plural_commands.specs.NumberWords.{ReadsNumberWord}
 use Rattle.plural_commands.specs.Queries.{IsAsked, of_document}
 use Rattle.plural_commands.specs.Queries.{number_category, range_category, printed_rules, number_element, number_message}
-use Rattle.plural_commands.specs.Steps.{Then}
+use Rattle.plural_documents.specs.Steps.{Then}
 use Rattle.plural_commands.proofs.Faults.{fault_of_first, fault_of_second, handed_on, no_fault_of_both, same_fault}
 use Rattle.plural_commands.proofs.Questions.{asked_has_no_fault, number_asked, refused_command}
 use Rattle.plural_commands.proofs.query.read_words.Goals as goal

@@ -2,10 +2,11 @@ use Rattle.std.proofs.Common.{ap, subst, ◌∙◌}
 use Rattle.std.proofs.lemmas.Result.{err_from_is_err_and}
 use Rattle.icu_plurals.specs.declared.PluralCategory.{PluralCategory}
 use Rattle.icu_plurals.specs.Categories.{name_of}
+use Rattle.icu_plurals.specs.DecimalChoice.{HasCategory}
 use Rattle.icu_plurals.specs.FiveRules.{FiveRules}
 use Rattle.plural_commands.specs.Input.{ranged_for}
 use Rattle.plural_commands.specs.Inner.PrivateViews.{document_view}
-use Rattle.plural_commands.specs.Lines.{IsCategoryOf, IsRangeLine, line}
+use Rattle.plural_commands.specs.Lines.{IsRangeLine, line}
 use Rattle.plural_commands.proofs.Faults.{handed_on, lent_line, nothing_given}
 use Rattle.plural_commands.proofs.range_command.range_line.Goals as goal
 
@@ -26,8 +27,8 @@ returns c =
       start.result,
       end.result,
       c.line_of.ensures ∙ ap (λ (category : PluralCategory). line (name_of category)) c.resolve_range.ensures,
-      subst (λ (rules : FiveRules). IsCategoryOf c.args.start.now rules start.result) c.rules-rules.ensures
+      subst (λ (rules : FiveRules). HasCategory rules c.args.start.now start.result) c.rules-rules.ensures
           (start.ensures.kept, start.ensures.exact),
-      subst (λ (rules : FiveRules). IsCategoryOf c.args.end.now rules end.result) c.rules-rules.ensures
+      subst (λ (rules : FiveRules). HasCategory rules c.args.end.now end.result) c.rules-rules.ensures
           (end.ensures.kept, end.ensures.exact),
     )

@@ -1,6 +1,6 @@
 use Rattle.std.proofs.Common.{Ok, sym, subst, ap}
 use Rattle.plural_commands.specs.Answer.{AnswersQuery}
-use Rattle.plural_commands.specs.Inner.CallAnswers.{GivesAfterReading, IsOfDocument}
+use Rattle.plural_commands.specs.Inner.CallAnswers.{GivesTextAfterReading, IsOfDocument}
 use Rattle.plural_commands.specs.Inner.PrivateViews.{lookup_view, query_view}
 use Rattle.plural_commands.specs.Queries.{of_document}
 use Rattle.plural_commands.specs.declared.query.Query.{Query as CodeQuery}
@@ -24,7 +24,7 @@ returns-in-Document-clause-answers g c =
     let a = c.looked_up.ensures.answers in (
       a.0,
       a.1,
-      subst (λ (q : CodeQuery). GivesAfterReading (AnswersQuery (query_view q) a.0) c.looked_up.result) (sym c.in-Document.is) a.2,
+      subst (λ (q : CodeQuery). GivesTextAfterReading (AnswersQuery (query_view q) a.0) c.looked_up.result) (sym c.in-Document.is) a.2,
     )
 
 pub returns-in-Document-clause-reads_nothing : goal.returns-in-Document-clause-reads_nothing

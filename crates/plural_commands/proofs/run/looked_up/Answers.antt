@@ -1,9 +1,9 @@
 use Rattle.std.proofs.lemmas.Result.{err_from_is_err_and}
 use Rattle.plural_commands.specs.Answer.{AnswersLookup}
 use Rattle.plural_commands.specs.Input.{document_of}
-use Rattle.plural_commands.specs.Inner.InputFaults.{input_fault}
+use Rattle.plural_commands.specs.Inner.CallAnswers.{input_fault}
 use Rattle.plural_commands.specs.Inner.PrivateViews.{lookup_view}
-use Rattle.plural_commands.specs.Steps.{After}
+use Rattle.plural_documents.specs.Steps.{After}
 use Rattle.plural_commands.proofs.Faults.{handed_on}
 use Rattle.plural_commands.proofs.Lengths.{text_not_long}
 use Rattle.plural_commands.proofs.Readings.{no_input, of_all, read_on, to_the_end}

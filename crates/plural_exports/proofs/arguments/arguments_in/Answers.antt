@@ -1,7 +1,7 @@
 use Rattle.std.proofs.Common.{◌-◌, arith, List, length, take, drop, refl, subst, sym}
 use Rattle.std.proofs.lemmas.Result.{err_from_is_err_and}
 use Rattle.message_format.specs.declared.arguments.Argument as arguments
-use Rattle.message_format.specs.FormatArguments.{argument_view, arguments_view}
+use Rattle.message_format.specs.FormatArguments.{named_value_view, arguments_view}
 use Rattle.plural_exports.proofs.ReadArguments.{IsReadBefore, begins, headed, goes_on, ends, runs_out, stops}
 use Rattle.plural_exports.proofs.Steps.{passed_on}
 use Rattle.plural_exports.proofs.arguments.arguments_in.Goals as goal
@@ -30,7 +30,7 @@ pub returns-in-Err : goal.returns-in-Err
 returns-in-Err c =
     let left = c.loop-left.left.now in
     runs_out c.args.given.now (arguments_view c.loop-left.arguments.items) left (take (length left - 1) (drop 1 left)) _
-    (argument_view c.in_ok-argument.argument) (headed left _ (length left) c.in-len1-up.len_at_least refl) c.in_ok-argument.ensures
+    (named_value_view c.in_ok-argument.argument) (headed left _ (length left) c.in-len1-up.len_at_least refl) c.in_ok-argument.ensures
     c.loop-left.invariant
 
 pub returns : goal.returns

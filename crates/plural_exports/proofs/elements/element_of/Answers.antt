@@ -3,21 +3,21 @@ use Rattle.std.proofs.lemmas.Result.{err_from_is_err_and}
 use Rattle.icu_plurals.specs.Elements.{IsKeptElement, element_at}
 use Rattle.icu_plurals.specs.Inner.ElementsViews.{lent_elements}
 use Rattle.icu_plurals.specs.PackedElements.{PackedValue, elements_of as values_of}
-use Rattle.plural_exports.specs.NumberAnswers.{HasElement}
+use Rattle.plural_exports.specs.NumberAnswers.{HasNumberElement}
 use Rattle.plural_exports.proofs.Numbers.{refused_elements, refused_number}
 use Rattle.plural_exports.proofs.Steps.{passed_on}
 use Rattle.plural_exports.proofs.elements.element_of.Goals as goal
 
 pub returns-in_err-elements : goal.returns-in_err-elements
 returns-in_err-elements c =
-    refused_elements (λ (text : Bor (List ℕ)). text.now) HasElement c.args.rules.now c.args.elements.now c.args.number.now
+    refused_elements (λ (text : Bor (List ℕ)). text.now) HasNumberElement c.args.rules.now c.args.elements.now c.args.number.now
     c.in_ok-rules.rules c.in_err-elements.field-0.0 c.from_residual-in_err-elements.result
     (passed_on _ _ (err_from_is_err_and c.from_residual-in_err-elements.result c.from_residual-in_err-elements.ensures.1))
     c.in_ok-rules.ensures c.in_err-elements.ensures
 
 pub returns-in_err-number : goal.returns-in_err-number
 returns-in_err-number c =
-    refused_number (λ (text : Bor (List ℕ)). text.now) HasElement c.args.rules.now c.args.elements.now c.args.number.now
+    refused_number (λ (text : Bor (List ℕ)). text.now) HasNumberElement c.args.rules.now c.args.elements.now c.args.number.now
     c.in_ok-rules.rules (lent_elements c.in_ok-elements.elements) c.in_err-number.field-0.0 c.from_residual-in_err-number.result
     (passed_on _ _ (err_from_is_err_and c.from_residual-in_err-number.result c.from_residual-in_err-number.ensures.1))
     c.in_ok-rules.ensures c.in_ok-elements.ensures c.in_err-number.ensures
@@ -39,7 +39,7 @@ returns c =
         (
           Ok c.in_ok-number.number,
           c.in_ok-number.ensures,
-          (element, ap (λ (value : PackedValue). value.text) c.get.ensures, kept, exact),
+          (element, ap (λ (value : PackedValue). value.text) c.get.ensures, (kept, exact)),
         ),
       ),
     )

@@ -2,7 +2,7 @@ use Rattle.std.proofs.Common.{ap, arith, length, Err}
 use Rattle.std.proofs.lemmas.List.{length-map}
 use Rattle.plural_runtime.specs.PackedTree.{packed}
 use Rattle.plural_runtime.specs.PackedRelations.{relation_bytes}
-use Rattle.plural_runtime.specs.Inner.TreeWalk.{relations_left}
+use Rattle.plural_runtime.specs.Inner.RuleViews.{relations_left}
 use Rattle.plural_runtime.proofs.trees.PackedTrees.{many_high}
 use Rattle.plural_runtime.proofs.pack.list_of.Goals as goal
 

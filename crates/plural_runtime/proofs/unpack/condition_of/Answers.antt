@@ -2,8 +2,7 @@ use Rattle.std.proofs.Common.{arith, ap, sym, map, ◌∙◌, ◌++◌, ◌∷�
 use Rattle.std.proofs.lemmas.Bool.{eqb-true, eqb-false}
 use Rattle.plural_reference.specs.declared.ast.AndCondition.{AndCondition}
 use Rattle.plural_reference.specs.declared.ast.Relation.{Relation}
-use Rattle.plural_runtime.specs.Inner.TreeWalk.{done_before, open_before}
-use Rattle.plural_runtime.specs.Inner.RuleViews.{lent_relation}
+use Rattle.plural_runtime.specs.Inner.RuleViews.{done_before, open_before, lent_relation}
 use Rattle.plural_runtime.proofs.truth.TreeGroups.{no_relations, glued, glued-all, whole_tree}
 use Rattle.plural_runtime.proofs.unpack.condition_of.Goals as goal
 

@@ -2,7 +2,7 @@ use Rattle.std.proofs.Common.{◌≡◌, ℕ, ◌+◌, ◌-◌, ◌<◌, ◌∙�
 use Rattle.plural_base.specs.Categories.{place_of}
 use Rattle.plural_base.specs.declared.category.PluralCategory.TheVariants.{Zero}
 use Rattle.std.specs.Prelude.{None}
-use Rattle.plural_base.specs.Inner.TableEntries.{IsTableByte, entry_number}
+use Rattle.plural_base.specs.Inner.RulesSteps.{IsTableByte, entry_number}
 use Rattle.plural_base.proofs.tables.Entries.{eight_bytes, items_more}
 use Rattle.plural_base.proofs.rules.table_bytes.table_bytes.Goals as goal
 

@@ -1,5 +1,5 @@
 use Rattle.std.proofs.Common.{◌≡◌, ℕ, ◌<◌, get_or, length}
-use Rattle.plural_base.specs.Inner.TableEntries.{IsTableByte}
+use Rattle.plural_base.specs.Inner.RulesSteps.{IsTableByte}
 use Rattle.plural_base.proofs.rules.table_bytes.table_bytes.Given as goal
 
 abbrev pub invariant-loop-place : goal.invariant-loop-place

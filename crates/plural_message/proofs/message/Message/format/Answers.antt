@@ -6,7 +6,7 @@ use Rattle.icu_plurals.specs.Inner.ElementsViews.{lent_value}
 use Rattle.plural_message.proofs.Chosen.{kept_element}
 use Rattle.plural_message.specs.declared.error.MessageError.{MessageError}
 use Rattle.plural_message.specs.declared.error.MessageError.TheVariants.{Number}
-use Rattle.plural_message.specs.PluralMessageErrors.{number_error}
+use Rattle.plural_message.specs.Messages.{number_error}
 use Rattle.plural_message.proofs.message.Message.format.Goals as goal
 
 pub returns-clause-kept : goal.returns-clause-kept

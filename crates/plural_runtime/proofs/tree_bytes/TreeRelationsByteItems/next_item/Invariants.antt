@@ -1,5 +1,5 @@
 use Rattle.std.proofs.Common.{◌≡◌, length}
-use Rattle.plural_runtime.specs.Inner.TreeWalk.{relations_left}
+use Rattle.plural_runtime.specs.Inner.RuleViews.{relations_left}
 use Rattle.plural_runtime.proofs.tree_bytes.TreeRelationsByteItems.next_item.Given as goal
 
 -- An and-condition without remaining relations is skipped.

@@ -12,8 +12,10 @@ returns-in-Ok-clause-chosen c =
       number.1,
       number.2,
       number.3,
-      kept,
-      c.kept_choice_is_exact.ensures c.args.self.now digits x.exponent c.category_for.result number.1.2.1.digits kept,
+      (
+        kept,
+        c.kept_choice_is_exact.ensures c.args.self.now digits x.exponent c.category_for.result number.1.2.1.digits kept,
+      ),
     )
 
 pub returns-in-Ok-clause-syntax : goal.returns-in-Ok-clause-syntax

@@ -4,7 +4,7 @@ use Rattle.std.proofs.Math.Nat.{mod-lt}
 use Rattle.plural_base.specs.Categories.{place_of}
 use Rattle.plural_base.specs.CategoryTables.{IsTableOf, integer_entry, table_bound}
 use Rattle.plural_base.specs.FiveRules.{FiveRules}
-use Rattle.plural_base.specs.Inner.WholeNumbers.{whole_category}
+use Rattle.plural_base.specs.Inner.WholeNumbers.{category_of_whole}
 use Rattle.plural_base.proofs.tables.Entries.{told_entry}
 use Rattle.plural_base.proofs.rules.prepared.PreparedRules.to_table.Goals as goal
 
@@ -20,7 +20,7 @@ returns c =
     let P : ℕ → Type 0 = λ bound. bound ≤ n in
     let entry = written.cycle (n % 100) residue in
     ⊎_elim (λ is. inl (entry ∙ is)) (λ six. inr (entry ∙ six))
-    (told_entry (whole_category made n) (get_or c.self.inside.cycle (n % 100) None)
+    (told_entry (category_of_whole made n) (get_or c.self.inside.cycle (n % 100) None)
     (c.self.invariant.1 n (subst P written.bound from))) in
     subst (λ (five : FiveRules). IsTableOf five bytes) c.self.view_is (record {
       size = size;
