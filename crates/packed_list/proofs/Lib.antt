@@ -1,5 +1,6 @@
 mod TwoBytes
 mod ListPlaces
+mod CursorPlaces
 mod OneList
 mod Accepted
 mod Refused

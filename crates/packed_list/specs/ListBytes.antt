@@ -1,7 +1,7 @@
 -- The bytes of a list of byte items: the count, the starts of all items but the first, and the
 -- items.
 use Rattle.std.specs.Prelude.{◌≡◌, ℕ, ◌+◌, ◌/◌, ◌%◌, ◌≤◌, List, [], ◌∷◌, ◌++◌, length, drop, flat_map, map, Bool, nat_lt, IsFalse}
-use Rattle.std.specs.Prelude.{◌⊎◌, zero, suc, ◌*◌, ◌<◌, slice_index, codes}
+use Rattle.std.specs.Prelude.{◌⊎◌, zero, suc, ◌*◌, ◌<◌, slice_get, slice_index, unwrap_or, codes}
 use Rattle.std.specs.List.{concat, list_any}
 use Rattle.std.specs.Borrow.{Bor}
 use Rattle.packed_list.specs.declared.error.ListError.{ListError}
@@ -50,6 +50,15 @@ pub record ListBytes (items : List (List ℕ)) (bytes : List ℕ) : Type 0 where
 -- what was there, and perhaps more behind it
 abbrev pub StaysInFront : List ℕ → List ℕ → Type 0
 StaysInFront old new = (more : List ℕ) × (new ≡ old ++ more)
+
+-- an item of a list, and those after it
+pub record ItemAndRest : Type 0 where
+  pub item : List ℕ
+  pub rest : List (List ℕ)
+
+-- the item at a place, and those after it
+abbrev pub item_and_rest : List (List ℕ) → ℕ → ItemAndRest
+item_and_rest items k = record { item = unwrap_or (slice_get items k) []; rest = drop (k + 1) items }
 
 -- ---- What is wrong with bytes that aren't a list, in the order in which it is looked for.
 

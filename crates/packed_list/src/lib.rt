@@ -1,6 +1,7 @@
 //! Lists of byte items, packed one after another after a small header.
 #![tactic(auto)]
 
+mod cursor;
 mod encode;
 mod error;
 mod items;
@@ -10,6 +11,7 @@ mod list;
 mod starts;
 mod writer;
 
+pub use cursor::Cursor;
 pub use error::{ListError, PackError};
 pub use items::Items;
 pub use items_to_pack::{ByteItem, ByteItems};

@@ -1,10 +1,11 @@
 //! A list of byte items, borrowed from the bytes that it is packed in.
 
-ghost use Rattle.std.specs.Prelude.{◌≡◌, ◌↔◌, ◌+◌, ◌<◌, ◌==◌, ℕ, List, length, slice_get, IfOk, Ok, Err, Some, option_map, unwrap_or};
+ghost use Rattle.std.specs.Prelude.{◌≡◌, ◌↔◌, ◌+◌, ◌*◌, ◌/◌, ◌<◌, ◌≤◌, ◌==◌, [], ◌∷◌, ℕ, List, length, slice_get, IfOk, MatchOption, Ok, Err, Some, option_map, unwrap_or};
 ghost use Rattle.std.specs.List.{concat};
 ghost use Rattle.packed_list.specs.ListBytes.{ListBytes, item_starts, HasFault};
 ghost use Rattle.packed_list.specs.Inner.ListReading.{IsList, items_in};
 
+use crate::cursor::Cursor;
 use crate::error::ListError;
 use crate::items::Items;
 use crate::starts::{are_starts, number, part};
@@ -172,6 +173,22 @@ impl<'a> PackedList<'a> {
         Items::of(PackedList { bytes: self.bytes })
     }
 
+    /// Returns a cursor at the first item, or `None` if there is no item.
+    #[inline]
+    pub fn cursor(&self) -> Option<Cursor<'a>>
+        ensures { MatchOption result (self.now ≡ []) (λ cursor. self.now ≡ cursor.item ∷ cursor.rest) }
+    {
+        Cursor::of(PackedList { bytes: self.bytes })
+    }
+
+    // Returns whether it has no byte, which is so if and only if it has no item.
+    #[inline]
+    pub(crate) fn has_no_byte(&self) -> bool
+        ensures { result ≡ (length self.now == 0) }
+    {
+        self.bytes.is_empty()
+    }
+
     // The items, without the header.
     #[inline]
     pub(crate) fn data(&self) -> &'a [u8]
@@ -216,5 +233,32 @@ impl<'a> PackedList<'a> {
         } else {
             content.len()
         }
+    }
+
+    // Where the item starts whose start is at a place of the header.
+    #[inline]
+    pub(crate) fn start_at(&self, place: usize) -> usize
+        requires some { 2 ≤ place }
+        requires even { place ≡ 2 * (place / 2) }
+        requires within { place < 2 * length self.now }
+        ensures { slice_get (item_starts self.now) (place / 2) ≡ Some result }
+    {
+        number(self.bytes, place)
+    }
+
+    // Where the item ends that is before the one whose start is at a place of the header.
+    #[inline]
+    pub(crate) fn end_before(&self, place: usize, header: usize, content: &[u8]) -> usize
+        requires some { 2 ≤ place }
+        requires even { place ≡ 2 * (place / 2) }
+        requires header { header ≡ 2 * length self.now }
+        requires within { place ≤ header }
+        requires content { content.now ≡ concat self.now }
+        ensures { result ≡ unwrap_or (slice_get (item_starts self.now) (place / 2)) (length (concat self.now)) }
+    {
+        if place >= header {
+            return content.len();
+        }
+        self.start_at(place)
     }
 }

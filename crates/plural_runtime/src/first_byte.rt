@@ -2,7 +2,7 @@
 
 ghost use Rattle.std.specs.Prelude.{◌≡◌, ◌↔◌, ◌≤◌, ◌%◌, IfSome, IsSome, Some, option_map};
 ghost use Rattle.plural_runtime.specs.RuleKinds.{byte_of, operator_of, tree_operand_of};
-ghost use Rattle.plural_runtime.specs.Inner.RuleReading.{and_or_in, operand_in, operator_in};
+ghost use Rattle.plural_runtime.specs.Inner.RuleReading.{and_or_in, operand_in, operand_numbered, operator_in};
 
 use crate::kinds::{AndOr, Operand, Polarity};
 
@@ -99,4 +99,22 @@ pub(crate) fn operand_of(byte: u8) -> Option<Operand>
         7 => Operand::E,
         _ => return None,
     })
+}
+
+// The operand with a number. Of three bits, it needs no test.
+#[inline]
+pub(crate) fn operand_numbered(number: u8) -> Operand
+    requires { number ≤ 7 }
+    ensures { operand_numbered number ≡ Some (tree_operand_of result) }
+{
+    match number {
+        0 => Operand::N,
+        1 => Operand::I,
+        2 => Operand::V,
+        3 => Operand::W,
+        4 => Operand::F,
+        5 => Operand::T,
+        6 => Operand::C,
+        _ => Operand::E,
+    }
 }

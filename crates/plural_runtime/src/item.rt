@@ -5,7 +5,7 @@ ghost use Rattle.plural_runtime.specs.PackedRelations.{is_relation, is_whole};
 ghost use Rattle.plural_runtime.specs.Inner.RuleReading.{relation_in, ranges_in};
 ghost use Rattle.plural_runtime.specs.RuleKinds.{operator_of, tree_operand_of};
 
-use crate::first_byte::{and_or_of, operand_of, polarity_of};
+use crate::first_byte::{and_or_of, operand_numbered, polarity_of};
 use crate::kinds::{AndOr, Operand, Polarity};
 
 // How many bytes an item has before its ranges: the first byte and the modulus.
@@ -41,10 +41,7 @@ pub(crate) fn operand_at(item: &[u8]) -> Operand
     requires { IsTrue (is_relation item.now) }
     ensures { tree_operand_of result ≡ (relation_in item.now).meaning.operand }
 {
-    let Some(operand) = operand_of(item[0]) else {
-        unreachable!();
-    };
-    operand
+    operand_numbered(item[0] % 8)
 }
 
 // The modulus of an item, or 0.

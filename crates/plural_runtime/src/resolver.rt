@@ -1,6 +1,6 @@
 //! Tells whether a rule is true, by its bytes alone.
 
-ghost use Rattle.std.specs.Prelude.{◌≡◌, ◌≤◌, ◌+◌, ◌<◌, ◌∷◌, ◌++◌, ℕ, List, min, length, option_map, IsTrue, MatchOption};
+ghost use Rattle.std.specs.Prelude.{◌≡◌, ◌≤◌, ◌+◌, ◌<◌, ◌∷◌, ◌++◌, ℕ, List, min, length, option_map, IsFalse, IsTrue};
 ghost use Rattle.std.specs.Fn.{iterate};
 ghost use Rattle.plural_reference.specs.Truth.{holds_value, is_in_ranges, operand_value, range_holds, remainder};
 ghost use Rattle.std.specs.List.{AllByRecursion, list_all};
@@ -14,7 +14,7 @@ use crate::kinds::{AndOr, Polarity};
 use crate::laws::at_most_all;
 use crate::rule::Rule;
 use crate::steps::{Counter, Steps, Uncounted};
-use packed_list::Items;
+use packed_list::Cursor;
 use plural_reference::{PluralOperands, ast};
 
 /// Returns whether the rule is true of the operands: all relations of one of its groups are (UTS 35
@@ -72,58 +72,56 @@ fn is_true<C: Counter>(rule: &Rule<'_>, operands: &PluralOperands, counter: &mut
     ensures answer { result ≡ packed_truth operands.now rule.now }
     ensures count { counter.new ≡ iterate C.after_one (needed_ranges operands.now rule.now) counter.old }
 {
-    let mut items = rule.list().iter();
-    let Some(mut item) = next_of_group(&mut items) else {
+    let Some(mut cursor) = rule.list().cursor() else {
+        return true;
+    };
+    let AndOr::And = and_or_at(cursor.item()) else {
         return true;
     };
     // All relations before the item in its group are true, and no earlier group is, so no other
     // state is needed.
     'relations: loop {
-        if relation_holds(item, operands, counter) {
-            let Some(next) = next_of_group(&mut items) else {
+        if relation_holds(cursor.item(), operands, counter) {
+            if !next_of_group(&mut cursor) {
                 return true;
-            };
-            item = next;
-        } else {
-            let Some(next) = first_of_next_group(&mut items) else {
-                return false;
-            };
-            item = next;
+            }
+        } else if !first_of_next_group(&mut cursor) {
+            return false;
         }
     }
 }
 
-// The next relation of the open group, and none at its end.
+// Moves to the next relation. Returns whether it is of the same group; at its end there is none.
 #[inline]
-fn next_of_group<'a>(items: &mut Items<'a>) -> Option<&'a [u8]>
-    requires { IsTrue (list_all is_relation items.old) }
-    ensures { MatchOption result
-        ((item : List ℕ) (rest : List (List ℕ)) → items.old ≡ item ∷ rest → (relation_in item).and_or ≡ Or)
-        (λ item. (items.old ≡ item.now ∷ items.new) × ((relation_in item.now).and_or ≡ And)) }
+fn next_of_group(cursor: &mut Cursor<'_>) -> bool
+    requires { IsTrue (list_all is_relation cursor.old.rest) }
+    ensures found { IsTrue result → (cursor.old.rest ≡ cursor.new.item ∷ cursor.new.rest) × ((relation_in cursor.new.item).and_or ≡ And) }
+    ensures none { IsFalse result → (item : List ℕ) (rest : List (List ℕ)) → cursor.old.rest ≡ item ∷ rest → (relation_in item).and_or ≡ Or }
 {
-    let item = items.next()?;
-    match and_or_at(item) {
-        AndOr::And => Some(item),
-        AndOr::Or => None,
+    if !cursor.advance() {
+        return false;
+    }
+    match and_or_at(cursor.item()) {
+        AndOr::And => true,
+        AndOr::Or => false,
     }
 }
 
-// Returns the relation that begins the next group, or `None` if there is no further group.
+// Moves to the relation that begins the next group. Returns whether there is a further group.
 #[inline]
-fn first_of_next_group<'a>(items: &mut Items<'a>) -> Option<&'a [u8]>
-    requires { IsTrue (list_all is_relation items.old) }
-    ensures { MatchOption result
-        (AllByRecursion (λ item. (relation_in item).and_or ≡ And) items.old)
-        (λ item. (skipped : List (List ℕ)) × AllByRecursion (λ item. (relation_in item).and_or ≡ And) skipped
-        × (items.old ≡ skipped ++ item.now ∷ items.new) × ((relation_in item.now).and_or ≡ Or)) }
+fn first_of_next_group(cursor: &mut Cursor<'_>) -> bool
+    requires { IsTrue (list_all is_relation cursor.old.rest) }
+    ensures found { IsTrue result → (skipped : List (List ℕ)) × AllByRecursion (λ item. (relation_in item).and_or ≡ And) skipped
+        × (cursor.old.rest ≡ skipped ++ cursor.new.item ∷ cursor.new.rest) × ((relation_in cursor.new.item).and_or ≡ Or) }
+    ensures none { IsFalse result → AllByRecursion (λ item. (relation_in item).and_or ≡ And) cursor.old.rest }
 {
-    while let Some(item) = items.next() {
-        match and_or_at(item) {
-            AndOr::Or => return Some(item),
+    while cursor.advance() {
+        match and_or_at(cursor.item()) {
+            AndOr::Or => return true,
             AndOr::And => {}
         }
     }
-    None
+    false
 }
 
 // Whether the relation of an item is true.

@@ -5,11 +5,11 @@ use Rattle.plural_runtime.proofs.walks.WalkSteps.{HasSkipped}
 use Rattle.plural_runtime.proofs.resolver.first_of_next_group.Given as goal
 
 -- All items so far are of the group that is open.
-abbrev pub invariant-loop-item : goal.invariant-loop-item
-invariant-loop-item l = record {
-  items : IsTrue (list_all is_relation l.items);
-  skipped : HasSkipped l.fn.items l.items;
+abbrev pub invariant-loop-cursor : goal.invariant-loop-cursor
+invariant-loop-cursor l = record {
+  items : IsTrue (list_all is_relation l.cursor.rest);
+  skipped : HasSkipped l.fn.cursor.rest l.cursor.rest;
 }
 
-abbrev pub decreases-loop-item : goal.decreases-loop-item
-decreases-loop-item l = length l.items
+abbrev pub decreases-loop-cursor : goal.decreases-loop-cursor
+decreases-loop-cursor l = length l.cursor.rest

@@ -9,11 +9,11 @@ use Rattle.plural_runtime.proofs.resolver.is_true.Given as goal
 -- The item and the remaining ones decide, and need the rest of the count.
 abbrev pub invariant-relations : goal.invariant-relations
 invariant-relations g l = record {
-  item : IsTrue (is_relation l.item);
-  items : IsTrue (list_all is_relation l.items);
-  walk : WalksFrom g.C.Counter.after_one l.operands l.item l.items l.counter (packed_truth l.operands l.rule)
+  item : IsTrue (is_relation l.cursor.item);
+  items : IsTrue (list_all is_relation l.cursor.rest);
+  walk : WalksFrom g.C.Counter.after_one l.operands l.cursor.item l.cursor.rest l.counter (packed_truth l.operands l.rule)
       (iterate g.C.Counter.after_one (needed_ranges l.operands l.rule) l.fn.counter);
 }
 
 abbrev pub decreases-relations : goal.decreases-relations
-decreases-relations g l = length l.items
+decreases-relations g l = length l.cursor.rest
