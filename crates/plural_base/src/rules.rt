@@ -80,6 +80,15 @@ impl<'data> PluralRules<'data> {
         PluralRules { data: rules }
     }
 
+    /// Returns the same rules, borrowed from these.
+    pub fn as_borrowed(&self) -> PluralRules<'_>
+        ensures { result ≡ self.now }
+    {
+        PluralRules {
+            data: self.data.as_borrowed(),
+        }
+    }
+
     /// The category of a number by its operands. It allocates nothing.
     ///
     /// <!-- snippet crates/using/src/calls/rules.rt: fn by_three; "let rules" to "let rules" of fn show_by_three; body of fn print_integers -->

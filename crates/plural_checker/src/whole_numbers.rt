@@ -2,18 +2,29 @@
 
 ghost use Rattle.plural_checker.specs.WholeNumbers.{AreTwoLeast, IsLeastFrom};
 
-use icu_plurals::{PluralCategory, PluralOperands, PluralRules};
+use icu_plurals::{PluralCategory, PluralOperands, PluralRules, PreparedRules};
 
 /// The whole numbers that are looked at are those below this one.
 pub const WHOLE_LIMIT: u16 = 10_000;
+
+// The rules themselves are asked for the numbers below this one, since tables of the categories cost
+// about as much as these.
+const ASKED: u16 = 200;
 
 /// Returns the least whole number from a start, and below [`WHOLE_LIMIT`], that has the category
 /// under these rules. It allocates nothing.
 pub fn least_from(rules: &PluralRules<'_>, category: PluralCategory, start: u16) -> Option<u16>
     ensures { IsLeastFrom rules.now category start result }
 {
-    for number in start..WHOLE_LIMIT {
+    for number in start..ASKED {
         if rules.category_for(PluralOperands::from(number)) == category {
+            return Some(number);
+        }
+    }
+    let left = if start < ASKED { ASKED } else { start };
+    let rules = PreparedRules::from_rules(rules.as_borrowed());
+    for number in left..WHOLE_LIMIT {
+        if rules.category_for_integer(u64::from(number)) == category {
             return Some(number);
         }
     }

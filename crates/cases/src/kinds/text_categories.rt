@@ -20,7 +20,7 @@ fn text_category(call: &mut Call) {
     let text = call.text();
     print_chosen(call, rules.category_for_text(call.alloc, text.as_str()));
     call.separate(", prepared ");
-    let rules = PreparedRules::from_rules(rules);
+    let rules = PreparedRules::from_rules(rules.as_borrowed());
     print_chosen(call, rules.category_for_text(call.alloc, text.as_str()));
 }
 
