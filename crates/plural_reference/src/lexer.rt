@@ -85,7 +85,7 @@ fn behind_space(text: &[u8]) -> &[u8]
 }
 
 // The first token of a text that doesn't begin with a space, and the bytes after it.
-#[inline]
+#[inline(always)]
 #[tactic(auto, unfolding(crate::specs::Inner::Scan::tokens_from))]
 pub(crate) fn first_token(text: &[u8]) -> Option<(Token, &[u8])>
     requires { BeginsAtToken text.now }
@@ -98,7 +98,7 @@ pub(crate) fn first_token(text: &[u8]) -> Option<(Token, &[u8])>
 }
 
 // The token that the byte begins, and the bytes after it.
-#[inline]
+#[inline(always)]
 #[tactic(auto, using(crate::proofs::tokens::Alone::i_alone, crate::proofs::tokens::Alone::point_alone), unfolding(crate::specs::Inner::Scan::tokens_from))]
 fn token_at(first: u8, rest: &[u8]) -> (Token, &[u8])
     requires { first ≢ blank }

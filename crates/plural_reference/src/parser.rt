@@ -163,6 +163,7 @@ impl<'p> Parser<'p> {
     }
 
     // item = value | value DotDot value
+    #[inline(always)]
     #[tactic(auto, using(crate::proofs::reading::ParserSteps::item_steps))]
     fn item(&mut self) -> Result<RangeListItem, ParseError>
         ensures shorter { length self.new ≤ length self.old }

@@ -85,7 +85,7 @@ fn behind_sample(text: &[u8]) -> Next<'_>
 }
 
 // What stands behind an ellipsis: further lists, or the end.
-#[inline(never)]
+#[inline]
 fn behind_ellipsis(text: &[u8]) -> Next<'_>
     ensures leads { LeadsTo (FollowsComma (tokens_of text.now)) result }
     ensures shorter { bytes_left result ≤ length text.now }
@@ -97,7 +97,7 @@ fn behind_ellipsis(text: &[u8]) -> Next<'_>
 }
 
 // What stands behind a range of samples whose first number stands before the text.
-#[inline(never)]
+#[inline]
 fn behind_range(text: &[u8]) -> Next<'_>
     ensures leads { (n : List Token) → IsNumber n → LeadsTo (IsListThenLists (n ++ tokens_of text.now)) result }
     ensures shorter { bytes_left result ≤ length text.now }
