@@ -1,3 +1,4 @@
 pub mod Inputs
 pub mod JsonTexts
 pub mod Outputs
+pub mod PrintedKeys
