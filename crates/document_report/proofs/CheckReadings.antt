@@ -5,7 +5,7 @@ use Rattle.std.specs.Io.KnownBytes.{Keeps}
 use Rattle.serde_json.specs.Data.{Data, Members, no_members, member}
 use Rattle.serde_json.specs.Find.{as_null, as_object, get}
 use Rattle.serde_json.specs.Written.{has_float}
-use Rattle.document_report.specs.Names.{name_text}
+use Rattle.plural_documents.specs.PrintedKeys.{name_text}
 use Rattle.document_report.specs.CheckAnswer.{Answer, AnswersDocument, AnswersInput, IsAnswered, IsAnswerTo, check_origin}
 use Rattle.document_report.specs.CheckedDocument.{document_formed, document_with, has_form, locales_formed, object_formed, or_fault, part_formed, parts_formed, value_in, value_of, ◌>>=◌}
 use Rattle.document_report.specs.Inner.CheckCalls.{Gives, GivesAfterReading, GivesFault, answer_view, input_fault}

@@ -38,7 +38,7 @@ use Rattle.document_report.specs.DocumentReport.{faults_of, found_by_check, foun
 use Rattle.document_report.specs.DocumentReport.{found_under_all, has_locale, text_order, texts_at}
 use Rattle.document_report.specs.FaultlessDocuments.{FaultlessDocumentsAreTaken, HasAll}
 use Rattle.document_report.specs.Found.{Found, IsFoundIn}
-use Rattle.document_report.specs.Names.{name_text}
+use Rattle.plural_documents.specs.PrintedKeys.{name_text}
 use Rattle.plural_fallback.specs.LocalesJson.{part_name}
 use Rattle.document_report.specs.declared.error.CheckError.{CheckError}
 use Rattle.plural_fallback.specs.declared.locales.Part.{Part}

@@ -9,7 +9,7 @@ use Rattle.serde_json.specs.Data.{Data, Members, no_members, member}
 use Rattle.serde_json.specs.Find.{get, as_null, as_object}
 use Rattle.serde_json.specs.Written.{has_float}
 use Rattle.plural_documents.specs.Inputs.{within_limit, json_of}
-use Rattle.document_report.specs.Names.{name_text}
+use Rattle.plural_documents.specs.PrintedKeys.{name_text}
 use Rattle.plural_fallback.specs.LocalesJson.{part_name}
 use Rattle.document_report.specs.declared.error.CheckError.{CheckError}
 use Rattle.document_report.specs.declared.error.CheckError.TheVariants.{TooLong, Json, Float, NoObject}

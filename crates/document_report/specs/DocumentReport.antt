@@ -26,7 +26,8 @@ use Rattle.plural_checker.specs.declared.Report.{Report as Checked}
 use Rattle.document_report.specs.CheckedDocument.{members_at, members_or_none, table_in}
 use Rattle.document_report.specs.Found.{Found, nothing, one_fault, one_rule, together, IsFoundIn}
 use Rattle.document_report.specs.ParentFaults.{IsFoundInParents}
-use Rattle.document_report.specs.Names.{has_underscore, is_long_name, name_text}
+use Rattle.plural_documents.specs.PrintedKeys.{name_text}
+use Rattle.document_report.specs.Names.{has_underscore, is_long_name}
 use Rattle.plural_fallback.specs.LocalesJson.{part_name}
 use Rattle.document_report.specs.declared.entry.EntryFault.{EntryFault}
 use Rattle.document_report.specs.declared.entry.EntryFault.TheVariants.{RangeKey, NoText, RangeValue, NoRule}

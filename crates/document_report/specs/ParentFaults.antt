@@ -12,7 +12,8 @@ use Rattle.plural_fallback.specs.LocalesJson.{parent_in}
 use Rattle.plural_fallback.specs.declared.first_key.TheConstants.{MOST_LOCALES}
 use Rattle.document_report.specs.CheckedDocument.{members_or_none}
 use Rattle.document_report.specs.Found.{Found, IsFoundIn, nothing, one_fault, together}
-use Rattle.document_report.specs.Names.{is_long_name, name_text}
+use Rattle.plural_documents.specs.PrintedKeys.{name_text}
+use Rattle.document_report.specs.Names.{is_long_name}
 
 -- a part that is neither absent, null nor an object has a line
 abbrev pub found_of_shape : Option Data → Found

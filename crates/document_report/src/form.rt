@@ -8,7 +8,7 @@ ghost use Rattle.serde_json.specs.View.{members_view, view};
 ghost use Rattle.document_report.specs.CheckedDocument.{document_formed, has_form, locales_formed, part_formed};
 ghost use Rattle.document_report.specs.CheckedDocument.{parts_formed, table_in};
 ghost use Rattle.document_report.specs.Inner.CheckCalls.{GivesFault, GivesValue};
-ghost use Rattle.document_report.specs.Names.{name_text};
+ghost use Rattle.plural_documents.specs.PrintedKeys.{name_text};
 ghost use Rattle.plural_fallback.specs.LocalesJson.{part_name};
 ghost use Rattle.document_report.specs.declared.error.CheckError.TheVariants.{NoObject};
 ghost use Rattle.document_report.specs.declared.place.Place.TheVariants as place;

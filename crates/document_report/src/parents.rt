@@ -12,7 +12,8 @@ ghost use Rattle.serde_json.specs.Find.{as_object, get};
 ghost use Rattle.serde_json.specs.View.{members_view, view};
 
 use crate::found::{Found, MemberCheck, add_members};
-use crate::names::{MOST_NAME_BYTES, is_long_name, name_text};
+use crate::names::{MOST_NAME_BYTES, is_long_name};
+use plural_documents::name_text;
 use crate::parent_rows::Parents;
 use plural_fallback::{MOST_LOCALES, next_locale};
 use serde_json::{Map, Value};

@@ -1,9 +1,10 @@
 //! The places where an object is expected in a document.
 
 ghost use Rattle.std.specs.Prelude.{◌≡◌, Some, IfOk};
-ghost use Rattle.document_report.specs.Names.{name_text, place_text};
+ghost use Rattle.plural_documents.specs.PrintedKeys.{name_text};
+ghost use Rattle.document_report.specs.Names.{place_text};
 
-use crate::names::name_text;
+use plural_documents::name_text;
 use plural_fallback::Part;
 use std::alloc::{AllocError, Global};
 use std::fmt;

@@ -12,7 +12,7 @@ use crate::form::table_in;
 use crate::found::{Found, MemberCheck, add_members};
 use crate::keys::{add_key, locale_line};
 use crate::languages::texts_of;
-use crate::names::name_text;
+use plural_documents::name_text;
 use plural_checker::LanguageTexts;
 use plural_fallback::Part;
 use serde_json::Value;

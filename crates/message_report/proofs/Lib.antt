@@ -4,7 +4,6 @@ pub mod LanguageLemmas
 pub mod PartLemmas
 -- rules that choose alike for whole numbers that leave the same by 100
 pub mod Periods
-pub mod PrintedChars
 -- lines of patterns
 pub mod BranchLemmas
 pub mod OwnBranches

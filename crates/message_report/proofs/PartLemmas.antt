@@ -8,7 +8,7 @@ use Rattle.serde_json.specs.declared.Value.{Value}
 use Rattle.message_report.specs.FormFaults.{Language}
 use Rattle.message_report.specs.FoundInMessages.{Found}
 use Rattle.message_report.specs.MessagesReport.{HasLanguage, IsFoundInMessages, IsFoundUnder}
-use Rattle.message_report.specs.PrintedKeys.{name_text}
+use Rattle.plural_documents.specs.PrintedKeys.{name_text}
 use Rattle.message_report.specs.RulesSource.{RulesSource}
 
 -- no entries are no members

@@ -23,7 +23,8 @@ use Rattle.message_report.specs.FormFaults.{Language, HasFormFault, IsLanguageOf
 use Rattle.message_report.specs.FoundInMessages.{Found, IsFoundIn, IsFoundInEach, nothing, one_fault, one_form, one_message, together}
 use Rattle.message_report.specs.MessageForms.{form_name, form_order, has_form, is_form_name}
 use Rattle.message_report.specs.PatternFaults.{IsArgumentAt, PluralArgument, TwoLanguages, branch_fault, branch_fault_text, language_of, missing_fault, type_of_kind}
-use Rattle.message_report.specs.PrintedKeys.{bytes_text, message_text, name_text}
+use Rattle.plural_documents.specs.PrintedKeys.{name_text}
+use Rattle.message_report.specs.PrintedKeys.{bytes_text, message_text}
 use Rattle.message_report.specs.RulesSource.{RulesSource, HasRules}
 use Rattle.message_report.specs.declared.branch_fault.BranchFault.{BranchFault}
 use Rattle.message_report.specs.declared.fault.FormFault.{FormFault}

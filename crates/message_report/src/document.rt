@@ -5,7 +5,7 @@ ghost use Rattle.message_report.specs.FoundInMessages.{together, IsFoundIn};
 ghost use Rattle.message_report.specs.Inner.Added.{Adds};
 ghost use Rattle.message_report.specs.MessagesReport.{found_of_part_key, is_part_name, place_line};
 ghost use Rattle.message_report.specs.MessagesReport.{IsFoundInAll, IsFoundInBoth, IsFoundInDocument, IsFoundInLocale, IsFoundInPartKey, IsFoundInParts};
-ghost use Rattle.message_report.specs.PrintedKeys.{name_text};
+ghost use Rattle.plural_documents.specs.PrintedKeys.{name_text};
 ghost use Rattle.serde_json.specs.Find.{as_object};
 ghost use Rattle.serde_json.specs.View.{members_view, view};
 
@@ -13,7 +13,7 @@ use crate::found::{Found, MemberCheck, add_members};
 use crate::keys::{named_line, place_line};
 use crate::part::add_part;
 use crate::patterns::add_patterns;
-use crate::printed_key::name_text;
+use plural_documents::name_text;
 use crate::source::RulesOfLocales;
 use icu_plurals::PluralRuleType;
 use serde_json::{Map, Value};

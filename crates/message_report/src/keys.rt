@@ -9,7 +9,7 @@ ghost use Rattle.serde_json.specs.View.{members_view};
 
 use crate::form::is_form_name;
 use crate::found::{Found, sum};
-use crate::printed_key::name_text;
+use plural_documents::name_text;
 use serde_json::{Map, Value};
 use std::alloc::{AllocError, Global};
 

@@ -6,7 +6,7 @@ ghost use Rattle.message_report.specs.Inner.Added.{Adds};
 ghost use Rattle.message_report.specs.Inner.LanguageViews.{language_view};
 ghost use Rattle.message_report.specs.MessagesReport.{found_of_language, no_rules_text, part_place, place_line, type_name};
 ghost use Rattle.message_report.specs.MessagesReport.{IsFoundInMessages, IsFoundInObject, IsFoundInPart, IsFoundUnder, HasLanguage};
-ghost use Rattle.message_report.specs.PrintedKeys.{name_text};
+ghost use Rattle.plural_documents.specs.PrintedKeys.{name_text};
 ghost use Rattle.serde_json.specs.Find.{as_object, get};
 ghost use Rattle.serde_json.specs.View.{members_view, view};
 
@@ -14,7 +14,7 @@ use crate::found::{Found, add_members};
 use crate::keys::place_line;
 use crate::language::Language;
 use crate::message::MessageCheck;
-use crate::printed_key::name_text;
+use plural_documents::name_text;
 use crate::source::RulesOfLocales;
 use icu_plurals::PluralRuleType;
 use serde_json::{Map, Value};

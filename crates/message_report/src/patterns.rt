@@ -5,7 +5,7 @@ ghost use Rattle.message_report.specs.Inner.Added.{Adds};
 ghost use Rattle.message_report.specs.Inner.ArgumentViews.{languages_view};
 ghost use Rattle.message_report.specs.MessagesReport.{patterns_name, patterns_place, place_line};
 ghost use Rattle.message_report.specs.MessagesReport.{HaveLanguages, IsFoundInPatterns, IsFoundInPatternsObject, IsFoundInPatternsPart};
-ghost use Rattle.message_report.specs.PrintedKeys.{name_text};
+ghost use Rattle.plural_documents.specs.PrintedKeys.{name_text};
 ghost use Rattle.serde_json.specs.Find.{as_object, get};
 ghost use Rattle.serde_json.specs.View.{members_view, view};
 
@@ -14,7 +14,7 @@ use crate::keys::place_line;
 use crate::part::language_at;
 use crate::pattern::PatternCheck;
 use crate::pattern_lines::Languages;
-use crate::printed_key::name_text;
+use plural_documents::name_text;
 use crate::source::RulesOfLocales;
 use icu_plurals::PluralRuleType;
 use serde_json::{Map, Value};

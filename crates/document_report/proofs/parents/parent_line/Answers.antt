@@ -1,6 +1,6 @@
 use Rattle.std.proofs.Common.{◌≡◌, ℕ, List, ◌++◌, codes, string_bytes, ap, sym, ◌∙◌}
 use Rattle.std.proofs.lemmas.Result.{IfOk-weaker}
-use Rattle.document_report.specs.Names.{name_text}
+use Rattle.plural_documents.specs.PrintedKeys.{name_text}
 use Rattle.document_report.specs.ParentFaults.{parent_line}
 use Rattle.document_report.proofs.LineTexts.{four}
 use Rattle.document_report.proofs.parents.parent_line.Goals as goal

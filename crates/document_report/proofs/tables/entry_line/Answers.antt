@@ -1,7 +1,7 @@
 use Rattle.std.proofs.Common.{◌≡◌, ℕ, List, ◌++◌, codes, string_bytes, ap, sym, ◌∙◌}
 use Rattle.std.proofs.lemmas.Result.{IfOk-weaker}
 use Rattle.document_report.specs.DocumentReport.{entry_fault_text, entry_line}
-use Rattle.document_report.specs.Names.{name_text}
+use Rattle.plural_documents.specs.PrintedKeys.{name_text}
 use Rattle.document_report.proofs.LineTexts.{seven}
 use Rattle.document_report.proofs.tables.entry_line.Goals as goal
 

@@ -2,7 +2,7 @@ use Rattle.std.proofs.Common.{◌≡◌, ℕ, List, refl, subst, ◌∙◌}
 use Rattle.serde_json.specs.View.{members_view}
 use Rattle.message_report.specs.FoundInMessages.{together, IsFoundIn}
 use Rattle.message_report.specs.MessagesReport.{IsFoundInPartKey}
-use Rattle.message_report.specs.PrintedKeys.{name_text}
+use Rattle.plural_documents.specs.PrintedKeys.{name_text}
 use Rattle.message_report.proofs.FoundLemmas.{on_ok, two_added}
 use Rattle.message_report.proofs.document.add_locale.Goals as goal
 

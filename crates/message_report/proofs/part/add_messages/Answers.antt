@@ -5,7 +5,7 @@ use Rattle.serde_json.specs.View.{members_view}
 use Rattle.message_report.specs.FoundInMessages.{nothing}
 use Rattle.message_report.specs.Inner.LanguageViews.{language_view}
 use Rattle.message_report.specs.MessagesReport.{IsFoundInMessages, IsFoundUnder}
-use Rattle.message_report.specs.PrintedKeys.{name_text}
+use Rattle.plural_documents.specs.PrintedKeys.{name_text}
 use Rattle.message_report.proofs.FoundLemmas.{none_added, on_ok}
 use Rattle.message_report.proofs.PartLemmas.{none_there, under_messages}
 use Rattle.message_report.proofs.part.add_messages.Goals as goal

@@ -3,7 +3,7 @@ use Rattle.std.specs.Prelude.{Option}
 use Rattle.serde_json.specs.Data.{Members}
 use Rattle.message_report.specs.FoundInMessages.{one_fault, together}
 use Rattle.message_report.specs.MessagesReport.{part_place, place_line, IsFoundInObject}
-use Rattle.message_report.specs.PrintedKeys.{name_text}
+use Rattle.plural_documents.specs.PrintedKeys.{name_text}
 use Rattle.message_report.proofs.FoundLemmas.{on_ok}
 use Rattle.message_report.proofs.part.add_object.Goals as goal
 

@@ -3,7 +3,7 @@ use Rattle.serde_json.specs.View.{members_view}
 use Rattle.message_report.specs.FoundInMessages.{IsFoundIn}
 use Rattle.message_report.specs.Inner.ArgumentViews.{languages_view}
 use Rattle.message_report.specs.MessagesReport.{IsFoundInPattern}
-use Rattle.message_report.specs.PrintedKeys.{name_text}
+use Rattle.plural_documents.specs.PrintedKeys.{name_text}
 use Rattle.message_report.proofs.FoundLemmas.{on_ok}
 use Rattle.message_report.proofs.patterns.add_each.Goals as goal
 

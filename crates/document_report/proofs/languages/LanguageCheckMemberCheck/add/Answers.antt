@@ -9,7 +9,7 @@ use Rattle.document_report.specs.CheckedDocument.{members_or_none}
 use Rattle.document_report.specs.DocumentReport.{found_by_check, found_of_key, found_of_other, found_under_all, text_order}
 use Rattle.document_report.specs.DocumentReport.{IsFoundInKey}
 use Rattle.document_report.specs.Found.{nothing, together, IsFoundIn}
-use Rattle.document_report.specs.Names.{name_text}
+use Rattle.plural_documents.specs.PrintedKeys.{name_text}
 use Rattle.document_report.proofs.FoundParts.{five_more, on_ok}
 use Rattle.document_report.proofs.languages.LanguageCheckMemberCheck.add.Goals as goal
 

@@ -7,7 +7,7 @@ use Rattle.plural_checker.specs.LanguageTexts.{SixTexts, six_texts}
 use Rattle.document_report.specs.CheckedDocument.{members_or_none, table_in}
 use Rattle.document_report.specs.DocumentReport.{found_of_key, found_of_rules, texts_at, IsFoundInEntry}
 use Rattle.document_report.specs.Found.{together, IsFoundIn}
-use Rattle.document_report.specs.Names.{name_text}
+use Rattle.plural_documents.specs.PrintedKeys.{name_text}
 use Rattle.plural_fallback.specs.LocalesJson.{part_name}
 use Rattle.plural_fallback.specs.declared.locales.Part.TheVariants.{Cardinal, Ranges}
 use Rattle.document_report.proofs.FoundParts.{three_more}

@@ -4,7 +4,7 @@ use Rattle.serde_json.specs.Data.{Members}
 use Rattle.serde_json.specs.View.{view}
 use Rattle.message_report.specs.FoundInMessages.{one_fault, together}
 use Rattle.message_report.specs.MessagesReport.{place_line, IsFoundInParts}
-use Rattle.message_report.specs.PrintedKeys.{name_text}
+use Rattle.plural_documents.specs.PrintedKeys.{name_text}
 use Rattle.message_report.proofs.FoundLemmas.{on_ok}
 use Rattle.message_report.proofs.document.LocaleCheckMemberCheck.add.Goals as goal
 

@@ -1,7 +1,6 @@
 use Rattle.std.proofs.Common.{◌++◌, string_bytes, ap, sym, ◌∙◌}
-use Rattle.document_report.proofs.FoundParts.{if_ok, on_ok}
-use Rattle.document_report.proofs.PrintedNames.{plain_printed}
-use Rattle.document_report.proofs.names.push_char.Goals as goal
+use Rattle.plural_documents.proofs.PrintedChars.{if_ok, on_ok, plain_printed}
+use Rattle.plural_documents.proofs.printed_key.push_char.Goals as goal
 
 pub returns-then-is_plain : goal.returns-then-is_plain
 returns-then-is_plain c =

@@ -2,11 +2,12 @@
 use Rattle.std.proofs.Common.{◌≡◌, ℕ, ◌+◌, ◌<◌, ◌≤◌, Bool, true, false, List, [], ◌∷◌, ◌++◌, length, get_or}
 use Rattle.std.proofs.Common.{encode_utf8, refl, sym, ap, ◌∙◌, arith, append_assoc}
 use Rattle.std.proofs.lemmas.Grind.{common_steps, flat_map-append}
-use Rattle.std.specs.Prelude.{nat_lt}
+use Rattle.std.specs.Prelude.{nat_lt, OnOk, if◌then◌else◌, is_ok}
+use Rattle.std.proofs.Common.{Result, Ok, Err}
 use Rattle.std.proofs.lemmas.List.{append-nil}
 use Rattle.std.proofs.lemmas.Str.{encode_ascii, inside_one}
 use Rattle.std.specs.List.{flat_map}
-use Rattle.message_report.specs.PrintedKeys.{byte_escape, is_plain, printed_byte}
+use Rattle.plural_documents.specs.PrintedKeys.{byte_escape, is_plain, printed_byte}
 
 -- a character of more than one byte has no byte of ASCII
 wide_bytes : (c k : ℕ) → 128 ≤ c → k < length (encode_utf8 c) → 128 ≤ get_or (encode_utf8 c) k 0
@@ -61,3 +62,15 @@ next_char c now next old rest whole step wrote so_far =
 pub no_more : (rest now whole : List ℕ) → length rest ≡ 0 → now ++ flat_map printed_byte rest ≡ whole → now ≡ whole
 no_more [] now whole none so_far = sym (append-nil now) ∙ so_far
 no_more (b ∷ bs) now whole none so_far = absurd (omega arith)
+
+-- ---- What was appended
+
+pub on_ok : {A E P Q : Type 0} (r : Result A E) → (P → Q) → OnOk r P → OnOk r Q
+on_ok (Ok x) f h = f h
+on_ok (Err e) f h = tt
+
+-- a text that is changed only by an `Ok`
+pub if_ok : {A E : Type 0} (r : Result A E) (new changed kept : List ℕ) → new ≡ (if is_ok r then changed else kept)
+    → OnOk r (new ≡ changed)
+if_ok (Ok x) new changed kept e = e
+if_ok (Err e) new changed kept h = tt
