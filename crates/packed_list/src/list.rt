@@ -186,7 +186,8 @@ impl<'a> PackedList<'a> {
     pub(crate) fn has_no_byte(&self) -> bool
         ensures { result ≡ (length self.now == 0) }
     {
-        self.bytes.is_empty()
+        let bytes = self.bytes;
+        bytes.is_empty()
     }
 
     // The items, without the header.

@@ -2,7 +2,7 @@
 
 ghost use Rattle.std.specs.Prelude.{◌≡◌};
 ghost use Rattle.std.specs.List.{list_all, list_any};
-ghost use Rattle.plural_reference.specs.Truth.{is_in_ranges, ends_of, ranges_of, tree_truth, tree_relation_truth, tree_value};
+ghost use Rattle.plural_reference.specs.Truth.{is_in_ranges, ends_of, range_holds, ranges_of, tree_truth, tree_relation_truth, tree_value};
 
 use crate::ast::{
     AndCondition, Condition, Expression, Operator, RangeList, RangeListItem, Relation,
@@ -85,18 +85,22 @@ fn calculate_expression(expression: &Expression, operands: &PluralOperands) -> O
 fn contains(list: &RangeList, value: u64) -> bool
     ensures { result ≡ is_in_ranges (ranges_of list.now) value }
 {
-    let items = list.0.as_slice().iter();
-    items
-        .map(ends_of)
-        .any(|(start, end)| start <= value && value <= end)
+    any_holds(list.0.as_slice(), value)
 }
 
-// The ends of an item: a single value is both.
-fn ends_of(item: &RangeListItem) -> (u64, u64)
-    ensures { result ≡ ends_of item.now }
+// Whether some item holds the value.
+fn any_holds(items: &[RangeListItem], value: u64) -> bool
+    ensures { result ≡ list_any (λ item. range_holds value (ends_of item)) items.now }
+{
+    items.iter().any(|item| holds(item, value))
+}
+
+// Whether an item holds the value.
+fn holds(item: &RangeListItem, value: u64) -> bool
+    ensures { result ≡ range_holds value (ends_of item.now) }
 {
     match item {
-        RangeListItem::Range(start, end) => (start.0, end.0),
-        RangeListItem::Value(single) => (single.0, single.0),
+        RangeListItem::Range(start, end) => start.0 <= value && value <= end.0,
+        RangeListItem::Value(single) => single.0 == value,
     }
 }

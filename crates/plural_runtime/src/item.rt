@@ -5,7 +5,7 @@ ghost use Rattle.plural_runtime.specs.PackedRelations.{is_relation, is_whole};
 ghost use Rattle.plural_runtime.specs.Inner.RuleReading.{relation_in, ranges_in};
 ghost use Rattle.plural_runtime.specs.RuleKinds.{operator_of, tree_operand_of};
 
-use crate::first_byte::{and_or_of, operand_numbered, polarity_of};
+use crate::first_byte::{and_or_of, operand_numbered, operand_of, polarity_of};
 use crate::kinds::{AndOr, Operand, Polarity};
 
 // How many bytes an item has before its ranges: the first byte and the modulus.
@@ -38,6 +38,19 @@ pub(crate) fn polarity_at(item: &[u8]) -> Polarity
 #[inline]
 #[tactic(auto, unfolding(crate::specs::Inner::RuleReading::relation_in))]
 pub(crate) fn operand_at(item: &[u8]) -> Operand
+    requires { IsTrue (is_relation item.now) }
+    ensures { tree_operand_of result ≡ (relation_in item.now).meaning.operand }
+{
+    let Some(operand) = operand_of(item[0]) else {
+        unreachable!();
+    };
+    operand
+}
+
+// The same by three bits, without a test, for one that goes on with a branch for each operand.
+#[inline]
+#[tactic(auto, unfolding(crate::specs::Inner::RuleReading::relation_in))]
+pub(crate) fn low_operand_at(item: &[u8]) -> Operand
     requires { IsTrue (is_relation item.now) }
     ensures { tree_operand_of result ≡ (relation_in item.now).meaning.operand }
 {

@@ -9,7 +9,7 @@ ghost use Rattle.plural_runtime.specs.PackedRelations.{is_relation, is_whole, ra
 ghost use Rattle.plural_runtime.specs.Inner.RuleReading.{relation_in, range_in, ranges_in};
 ghost use Rattle.plural_runtime.specs.PackedTruth.{packed_truth, is_true_at, needed_ranges, range_count, needed_of_relation, needed_of_list};
 
-use crate::item::{RANGE_LENGTH, and_or_at, modulo_at, operand_at, polarity_at, ranges_at};
+use crate::item::{RANGE_LENGTH, and_or_at, low_operand_at, modulo_at, polarity_at, ranges_at};
 use crate::kinds::{AndOr, Polarity};
 use crate::laws::at_most_all;
 use crate::rule::Rule;
@@ -158,7 +158,7 @@ fn value_at(item: &[u8], operands: &PluralOperands) -> Option<u64>
     requires { IsTrue (is_relation item.now) }
     ensures { result ≡ operand_value (relation_in item.now).meaning.operand operands.now }
 {
-    operands.value(ast::Operand::from(operand_at(item)))
+    operands.value(ast::Operand::from(low_operand_at(item)))
 }
 
 // The remainder of a value by a modulus.

@@ -4,7 +4,7 @@ use Rattle.std.specs.List.{list_any, list_all}
 use Rattle.plural_reference.specs.Truth.{is_true_of}
 
 -- a test of mapped elements
-list_any-map : {A B : Type 0} (test : B → Bool) (f : A → B) (xs : List A) → list_any test (map f xs) ≡ list_any (λ x. test (f x)) xs
+pub list_any-map : {A B : Type 0} (test : B → Bool) (f : A → B) (xs : List A) → list_any test (map f xs) ≡ list_any (λ x. test (f x)) xs
 list_any-map test f [] = refl
 list_any-map test f (x ∷ xs) = ap (λ b. test (f x) || b) (list_any-map test f xs)
 

@@ -1,6 +1,9 @@
 //! The printed texts of a condition's parts.
 #![tactic(auto, using(crate::proofs::printing::Writes::one_call, crate::proofs::printing::Writes::then_writes))]
 
+ghost use Rattle.std.specs.Prelude.{◌≡◌, ◌++◌, codes};
+ghost use Rattle.plural_reference.specs.Serializer.{operator_text};
+
 use super::part::{Part, serialize_joined, serialize_prefixed};
 use crate::ast;
 use std::fmt;
@@ -22,9 +25,7 @@ impl Part for ast::Relation {
 
     fn write_to<W: fmt::Write>(&self, w: &mut W) -> fmt::Result {
         self.expression.write_to(w)?;
-        w.write_str(" ")?;
-        self.operator.write_to(w)?;
-        w.write_str(" ")?;
+        w.write_str(spaced(self.operator))?;
         self.range_list.write_to(w)
     }
 }
@@ -50,13 +51,14 @@ impl Part for ast::Operand {
     }
 }
 
-impl Part for ast::Operator {
-    ghost use Rattle.plural_reference.specs.Serializer.{operator_text};
-
-    ghost text = { operator_text };
-
-    fn write_to<W: fmt::Write>(&self, w: &mut W) -> fmt::Result {
-        w.write_str(self.as_str())
+// The operator, with a space on each side.
+#[inline]
+fn spaced(operator: ast::Operator) -> &'static str
+    ensures { result.now ≡ codes " " ++ operator_text operator ++ codes " " }
+{
+    match operator {
+        ast::Operator::Eq => " = ",
+        ast::Operator::NotEq => " != ",
     }
 }
 

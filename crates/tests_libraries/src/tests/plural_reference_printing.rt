@@ -127,11 +127,11 @@ fn stops_at_each_piece<F: FnMut(&mut Refusing) -> fmt::Result>(
 fn stops_at_the_first_fault_in_a_rule(rt: HostRuntime) -> Result<(), Fail> {
     let text = "i = 0 or n = 1 @integer 0, 1 @decimal 0.0~1.0, 0.00~0.04, …";
     let rule = parse(rt.alloc(), text.as_bytes())?;
-    stops_at_each_piece(&rt, rt.alloc(), 24, text, |w| serialize(&rule, w));
+    stops_at_each_piece(&rt, rt.alloc(), 20, text, |w| serialize(&rule, w));
     stops_at_each_piece(
         &rt,
         rt.alloc(),
-        11,
+        7,
         "i = 0 or n = 1",
         |w| serialize_condition(&rule.condition, w),
     );
