@@ -1,4 +1,4 @@
-"""The program `cases` (crates/cases), which says of rows which of them the library answers otherwise."""
+"""The program `tests_rows` (crates/tests_rows), which says of rows which of them the library answers otherwise."""
 import re
 import subprocess
 import tempfile
@@ -6,8 +6,8 @@ from pathlib import Path
 
 from library import TOP, Missing
 
-CRATE = TOP / "crates/cases"
-BUILT = CRATE / "out/cases"
+CRATE = TOP / "crates/tests_rows"
+BUILT = CRATE / "out/tests_rows"
 ROWS_OF_A_FILE = 20000
 SECONDS = "600"
 WRONG = re.compile(r"(\S+):([0-9]+): (.*)", re.S)
@@ -30,13 +30,13 @@ def wrong_lines(count, printed):
     """Returns what the program says of each line that isn't as wanted, by its number."""
     end = LAST.search(printed)
     if not end or int(end[1]) != count:
-        raise Missing(f"the program `cases` hasn't read all {count} rows: {printed[-200:]!r}")
+        raise Missing(f"the program `tests_rows` hasn't read all {count} rows: {printed[-200:]!r}")
     found = {int(it[2]): it[3] for it in map(WRONG.fullmatch, LINES.split("\n" + printed[: end.start()])) if it}
     for said in found.values():
         if said.startswith("fault: "):
-            raise Missing(f"the program `cases` takes no such row: {said}")
+            raise Missing(f"the program `tests_rows` takes no such row: {said}")
     if len(found) != int(end[2]):
-        raise Missing(f"the program `cases` says that {end[2]} rows are wrong, and shows {len(found)}")
+        raise Missing(f"the program `tests_rows` says that {end[2]} rows are wrong, and shows {len(found)}")
     return found
 
 
@@ -72,7 +72,7 @@ class Run:
             with open(path, "rb") as rows:
                 ran = subprocess.run([self.program.resolve()], stdin=rows, stdout=subprocess.PIPE, check=False)
             if ran.returncode not in (0, 1):
-                raise Missing(f"the program `cases` ends with status {ran.returncode}")
+                raise Missing(f"the program `tests_rows` ends with status {ran.returncode}")
             yield ran.stdout.decode()
 
     def by_try(self):
@@ -80,7 +80,7 @@ class Run:
         try:
             ran = subprocess.run(words, cwd=CRATE, stdin=subprocess.DEVNULL, stdout=subprocess.PIPE, stderr=subprocess.PIPE, check=False)
         except FileNotFoundError:
-            raise Missing("the program `cases` isn't built, and the command rt is not on the PATH: give the program by --cases") from None
+            raise Missing("the program `tests_rows` isn't built, and the command rt is not on the PATH: give the program by --cases") from None
         pieces = re.split(r"^== ([0-9]+)\.rows\n", ran.stdout.decode(), flags=re.M)[2::2]
         if len(pieces) != len(self.counts):
             said = ran.stderr.decode(errors="replace").strip().split("\n")[-1]

@@ -228,7 +228,7 @@ def said(text, arguments, language, changes=()):
 
 
 def row_result(text, arguments, language):
-    """Returns what the row of a pattern and its arguments wants (crates/cases/data/pattern_texts.rows)."""
+    """Returns what the row of a pattern and its arguments wants (crates/tests_rows/data/pattern_texts.rows)."""
     try:
         return patterns.quoted(spoken(text, arguments, language))
     except Refused as refused:

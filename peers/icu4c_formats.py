@@ -176,7 +176,7 @@ def compare(cases, seed, count, say):
     for said in run.wrong_rows().values() if run else ():
         comparison.add(UNEXPLAINED, said)
     if not run:
-        say(f"the library isn't compared: crates/cases has no rows of the kind {KIND}")
+        say(f"the library isn't compared: crates/tests_rows has no rows of the kind {KIND}")
     for name, example in comparison.shortest.items():
         say(f"shortest, {name}: {example[:icu4c.LONGEST_EXAMPLE]}")
     return comparison.counts

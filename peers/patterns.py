@@ -318,7 +318,7 @@ def printed(parts):
     return "".join(found)
 
 
-# ---- as the rows of crates/cases/data/patterns.rows have it
+# ---- as the rows of crates/tests_rows/data/patterns.rows have it
 
 
 def quoted(text):

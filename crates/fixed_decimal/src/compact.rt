@@ -13,7 +13,7 @@ use std::marker::Model;
 /// A decimal and a compact exponent: the power of ten after the `c` of its text (UTS 35 Part 3,
 /// Language Plural Rules, operands c and e).
 ///
-/// <!-- snippet crates/using/src/calls/numbers.rt: body of fn print_compact -->
+/// <!-- snippet crates/example_calls/src/calls/numbers.rt: body of fn print_compact -->
 /// ```
 /// let number = CompactDecimal::from_str(alloc, "1.2c6")?;
 /// let digit = number.significand().absolute.digit_at(-1);
@@ -22,7 +22,7 @@ use std::marker::Model;
 ///
 /// This prints
 ///
-/// <!-- snippet crates/using/stdout: section a compact decimal -->
+/// <!-- snippet crates/example_calls/stdout: section a compact decimal -->
 /// ```text
 /// exponent 6, tenths 2
 /// ```

@@ -18,7 +18,7 @@ use std::alloc::Global;
 
 /// A written number with the sign that its text has.
 ///
-/// <!-- snippet crates/using/src/calls/numbers.rt: body of fn print_decimal -->
+/// <!-- snippet crates/example_calls/src/calls/numbers.rt: body of fn print_decimal -->
 /// ```
 /// let number = Decimal::from_str(alloc, "-12.50")?;
 /// let (lowest, highest) = number.absolute.magnitude_range();
@@ -27,7 +27,7 @@ use std::alloc::Global;
 ///
 /// This prints
 ///
-/// <!-- snippet crates/using/stdout: section a decimal -->
+/// <!-- snippet crates/example_calls/stdout: section a decimal -->
 /// ```text
 /// Negative, -2 to 1
 /// ```

@@ -21,7 +21,7 @@ use std::marker::Model;
 /// A written number without a sign: its integer digits, at least one, and its fraction digits. All
 /// written zeros count. Only the digits from the first to the last that isn't zero are stored.
 ///
-/// <!-- snippet crates/using/src/calls/numbers.rt: body of fn print_digits -->
+/// <!-- snippet crates/example_calls/src/calls/numbers.rt: body of fn print_digits -->
 /// ```
 /// let number = UnsignedDecimal::from_str(alloc, "98.70")?;
 /// for magnitude in [2i16, 1, 0, -1, -2] {
@@ -32,7 +32,7 @@ use std::marker::Model;
 ///
 /// This prints
 ///
-/// <!-- snippet crates/using/stdout: section digits -->
+/// <!-- snippet crates/example_calls/stdout: section digits -->
 /// ```text
 /// 2: 0
 /// 1: 9

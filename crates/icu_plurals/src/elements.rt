@@ -18,7 +18,7 @@ use std::marker::Model;
 ///
 /// [`get`] chooses among them by the operands of a number: in English
 ///
-/// <!-- snippet crates/using/src/elements.rt: body of fn print_elements -->
+/// <!-- snippet crates/example_calls/src/elements.rt: body of fn print_elements -->
 /// ```
 /// let texts = PluralElements::new("files")
 ///     .with_one_value(Some("file"))
@@ -31,7 +31,7 @@ use std::marker::Model;
 ///
 /// prints
 ///
-/// <!-- snippet crates/using/stdout: section elements -->
+/// <!-- snippet crates/example_calls/stdout: section elements -->
 /// ```text
 /// 0: no files
 /// 1: file

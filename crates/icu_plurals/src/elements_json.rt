@@ -28,7 +28,7 @@ impl PluralElementsPackedCow<'static> {
     ///
     /// For example:
     ///
-    /// <!-- snippet crates/using/src/calls/packed.rt: "let value" to "let elements" of fn show_json -->
+    /// <!-- snippet crates/example_calls/src/calls/packed.rt: "let value" to "let elements" of fn show_json -->
     /// ```
     /// let value = Value::from_str(alloc, r#"{"other":[0,"files"],"one":[0,"file"]}"#)?;
     /// let elements = PluralElementsPackedCow::from_json(alloc, &value)?;
@@ -65,7 +65,7 @@ impl<'data> PluralElementsPackedCow<'data> {
     /// an object with a list of metadata and text under the key of each value that is present. It
     /// allocates; the only error is [`JsonError::Memory`].
     ///
-    /// <!-- snippet crates/using/src/calls/packed.rt: fn show_json; fn print_json -->
+    /// <!-- snippet crates/example_calls/src/calls/packed.rt: fn show_json; fn print_json -->
     /// ```
     /// fn show_json(rt: &HostRuntime, alloc: Global) -> anyhow::Result<()> {
     ///     let value = Value::from_str(alloc, r#"{"other":[0,"files"],"one":[0,"file"]}"#)?;
@@ -88,7 +88,7 @@ impl<'data> PluralElementsPackedCow<'data> {
     ///
     /// This prints
     ///
-    /// <!-- snippet crates/using/stdout: section elements as JSON -->
+    /// <!-- snippet crates/example_calls/stdout: section elements as JSON -->
     /// ```text
     /// 14 bytes, true
     /// ```

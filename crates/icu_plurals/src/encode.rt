@@ -23,7 +23,7 @@ impl PluralElementsPackedULE<'_> {
     /// those of the categories that differ from that of other in metadata or text; the value of
     /// other is the default.
     ///
-    /// <!-- snippet crates/using/src/calls/packed.rt:
+    /// <!-- snippet crates/example_calls/src/calls/packed.rt:
     ///      "let elements" to "let bytes" of fn show_encoded -->
     /// ```
     /// let elements = PluralElements::new((FourBitMetadata::zero(), "files")).with_one_value(Some((

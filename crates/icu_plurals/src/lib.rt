@@ -9,7 +9,7 @@
 //!
 //! The rules of a language are read from texts as CLDR writes them, those of Czech from
 //!
-//! <!-- snippet crates/using/src/texts.rt: fn czech -->
+//! <!-- snippet crates/example_calls/src/texts.rt: fn czech -->
 //! ```
 //! fn czech(alloc: Global) -> anyhow::Result<PluralRules<'static>> {
 //!     let one = Some("i = 1 and v = 0 @integer 1");
@@ -22,7 +22,7 @@
 //!
 //! A JSON document has rules of several locales, and the categories of their ranges:
 //!
-//! <!-- snippet crates/using/src/json.rt: const DOCUMENT; fn provider -->
+//! <!-- snippet crates/example_calls/src/json.rt: const DOCUMENT; fn provider -->
 //! ```
 //! const DOCUMENT: &str = r#"{
 //!     "cardinal": {"en": {"one": "i = 1 and v = 0"}},
@@ -42,7 +42,7 @@
 //!
 //! # The category of a number
 //!
-//! <!-- snippet crates/using/src/json.rt: "let ordinal" to "let ordinal" of fn show_places; body of fn print_places -->
+//! <!-- snippet crates/example_calls/src/json.rt: "let ordinal" to "let ordinal" of fn show_places; body of fn print_places -->
 //! ```
 //! let ordinal = PluralRules::try_new_ordinal_unstable(provider, "en")?;
 //!
@@ -54,7 +54,7 @@
 //!
 //! prints, in the document's English,
 //!
-//! <!-- snippet crates/using/stdout: section json -->
+//! <!-- snippet crates/example_calls/stdout: section json -->
 //! ```text
 //! 1: One
 //! 2: Two
@@ -67,7 +67,7 @@
 //! [`PluralRules::is_exact_for`] returns whether its category is that of the number itself, and not
 //! only of what is kept of it: with the rules of French
 //!
-//! <!-- snippet crates/using/src/numbers.rt: fn french; "let french" to "let french" of fn show_exactness; body of fn print_exactness -->
+//! <!-- snippet crates/example_calls/src/numbers.rt: fn french; "let french" to "let french" of fn show_exactness; body of fn print_exactness -->
 //! ```
 //! fn french(alloc: Global) -> anyhow::Result<PluralRules<'static>> {
 //!     let one = Some("i = 0,1");
@@ -92,7 +92,7 @@
 //!
 //! prints
 //!
-//! <!-- snippet crates/using/stdout: section exact -->
+//! <!-- snippet crates/example_calls/stdout: section exact -->
 //! ```text
 //! 100000000000000000000000000000: Many, exact: true
 //! 0.000000000000000001: One, exact: true
@@ -101,7 +101,7 @@
 //!
 //! # Ranges
 //!
-//! <!-- snippet crates/using/src/ranges.rt: "let english" to "let english" of fn show_ranges; body of fn print_ranges -->
+//! <!-- snippet crates/example_calls/src/ranges.rt: "let english" to "let english" of fn show_ranges; body of fn print_ranges -->
 //! ```
 //! let english = PluralRulesWithRanges::try_new_cardinal_unstable(provider, "en")?;
 //!
@@ -114,7 +114,7 @@
 //!
 //! prints
 //!
-//! <!-- snippet crates/using/stdout: section ranges -->
+//! <!-- snippet crates/example_calls/stdout: section ranges -->
 //! ```text
 //! Other
 //! Other
@@ -124,7 +124,7 @@
 //!
 //! [`PluralElements`] have a value for each category. Texts may be packed, and read in place:
 //!
-//! <!-- snippet crates/using/src/elements.rt: "let texts" to "let bytes" of fn show_stored_texts; body of fn print_stored_texts -->
+//! <!-- snippet crates/example_calls/src/elements.rt: "let texts" to "let bytes" of fn show_stored_texts; body of fn print_stored_texts -->
 //! ```
 //! let texts = PluralElements::new("files").with_one_value(Some("file"));
 //! let packed = PluralElementsPackedCow::from_elements(alloc, &texts)?;
@@ -137,7 +137,7 @@
 //!
 //! prints
 //!
-//! <!-- snippet crates/using/stdout: section stored -->
+//! <!-- snippet crates/example_calls/stdout: section stored -->
 //! ```text
 //! 14 bytes: file
 //! ```
@@ -146,7 +146,7 @@
 //!
 //! The crate `plural_message`, which a caller names beside this one, puts the number into the text:
 //!
-//! <!-- snippet crates/using/src/messages.rt: "let texts" to "let message" of fn show_messages; body of fn print_messages -->
+//! <!-- snippet crates/example_calls/src/messages.rt: "let texts" to "let message" of fn show_messages; body of fn print_messages -->
 //! ```
 //! let texts = PluralElements::new("{} files were copied")
 //!     .with_one_value(Some("{} file was copied"))
@@ -162,7 +162,7 @@
 //!
 //! prints
 //!
-//! <!-- snippet crates/using/stdout: section messages -->
+//! <!-- snippet crates/example_calls/stdout: section messages -->
 //! ```text
 //! no file was copied
 //! 1 file was copied

@@ -22,7 +22,7 @@ use plural_reference::PluralOperands;
 /// Elements as checked bytes: a default, and either nothing else or a packed list of items after
 /// it. Each value is metadata and a text. Two are equal if and only if their bytes are.
 ///
-/// <!-- snippet crates/using/src/calls/packed.rt: fn show_encoded; fn print_encoded -->
+/// <!-- snippet crates/example_calls/src/calls/packed.rt: fn show_encoded; fn print_encoded -->
 /// ```
 /// fn show_encoded(rt: &HostRuntime, alloc: Global, rules: &PluralRules<'_>) -> anyhow::Result<()> {
 ///     let elements = PluralElements::new((FourBitMetadata::zero(), "files")).with_one_value(Some((
@@ -46,7 +46,7 @@ use plural_reference::PluralOperands;
 ///
 /// With the rules of English, this prints
 ///
-/// <!-- snippet crates/using/stdout: section encode -->
+/// <!-- snippet crates/example_calls/stdout: section encode -->
 /// ```text
 /// 1: file, 0
 /// 2: files, 0
@@ -67,7 +67,7 @@ impl<'a> PluralElementsPackedULE<'a> {
 
     /// Reads bytes as packed elements. It allocates nothing.
     ///
-    /// <!-- snippet crates/using/src/elements.rt: "let stored" to "println" of fn print_stored_texts -->
+    /// <!-- snippet crates/example_calls/src/elements.rt: "let stored" to "println" of fn print_stored_texts -->
     /// ```
     /// let stored = PluralElementsPackedULE::parse_bytes(bytes)?;
     /// let (_, text) = stored.get(PluralOperands::from(1u8), rules);
@@ -119,7 +119,7 @@ impl<'a> PluralElementsPackedULE<'a> {
     ///
     /// With `packed` as in the example of the type:
     ///
-    /// <!-- snippet crates/using/src/calls/packed.rt: "for number" to "}" of fn print_encoded -->
+    /// <!-- snippet crates/example_calls/src/calls/packed.rt: "for number" to "}" of fn print_encoded -->
     /// ```
     /// for number in [1u8, 2] {
     ///     let (metadata, text) = packed.get(PluralOperands::from(number), rules);
@@ -157,7 +157,7 @@ impl<'a> PluralElementsPackedULE<'a> {
     /// counts, and a category's value is present even if it equals the default. It allocates
     /// nothing.
     ///
-    /// <!-- snippet crates/using/src/calls/packed.rt: body of fn print_decoded -->
+    /// <!-- snippet crates/example_calls/src/calls/packed.rt: body of fn print_decoded -->
     /// ```
     /// let packed = PluralElementsPackedULE::parse_bytes(b"\x85\x05files\x01\0\x10file")?;
     /// let elements = packed.decode();
@@ -168,7 +168,7 @@ impl<'a> PluralElementsPackedULE<'a> {
     ///
     /// This prints
     ///
-    /// <!-- snippet crates/using/stdout: section decode -->
+    /// <!-- snippet crates/example_calls/stdout: section decode -->
     /// ```text
     /// files, file, 5
     /// ```

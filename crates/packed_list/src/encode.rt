@@ -15,7 +15,7 @@ impl<'a> PackedList<'a> {
     /// ([`PackError::CountLimit`]); an item that would start after place 65535
     /// ([`PackError::StartLimit`]); out of memory ([`PackError::Memory`]).
     ///
-    /// <!-- snippet crates/using/src/calls/lists.rt:
+    /// <!-- snippet crates/example_calls/src/calls/lists.rt:
     ///      "let items" to "let bytes" of fn show_list -->
     /// ```
     /// let items: [&[u8]; 3] = [b"ab", b"", b"cd"];

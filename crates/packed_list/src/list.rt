@@ -49,7 +49,7 @@ impl<'a> PackedList<'a> {
     /// count and the starts take ([`ListError::Header`]); a count of 0 ([`ListError::ZeroCount`]);
     /// a start that is below the previous one or after the data ([`ListError::Start`]).
     ///
-    /// <!-- snippet crates/using/src/calls/lists.rt: fn show_list; fn print_list -->
+    /// <!-- snippet crates/example_calls/src/calls/lists.rt: fn show_list; fn print_list -->
     /// ```
     /// fn show_list(rt: &HostRuntime, alloc: Global) -> anyhow::Result<()> {
     ///     let items: [&[u8]; 3] = [b"ab", b"", b"cd"];
@@ -69,7 +69,7 @@ impl<'a> PackedList<'a> {
     ///
     /// This prints
     ///
-    /// <!-- snippet crates/using/stdout: section a list -->
+    /// <!-- snippet crates/example_calls/stdout: section a list -->
     /// ```text
     /// 3 items in 10 bytes
     /// the last one has 2 bytes

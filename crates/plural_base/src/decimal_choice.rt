@@ -14,7 +14,7 @@ impl<'data> PluralRules<'data> {
     /// [`PluralRules::is_exact_for_decimal`] holds and the rules come from texts, it is the
     /// category of the number itself, whatever its length. It allocates nothing.
     ///
-    /// <!-- snippet crates/using/src/calls/rules.rt: fn by_three; "let rules" to "let rules" of fn show_by_three; body of fn print_decimals -->
+    /// <!-- snippet crates/example_calls/src/calls/rules.rt: fn by_three; "let rules" to "let rules" of fn show_by_three; body of fn print_decimals -->
     /// ```
     /// fn by_three(alloc: Global) -> anyhow::Result<PluralRules<'static>> {
     ///     let data = PluralRulesData::from_texts(alloc, None, Some("i % 3 = 2"), None, None, None)?;
@@ -33,7 +33,7 @@ impl<'data> PluralRules<'data> {
     ///
     /// This prints
     ///
-    /// <!-- snippet crates/using/stdout: section category_for_decimal -->
+    /// <!-- snippet crates/example_calls/stdout: section category_for_decimal -->
     /// ```text
     /// 5.0: One, exact: true
     /// 2000000000000000000: Other, exact: false
@@ -53,7 +53,7 @@ impl<'data> PluralRules<'data> {
     ///
     /// In French
     ///
-    /// <!-- snippet crates/using/src/numbers.rt: fn french; "let french" to "let french" of fn show_numbers; body of fn print_numbers -->
+    /// <!-- snippet crates/example_calls/src/numbers.rt: fn french; "let french" to "let french" of fn show_numbers; body of fn print_numbers -->
     /// ```
     /// fn french(alloc: Global) -> anyhow::Result<PluralRules<'static>> {
     ///     let one = Some("i = 0,1");
@@ -73,7 +73,7 @@ impl<'data> PluralRules<'data> {
     ///
     /// prints
     ///
-    /// <!-- snippet crates/using/stdout: section numbers -->
+    /// <!-- snippet crates/example_calls/stdout: section numbers -->
     /// ```text
     /// 1: One
     /// 1.50: One

@@ -24,7 +24,7 @@ impl<'data> PluralRules<'data> {
     /// rules whose moduli on `n` and `i` all divide `10^18`. Places count as they are written, with
     /// leading and trailing zeros. It allocates nothing.
     ///
-    /// <!-- snippet crates/using/src/numbers.rt: fn french; "let french" to "let french" of fn show_exactness; body of fn print_exactness -->
+    /// <!-- snippet crates/example_calls/src/numbers.rt: fn french; "let french" to "let french" of fn show_exactness; body of fn print_exactness -->
     /// ```
     /// fn french(alloc: Global) -> anyhow::Result<PluralRules<'static>> {
     ///     let one = Some("i = 0,1");
@@ -49,7 +49,7 @@ impl<'data> PluralRules<'data> {
     ///
     /// This prints
     ///
-    /// <!-- snippet crates/using/stdout: section exact -->
+    /// <!-- snippet crates/example_calls/stdout: section exact -->
     /// ```text
     /// 100000000000000000000000000000: Many, exact: true
     /// 0.000000000000000001: One, exact: true
@@ -64,7 +64,7 @@ impl<'data> PluralRules<'data> {
 
     /// As [`PluralRules::is_exact_for`], for a number without an exponent.
     ///
-    /// <!-- snippet crates/using/src/calls/rules.rt: fn by_three; "let rules" to "let rules" of fn show_by_three; body of fn print_decimals -->
+    /// <!-- snippet crates/example_calls/src/calls/rules.rt: fn by_three; "let rules" to "let rules" of fn show_by_three; body of fn print_decimals -->
     /// ```
     /// fn by_three(alloc: Global) -> anyhow::Result<PluralRules<'static>> {
     ///     let data = PluralRulesData::from_texts(alloc, None, Some("i % 3 = 2"), None, None, None)?;
@@ -83,7 +83,7 @@ impl<'data> PluralRules<'data> {
     ///
     /// This prints
     ///
-    /// <!-- snippet crates/using/stdout: section category_for_decimal -->
+    /// <!-- snippet crates/example_calls/stdout: section category_for_decimal -->
     /// ```text
     /// 5.0: One, exact: true
     /// 2000000000000000000: Other, exact: false

@@ -36,7 +36,7 @@ impl Error for DataError {}
 /// Each call returns what the map of its name says. So a provider of English alone, with no ordinal
 /// numbers and no ranges, is
 ///
-/// <!-- snippet crates/using/src/english.rt: struct English; impl PluralsProvider for English -->
+/// <!-- snippet crates/example_calls/src/english.rt: struct English; impl PluralsProvider for English -->
 /// ```
 /// #[derive(Drop)]
 /// pub struct English {

@@ -16,7 +16,7 @@ use std::marker::Model;
 /// absent has its end's category. Tables are equal if they hold the same pairs. Of its calls only
 /// [`PluralRanges::to_json`] allocates.
 ///
-/// <!-- snippet crates/using/src/calls/ranges.rt: body of fn print_table -->
+/// <!-- snippet crates/example_calls/src/calls/ranges.rt: body of fn print_table -->
 /// ```
 /// let (one, few) = (RawPluralCategory::One, RawPluralCategory::Few);
 /// let mut ranges = PluralRanges::new();
@@ -27,7 +27,7 @@ use std::marker::Model;
 ///
 /// This prints
 ///
-/// <!-- snippet crates/using/stdout: section a table of ranges -->
+/// <!-- snippet crates/example_calls/stdout: section a table of ranges -->
 /// ```text
 /// true
 /// true

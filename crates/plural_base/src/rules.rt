@@ -28,7 +28,7 @@ use std::marker::Model;
 /// number's category: the first of zero, one, two, few and many whose rule is present and true,
 /// else other.
 ///
-/// <!-- snippet crates/using/src/texts.rt: fn czech; "let czech" to "let czech" of fn show_czech; body of fn print_czech -->
+/// <!-- snippet crates/example_calls/src/texts.rt: fn czech; "let czech" to "let czech" of fn show_czech; body of fn print_czech -->
 /// ```
 /// fn czech(alloc: Global) -> anyhow::Result<PluralRules<'static>> {
 ///     let one = Some("i = 1 and v = 0 @integer 1");
@@ -48,7 +48,7 @@ use std::marker::Model;
 ///
 /// This prints
 ///
-/// <!-- snippet crates/using/stdout: section texts -->
+/// <!-- snippet crates/example_calls/stdout: section texts -->
 /// ```text
 /// 1: One
 /// 3: Few
@@ -91,7 +91,7 @@ impl<'data> PluralRules<'data> {
 
     /// The category of a number by its operands. It allocates nothing.
     ///
-    /// <!-- snippet crates/using/src/calls/rules.rt: fn by_three; "let rules" to "let rules" of fn show_by_three; body of fn print_integers -->
+    /// <!-- snippet crates/example_calls/src/calls/rules.rt: fn by_three; "let rules" to "let rules" of fn show_by_three; body of fn print_integers -->
     /// ```
     /// fn by_three(alloc: Global) -> anyhow::Result<PluralRules<'static>> {
     ///     let data = PluralRulesData::from_texts(alloc, None, Some("i % 3 = 2"), None, None, None)?;
@@ -108,7 +108,7 @@ impl<'data> PluralRules<'data> {
     ///
     /// This prints
     ///
-    /// <!-- snippet crates/using/stdout: section category_for -->
+    /// <!-- snippet crates/example_calls/stdout: section category_for -->
     /// ```text
     /// 5: One
     /// 6: Other

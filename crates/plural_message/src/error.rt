@@ -7,7 +7,7 @@ use std::fmt;
 
 /// Why there is no message for a number.
 ///
-/// <!-- snippet crates/using/src/calls/messages.rt: "let texts" to "let message" of fn show_all; body of fn print_faults -->
+/// <!-- snippet crates/example_calls/src/calls/messages.rt: "let texts" to "let message" of fn show_all; body of fn print_faults -->
 /// ```
 /// let texts = PluralElements::new("{} items").with_one_value(Some("{} item"));
 /// let packed = PluralElementsPackedCow::from_elements(alloc, &texts)?;
@@ -22,7 +22,7 @@ use std::fmt;
 ///
 /// This prints
 ///
-/// <!-- snippet crates/using/stdout: section no message -->
+/// <!-- snippet crates/example_calls/stdout: section no message -->
 /// ```text
 /// x: bad number
 /// 1c0256: bad number

@@ -1,7 +1,7 @@
 //! Messages with a number in them: the text for the number's plural category, with the number in
 //! the place of each `{}`.
 //!
-//! <!-- snippet crates/hello_plurals/src/main.rt: imports; fn main -->
+//! <!-- snippet crates/example_plurals/src/main.rt: imports; fn main -->
 //! ```
 //! use icu_plurals::provider::{PluralElementsPackedCow, PluralRulesData};
 //! use icu_plurals::{PluralElements, PluralRules};
@@ -25,7 +25,7 @@
 //!
 //! prints
 //!
-//! <!-- snippet crates/hello_plurals/stdout -->
+//! <!-- snippet crates/example_plurals/stdout -->
 //! ```text
 //! 0 items
 //! 1 item

@@ -20,7 +20,7 @@ use std::marker::Model;
 /// A text for each plural category, and for exactly 0 and exactly 1, in which `{}` marks the
 /// number's place.
 ///
-/// <!-- snippet crates/using/src/messages.rt: "let texts" to "let message" of fn show_messages; body of fn print_messages -->
+/// <!-- snippet crates/example_calls/src/messages.rt: "let texts" to "let message" of fn show_messages; body of fn print_messages -->
 /// ```
 /// let texts = PluralElements::new("{} files were copied")
 ///     .with_one_value(Some("{} file was copied"))
@@ -36,7 +36,7 @@ use std::marker::Model;
 ///
 /// In English this prints
 ///
-/// <!-- snippet crates/using/stdout: section messages -->
+/// <!-- snippet crates/example_calls/stdout: section messages -->
 /// ```text
 /// no file was copied
 /// 1 file was copied
@@ -74,7 +74,7 @@ impl<'a> Message<'a> {
     ///
     /// For example:
     ///
-    /// <!-- snippet crates/using/src/calls/messages.rt: "let texts" to "let message" of fn show_all; body of fn print_written -->
+    /// <!-- snippet crates/example_calls/src/calls/messages.rt: "let texts" to "let message" of fn show_all; body of fn print_written -->
     /// ```
     /// let texts = PluralElements::new("{} items").with_one_value(Some("{} item"));
     /// let packed = PluralElementsPackedCow::from_elements(alloc, &texts)?;
@@ -87,7 +87,7 @@ impl<'a> Message<'a> {
     ///
     /// With the rules of English, this prints
     ///
-    /// <!-- snippet crates/using/stdout: section format -->
+    /// <!-- snippet crates/example_calls/stdout: section format -->
     /// ```text
     /// 1 item
     /// 1.0 items
@@ -148,7 +148,7 @@ impl<'a> Message<'a> {
     /// left, is replaced by the given text. Whether the text writes the number isn't checked. It
     /// allocates the message; the only error is out of memory.
     ///
-    /// <!-- snippet crates/using/src/messages.rt: "let number" to "println" of fn print_marks -->
+    /// <!-- snippet crates/example_calls/src/messages.rt: "let number" to "println" of fn print_marks -->
     /// ```
     /// let number = CompactDecimal::from_str(alloc, "1234567")?;
     /// let text = message.format_number(alloc, &number, "1,234,567", rules)?;
@@ -157,7 +157,7 @@ impl<'a> Message<'a> {
     ///
     /// With the text `{} files` this prints
     ///
-    /// <!-- snippet crates/using/stdout: section marks -->
+    /// <!-- snippet crates/example_calls/stdout: section marks -->
     /// ```text
     /// 1,234,567 files
     /// ```
@@ -186,7 +186,7 @@ impl<'a> Message<'a> {
     /// unchanged too. It allocates nothing, and has no error. A message of more than `usize::MAX`
     /// bytes, for which no buffer has room, is told as `usize::MAX`.
     ///
-    /// <!-- snippet crates/using/src/messages.rt: "let mut room" to "}" of fn print_in_place -->
+    /// <!-- snippet crates/example_calls/src/messages.rt: "let mut room" to "}" of fn print_in_place -->
     /// ```
     /// let mut room = [0u8; 32];
     /// let length = message.format_number_into(number, "1,234,567", rules, &mut room);
@@ -197,7 +197,7 @@ impl<'a> Message<'a> {
     ///
     /// With the text `{} files` this prints
     ///
-    /// <!-- snippet crates/using/stdout: section in place -->
+    /// <!-- snippet crates/example_calls/stdout: section in place -->
     /// ```text
     /// 15 bytes: 1,234,567 files
     /// ```

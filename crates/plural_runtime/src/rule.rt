@@ -20,7 +20,7 @@ use std::marker::Model;
 /// The bytes are a packed list, each item of which is a relation: its first byte, its modulus (0
 /// for none) and both ends of its ranges, each number in four bytes with the low byte first.
 ///
-/// <!-- snippet crates/using/src/bytes.rt: "let packed" to "let bytes" of fn show_stored_rule; "let one" to "let one" of fn stored -->
+/// <!-- snippet crates/example_calls/src/bytes.rt: "let packed" to "let bytes" of fn show_stored_rule; "let one" to "let one" of fn stored -->
 /// ```
 /// let packed = Rule::from_str(alloc, "i = 1 and v = 0")?;
 /// let bytes = packed.as_bytes();

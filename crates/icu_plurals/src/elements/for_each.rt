@@ -11,7 +11,7 @@ impl<T> PluralElements<T> {
     /// Calls the closure for other, zero, one, two, few, many, explicit zero and explicit one, in
     /// this order, if they are present.
     ///
-    /// <!-- snippet crates/using/src/calls/closures.rt: body of fn print_widest -->
+    /// <!-- snippet crates/example_calls/src/calls/closures.rt: body of fn print_widest -->
     /// ```
     /// let widths = PluralElements::new(5u8).with_one_value(Some(4));
     /// let mut widest = 0;
@@ -25,7 +25,7 @@ impl<T> PluralElements<T> {
     ///
     /// This prints
     ///
-    /// <!-- snippet crates/using/stdout: section for_each -->
+    /// <!-- snippet crates/example_calls/stdout: section for_each -->
     /// ```text
     /// 5
     /// ```
@@ -39,7 +39,7 @@ impl<T> PluralElements<T> {
     /// As [`PluralElements::for_each`] up to the first `Err` of the closure, which is then the
     /// result; the closure isn't called again.
     ///
-    /// <!-- snippet crates/using/src/calls/closures.rt: body of fn print_first_wide -->
+    /// <!-- snippet crates/example_calls/src/calls/closures.rt: body of fn print_first_wide -->
     /// ```
     /// let widths = PluralElements::new(4u8).with_one_value(Some(5));
     /// let answer = widths.try_for_each(|width| if *width < 5 { Ok(()) } else { Err(*width) });
@@ -50,7 +50,7 @@ impl<T> PluralElements<T> {
     ///
     /// This prints
     ///
-    /// <!-- snippet crates/using/stdout: section try_for_each -->
+    /// <!-- snippet crates/example_calls/stdout: section try_for_each -->
     /// ```text
     /// 5 is refused
     /// ```

@@ -11,7 +11,7 @@ impl<T> PluralElements<T> {
     /// Calls the closure, which may change the value that it gets, for other, zero, one, two, few,
     /// many, explicit zero and explicit one, in this order, if they are present.
     ///
-    /// <!-- snippet crates/using/src/calls/closures.rt: body of fn print_widened -->
+    /// <!-- snippet crates/example_calls/src/calls/closures.rt: body of fn print_widened -->
     /// ```
     /// let mut widths = PluralElements::new(5u8).with_one_value(Some(4));
     /// widths.for_each_mut(|width| *width = width.saturating_add(100));
@@ -20,7 +20,7 @@ impl<T> PluralElements<T> {
     ///
     /// This prints
     ///
-    /// <!-- snippet crates/using/stdout: section for_each_mut -->
+    /// <!-- snippet crates/example_calls/stdout: section for_each_mut -->
     /// ```text
     /// one 104, other 105
     /// ```
@@ -41,7 +41,7 @@ impl<T> PluralElements<T> {
     /// As [`PluralElements::for_each_mut`] up to the first `Err` of the closure, which is then the
     /// result; the closure isn't called again, and what it has changed before stays changed.
     ///
-    /// <!-- snippet crates/using/src/calls/closures.rt: body of fn print_limited -->
+    /// <!-- snippet crates/example_calls/src/calls/closures.rt: body of fn print_limited -->
     /// ```
     /// let mut widths = PluralElements::new(5u8).with_one_value(Some(200));
     /// let answer = widths.try_for_each_mut(|width| match width.checked_add(100) {
@@ -59,7 +59,7 @@ impl<T> PluralElements<T> {
     ///
     /// This prints
     ///
-    /// <!-- snippet crates/using/stdout: section try_for_each_mut -->
+    /// <!-- snippet crates/example_calls/stdout: section try_for_each_mut -->
     /// ```text
     /// 200 is refused
     /// one 200, other 105

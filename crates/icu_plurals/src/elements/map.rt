@@ -11,7 +11,7 @@ impl<T> PluralElements<T> {
     /// zero, one, two, few, many, explicit zero and explicit one, in this order, if they are
     /// present.
     ///
-    /// <!-- snippet crates/using/src/calls/closures.rt: body of fn print_mapped -->
+    /// <!-- snippet crates/example_calls/src/calls/closures.rt: body of fn print_mapped -->
     /// ```
     /// let texts = PluralElements::new("files").with_one_value(Some("file"));
     /// let widths = texts.map(|text| text.len());
@@ -20,7 +20,7 @@ impl<T> PluralElements<T> {
     ///
     /// This prints
     ///
-    /// <!-- snippet crates/using/stdout: section map -->
+    /// <!-- snippet crates/example_calls/stdout: section map -->
     /// ```text
     /// one 4, other 5
     /// ```
@@ -43,7 +43,7 @@ impl<T> PluralElements<T> {
     /// As [`PluralElements::map`] up to the first `Err` of the closure, which is then the result;
     /// the closure isn't called again.
     ///
-    /// <!-- snippet crates/using/src/calls/closures.rt: body of fn print_parsed -->
+    /// <!-- snippet crates/example_calls/src/calls/closures.rt: body of fn print_parsed -->
     /// ```
     /// let texts = PluralElements::new("10").with_one_value(Some("x"));
     /// let numbers = texts.try_map(|text| text.parse::<u8>());
@@ -52,7 +52,7 @@ impl<T> PluralElements<T> {
     ///
     /// This prints
     ///
-    /// <!-- snippet crates/using/stdout: section try_map -->
+    /// <!-- snippet crates/example_calls/stdout: section try_map -->
     /// ```text
     /// false
     /// ```

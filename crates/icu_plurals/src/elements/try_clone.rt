@@ -12,7 +12,7 @@ impl<T: Clone> PluralElements<T> {
     /// error is out of memory, and there is none if clones of `T` never fail. It equals what was
     /// cloned if clones of `T` equal their sources.
     ///
-    /// <!-- snippet crates/using/src/calls/closures.rt: fn print_cloned; fn print_clone -->
+    /// <!-- snippet crates/example_calls/src/calls/closures.rt: fn print_cloned; fn print_clone -->
     /// ```
     /// fn print_cloned(rt: &HostRuntime, alloc: Global) -> anyhow::Result<()> {
     ///     let texts = PluralElements::new(format!(in alloc; "files")?);
@@ -28,7 +28,7 @@ impl<T: Clone> PluralElements<T> {
     ///
     /// This prints
     ///
-    /// <!-- snippet crates/using/stdout: section try_clone -->
+    /// <!-- snippet crates/example_calls/stdout: section try_clone -->
     /// ```text
     /// true
     /// ```

@@ -52,7 +52,7 @@ impl JsonProvider {
     /// to ranges, as [`PluralRanges::from_json`] reads them, under `ranges`. Each of the three may
     /// be null or absent. Other keys aren't read.
     ///
-    /// <!-- snippet crates/using/src/json.rt: const DOCUMENT; fn provider -->
+    /// <!-- snippet crates/example_calls/src/json.rt: const DOCUMENT; fn provider -->
     /// ```
     /// const DOCUMENT: &str = r#"{
     ///     "cardinal": {"en": {"one": "i = 1 and v = 0"}},

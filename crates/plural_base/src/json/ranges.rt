@@ -53,7 +53,7 @@ impl PluralRanges {
     /// of each range that has a category to the category's name. It allocates; the only error is
     /// [`JsonError::Memory`].
     ///
-    /// <!-- snippet crates/using/src/calls/ranges.rt:
+    /// <!-- snippet crates/example_calls/src/calls/ranges.rt:
     ///      "let mut ranges" to "let value" of fn print_json -->
     /// ```
     /// let mut ranges = PluralRanges::new();
@@ -79,7 +79,7 @@ impl PluralRanges {
     ///
     /// For example:
     ///
-    /// <!-- snippet crates/using/src/calls/ranges.rt: body of fn print_json -->
+    /// <!-- snippet crates/example_calls/src/calls/ranges.rt: body of fn print_json -->
     /// ```
     /// let (one, few) = (RawPluralCategory::One, RawPluralCategory::Few);
     /// let mut ranges = PluralRanges::new();
@@ -91,7 +91,7 @@ impl PluralRanges {
     ///
     /// This prints
     ///
-    /// <!-- snippet crates/using/stdout: section ranges as JSON -->
+    /// <!-- snippet crates/example_calls/stdout: section ranges as JSON -->
     /// ```text
     /// {"ranges":{"one--few":"few"}}
     /// true

@@ -11,7 +11,7 @@ impl<'data> PluralRules<'data> {
     /// borrowed from the provider. [`DataError::NotFound`] if and only if it has none. It allocates
     /// nothing.
     ///
-    /// <!-- snippet crates/using/src/calls/rules.rt: body of fn print_types -->
+    /// <!-- snippet crates/example_calls/src/calls/rules.rt: body of fn print_types -->
     /// ```
     /// for rule_type in [PluralRuleType::Cardinal, PluralRuleType::Ordinal] {
     ///     let options = PluralRulesOptions::from(rule_type);
@@ -24,7 +24,7 @@ impl<'data> PluralRules<'data> {
     ///
     /// With a provider of the rules of English, this prints
     ///
-    /// <!-- snippet crates/using/stdout: section options -->
+    /// <!-- snippet crates/example_calls/stdout: section options -->
     /// ```text
     /// Other
     /// Two
@@ -49,7 +49,7 @@ impl<'data> PluralRules<'data> {
     /// Returns the rules of a locale for cardinal numbers, borrowed from the provider.
     /// [`DataError::NotFound`] if and only if it has none. It allocates nothing.
     ///
-    /// <!-- snippet crates/using/src/english.rt: fn category_in; body of fn print_english -->
+    /// <!-- snippet crates/example_calls/src/english.rt: fn category_in; body of fn print_english -->
     /// ```
     /// fn category_in(english: &English, locale: &str) -> Result<PluralCategory, DataError> {
     ///     let rules = PluralRules::try_new_cardinal_unstable(english, locale)?;
@@ -66,7 +66,7 @@ impl<'data> PluralRules<'data> {
     ///
     /// With a provider of `"en"` alone, this prints
     ///
-    /// <!-- snippet crates/using/stdout: section english -->
+    /// <!-- snippet crates/example_calls/stdout: section english -->
     /// ```text
     /// One
     /// locale not found
@@ -83,7 +83,7 @@ impl<'data> PluralRules<'data> {
     /// Returns the rules of a locale for ordinal numbers, borrowed from the provider.
     /// [`DataError::NotFound`] if and only if it has none. It allocates nothing.
     ///
-    /// <!-- snippet crates/using/src/json.rt: "let ordinal" to "let ordinal" of fn show_places; body of fn print_places -->
+    /// <!-- snippet crates/example_calls/src/json.rt: "let ordinal" to "let ordinal" of fn show_places; body of fn print_places -->
     /// ```
     /// let ordinal = PluralRules::try_new_ordinal_unstable(provider, "en")?;
     ///
@@ -95,7 +95,7 @@ impl<'data> PluralRules<'data> {
     ///
     /// In English this prints
     ///
-    /// <!-- snippet crates/using/stdout: section json -->
+    /// <!-- snippet crates/example_calls/stdout: section json -->
     /// ```text
     /// 1: One
     /// 2: Two

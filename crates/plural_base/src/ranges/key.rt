@@ -15,7 +15,7 @@ use crate::category::raw::RawPluralCategory;
 ///
 /// The order is that of the bytes.
 ///
-/// <!-- snippet crates/using/src/calls/ranges.rt: body of fn print_key -->
+/// <!-- snippet crates/example_calls/src/calls/ranges.rt: body of fn print_key -->
 /// ```
 /// let key = UnvalidatedPluralRange::from_range(RawPluralCategory::Two, RawPluralCategory::One);
 /// println!(rt; "{}", key.0)?;
@@ -25,7 +25,7 @@ use crate::category::raw::RawPluralCategory;
 ///
 /// This prints
 ///
-/// <!-- snippet crates/using/stdout: section a key -->
+/// <!-- snippet crates/example_calls/stdout: section a key -->
 /// ```text
 /// 50
 /// true
@@ -36,7 +36,7 @@ pub struct UnvalidatedPluralRange(pub u8);
 impl UnvalidatedPluralRange {
     /// Returns the byte of a start and an end.
     ///
-    /// <!-- snippet crates/using/src/calls/ranges.rt: "let key" to "println" of fn print_key -->
+    /// <!-- snippet crates/example_calls/src/calls/ranges.rt: "let key" to "println" of fn print_key -->
     /// ```
     /// let key = UnvalidatedPluralRange::from_range(RawPluralCategory::Two, RawPluralCategory::One);
     /// println!(rt; "{}", key.0)?;

@@ -20,7 +20,7 @@ use std::marker::Model;
 /// its end (UTS 35 Part 3, Plural Ranges). The order of start and end isn't checked, nor that both
 /// are positive.
 ///
-/// <!-- snippet crates/using/src/ranges.rt: "let english" to "let english" of fn show_ranges; body of fn print_ranges -->
+/// <!-- snippet crates/example_calls/src/ranges.rt: "let english" to "let english" of fn show_ranges; body of fn print_ranges -->
 /// ```
 /// let english = PluralRulesWithRanges::try_new_cardinal_unstable(provider, "en")?;
 ///
@@ -33,7 +33,7 @@ use std::marker::Model;
 ///
 /// The ranges from 0 to 1 and from 1 to 2 have the categories
 ///
-/// <!-- snippet crates/using/stdout: section ranges -->
+/// <!-- snippet crates/example_calls/stdout: section ranges -->
 /// ```text
 /// Other
 /// Other
@@ -163,7 +163,7 @@ impl<R: Drop> PluralRulesWithRanges<R> {
     /// isn't checked. [`DataError::NotFound`] if and only if the provider has no ranges. It
     /// allocates nothing.
     ///
-    /// <!-- snippet crates/using/src/named.rt: "let named" to "let ranges" of fn show_named_range; body of fn print_named_range -->
+    /// <!-- snippet crates/example_calls/src/named.rt: "let named" to "let ranges" of fn show_named_range; body of fn print_named_range -->
     /// ```
     /// let named = Named {
     ///     name: "English",

@@ -7,7 +7,7 @@ use crate::rules::PluralRules;
 /// An implementation names its rules by the ghost member `rules`, a function from the value to five
 /// rules, as which [`PluralRules`] are seen. So a type that gives rules a name is
 ///
-/// <!-- snippet crates/using/src/named.rt: struct Named; impl AsPluralRules<'data> for Named<'data> -->
+/// <!-- snippet crates/example_calls/src/named.rt: struct Named; impl AsPluralRules<'data> for Named<'data> -->
 /// ```
 /// #[derive(Drop)]
 /// pub struct Named<'data> {

@@ -26,7 +26,7 @@ impl<'data> PluralRulesData<'data> {
     ///
     /// For example:
     ///
-    /// <!-- snippet crates/using/src/calls/rules.rt:
+    /// <!-- snippet crates/example_calls/src/calls/rules.rt:
     ///      fn stored -->
     /// ```
     /// fn stored(alloc: Global) -> anyhow::Result<Vec<u8>> {
@@ -50,7 +50,7 @@ impl<'data> PluralRulesData<'data> {
 
     /// Returns the rules in these bytes, borrowed from them. It allocates nothing.
     ///
-    /// <!-- snippet crates/using/src/calls/rules.rt: fn stored; "let bytes" to "let stored" of fn show_stored_rules; body of fn print_stored_rules -->
+    /// <!-- snippet crates/example_calls/src/calls/rules.rt: fn stored; "let bytes" to "let stored" of fn show_stored_rules; body of fn print_stored_rules -->
     /// ```
     /// fn stored(alloc: Global) -> anyhow::Result<Vec<u8>> {
     ///     let (one, few) = (Some("n = 1"), Some("n = 2"));
@@ -69,7 +69,7 @@ impl<'data> PluralRulesData<'data> {
     ///
     /// This prints
     ///
-    /// <!-- snippet crates/using/stdout: section rules as bytes -->
+    /// <!-- snippet crates/example_calls/stdout: section rules as bytes -->
     /// ```text
     /// 0: Other
     /// 1: One

@@ -8,7 +8,7 @@ use std::alloc::AllocError;
 /// The rules of one language and type: at most one for each category but other, which all remaining
 /// numbers have. Two are equal if their rules have the same bytes.
 ///
-/// <!-- snippet crates/using/src/bytes.rt: fn stored; "let category" to "let category" of fn print_stored_rule -->
+/// <!-- snippet crates/example_calls/src/bytes.rt: fn stored; "let category" to "let category" of fn print_stored_rule -->
 /// ```
 /// fn stored(bytes: &[u8]) -> anyhow::Result<PluralRules<'_>> {
 ///     let one = Rule::parse_bytes(bytes)?;

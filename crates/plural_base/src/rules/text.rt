@@ -19,7 +19,7 @@ use std::fmt;
 
 /// Which of five texts gives no rule, and why.
 ///
-/// <!-- snippet crates/using/src/texts.rt: body of fn print_refusal -->
+/// <!-- snippet crates/example_calls/src/texts.rt: body of fn print_refusal -->
 /// ```
 /// let one = Some("i = 1");
 /// let few = Some("i 2..4");
@@ -31,7 +31,7 @@ use std::fmt;
 ///
 /// This prints
 ///
-/// <!-- snippet crates/using/stdout: section refused -->
+/// <!-- snippet crates/example_calls/stdout: section refused -->
 /// ```text
 /// Few: expected operator
 /// ```

@@ -17,7 +17,7 @@ impl PluralOperands {
     ///
     /// For example:
     ///
-    /// <!-- snippet crates/using/src/calls/numbers.rt: body of fn print_operands -->
+    /// <!-- snippet crates/example_calls/src/calls/numbers.rt: body of fn print_operands -->
     /// ```
     /// let number = CompactDecimal::from_str(alloc, "1.00000020c6")?;
     /// let operands = RawPluralOperands::from(PluralOperands::from(&number));
@@ -27,7 +27,7 @@ impl PluralOperands {
     ///
     /// This prints
     ///
-    /// <!-- snippet crates/using/stdout: section operands -->
+    /// <!-- snippet crates/example_calls/stdout: section operands -->
     /// ```text
     /// i = 1000000, v = 2, w = 1, f = 20, t = 2, c = 6
     /// ```

@@ -1,0 +1,39 @@
+//! The kinds of the upper crates: `icu_plurals`, `plural_message`, `plural_checker`,
+//! `plural_fallback`, `message_report`, `form_commands`, `example_callers`, `message_pattern`,
+//! `message_format` and `plural_exports`.
+
+mod callers;
+mod checker;
+mod element_values;
+mod elements;
+mod elements_json;
+mod exported_bytes;
+mod exports;
+mod fallback;
+mod forms;
+mod message_reports;
+mod messages;
+mod packed_texts;
+mod packing;
+mod pattern_texts;
+mod patterns;
+
+use crate::call::Call;
+
+/// Makes the call of a kind of these crates. Returns whether there is such a kind.
+pub fn make(kind: &str, call: &mut Call) -> bool {
+    elements::make(kind, call)
+        || packing::make(kind, call)
+        || packed_texts::make(kind, call)
+        || elements_json::make(kind, call)
+        || messages::make(kind, call)
+        || checker::make(kind, call)
+        || fallback::make(kind, call)
+        || message_reports::make(kind, call)
+        || forms::make(kind, call)
+        || callers::make(kind, call)
+        || patterns::make(kind, call)
+        || pattern_texts::make(kind, call)
+        || exports::make(kind, call)
+        || exported_bytes::make(kind, call)
+}

@@ -1,0 +1,28 @@
+//! The program `tests_rows`: compares what the libraries' public calls return with rows of wanted
+//! results.
+//!
+//! The rows are read from the files that the arguments name, or from the standard input if there
+//! are none.
+#![tactic(auto)]
+
+mod arguments;
+mod call;
+mod fault;
+mod kinds;
+mod row;
+mod run;
+mod tally;
+
+use run::run;
+use std::process::ExitCode;
+
+fn main(rt: HostRuntime) -> ExitCode {
+    match run(&rt) {
+        Ok(true) => ExitCode::SUCCESS,
+        Ok(false) => ExitCode::FAILURE,
+        Err(fault) => {
+            let _ = eprintln!(rt; "cases: {fault}");
+            ExitCode::from(2)
+        }
+    }
+}
