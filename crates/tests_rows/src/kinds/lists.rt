@@ -23,9 +23,25 @@ fn list(call: &mut Call) {
     let bytes = call.bytes();
     match PackedList::parse_bytes(&bytes) {
         Ok(list) if list.as_bytes() != bytes.as_slice() => call.print("other bytes"),
+        Ok(list) if !is_walked(&list) => call.print("other items by a cursor"),
         Ok(list) => print_items(call, &list),
         Err(error) => call.print_error(&error),
     }
+}
+
+// Returns whether a cursor comes by the items in turn, and stays at the last one.
+fn is_walked(list: &PackedList<'_>) -> bool {
+    let Some(mut cursor) = list.cursor() else {
+        return list.is_empty();
+    };
+    let mut is_last = false;
+    for item in list.iter() {
+        if is_last || cursor.item() != item {
+            return false;
+        }
+        is_last = !cursor.advance();
+    }
+    is_last && !cursor.advance()
 }
 
 // Prints the start and the bytes of each item, if those by place are those in turn and no item
