@@ -22,9 +22,19 @@ pub fn least_from(rules: &PluralRules<'_>, category: PluralCategory, start: u16)
         }
     }
     let left = if start < ASKED { ASKED } else { start };
-    let rules = PreparedRules::from_rules(rules.as_borrowed());
-    for number in left..WHOLE_LIMIT {
-        if rules.category_for_integer(u64::from(number)) == category {
+    least_by_tables(
+        &PreparedRules::from_rules(rules.as_borrowed()),
+        category,
+        left,
+    )
+}
+
+// The same by tables.
+fn least_by_tables(tables: &PreparedRules<'_>, category: PluralCategory, start: u16) -> Option<u16>
+    ensures { IsLeastFrom tables.now category start result }
+{
+    for number in start..WHOLE_LIMIT {
+        if tables.category_for_integer(u64::from(number)) == category {
             return Some(number);
         }
     }
