@@ -8,8 +8,8 @@ ghost use Rattle.plural_documents.specs.PrintedKeys.{name_text};
 
 use crate::found::{Found, MemberCheck};
 use crate::names::{has_underscore, is_long_name};
-use plural_documents::name_text;
 use icu_plurals::PluralCategory;
+use plural_documents::name_text;
 use plural_fallback::Part;
 use serde_json::Value;
 use std::alloc::{AllocError, Global};

@@ -14,10 +14,10 @@ ghost use Rattle.serde_json.specs.View.{view};
 
 use crate::found::{Found, MemberCheck, add_members, sum};
 use crate::keys::{CategoryCheck, add_key, locale_line};
-use plural_documents::name_text;
 use icu_plurals::PluralCategory;
 use icu_plurals::provider::RawPluralCategory;
 use plural_checker::{Fault, LanguageTexts, check_texts};
+use plural_documents::name_text;
 use plural_fallback::Part;
 use serde_json::Value;
 use std::alloc::{AllocError, Global};

@@ -13,8 +13,8 @@ ghost use Rattle.serde_json.specs.View.{members_view, view};
 
 use crate::found::{Found, MemberCheck, add_members};
 use crate::names::{MOST_NAME_BYTES, is_long_name};
-use plural_documents::name_text;
 use crate::parent_rows::Parents;
+use plural_documents::name_text;
 use plural_fallback::{MOST_LOCALES, next_locale};
 use serde_json::{Map, Value};
 use std::alloc::{AllocError, Global};

@@ -13,9 +13,9 @@ use crate::found::{Found, MemberCheck, add_members};
 use crate::keys::{named_line, place_line};
 use crate::part::add_part;
 use crate::patterns::add_patterns;
-use plural_documents::name_text;
 use crate::source::RulesOfLocales;
 use icu_plurals::PluralRuleType;
+use plural_documents::name_text;
 use serde_json::{Map, Value};
 use std::alloc::{AllocError, Global};
 

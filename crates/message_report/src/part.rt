@@ -14,9 +14,9 @@ use crate::found::{Found, add_members};
 use crate::keys::place_line;
 use crate::language::Language;
 use crate::message::MessageCheck;
-use plural_documents::name_text;
 use crate::source::RulesOfLocales;
 use icu_plurals::PluralRuleType;
+use plural_documents::name_text;
 use serde_json::{Map, Value};
 use std::alloc::{AllocError, Global};
 

@@ -14,9 +14,9 @@ use crate::keys::place_line;
 use crate::part::language_at;
 use crate::pattern::PatternCheck;
 use crate::pattern_lines::Languages;
-use plural_documents::name_text;
 use crate::source::RulesOfLocales;
 use icu_plurals::PluralRuleType;
+use plural_documents::name_text;
 use serde_json::{Map, Value};
 use std::alloc::{AllocError, Global};
 

@@ -5,14 +5,14 @@ use crate::kinds::decimals::next_compact;
 use crate::kinds::locales::next_provider;
 use crate::kinds::upper::element_values::{Elements, next_rules};
 use crate::kinds::upper::messages::{next_packed, print_message};
-use icu_plurals::{CompactDecimal, JsonProvider, PluralRulesWithRanges};
-use message_format::{FormatError, Rules};
-use plural_fallback::FallbackProvider;
-use plural_message::Message;
 use example_callers::{
     CompactUnits, Formatter, NoticeError, RangeLabels, RelativeTime, ShownNumber, Store,
     is_complete, notice,
 };
+use icu_plurals::{CompactDecimal, JsonProvider, PluralRulesWithRanges};
+use message_format::{FormatError, Rules};
+use plural_fallback::FallbackProvider;
+use plural_message::Message;
 
 /// Makes the call of a kind of this file. Returns whether there is such a kind.
 pub fn make(kind: &str, call: &mut Call) -> bool {
