@@ -1,5 +1,5 @@
 -- What is found in the parents of a document.
-use Rattle.std.proofs.Common.{◌≡◌, List, ℕ, false, Option, Some, None, is_some, codes, refl, sym, ap, subst, ◌∙◌}
+use Rattle.std.proofs.Common.{◌≡◌, false, Option, Some, None, is_some, codes, refl, sym, ap, subst, ◌∙◌}
 use Rattle.std.specs.Option.{option_and_then}
 use Rattle.serde_json.specs.Data.{Data, Members}
 use Rattle.serde_json.specs.Find.{as_null, as_object, get}

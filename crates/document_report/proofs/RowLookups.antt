@@ -1,6 +1,6 @@
 -- The parents of a document, found by the names of their locales.
 use Rattle.std.proofs.Common.{◌≡◌, ◌==◌, ◌&&◌, ℕ, List, [], ◌∷◌, map, Bool, true, false, cond, Option, Some, None, is_some, bytes_eq}
-use Rattle.std.proofs.Common.{codes, if◌then◌else◌, refl, sym, ap, subst, ◌∙◌, Vec, Global, Ordering, Less, Equal, Greater, is_eq, nat_cmp}
+use Rattle.std.proofs.Common.{codes, if◌then◌else◌, refl, sym, ap, ◌∙◌, Vec, Global, Ordering, Less, Equal, Greater, is_eq, nat_cmp}
 use Rattle.std.proofs.lemmas.Map.Text.{is_eq-slice_cmp}
 use Rattle.std.proofs.lemmas.Slice.Eq.{bytes_eq-Decides}
 use Rattle.std.specs.Prelude.{option_map, option_and_then}
@@ -9,7 +9,7 @@ use Rattle.std.specs.Cmp.{eq_by_cmp_equiv}
 use Rattle.std.specs.Cmp.Lexicographic.{slice_cmp, nat_list_cmp_total, nat_list_eq_equiv}
 use Rattle.std.specs.List.{find}
 use Rattle.std.specs.Map.{lookup, AreApart, IsKeyTest, KeepsOthers}
-use Rattle.std.specs.Option.{option_copied, option_flatten, option_or}
+use Rattle.std.specs.Option.{option_flatten, option_or}
 use Rattle.std.specs.Ordering.{eq_by_cmp, match_ordering}
 use Rattle.serde_json.specs.Data.{Data, null, boolean, number, string, array, object, Members, no_members, member}
 use Rattle.serde_json.specs.Find.{as_object, as_str, get, get_member}

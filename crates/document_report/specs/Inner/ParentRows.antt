@@ -1,6 +1,6 @@
 -- Not a definition of the subject: how the parents of a document are found by the names of their
 -- locales.
-use Rattle.std.specs.Prelude.{ℕ, List, Bool, Option, Some, None, option_map, bytes_eq, map, codes, if◌then◌else◌}
+use Rattle.std.specs.Prelude.{ℕ, List, Bool, Option, Some, None, option_map, map, if◌then◌else◌}
 use Rattle.std.specs.Prelude.{option_and_then, Vec}
 use Rattle.std.specs.BTreeMap.{BTreeMap, get_by}
 use Rattle.std.specs.Cmp.Lexicographic.{slice_cmp}

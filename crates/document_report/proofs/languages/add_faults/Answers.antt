@@ -1,6 +1,5 @@
-use Rattle.std.proofs.Common.{◌≡◌, ◌≢◌, ◌+◌, List, ◌∷◌, [], length, take, refl, ap, sym, subst, ◌∙◌, rules}
+use Rattle.std.proofs.Common.{◌≡◌, ◌≢◌, ◌+◌, ◌∷◌, [], length, take, refl, ap, sym, ◌∙◌, rules}
 use Rattle.std.proofs.lemmas.List.{length-append, take_all}
-use Rattle.plural_checker.specs.declared.Fault.{Fault}
 use Rattle.document_report.specs.DocumentReport.{faults_of}
 use Rattle.document_report.specs.Found.{together}
 use Rattle.document_report.specs.Inner.Additions.{lines_alone}

@@ -1,4 +1,4 @@
-use Rattle.std.proofs.Common.{List, ℕ, Some, ap, sym, ◌∙◌}
+use Rattle.std.proofs.Common.{List, ℕ, ap, sym, ◌∙◌}
 use Rattle.serde_json.specs.View.{view}
 use Rattle.document_report.specs.Found.{Found, one_fault, together}
 use Rattle.document_report.proofs.FoundParts.{on_ok}

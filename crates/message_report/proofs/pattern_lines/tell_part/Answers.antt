@@ -1,12 +1,11 @@
-use Rattle.std.proofs.Common.{ℕ, Bool, List, [], IfOk, refl, sym, subst, ◌∙◌}
+use Rattle.std.proofs.Common.{Bool, IfOk, refl, sym, subst, ◌∙◌}
 use Rattle.message_pattern.specs.PatternParts.{Begin, offset_view, parts_view, piece_view}
 use Rattle.message_pattern.specs.declared.part.Piece as pieces
 use Rattle.message_report.specs.Inner.ArgumentViews.{argument_view, languages_view}
 use Rattle.message_report.specs.Inner.ToldLines.{TellsThose}
 use Rattle.message_report.specs.MessagesReport.{HasPieceLines, argument_lines}
 use Rattle.message_report.specs.PatternFaults.{IsArgumentAt, type_of_kind}
-use Rattle.message_report.proofs.PatternTold.{no_lines, same_offset, those_told}
-use Rattle.message_report.proofs.TellLemmas.{tells_none}
+use Rattle.message_report.proofs.PatternTold.{same_offset, those_told}
 use Rattle.message_report.proofs.pattern_lines.tell_part.Goals as goal
 
 pub returns : goal.returns

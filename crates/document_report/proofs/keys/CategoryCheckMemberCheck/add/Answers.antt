@@ -1,4 +1,4 @@
-use Rattle.std.proofs.Common.{◌≡◌, ℕ, List, ap, refl, sym, ◌∙◌, inl, inr}
+use Rattle.std.proofs.Common.{ℕ, List, ap, refl, sym, ◌∙◌, inl, inr}
 use Rattle.document_report.specs.DocumentReport.{category_line}
 use Rattle.document_report.specs.Found.{nothing, one_fault, together}
 use Rattle.document_report.proofs.Entries.{no_category}
