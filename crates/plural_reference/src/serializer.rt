@@ -50,6 +50,7 @@ pub fn serialize<W: fmt::Write>(rule: &ast::Rule, w: &mut W) -> fmt::Result
 ///
 /// It allocates nothing. `Err` is the writer's first error: nothing more is written, and what was
 /// written stays.
+#[inline(always)]
 pub fn serialize_condition<W: fmt::Write>(condition: &ast::Condition, w: &mut W) -> fmt::Result
     ensures { OnOk result (WritesInCalls W.write_str_gives w.old (condition_text condition.now) w.new) }
 {
@@ -61,6 +62,7 @@ pub fn serialize_condition<W: fmt::Write>(condition: &ast::Condition, w: &mut W)
 ///
 /// It allocates nothing. `Err` is the writer's first error: nothing more is written, and what was
 /// written stays.
+#[inline(always)]
 pub fn serialize_samples<W: fmt::Write>(samples: &ast::Samples, w: &mut W) -> fmt::Result
     ensures { OnOk result (WritesInCalls W.write_str_gives w.old (samples_text samples.now) w.new) }
 {
@@ -73,6 +75,7 @@ pub fn serialize_samples<W: fmt::Write>(samples: &ast::Samples, w: &mut W) -> fm
 ///
 /// It allocates nothing. `Err` is the writer's first error: nothing more is written, and what was
 /// written stays.
+#[inline(always)]
 pub fn serialize_sample_list<W: fmt::Write>(samples: &ast::SampleList, w: &mut W) -> fmt::Result
     ensures { OnOk result (WritesInCalls W.write_str_gives w.old (sample_list_text samples.now) w.new) }
 {
@@ -87,6 +90,7 @@ pub fn serialize_sample_list<W: fmt::Write>(samples: &ast::SampleList, w: &mut W
 ///
 /// It allocates nothing. `Err` is the writer's first error: nothing more is written, and what was
 /// written stays.
+#[inline(always)]
 pub fn serialize_sample_range<W: fmt::Write>(range: &ast::SampleRange, w: &mut W) -> fmt::Result
     ensures { OnOk result (WritesInCalls W.write_str_gives w.old (sample_range_text range.now) w.new) }
 {
@@ -98,6 +102,7 @@ pub fn serialize_sample_range<W: fmt::Write>(range: &ast::SampleRange, w: &mut W
 ///
 /// It allocates nothing. `Err` is the writer's first error: nothing more is written, and what was
 /// written stays.
+#[inline(always)]
 pub fn serialize_decimal_value<W: fmt::Write>(value: &ast::DecimalValue, w: &mut W) -> fmt::Result
     ensures { OnOk result (WritesInCalls W.write_str_gives w.old (sample_text value.now) w.new) }
 {

@@ -13,6 +13,7 @@ impl Part for ast::AndCondition {
 
     ghost text = { and_condition_text };
 
+    #[inline(always)]
     fn write_to<W: fmt::Write>(&self, w: &mut W) -> fmt::Result {
         serialize_joined(self.0.as_slice(), " and ", w)
     }
@@ -23,6 +24,7 @@ impl Part for ast::Relation {
 
     ghost text = { relation_text };
 
+    #[inline(always)]
     fn write_to<W: fmt::Write>(&self, w: &mut W) -> fmt::Result {
         self.expression.write_to(w)?;
         w.write_str(spaced(self.operator))?;
@@ -35,6 +37,7 @@ impl Part for ast::Expression {
 
     ghost text = { expression_text };
 
+    #[inline(always)]
     fn write_to<W: fmt::Write>(&self, w: &mut W) -> fmt::Result {
         self.operand.write_to(w)?;
         serialize_prefixed(" % ", self.modulus.as_ref(), w)
@@ -46,13 +49,14 @@ impl Part for ast::Operand {
 
     ghost text = { operand_text };
 
+    #[inline(always)]
     fn write_to<W: fmt::Write>(&self, w: &mut W) -> fmt::Result {
         w.write_str(self.as_str())
     }
 }
 
 // The operator, with a space on each side.
-#[inline]
+#[inline(always)]
 fn spaced(operator: ast::Operator) -> &'static str
     ensures { result.now ≡ codes " " ++ operator_text operator ++ codes " " }
 {
@@ -67,6 +71,7 @@ impl Part for ast::RangeList {
 
     ghost text = { range_list_text };
 
+    #[inline(always)]
     fn write_to<W: fmt::Write>(&self, w: &mut W) -> fmt::Result {
         serialize_joined(self.0.as_slice(), ", ", w)
     }
@@ -77,6 +82,7 @@ impl Part for ast::RangeListItem {
 
     ghost text = { item_text };
 
+    #[inline(always)]
     fn write_to<W: fmt::Write>(&self, w: &mut W) -> fmt::Result {
         match self {
             ast::RangeListItem::Range(start, end) => {
@@ -94,6 +100,7 @@ impl Part for ast::Value {
 
     ghost text = { value_text };
 
+    #[inline(always)]
     fn write_to<W: fmt::Write>(&self, w: &mut W) -> fmt::Result {
         let number = self.0;
         write!(w, "{number}")

@@ -10,6 +10,7 @@ impl Part for ast::SampleList {
 
     ghost text = { sample_list_text };
 
+    #[inline(always)]
     fn write_to<W: fmt::Write>(&self, w: &mut W) -> fmt::Result {
         serialize_sample_list(self, w)
     }
@@ -20,6 +21,7 @@ impl Part for ast::SampleRange {
 
     ghost text = { sample_range_text };
 
+    #[inline(always)]
     fn write_to<W: fmt::Write>(&self, w: &mut W) -> fmt::Result {
         serialize_sample_range(self, w)
     }
@@ -30,6 +32,7 @@ impl Part for ast::DecimalValue {
 
     ghost text = { sample_text };
 
+    #[inline(always)]
     fn write_to<W: fmt::Write>(&self, w: &mut W) -> fmt::Result {
         serialize_decimal_value(self, w)
     }
