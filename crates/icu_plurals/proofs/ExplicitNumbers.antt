@@ -4,12 +4,12 @@ use Rattle.std.proofs.Common.{◌≡◌, ℕ, ◌<◌, List, [], ◌∷◌, fals
 use Rattle.std.specs.Prelude.{◌==◌, ◌&&◌, ◌||◌, nat_le, None, if◌then◌else◌}
 use Rattle.std.proofs.lemmas.Bool.Decides.{nat_tests}
 use Rattle.fixed_decimal.specs.Places.{Places}
-use Rattle.plural_reference.specs.declared.ast.Operand.{Operand}
-use Rattle.plural_reference.specs.declared.ast.Operand.TheVariants.{I, V, W, F, T, C}
+use Rattle.plural_operands.specs.declared.operand.Operand.{Operand}
+use Rattle.plural_operands.specs.declared.operand.Operand.TheVariants.{I, V, W, F, T, C}
 use Rattle.plural_reference.specs.declared.ast.Operator.TheVariants.{Eq}
 use Rattle.plural_reference.specs.Exactness.{IsAdmitted, IsListed, exact_relation_truth}
 use Rattle.plural_reference.specs.ExactnessLaws.{IsKept, RelationsAgree}
-use Rattle.plural_reference.specs.Operands.{Operands, kept_limit}
+use Rattle.plural_operands.specs.Operands.{Operands, kept_limit}
 use Rattle.plural_reference.specs.Truth.{RelationMeaning, relation_truth}
 use Rattle.icu_plurals.specs.Elements.{Elements, is_exactly, explicit_at}
 

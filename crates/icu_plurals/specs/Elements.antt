@@ -9,7 +9,7 @@
 --     element_at e op rules      the value for operands: the explicit one, else that of the
 --         category by the rules, else of other
 use Rattle.std.specs.Prelude.{ℕ, ◌==◌, ◌&&◌, List, [], ◌∷◌, Bool, true, Option, Some, None, is_some, option_map, unwrap_or, if◌then◌else◌, ◌≡◌}
-use Rattle.plural_reference.specs.Operands.{Operands, AreKept, AreExact}
+use Rattle.plural_operands.specs.Operands.{Operands, AreKept, AreExact}
 use Rattle.plural_runtime.specs.PackedTruth.{packed_truth}
 use Rattle.plural_base.specs.FiveRules.{FiveRules, first_category, Five, moduli_of, Paired}
 use Rattle.plural_base.specs.declared.category.PluralCategory.{PluralCategory}

@@ -18,8 +18,8 @@ pub use Rattle.fixed_decimal.specs.Written
 pub use Rattle.packed_list.specs.ListBytes
 -- operands, texts and trees
 pub use Rattle.plural_reference.specs.Lexer
-pub use Rattle.plural_reference.specs.Operands
-pub use Rattle.plural_reference.specs.OperandText
+pub use Rattle.plural_operands.specs.Operands
+pub use Rattle.plural_operands.specs.OperandText
 pub use Rattle.plural_reference.specs.Parser
 pub use Rattle.plural_reference.specs.Samples
 pub use Rattle.plural_reference.specs.Reading

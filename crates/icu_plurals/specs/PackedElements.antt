@@ -11,7 +11,7 @@ use Rattle.std.specs.Str.{is_utf8, bytes_eq}
 use Rattle.packed_list.specs.ListBytes.{CanPack, list_bytes, has_high_start}
 use Rattle.icu_plurals.specs.Elements.{Elements, unless_equal, element_at}
 use Rattle.std.specs.Borrow.{Bor}
-use Rattle.plural_reference.specs.Operands.{Operands}
+use Rattle.plural_operands.specs.Operands.{Operands}
 use Rattle.plural_base.specs.FiveRules.{FiveRules}
 use Rattle.plural_base.specs.declared.elements_pack_error.ElementsPackError.{ElementsPackError}
 use Rattle.plural_base.specs.declared.elements_pack_error.ElementsPackError.TheVariants.{DefaultLimit, StartLimit}

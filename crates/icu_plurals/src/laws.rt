@@ -1,7 +1,7 @@
 //! What is true of all texts, rules and packed elements.
 
 ghost use Rattle.std.specs.Prelude.{◌≡◌, ◌↔◌, ℕ, List};
-ghost use Rattle.plural_reference.specs.Operands.{Operands};
+ghost use Rattle.plural_operands.specs.Operands.{Operands};
 ghost use Rattle.plural_base.specs.FiveRules.{FiveRules};
 ghost use Rattle.icu_plurals.specs.Elements.{KeptElementIsExact, Elements, element_at};
 ghost use Rattle.icu_plurals.specs.PackedElements.{without_repeats, ElementsBytes, PackedElements, PackedValue, elements_of, packed_of};

@@ -5,7 +5,7 @@ use Rattle.fixed_decimal.specs.Places.{IsOverLimit}
 use Rattle.fixed_decimal.specs.Shown.{decimal_text}
 use Rattle.fixed_decimal.specs.Written.{CompactNumber, WritesUnsigned, WritesCompact, IsCompactOverLimit, OneUnsigned, OneCompact}
 use Rattle.fixed_decimal.specs.declared.decimal.Decimal.{Decimal}
-use Rattle.plural_reference.specs.Operands.{Operands, HasFraction, AreKept}
+use Rattle.plural_operands.specs.Operands.{Operands, HasFraction, AreKept}
 use Rattle.plural_base.specs.DecimalChoice.{IsKeptChoice}
 use Rattle.plural_base.specs.FiveRules.{FiveRules}
 use Rattle.plural_base.specs.declared.category.PluralCategory.{PluralCategory}

@@ -4,7 +4,7 @@
 --     IsTableOf rules bytes      the bytes are a table of rules
 use Rattle.std.specs.Prelude.{◌≡◌, ℕ, ◌+◌, ◌%◌, ◌<◌, ◌≤◌, ◌⊎◌, List, length, slice_index, Option, Some, None}
 use Rattle.std.specs.Int.{w64, from_le_bytes}
-use Rattle.plural_reference.specs.Operands.{of_whole}
+use Rattle.plural_operands.specs.Operands.{of_whole}
 use Rattle.plural_runtime.specs.PackedTruth.{packed_truth}
 use Rattle.plural_base.specs.declared.category.PluralCategory.{PluralCategory}
 use Rattle.plural_base.specs.Categories.{place_of}

@@ -5,10 +5,10 @@ use Rattle.std.specs.Int.{◌∣◌}
 use Rattle.fixed_decimal.specs.Places.{Places, IsWritten}
 use Rattle.plural_reference.specs.declared.ast.Condition.{Condition}
 use Rattle.plural_reference.specs.declared.ast.Relation.{Relation}
-use Rattle.plural_reference.specs.declared.ast.Operand.TheVariants.{I}
+use Rattle.plural_operands.specs.declared.operand.Operand.TheVariants.{I}
 use Rattle.plural_reference.specs.declared.ast.Operator.TheVariants.{Eq}
 use Rattle.plural_reference.specs.declared.ast.RangeListItem.TheVariants as items
-use Rattle.plural_reference.specs.Operands.{AreKept, AreExact, Operands}
+use Rattle.plural_operands.specs.Operands.{AreKept, AreExact, Operands}
 use Rattle.plural_reference.specs.ExactnessLaws.{IsTwice}
 use Rattle.plural_reference.specs.Exactness.{exact_truth}
 use Rattle.plural_runtime.specs.PackedRelations.{PackedRelation}

@@ -7,7 +7,7 @@ use Rattle.std.specs.Prelude.{◌≡◌, ◌≤◌, ℕ, List, Option}
 use Rattle.fixed_decimal.specs.Places.{Places, IsWithinLimit}
 use Rattle.fixed_decimal.specs.Written.{CompactNumber, WritesCompact}
 use Rattle.plural_reference.specs.declared.ast.Condition.{Condition}
-use Rattle.plural_reference.specs.Operands.{AreKept, AreExact, Operands}
+use Rattle.plural_operands.specs.Operands.{AreKept, AreExact, Operands}
 use Rattle.plural_reference.specs.Exactness.{IsWithinBound, exact_truth}
 use Rattle.plural_runtime.specs.PackedTruth.{packed_truth}
 use Rattle.plural_base.specs.declared.category.PluralCategory.{PluralCategory}

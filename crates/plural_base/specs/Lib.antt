@@ -3,7 +3,7 @@ pub use Rattle.fixed_decimal.specs.Digits
 pub use Rattle.fixed_decimal.specs.Places
 pub use Rattle.fixed_decimal.specs.Written
 pub use Rattle.packed_list.specs.ListBytes
-pub use Rattle.plural_reference.specs.Operands
+pub use Rattle.plural_operands.specs.Operands
 pub use Rattle.plural_reference.specs.Lexer
 pub use Rattle.plural_reference.specs.Parser
 pub use Rattle.plural_reference.specs.Samples

@@ -14,7 +14,7 @@ use Rattle.plural_base.specs.declared.sure_choice.SureCategoryError.{SureCategor
 use Rattle.plural_base.specs.declared.sure_choice.SureCategoryError.TheVariants.{Rules, Number, OutsideBound}
 use Rattle.plural_reference.specs.Exactness.{IsWithinBound, exact_truth}
 use Rattle.plural_reference.specs.Lexer.{TextReads}
-use Rattle.plural_reference.specs.Operands.{AreExact, Operands}
+use Rattle.plural_operands.specs.Operands.{AreExact, Operands}
 use Rattle.plural_reference.specs.Parser.{Reads}
 use Rattle.plural_reference.specs.declared.ast.Condition.{Condition}
 use Rattle.plural_runtime.specs.declared.error.RuleError.TheVariants as rule_fault

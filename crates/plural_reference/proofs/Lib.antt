@@ -2,5 +2,4 @@ pub mod tokens
 pub mod reading
 pub mod samples
 pub mod printing
-pub mod numbers
 pub mod exactness

@@ -3,18 +3,14 @@
 use Rattle.std.specs.Prelude.{ℕ, ◌+◌, ◌*◌, ◌/◌, ◌%◌, ◌^◌, ◌==◌, Bool, if◌then◌else◌, Option, Some, None, ◌<◌, ◌≤◌, ◌⊎◌, List}
 use Rattle.std.specs.Prelude.{length, Contains}
 use Rattle.plural_reference.specs.declared.ast.Condition.{Condition}
-use Rattle.plural_reference.specs.declared.ast.Operand.{Operand}
-use Rattle.plural_reference.specs.declared.ast.Operand.TheVariants.{N, I, V, W, F, T, C, E}
-use Rattle.plural_reference.specs.Operands.{Operands, kept_places, kept_limit}
+use Rattle.plural_operands.specs.declared.operand.Operand.{Operand}
+use Rattle.plural_operands.specs.declared.operand.Operand.TheVariants.{N, I, V, W, F, T, C, E}
+use Rattle.plural_operands.specs.Operands.{Operands, kept_places, kept_limit}
 use Rattle.plural_reference.specs.Truth.{RelationMeaning, remainder, holds_value, under, is_true_of, meaning_of, groups_of}
 use Rattle.std.specs.Int.{◌∣◌}
 use Rattle.std.specs.List.{AllByRecursion}
 use Rattle.fixed_decimal.specs.Digits.{value_of}
 use Rattle.fixed_decimal.specs.Places.{Places, shift_right}
-
--- the number in parts of 10 ^ v
-abbrev pub parts : Operands → ℕ
-parts number = number.i * 10 ^ number.v + number.f
 
 -- `count` divided by `unit`, if that is a whole number
 abbrev pub whole_of : ℕ → ℕ → Option ℕ

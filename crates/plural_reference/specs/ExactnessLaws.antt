@@ -4,12 +4,13 @@ use Rattle.std.specs.Int.{◌∣◌}
 use Rattle.std.specs.List.{AllByRecursion}
 use Rattle.fixed_decimal.specs.Digits.{IsNumeral, value_of}
 use Rattle.fixed_decimal.specs.Places.{Places, IsWritten, HasDigitFrom, shift_right}
-use Rattle.plural_reference.specs.Operands.{Operands, kept_limit, AreKept, AreExact}
+use Rattle.plural_operands.specs.Operands.{Operands, kept_limit, AreKept, AreExact}
 use Rattle.plural_reference.specs.Truth.{RelationMeaning, holds_value, is_in_ranges, is_true_of, relation_truth, remainder}
 use Rattle.plural_reference.specs.Truth.{meaning_of, groups_of}
-use Rattle.plural_reference.specs.Exactness.{exact_value, exact_relation_truth, exact_truth, parts, IsWithinBound, IsAdmitted}
+use Rattle.plural_reference.specs.Exactness.{exact_value, exact_relation_truth, exact_truth, IsWithinBound, IsAdmitted}
+use Rattle.plural_operands.specs.Operands.{parts}
 use Rattle.plural_reference.specs.declared.ast.Condition.{Condition}
-use Rattle.plural_reference.specs.declared.ast.Operand.TheVariants.{N, I}
+use Rattle.plural_operands.specs.declared.operand.Operand.TheVariants.{N, I}
 use Rattle.plural_reference.specs.declared.ast.Operator.TheVariants.{Eq}
 
 -- ---- The agreement

@@ -5,5 +5,3 @@ pub mod Reader
 pub mod SampleReader
 pub mod PlainSamples
 pub mod RuleReader
-pub mod OperandReader
-pub mod ShortTexts

@@ -1,6 +1,4 @@
 pub mod Lexer
-pub mod Operands
-pub mod OperandText
 pub mod PluralReferenceErrors
 pub mod Parser
 pub mod Samples
@@ -9,7 +7,6 @@ pub mod Reading
 pub mod Truth
 pub mod Exactness
 pub mod ReadingLaws
-pub mod OperandLaws
 pub mod ExactnessLaws
 pub mod PrintingLaws
 -- not definitions of the subject

@@ -5,8 +5,8 @@ use Rattle.std.specs.Option.{option_and_then}
 use Rattle.plural_reference.specs.declared.ast.AndCondition.{AndCondition}
 use Rattle.plural_reference.specs.declared.ast.Condition.{Condition}
 use Rattle.plural_reference.specs.declared.ast.Expression.{Expression}
-use Rattle.plural_reference.specs.declared.ast.Operand as operand
-use Rattle.plural_reference.specs.declared.ast.Operand.TheVariants as operands
+use Rattle.plural_operands.specs.declared.operand.Operand as operand
+use Rattle.plural_operands.specs.declared.operand.Operand.TheVariants as operands
 use Rattle.plural_reference.specs.declared.ast.Operator as operator
 use Rattle.plural_reference.specs.declared.ast.RangeListItem.{RangeListItem}
 use Rattle.plural_reference.specs.declared.ast.RangeListItem.TheVariants as items

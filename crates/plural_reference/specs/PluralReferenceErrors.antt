@@ -9,8 +9,6 @@ use Rattle.plural_reference.specs.declared.error.ParseError.TheVariants.{Expecte
 use Rattle.plural_reference.specs.declared.error.ParseError.TheVariants.{ValueTooLarge}
 use Rattle.plural_reference.specs.declared.error.ReadError.{ReadError}
 use Rattle.plural_reference.specs.declared.error.ReadError.TheVariants.{Parse, Memory}
-use Rattle.plural_reference.specs.declared.operands.error.OperandsError.{OperandsError}
-use Rattle.plural_reference.specs.declared.operands.error.OperandsError.TheVariants.{Empty, Invalid}
 
 -- what a fault of a rule prints
 abbrev pub parse_error_text : ParseError → List ℕ
@@ -31,9 +29,3 @@ read_error_text Memory = codes "out of memory"
 abbrev pub lexer_error_text : LexerError → List ℕ
 lexer_error_text (ExpectedByte byte) = codes "Expected byte: " ++ decimal byte
 lexer_error_text (UnknownToken byte) = codes "Unknown token: " ++ decimal byte
-
--- ---- The texts that the errors of a text of operands print.
-
-abbrev pub operands_error_text : OperandsError → List ℕ
-operands_error_text Empty = codes "Input to the Operands parsing was empty"
-operands_error_text Invalid = codes "Input to the Operands parsing was invalid"

@@ -6,11 +6,8 @@ use Rattle.plural_reference.specs.declared.token.Token.{Token}
 use Rattle.plural_reference.specs.Lexer.{IsCut, AreTokensOf, TextReads, TextFaulty}
 use Rattle.plural_reference.specs.Parser.{Reads, Faulty}
 use Rattle.plural_reference.specs.Samples.{ReadsRule, ReadsCondition, FaultyRule}
+use Rattle.plural_operands.specs.OperandLaws.{ThereIsOne}
 use Rattle.plural_reference.specs.Inner.RuleReader.{condition_of_text}
-
--- exactly one value is of this kind
-abbrev pub ThereIsOne : {A : Type 0} → (A → Type 0) → Type 0
-ThereIsOne {A = A} Is = (x : A) × Is x × ((y : A) → Is y → y ≡ x)
 
 -- every text is cut in exactly one way
 abbrev pub HaveOneCut : Type 0

@@ -5,7 +5,7 @@ use Rattle.std.specs.Prelude.{IsSomeAnd, fold, unwrap_or, ◌==◌, ◌||◌, if
 use Rattle.std.specs.Option.{option_and_then}
 use Rattle.std.specs.List.{AllByRecursion, list_any, flat_map}
 use Rattle.std.specs.Fmt.{decimal}
-use Rattle.plural_reference.specs.declared.ast.Operand.TheVariants.{C}
+use Rattle.plural_operands.specs.declared.operand.Operand.TheVariants.{C}
 use Rattle.plural_reference.specs.declared.ast.Samples as samples
 use Rattle.plural_reference.specs.declared.ast.SampleList.{SampleList}
 use Rattle.plural_reference.specs.declared.ast.SampleRange.{SampleRange}

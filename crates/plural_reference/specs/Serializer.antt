@@ -6,8 +6,8 @@ use Rattle.plural_reference.specs.declared.ast.AndCondition.{AndCondition}
 use Rattle.plural_reference.specs.declared.ast.Condition.{Condition}
 use Rattle.plural_reference.specs.declared.ast.DecimalValue.{DecimalValue}
 use Rattle.plural_reference.specs.declared.ast.Expression.{Expression}
-use Rattle.plural_reference.specs.declared.ast.Operand.{Operand}
-use Rattle.plural_reference.specs.declared.ast.Operand.TheVariants.{N, I, F, T, V, W, C, E}
+use Rattle.plural_operands.specs.declared.operand.Operand.{Operand}
+use Rattle.plural_operands.specs.declared.operand.Operand.TheVariants.{N, I, F, T, V, W, C, E}
 use Rattle.plural_reference.specs.declared.ast.Operator.{Operator}
 use Rattle.plural_reference.specs.declared.ast.Operator.TheVariants.{Eq, NotEq}
 use Rattle.plural_reference.specs.declared.ast.RangeList.{RangeList}
@@ -36,17 +36,6 @@ prefixed before text (Some x) = before ++ text x
 -- a number in decimal, without leading zeros
 abbrev pub value_text : Value → List ℕ
 value_text v = decimal v.0
-
--- an operand's letter
-abbrev pub operand_text : Operand → List ℕ
-operand_text N = codes "n"
-operand_text I = codes "i"
-operand_text V = codes "v"
-operand_text W = codes "w"
-operand_text F = codes "f"
-operand_text T = codes "t"
-operand_text C = codes "c"
-operand_text E = codes "e"
 
 -- `=` or `!=`
 abbrev pub operator_text : Operator → List ℕ

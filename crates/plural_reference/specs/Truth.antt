@@ -4,8 +4,8 @@ use Rattle.std.specs.Prelude.{ℕ, ◌%◌, ◌==◌, ◌&&◌, List, [], ◌∷
 use Rattle.std.specs.Prelude.{None, option_map}
 use Rattle.std.specs.List.{list_any, list_all}
 use Rattle.plural_reference.specs.declared.ast.Condition.{Condition}
-use Rattle.plural_reference.specs.declared.ast.Operand.{Operand}
-use Rattle.plural_reference.specs.declared.ast.Operand.TheVariants.{N, I, V, W, F, T, C, E}
+use Rattle.plural_operands.specs.declared.operand.Operand.{Operand}
+use Rattle.plural_operands.specs.declared.operand.Operand.TheVariants.{N, I, V, W, F, T, C, E}
 use Rattle.plural_reference.specs.declared.ast.Operator.{Operator}
 use Rattle.plural_reference.specs.declared.ast.Operator.TheVariants.{Eq, NotEq}
 use Rattle.plural_reference.specs.declared.ast.RangeList.{RangeList}
@@ -13,7 +13,7 @@ use Rattle.plural_reference.specs.declared.ast.RangeListItem.{RangeListItem}
 use Rattle.plural_reference.specs.declared.ast.RangeListItem.TheVariants as items
 use Rattle.plural_reference.specs.declared.ast.Relation.{Relation}
 use Rattle.plural_reference.specs.declared.ast.Value.{Value}
-use Rattle.plural_reference.specs.Operands.{Operands}
+use Rattle.plural_operands.specs.Operands.{Operands}
 use Rattle.plural_reference.specs.declared.ast.Expression.{Expression}
 
 -- ---- A value in ranges
@@ -31,19 +31,6 @@ is_in_ranges ranges value = list_any (range_holds value) ranges
 abbrev pub holds_value : List (ℕ × ℕ) → Option ℕ → Bool
 holds_value ranges None = false
 holds_value ranges (Some value) = is_in_ranges ranges value
-
--- ---- The value of an operand
-
--- the operand's value at six operand numbers: n is i, and has no value if w isn't 0
-abbrev pub operand_value : Operand → Operands → Option ℕ
-operand_value N number = if number.w == 0 then Some number.i else None
-operand_value I number = Some number.i
-operand_value V number = Some number.v
-operand_value W number = Some number.w
-operand_value F number = Some number.f
-operand_value T number = Some number.t
-operand_value C number = Some number.c
-operand_value E number = Some number.c
 
 -- the remainder of a value by a modulus; there is none by 0
 abbrev pub remainder : ℕ → ℕ → ℕ

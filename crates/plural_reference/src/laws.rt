@@ -2,6 +2,7 @@
 //! function.
 
 pub mod exactness;
-pub mod operands;
 pub mod printing;
 pub mod reading;
+
+pub use plural_operands::laws as operands;

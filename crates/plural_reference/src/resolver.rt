@@ -7,7 +7,7 @@ ghost use Rattle.plural_reference.specs.Truth.{is_in_ranges, ends_of, range_hold
 use crate::ast::{
     AndCondition, Condition, Expression, Operator, RangeList, RangeListItem, Relation,
 };
-use crate::operands::PluralOperands;
+use plural_operands::PluralOperands;
 
 /// Returns whether the condition is true of the operands: it has no and-condition, or all relations
 /// of one of them are true (UTS 35 Part 3, Plural Rules Syntax).

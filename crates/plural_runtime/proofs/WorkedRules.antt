@@ -2,11 +2,11 @@
 use Rattle.std.proofs.Common.{◌≡◌, ℕ, List, [], ◌∷◌, refl, true, false, Some, None, codes}
 use Rattle.std.specs.Fmt.{digits}
 use Rattle.packed_list.specs.Inner.ListReading.{items_in}
-use Rattle.plural_reference.specs.Operands.{Operands}
+use Rattle.plural_operands.specs.Operands.{Operands}
 use Rattle.plural_reference.specs.declared.ast.Condition.{Condition}
 use Rattle.plural_reference.specs.declared.ast.Relation.{Relation}
 use Rattle.plural_reference.specs.declared.ast.Operator.TheVariants.{Eq, NotEq}
-use Rattle.plural_reference.specs.declared.ast.Operand.TheVariants.{N, I, V}
+use Rattle.plural_operands.specs.declared.operand.Operand.TheVariants.{N, I, V}
 use Rattle.plural_reference.specs.declared.ast.RangeListItem.TheVariants as item
 use Rattle.plural_reference.specs.Serializer.{condition_text}
 use Rattle.plural_reference.specs.Truth.{tree_truth}

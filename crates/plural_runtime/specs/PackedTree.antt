@@ -5,8 +5,8 @@ use Rattle.std.specs.List.{list_any, list_all}
 use Rattle.plural_reference.specs.declared.ast.Condition.{Condition}
 use Rattle.plural_reference.specs.declared.ast.Relation.{Relation}
 use Rattle.plural_reference.specs.declared.ast.Value.{Value}
-use Rattle.plural_reference.specs.declared.ast.Operand.{Operand}
-use Rattle.plural_reference.specs.declared.ast.Operand.TheVariants.{N}
+use Rattle.plural_operands.specs.declared.operand.Operand.{Operand}
+use Rattle.plural_operands.specs.declared.operand.Operand.TheVariants.{N}
 use Rattle.plural_reference.specs.declared.ast.Operator.{Operator}
 use Rattle.plural_reference.specs.declared.ast.Operator.TheVariants.{NotEq}
 use Rattle.plural_reference.specs.declared.ast.RangeListItem.{RangeListItem}

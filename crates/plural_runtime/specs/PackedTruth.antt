@@ -1,8 +1,9 @@
 -- When a packed rule is true of six operand numbers: a group of its relations is all true.
 use Rattle.std.specs.Prelude.{List, Bool, ℕ, [], ◌∷◌, ◌++◌, length, not, if◌then◌else◌, Option, Some, None, option_map, sum_by, count_by}
 use Rattle.std.specs.List.{list_all, list_any}
-use Rattle.plural_reference.specs.Operands.{Operands}
-use Rattle.plural_reference.specs.Truth.{relation_truth, some_group, is_in_ranges, operand_value, remainder, RelationMeaning}
+use Rattle.plural_operands.specs.Operands.{Operands}
+use Rattle.plural_reference.specs.Truth.{relation_truth, some_group, is_in_ranges, remainder, RelationMeaning}
+use Rattle.plural_operands.specs.Operands.{operand_value}
 use Rattle.plural_runtime.specs.PackedRelations.{PackedRelation, groups}
 
 -- a relation is true: a modulus 0 is none, and n has no value if w isn't 0, and so is in no list

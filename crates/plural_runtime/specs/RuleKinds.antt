@@ -1,7 +1,7 @@
 -- What the conversions of the kinds give.
 use Rattle.std.specs.Prelude.{◌≡◌, ℕ, IsTrue, IsFalse, Result, Ok, Err, if◌then◌else◌, ◌==◌}
-use Rattle.plural_reference.specs.declared.ast.Operand.{Operand as TreeOperand}
-use Rattle.plural_reference.specs.declared.ast.Operand.TheVariants as tree
+use Rattle.plural_operands.specs.declared.operand.Operand.{Operand as TreeOperand}
+use Rattle.plural_operands.specs.declared.operand.Operand.TheVariants as tree
 use Rattle.plural_reference.specs.declared.ast.Operator.{Operator}
 use Rattle.plural_reference.specs.declared.ast.Operator.TheVariants.{Eq, NotEq}
 use Rattle.plural_reference.specs.declared.ast.RangeListItem.{RangeListItem}

@@ -3,7 +3,8 @@
 use Rattle.std.specs.Prelude.{ℕ, List, [], ◌∷◌, ◌++◌, codes, Bool, true, false, if◌then◌else◌, ◌==◌, ◌≡◌, None, Ok}
 use Rattle.std.specs.Fmt.{decimal}
 use Rattle.plural_reference.specs.declared.ast.Operator.{Operator}
-use Rattle.plural_reference.specs.Serializer.{joined, operand_text, operator_text, condition_text}
+use Rattle.plural_reference.specs.Serializer.{joined, operator_text, condition_text}
+use Rattle.plural_operands.specs.Operands.{operand_text}
 use Rattle.plural_reference.specs.Truth.{RelationMeaning}
 use Rattle.plural_runtime.specs.declared.kinds.AndOr.{AndOr}
 use Rattle.plural_runtime.specs.declared.kinds.AndOr.TheVariants.{And, Or}

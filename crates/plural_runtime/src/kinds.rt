@@ -1,7 +1,8 @@
 //! The kinds that a packed relation is made of.
 
 ghost use Rattle.std.specs.Prelude.{◌≡◌};
-ghost use Rattle.plural_reference.specs.Serializer.{operand_text, operator_text};
+ghost use Rattle.plural_reference.specs.Serializer.{operator_text};
+ghost use Rattle.plural_operands.specs.Operands.{operand_text};
 ghost use Rattle.plural_runtime.specs.RuleKinds.{operator_of, packed_operand_of, polarity_of, tree_operand_of};
 ghost use Rattle.plural_runtime.specs.PackedTree.{unpacked_modulus};
 

@@ -1,7 +1,7 @@
 //! What is true of all packed rules.
 
 ghost use Rattle.std.specs.Prelude.{◌≡◌, ◌↔◌, ◌⊎◌, ◌≤◌, ℕ, List, IsTrue};
-ghost use Rattle.plural_reference.specs.Operands.{Operands};
+ghost use Rattle.plural_operands.specs.Operands.{Operands};
 ghost use Rattle.plural_reference.specs.Truth.{tree_truth};
 ghost use Rattle.plural_runtime.specs.PackedRelations.{PackedRelation, RuleBytes};
 ghost use Rattle.plural_runtime.specs.Inner.RuleReading.{relations_in};

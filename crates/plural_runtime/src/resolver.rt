@@ -2,7 +2,8 @@
 
 ghost use Rattle.std.specs.Prelude.{◌≡◌, ◌≤◌, ◌+◌, ◌<◌, ◌∷◌, ◌++◌, ℕ, List, min, length, option_map, IsFalse, IsTrue};
 ghost use Rattle.std.specs.Fn.{iterate};
-ghost use Rattle.plural_reference.specs.Truth.{holds_value, is_in_ranges, operand_value, range_holds, remainder};
+ghost use Rattle.plural_reference.specs.Truth.{holds_value, is_in_ranges, range_holds, remainder};
+ghost use Rattle.plural_operands.specs.Operands.{operand_value};
 ghost use Rattle.std.specs.List.{AllByRecursion, list_all};
 ghost use Rattle.plural_runtime.specs.declared.kinds.AndOr.TheVariants.{And, Or};
 ghost use Rattle.plural_runtime.specs.PackedRelations.{is_relation, is_whole, range_length};

@@ -11,8 +11,8 @@ use Rattle.plural_reference.specs.declared.ast.Relation.{Relation}
 use Rattle.plural_reference.specs.declared.ast.RangeListItem.{RangeListItem}
 use Rattle.plural_reference.specs.declared.ast.RangeListItem.TheVariants as items
 use Rattle.plural_reference.specs.declared.ast.Value.{Value}
-use Rattle.plural_reference.specs.declared.ast.Operand.{Operand}
-use Rattle.plural_reference.specs.declared.ast.Operand.TheVariants.{N, I, V, W, F, T, C, E}
+use Rattle.plural_operands.specs.declared.operand.Operand.{Operand}
+use Rattle.plural_operands.specs.declared.operand.Operand.TheVariants.{N, I, V, W, F, T, C, E}
 use Rattle.plural_reference.specs.Exactness.{IsListed, IsAdmitted}
 use Rattle.plural_reference.specs.Truth.{RelationMeaning, meaning_of, groups_of, ends_of}
 use Rattle.plural_runtime.specs.declared.kinds.AndOr.{AndOr}

@@ -7,7 +7,7 @@ use Rattle.plural_reference.specs.declared.ast.Condition.{Condition}
 use Rattle.plural_reference.specs.declared.error.ParseError.TheVariants.{ValueTooLarge}
 use Rattle.plural_reference.specs.Exactness.{exact_truth}
 use Rattle.plural_reference.specs.ExactnessLaws.{ConditionsAgree, IsKept}
-use Rattle.plural_reference.specs.Operands.{Operands}
+use Rattle.plural_operands.specs.Operands.{Operands}
 use Rattle.plural_reference.specs.Lexer.{TextReads}
 use Rattle.plural_reference.specs.Samples.{ReadsCondition}
 use Rattle.plural_reference.specs.Truth.{groups_of}

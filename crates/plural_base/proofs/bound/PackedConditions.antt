@@ -8,7 +8,7 @@ use Rattle.plural_reference.specs.declared.ast.Condition.{Condition}
 use Rattle.plural_reference.specs.declared.ast.Relation.{Relation}
 use Rattle.plural_reference.specs.declared.token.Token.{Token}
 use Rattle.plural_reference.specs.declared.token.Token.TheVariants as tokens
-use Rattle.plural_reference.specs.Operands.{Operands}
+use Rattle.plural_operands.specs.Operands.{Operands}
 use Rattle.plural_reference.specs.Parser.{Separated, IsAndCondition, IsRelation, ReadsUpTo}
 use Rattle.plural_reference.specs.Truth.{relation_truth, some_group, is_true_of, meaning_of, groups_of}
 use Rattle.plural_runtime.specs.declared.kinds.AndOr.{AndOr}

@@ -5,7 +5,7 @@ use Rattle.std.proofs.Math.Nat.{mod-lt}
 use Rattle.std.proofs.lemmas.Bool.{le-ltb}
 use Rattle.plural_reference.specs.ExactnessLaws.{BoundIsWidest, left_of_twice}
 use Rattle.plural_reference.specs.Exactness.{exact_truth, exact_relation_truth}
-use Rattle.plural_reference.specs.Operands.{Operands}
+use Rattle.plural_operands.specs.Operands.{Operands}
 use Rattle.plural_reference.specs.Truth.{relation_truth}
 use Rattle.plural_runtime.specs.PackedTree.{packed, has_large_value, packing}
 use Rattle.plural_runtime.specs.PackedTruth.{packed_truth}

@@ -2,9 +2,10 @@
 use Rattle.std.proofs.Common.{◌≡◌, ℕ, ◌<◌, List, refl, Bool, true, false, Some, None, arith}
 use Rattle.std.specs.Prelude.{◌==◌, if◌then◌else◌, option_map}
 use Rattle.std.proofs.lemmas.Bool.{eqb-true}
-use Rattle.plural_reference.specs.Operands.{Operands}
-use Rattle.plural_reference.specs.declared.ast.Operand.TheVariants.{N}
-use Rattle.plural_reference.specs.Truth.{operand_value, holds_value, remainder}
+use Rattle.plural_operands.specs.Operands.{Operands}
+use Rattle.plural_operands.specs.declared.operand.Operand.TheVariants.{N}
+use Rattle.plural_reference.specs.Truth.{holds_value, remainder}
+use Rattle.plural_operands.specs.Operands.{operand_value}
 use Rattle.plural_base.specs.declared.rules.fractions.Fractions.TheVariants.{Shown, NotZero}
 use Rattle.plural_base.specs.Inner.FractionClasses.{IsOfFractions}
 

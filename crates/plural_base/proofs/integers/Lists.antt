@@ -2,10 +2,11 @@
 use Rattle.std.proofs.Common.{◌≡◌, ℕ, ◌%◌, List, get_or, refl, sym, ap, ◌∙◌, Bool, true, false}
 use Rattle.std.specs.Prelude.{◌==◌, if◌then◌else◌, option_map, Option, Some, None}
 use Rattle.std.proofs.lemmas.Bool.{eqb-true}
-use Rattle.plural_reference.specs.declared.ast.Operand.{Operand}
-use Rattle.plural_reference.specs.declared.ast.Operand.TheVariants.{N, I, V, W, F, T, C, E}
-use Rattle.plural_reference.specs.Operands.{of_whole}
-use Rattle.plural_reference.specs.Truth.{operand_value, RelationMeaning, relation_truth, under, is_in_ranges, holds_value, remainder}
+use Rattle.plural_operands.specs.declared.operand.Operand.{Operand}
+use Rattle.plural_operands.specs.declared.operand.Operand.TheVariants.{N, I, V, W, F, T, C, E}
+use Rattle.plural_operands.specs.Operands.{of_whole}
+use Rattle.plural_reference.specs.Truth.{RelationMeaning, relation_truth, under, is_in_ranges, holds_value, remainder}
+use Rattle.plural_operands.specs.Operands.{operand_value}
 use Rattle.std.proofs.Math.Nat.{zero-mod}
 use Rattle.plural_runtime.specs.declared.range.RangeOrValue.{RangeOrValue}
 use Rattle.plural_runtime.specs.declared.range.RangeOrValue.TheVariants.{Range, Value}

@@ -5,7 +5,7 @@ use Rattle.std.proofs.lemmas.Bool.{cases_lt}
 use Rattle.std.proofs.lemmas.Nat.{from_le_bytes-to_le_bytes_8}
 use Rattle.std.specs.Prelude.{Option, Some, None, slice_set, slice_index, MatchOption}
 use Rattle.std.specs.Int.{w64, from_le_bytes, to_le_bytes, sum_through, byte_worth}
-use Rattle.plural_reference.specs.Operands.{of_whole}
+use Rattle.plural_operands.specs.Operands.{of_whole}
 use Rattle.plural_runtime.specs.PackedTruth.{packed_truth}
 use Rattle.plural_base.specs.declared.category.PluralCategory.{PluralCategory}
 use Rattle.plural_base.specs.declared.category.PluralCategory.TheVariants.{Zero, One, Two, Few, Many, Other}

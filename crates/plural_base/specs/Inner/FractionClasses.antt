@@ -1,7 +1,7 @@
 -- Not a definition of the subject: what rules tell of all numbers that show a fraction, for private
 -- contracts.
 use Rattle.std.specs.Prelude.{◌≡◌, ◌<◌, Option}
-use Rattle.plural_reference.specs.Operands.{Operands}
+use Rattle.plural_operands.specs.Operands.{Operands}
 use Rattle.plural_runtime.specs.PackedTruth.{packed_truth}
 use Rattle.plural_base.specs.declared.category.PluralCategory.{PluralCategory}
 use Rattle.plural_base.specs.declared.rules.fractions.Fractions.{Fractions}

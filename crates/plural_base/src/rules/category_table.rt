@@ -2,7 +2,7 @@
 
 ghost use Rattle.std.specs.Prelude.{◌≡◌, ◌↔◌, ◌≤◌, length, IfSome, IsSome, MatchOption};
 ghost use Rattle.std.specs.Int.{w64, from_le_bytes};
-ghost use Rattle.plural_reference.specs.Operands.{of_whole};
+ghost use Rattle.plural_operands.specs.Operands.{of_whole};
 ghost use Rattle.plural_runtime.specs.PackedTruth.{packed_truth};
 ghost use Rattle.plural_base.specs.CategoryTables.{IsTableOf, TableTells, table_bound};
 ghost use Rattle.plural_base.specs.FiveRules.{FiveRules, first_category};

@@ -1,9 +1,10 @@
 //! What rules tell of all numbers that show a fraction.
 
 ghost use Rattle.std.specs.Prelude.{◌≡◌, ◌<◌, ℕ, List, ◌&&◌, Bool, option_map, IfSome};
-ghost use Rattle.plural_reference.specs.Operands.{Operands};
-ghost use Rattle.plural_reference.specs.Truth.{holds_value, is_in_ranges, operand_value, remainder};
-ghost use Rattle.plural_reference.specs.declared.ast.Operand.TheVariants.{N};
+ghost use Rattle.plural_operands.specs.Operands.{Operands};
+ghost use Rattle.plural_reference.specs.Truth.{holds_value, is_in_ranges, remainder};
+ghost use Rattle.plural_operands.specs.Operands.{operand_value};
+ghost use Rattle.plural_operands.specs.declared.operand.Operand.TheVariants.{N};
 ghost use Rattle.plural_runtime.specs.Inner.RuleViews.{lent_relation};
 ghost use Rattle.plural_runtime.specs.PackedTruth.{is_true_at, packed_truth};
 ghost use Rattle.plural_base.specs.FiveRules.{first_category, passes, rules_of};

@@ -1,7 +1,7 @@
 //! Rules with tables of the categories of integers.
 
 ghost use Rattle.std.specs.Prelude.{◌≡◌, ℕ, ◌<◌, Contains};
-ghost use Rattle.plural_reference.specs.Operands.{of_whole};
+ghost use Rattle.plural_operands.specs.Operands.{of_whole};
 ghost use Rattle.plural_runtime.specs.PackedTruth.{packed_truth};
 ghost use Rattle.plural_base.specs.FiveRules.{first_category, categories_of, rules_of};
 ghost use Rattle.plural_base.specs.CategoryTables.{IsTableOf};

@@ -1,7 +1,7 @@
 //! What rules tell of all whole numbers from a bound on that leave one remainder by 100.
 
 ghost use Rattle.std.specs.Prelude.{◌≡◌, ℕ, ◌%◌, ◌&&◌, ◌||◌, not, Bool, false, IsTrue, slice_index_or};
-ghost use Rattle.plural_reference.specs.Operands.{of_whole};
+ghost use Rattle.plural_operands.specs.Operands.{of_whole};
 ghost use Rattle.plural_reference.specs.Truth.{is_in_ranges, range_holds, remainder, under};
 ghost use Rattle.plural_runtime.specs.RuleKinds.{ends, operator_of, tree_operand_of};
 ghost use Rattle.plural_runtime.specs.Inner.RuleViews.{lent_relation};

@@ -8,15 +8,16 @@ use Rattle.std.proofs.Math.Nat.{mod-mod_of_dvd, add-mod_right}
 use Rattle.std.specs.Int.{◌∣◌}
 use Rattle.fixed_decimal.specs.Digits.{value_of, AreDigits}
 use Rattle.fixed_decimal.specs.Places.{Places, IsWritten}
-use Rattle.plural_reference.specs.Operands.{Operands, IsKeptAt, IsExactAt, kept_whole}
-use Rattle.plural_reference.specs.Truth.{RelationMeaning, range_holds, is_in_ranges, holds_value, operand_value, remainder, under}
+use Rattle.plural_operands.specs.Operands.{Operands, IsKeptAt, IsExactAt, kept_whole}
+use Rattle.plural_reference.specs.Truth.{RelationMeaning, range_holds, is_in_ranges, holds_value, remainder, under}
+use Rattle.plural_operands.specs.Operands.{operand_value}
 use Rattle.plural_reference.specs.Truth.{relation_truth}
 use Rattle.plural_reference.specs.Exactness.{whole_of, exact_value, exact_relation_truth, IsBoundedAt, AllDivide, IsAdmitted, IsListed}
-use Rattle.plural_reference.specs.declared.ast.Operand.{Operand}
-use Rattle.plural_reference.specs.declared.ast.Operand.TheVariants.{N, I, V, W, F, T as TOperand, C, E}
-use Rattle.plural_reference.proofs.numbers.Numbers.{value_of-below, value_of-drop, power_above}
-use Rattle.plural_reference.proofs.numbers.Fractions.{SameFraction, same_fraction, exact_whole}
-use Rattle.plural_reference.proofs.numbers.Fractions.{exact_fraction, kept_fraction, zero_fraction}
+use Rattle.plural_operands.specs.declared.operand.Operand.{Operand}
+use Rattle.plural_operands.specs.declared.operand.Operand.TheVariants.{N, I, V, W, F, T as TOperand, C, E}
+use Rattle.plural_operands.proofs.numbers.Numbers.{value_of-below, value_of-drop, power_above}
+use Rattle.plural_operands.proofs.numbers.Fractions.{SameFraction, same_fraction, exact_whole}
+use Rattle.plural_operands.proofs.numbers.Fractions.{kept_whole-short, exact_fraction, kept_fraction, zero_fraction}
 
 -- ---- ranges that end below a value don't hold it
 
@@ -46,11 +47,6 @@ kept_remainder n m d =
     ∙ ap (λ k. k % m) (add-mod_right (n % 10 ^ 18) (10 ^ 18))
     ∙ mod-mod_of_dvd m (n % 10 ^ 18) d
     ∙ mod-mod_of_dvd m n d
-
--- At most 18 integer digits are kept as they are.
-pub kept_whole-short : (ds : List ℕ) → length ds ≤ 18 → kept_whole ds ≡ value_of ds
-kept_whole-short ds h
-    = cond-true (leb (length ds) 18) (value_of ds) (value_of (drop (length ds - 18) ds) + 10 ^ 18) (le-leb (length ds) 18 h)
 
 -- Of a longer number, the remainder by 10 ^ 18 is kept, plus 10 ^ 18.
 pub kept_whole-long : (ds : List ℕ) → AreDigits ds → 18 < length ds → kept_whole ds ≡ value_of ds % 10 ^ 18 + 10 ^ 18

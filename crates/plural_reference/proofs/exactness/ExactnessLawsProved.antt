@@ -14,14 +14,15 @@ use Rattle.std.proofs.Math.Nat.{dvd-mul_left, dvd-add_iff_right, pow-le-pow_righ
 use Rattle.std.specs.Int.{◌∣◌}
 use Rattle.fixed_decimal.specs.Digits.{value_of, AreDigits}
 use Rattle.fixed_decimal.specs.Places.{Places, IsWritten, digit_at, shift_right}
-use Rattle.plural_reference.specs.Operands.{kept_whole}
+use Rattle.plural_operands.specs.Operands.{kept_whole}
 use Rattle.plural_reference.specs.Truth.{is_in_ranges, holds_value, range_holds, remainder}
-use Rattle.plural_reference.specs.Exactness.{whole_of, parts}
+use Rattle.plural_reference.specs.Exactness.{whole_of}
+use Rattle.plural_operands.specs.Operands.{parts}
 use Rattle.plural_reference.specs.ExactnessLaws.{HoldsWholeNumbers, ShiftedPlaces, LongValue, IsTwice, BoundIsWidest}
-use Rattle.plural_reference.proofs.numbers.Numbers.{value_of-below, power_above}
-use Rattle.plural_reference.proofs.numbers.Fractions.{exact_whole, IsWritten-shift_right}
+use Rattle.plural_operands.proofs.numbers.Numbers.{value_of-below, power_above}
+use Rattle.plural_operands.proofs.numbers.Fractions.{exact_whole, IsWritten-shift_right}
 use Rattle.plural_reference.proofs.exactness.Agreement.{kept_whole-long, remainder-some}
-use Rattle.plural_reference.proofs.numbers.Conversion.{length-whole, length-fraction, digit_at_index, same_digits}
+use Rattle.plural_operands.proofs.numbers.Conversion.{length-whole, length-fraction, digit_at_index, same_digits}
 
 -- ---- whole numbers
 

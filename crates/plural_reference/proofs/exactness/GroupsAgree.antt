@@ -6,7 +6,7 @@ use Rattle.fixed_decimal.specs.Places.{shift_right}
 use Rattle.plural_reference.specs.Truth.{some_group, is_true_of, relation_truth, meaning_of, groups_of}
 use Rattle.plural_reference.specs.Exactness.{exact_relation_truth, IsAdmitted}
 use Rattle.plural_reference.specs.ExactnessLaws.{RelationsAgree, GroupsAgree, ConditionsAgree}
-use Rattle.plural_reference.proofs.numbers.Fractions.{IsWritten-shift_right}
+use Rattle.plural_operands.proofs.numbers.Fractions.{IsWritten-shift_right}
 use Rattle.plural_reference.proofs.exactness.Agreement.{relation_agrees}
 
 -- ---- tests that agree on all members agree on groups of them

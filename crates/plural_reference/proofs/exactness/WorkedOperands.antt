@@ -9,15 +9,15 @@ use Rattle.std.proofs.Math.Nat.{dvd-mul_right}
 use Rattle.std.specs.Int.{◌∣◌}
 use Rattle.fixed_decimal.specs.Digits.{AreDigits, value_of}
 use Rattle.fixed_decimal.specs.Places.{Places}
-use Rattle.plural_reference.specs.Operands.{Operands, of_whole, AreExact, AreKept, HasFraction}
-use Rattle.plural_reference.specs.OperandText.{IsWord, WritesCount, WritesFraction, WritesOperands}
-use Rattle.plural_reference.specs.Inner.OperandReader.{HasCount, WritesBehindPoint}
+use Rattle.plural_operands.specs.Operands.{Operands, of_whole, AreExact, AreKept, HasFraction}
+use Rattle.plural_operands.specs.OperandText.{IsWord, WritesCount, WritesFraction, WritesOperands}
+use Rattle.plural_operands.specs.Inner.OperandReader.{HasCount, WritesBehindPoint}
 use Rattle.std.specs.Char.{IsAsciiDigit}
 use Rattle.plural_reference.specs.Truth.{RelationMeaning, relation_truth}
 use Rattle.plural_reference.specs.Exactness.{exact_value, exact_relation_truth, IsWithinBound, AllDivide}
-use Rattle.plural_reference.specs.declared.ast.Operand.TheVariants.{N, I}
+use Rattle.plural_operands.specs.declared.operand.Operand.TheVariants.{N, I}
 use Rattle.plural_reference.specs.declared.ast.Operator.TheVariants.{Eq, NotEq}
-use Rattle.plural_reference.proofs.numbers.OperandTexts.{other_head, same_tail, no_exponent_of, unsigned_behind, named_unsigned}
+use Rattle.plural_operands.proofs.numbers.OperandTexts.{other_head, same_tail, no_exponent_of, unsigned_behind, named_unsigned}
 
 -- ---- helpers
 

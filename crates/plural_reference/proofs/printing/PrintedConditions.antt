@@ -7,8 +7,8 @@ use Rattle.std.specs.Prelude.{IfSome, codes}
 use Rattle.plural_reference.specs.declared.ast.AndCondition.{AndCondition}
 use Rattle.plural_reference.specs.declared.ast.Condition.{Condition}
 use Rattle.plural_reference.specs.declared.ast.Expression.{Expression}
-use Rattle.plural_reference.specs.declared.ast.Operand as operand
-use Rattle.plural_reference.specs.declared.ast.Operand.TheVariants as operands
+use Rattle.plural_operands.specs.declared.operand.Operand as operand
+use Rattle.plural_operands.specs.declared.operand.Operand.TheVariants as operands
 use Rattle.plural_reference.specs.declared.ast.Operator as operator
 use Rattle.plural_reference.specs.declared.ast.Operator.TheVariants.{Eq, NotEq}
 use Rattle.plural_reference.specs.declared.ast.RangeListItem.{RangeListItem}
@@ -22,7 +22,8 @@ use Rattle.plural_reference.specs.Parser.{operand_of, IsItem, IsModulus, IsExpre
 use Rattle.plural_reference.specs.Parser.{IsAndCondition, IsCondition, Continues, IsUnconditional, ReadsUpTo}
 use Rattle.plural_reference.specs.PrintingLaws.{FitsToken, IsSpellableItem, IsSpellableRelation, IsSpellableGroup, IsSpellable}
 use Rattle.plural_reference.specs.Inner.Scan.{tokens_of, tokens_from}
-use Rattle.plural_reference.specs.Serializer.{joined, prefixed, value_text, operand_text, operator_text, expression_text}
+use Rattle.plural_reference.specs.Serializer.{joined, prefixed, value_text, operator_text, expression_text}
+use Rattle.plural_operands.specs.Operands.{operand_text}
 use Rattle.plural_reference.specs.Serializer.{item_text, relation_text, and_condition_text, condition_text}
 use Rattle.plural_reference.proofs.tokens.Alone.{i_alone}
 use Rattle.plural_reference.proofs.printing.PrintedTokens.{below_digits, Scans, scans_then, Spells, joined_spells, EndsRun, number_spells}

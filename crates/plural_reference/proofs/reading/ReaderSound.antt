@@ -9,7 +9,7 @@ use Rattle.plural_reference.specs.declared.ast.RangeListItem.TheVariants as item
 use Rattle.plural_reference.specs.declared.ast.Relation.{Relation}
 use Rattle.plural_reference.specs.declared.ast.AndCondition.{AndCondition}
 use Rattle.plural_reference.specs.declared.ast.Value.{Value}
-use Rattle.plural_reference.specs.declared.ast.Operand as operand
+use Rattle.plural_operands.specs.declared.operand.Operand as operand
 use Rattle.plural_reference.specs.declared.ast.Expression.{Expression}
 use Rattle.plural_reference.specs.declared.token.Token.{Token}
 use Rattle.plural_reference.specs.declared.token.Token.TheVariants.{Operand, Operator, Number, Zero, DotDot, Comma, Or, And, Modulo, At, E}

@@ -5,8 +5,8 @@ use Rattle.plural_reference.specs.declared.ast.Condition.{Condition}
 use Rattle.plural_reference.specs.declared.ast.Relation.{Relation}
 use Rattle.plural_reference.specs.declared.ast.RangeListItem.{RangeListItem}
 use Rattle.plural_reference.specs.declared.ast.RangeListItem.TheVariants as items
-use Rattle.plural_reference.specs.declared.ast.Operand as operand
-use Rattle.plural_reference.specs.declared.ast.Operand.TheVariants as operands
+use Rattle.plural_operands.specs.declared.operand.Operand as operand
+use Rattle.plural_operands.specs.declared.operand.Operand.TheVariants as operands
 use Rattle.plural_reference.specs.declared.ast.Operator as operator
 use Rattle.plural_reference.specs.declared.ast.Operator.TheVariants as operators
 use Rattle.plural_reference.specs.declared.ast.Value.{Value}

@@ -10,7 +10,7 @@ use Rattle.std.specs.Borrow.{Bor}
 use Rattle.std.specs.Char.{IsAsciiDigit, digit_value}
 use Rattle.std.specs.List.{AllByRecursion, flat_map}
 use Rattle.std.specs.Str.Parse.{digits_value, digits_value_after}
-use Rattle.plural_reference.specs.declared.ast.Operand.TheVariants.{C}
+use Rattle.plural_operands.specs.declared.operand.Operand.TheVariants.{C}
 use Rattle.plural_reference.specs.declared.token.Token.{Token}
 use Rattle.plural_reference.specs.declared.token.Token.TheVariants.{Operand, Number, Dot, Comma, At, Decimal, Integer, Ellipsis, Tilde, E}
 use Rattle.plural_reference.specs.Lexer.{first, max_number}

@@ -10,7 +10,7 @@ use Rattle.std.proofs.lemmas.Bool.Decides.{nat_tests}
 use Rattle.std.specs.Prelude.{IfSome, IsSome, IsSomeAnd, is_some, ◌||◌}
 use Rattle.std.specs.Fmt.{decimal, digits, digits_onto, digit_glyph}
 use Rattle.std.specs.List.{AllByRecursion, flat_map, list_any}
-use Rattle.plural_reference.specs.declared.ast.Operand.TheVariants.{C}
+use Rattle.plural_operands.specs.declared.operand.Operand.TheVariants.{C}
 use Rattle.plural_reference.specs.declared.ast.DecimalValue.{DecimalValue}
 use Rattle.plural_reference.specs.declared.ast.SampleRange.{SampleRange}
 use Rattle.plural_reference.specs.declared.error.ParseError.{ParseError}

@@ -5,7 +5,7 @@ use Rattle.std.proofs.lemmas.Bool.{true≢false}
 use Rattle.std.specs.Prelude.{IfSome, ◌||◌, fold}
 use Rattle.std.specs.Fmt.{decimal, digits, digits_onto, digit_glyph}
 use Rattle.std.specs.List.{list_any}
-use Rattle.plural_reference.specs.declared.ast.Operand.TheVariants.{C}
+use Rattle.plural_operands.specs.declared.operand.Operand.TheVariants.{C}
 use Rattle.plural_reference.specs.declared.ast.DecimalValue.{DecimalValue}
 use Rattle.plural_reference.specs.declared.ast.SampleList.{SampleList}
 use Rattle.plural_reference.specs.declared.ast.SampleRange.{SampleRange}

@@ -1,7 +1,7 @@
 -- `i` and `.` that no longer piece begins with.
 use Rattle.std.proofs.Common.{◌≡◌, ◌≢◌, ℕ, List, [], ◌∷◌, Some, refl, ap}
 use Rattle.plural_reference.specs.Lexer.{first}
-use Rattle.plural_reference.specs.declared.ast.Operand.TheVariants.{I}
+use Rattle.plural_operands.specs.declared.operand.Operand.TheVariants.{I}
 use Rattle.plural_reference.specs.declared.token.Token.TheVariants.{Operand, Dot}
 use Rattle.plural_reference.specs.Inner.Scan.{tokens_of, tokens_from}
 use Rattle.plural_reference.proofs.tokens.ScanComplete.{no_eq}

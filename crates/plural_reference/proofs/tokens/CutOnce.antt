@@ -9,7 +9,7 @@ use Rattle.std.proofs.lemmas.List.Elements.{All-contains, All-from_recursion, re
 use Rattle.std.specs.Prelude.{IfSome, codes}
 use Rattle.std.specs.List.{AllByRecursion, list_all, cons_option}
 use Rattle.std.specs.Char.{is_ascii_digit, digit_value, IsAsciiDigit}
-use Rattle.plural_reference.specs.declared.ast.Operand.TheVariants.{I}
+use Rattle.plural_operands.specs.declared.operand.Operand.TheVariants.{I}
 use Rattle.plural_reference.specs.declared.ast.Operator.TheVariants.{NotEq}
 use Rattle.plural_reference.specs.declared.token.Token.{Token}
 use Rattle.plural_reference.specs.declared.token.Token.TheVariants.{Operand, Operator, Dot, Or, And, Decimal, Integer, Ellipsis}

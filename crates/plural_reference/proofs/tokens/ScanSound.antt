@@ -11,7 +11,7 @@ use Rattle.std.specs.Prelude.{Contains, IfSome, ◌⊎◌, codes}
 use Rattle.std.specs.List.{AllByRecursion, cons_option}
 use Rattle.std.specs.Char.{is_ascii_digit, digit_value, IsAsciiDigit}
 use Rattle.std.specs.Str.Parse.{digits_value}
-use Rattle.plural_reference.specs.declared.ast.Operand.TheVariants.{I}
+use Rattle.plural_operands.specs.declared.operand.Operand.TheVariants.{I}
 use Rattle.plural_reference.specs.declared.token.Token.{Token}
 use Rattle.plural_reference.specs.declared.token.Token.TheVariants.{Operand, Zero, Dot, DotDot, Junk, Integer}
 use Rattle.plural_reference.specs.Lexer.{first, Word, marks, keywords, IsDigitRun, max_number, IsBegun, BeginsNone, IsPiece}

@@ -4,7 +4,7 @@ use Rattle.std.specs.Prelude.{List, [], ◌∷◌, ◌++◌, Option, Some, None,
 use Rattle.plural_reference.specs.declared.ast.AndCondition.{AndCondition}
 use Rattle.plural_reference.specs.declared.ast.Condition.{Condition}
 use Rattle.plural_reference.specs.declared.ast.Expression.{Expression}
-use Rattle.plural_reference.specs.declared.ast.Operand as operand
+use Rattle.plural_operands.specs.declared.operand.Operand as operand
 use Rattle.plural_reference.specs.declared.ast.Operator as operator
 use Rattle.plural_reference.specs.declared.ast.RangeListItem.{RangeListItem}
 use Rattle.plural_reference.specs.declared.ast.RangeListItem.TheVariants as items

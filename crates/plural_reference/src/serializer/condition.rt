@@ -45,7 +45,7 @@ impl Part for ast::Expression {
 }
 
 impl Part for ast::Operand {
-    ghost use Rattle.plural_reference.specs.Serializer.{operand_text};
+    ghost use Rattle.plural_operands.specs.Operands.{operand_text};
 
     ghost text = { operand_text };
 

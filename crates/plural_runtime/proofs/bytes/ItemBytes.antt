@@ -11,8 +11,8 @@ use Rattle.plural_runtime.specs.declared.kinds.AndOr.{AndOr}
 use Rattle.plural_runtime.specs.declared.kinds.AndOr.TheVariants.{And, Or}
 use Rattle.plural_reference.specs.declared.ast.Operator.{Operator}
 use Rattle.plural_reference.specs.declared.ast.Operator.TheVariants.{Eq, NotEq}
-use Rattle.plural_reference.specs.declared.ast.Operand.{Operand}
-use Rattle.plural_reference.specs.declared.ast.Operand.TheVariants.{N, I, V, W, F, T, C, E}
+use Rattle.plural_operands.specs.declared.operand.Operand.{Operand}
+use Rattle.plural_operands.specs.declared.operand.Operand.TheVariants.{N, I, V, W, F, T, C, E}
 use Rattle.plural_runtime.specs.PackedRelations.{PackedRelation, FitsBytes, and_or_bit, operator_bit, operand_number, first_byte}
 use Rattle.plural_runtime.specs.PackedRelations.{range_bytes, relation_bytes, is_item_length, is_relation}
 use Rattle.plural_runtime.specs.Inner.RuleReading.{and_or_in, operator_in, operand_in, operand_numbered, operand_or_n}

@@ -3,7 +3,7 @@ use Rattle.std.proofs.Common.{◌≡◌, ℕ, ◌+◌, List, [], ◌∷◌, ◌+
 use Rattle.std.specs.Prelude.{◌&&◌, ◌||◌, not, if◌then◌else◌, sum_by, count_by}
 use Rattle.std.specs.List.{list_any, list_all}
 use Rattle.std.proofs.lemmas.List.Sums.{sum_by-cons}
-use Rattle.plural_reference.specs.Operands.{Operands}
+use Rattle.plural_operands.specs.Operands.{Operands}
 use Rattle.plural_runtime.specs.PackedRelations.{PackedRelation, groups}
 use Rattle.plural_reference.specs.Truth.{range_holds, is_in_ranges}
 use Rattle.plural_runtime.specs.PackedTruth.{is_true_at, group_truth, with_earlier_from, needed_of_list, needed_of_relation}

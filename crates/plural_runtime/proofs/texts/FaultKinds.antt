@@ -3,7 +3,7 @@ use Rattle.std.proofs.Common.{◌≡◌, ◌≢◌, List, Bool, true, false, Opt
 use Rattle.std.specs.Prelude.{if◌then◌else◌, is_some, map, Err}
 use Rattle.packed_list.specs.ListBytes.{has_high_start}
 use Rattle.plural_reference.specs.declared.ast.Condition.{Condition}
-use Rattle.plural_reference.specs.declared.ast.Operand.TheVariants.{C}
+use Rattle.plural_operands.specs.declared.operand.Operand.TheVariants.{C}
 use Rattle.plural_reference.specs.declared.error.ParseError.{ParseError}
 use Rattle.plural_reference.specs.declared.error.ParseError.TheVariants.{ExpectedAndCondition, ExpectedRelation, ExpectedOperand}
 use Rattle.plural_reference.specs.declared.error.ParseError.TheVariants.{ExpectedValue, ValueTooLarge}

@@ -3,7 +3,8 @@ use Rattle.std.proofs.Common.{◌≡◌, ℕ, List, [], ◌∷◌, ◌++◌, map
 use Rattle.std.specs.Prelude.{◌==◌, flat_map, codes, if◌then◌else◌}
 use Rattle.std.specs.Fmt.{decimal}
 use Rattle.plural_reference.specs.declared.ast.Relation.{Relation}
-use Rattle.plural_reference.specs.Serializer.{joined, prefixed, value_text, operand_text, operator_text, expression_text, item_text}
+use Rattle.plural_reference.specs.Serializer.{joined, prefixed, value_text, operator_text, expression_text, item_text}
+use Rattle.plural_operands.specs.Operands.{operand_text}
 use Rattle.plural_reference.specs.Serializer.{relation_text, and_condition_text, condition_text}
 use Rattle.plural_reference.specs.Truth.{RelationMeaning}
 use Rattle.plural_runtime.specs.declared.kinds.AndOr.{AndOr}

@@ -3,8 +3,8 @@ use Rattle.std.proofs.Common.{◌≡◌, ℕ, List, [], ◌∷◌, refl, sym, ap
 use Rattle.std.specs.Prelude.{flat_map}
 use Rattle.std.specs.Bool.{Decides}
 use Rattle.std.proofs.lemmas.Slice.Eq.{bytes_eq-Decides}
-use Rattle.plural_reference.specs.declared.ast.Operand.{Operand}
-use Rattle.plural_reference.specs.declared.ast.Operand.TheVariants.{N, I, V, W, F, T, C, E}
+use Rattle.plural_operands.specs.declared.operand.Operand.{Operand}
+use Rattle.plural_operands.specs.declared.operand.Operand.TheVariants.{N, I, V, W, F, T, C, E}
 use Rattle.plural_reference.specs.declared.ast.Operator.{Operator}
 use Rattle.plural_reference.specs.declared.ast.Operator.TheVariants.{Eq, NotEq}
 use Rattle.plural_runtime.specs.declared.kinds.AndOr.{AndOr}

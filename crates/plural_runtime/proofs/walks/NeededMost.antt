@@ -2,9 +2,10 @@
 use Rattle.std.proofs.Common.{ℕ, ◌+◌, ◌≤◌, List, [], ◌∷◌, length, subst, arith, Bool, true, false, Some, None}
 use Rattle.std.specs.Prelude.{if◌then◌else◌, Option, option_map}
 use Rattle.std.proofs.lemmas.List.Sums.{sum_by-cons}
-use Rattle.plural_reference.specs.Operands.{Operands}
+use Rattle.plural_operands.specs.Operands.{Operands}
 use Rattle.plural_runtime.specs.PackedRelations.{PackedRelation}
-use Rattle.plural_reference.specs.Truth.{range_holds, operand_value, remainder}
+use Rattle.plural_reference.specs.Truth.{range_holds, remainder}
+use Rattle.plural_operands.specs.Operands.{operand_value}
 use Rattle.plural_runtime.specs.PackedTruth.{is_true_at, needed_of_value, needed_of_relation, needed_ranges, range_count}
 use Rattle.plural_runtime.proofs.counting.NeededGroups.{needed_from, needed_of_list-is}
 use Rattle.plural_runtime.proofs.walks.Walks.{ends_true, is_looked_at, holds_after, needed_left, needed_left-is}

@@ -5,7 +5,7 @@ use Rattle.std.proofs.Common.{Bool, true, false, IsTrue}
 use Rattle.std.specs.Cmp.{first_so, second_so}
 use Rattle.std.specs.Fn.{iterate}
 use Rattle.std.specs.List.{AllByRecursion, list_all}
-use Rattle.plural_reference.specs.Operands.{Operands}
+use Rattle.plural_operands.specs.Operands.{Operands}
 use Rattle.plural_runtime.specs.declared.kinds.AndOr.TheVariants.{And, Or}
 use Rattle.plural_runtime.specs.Inner.RuleReading.{relation_in}
 use Rattle.plural_runtime.specs.PackedRelations.{PackedRelation, is_relation}

@@ -2,7 +2,7 @@
 use Rattle.std.proofs.Common.{◌≡◌, ℕ, ◌+◌, List, [], ◌∷◌, refl, sym, ap, ◌∙◌, arith, Bool, true, false}
 use Rattle.std.specs.Prelude.{◌&&◌, ◌||◌, not, if◌then◌else◌}
 use Rattle.std.specs.List.{list_any}
-use Rattle.plural_reference.specs.Operands.{Operands}
+use Rattle.plural_operands.specs.Operands.{Operands}
 use Rattle.plural_runtime.specs.declared.kinds.AndOr.{AndOr}
 use Rattle.plural_runtime.specs.declared.kinds.AndOr.TheVariants.{And, Or}
 use Rattle.plural_runtime.specs.PackedRelations.{PackedRelation, groups, at_front, cut_before}

@@ -2,8 +2,8 @@
 -- of the subject.
 use Rattle.std.specs.Prelude.{ℕ, ◌+◌, ◌*◌, ◌%◌, List, [], ◌∷◌, map, drop, slice_index, if◌then◌else◌, ◌==◌, nat_lt, Option, Some, None}
 use Rattle.packed_list.specs.Inner.ListReading.{items_in}
-use Rattle.plural_reference.specs.declared.ast.Operand.{Operand}
-use Rattle.plural_reference.specs.declared.ast.Operand.TheVariants.{N, I, V, W, F, T, C, E}
+use Rattle.plural_operands.specs.declared.operand.Operand.{Operand}
+use Rattle.plural_operands.specs.declared.operand.Operand.TheVariants.{N, I, V, W, F, T, C, E}
 use Rattle.plural_reference.specs.declared.ast.Operator.{Operator}
 use Rattle.plural_reference.specs.declared.ast.Operator.TheVariants.{Eq, NotEq}
 use Rattle.plural_runtime.specs.declared.kinds.AndOr.{AndOr}

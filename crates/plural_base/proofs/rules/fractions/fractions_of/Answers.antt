@@ -1,5 +1,5 @@
 use Rattle.std.proofs.Common.{◌≡◌, ap, arith}
-use Rattle.plural_reference.specs.declared.raw_operands.RawPluralOperands.{RawPluralOperands}
+use Rattle.plural_operands.specs.declared.raw_operands.RawPluralOperands.{RawPluralOperands}
 use Rattle.plural_base.proofs.integers.Fractions.{is_shown, is_not_zero}
 use Rattle.plural_base.proofs.rules.fractions.fractions_of.Goals as goal
 

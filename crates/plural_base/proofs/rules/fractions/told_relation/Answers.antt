@@ -1,7 +1,8 @@
 use Rattle.std.proofs.Common.{subst}
 use Rattle.std.specs.Prelude.{option_map}
 use Rattle.plural_reference.specs.declared.ast.Operator.{Operator}
-use Rattle.plural_reference.specs.Truth.{holds_value, operand_value, remainder, under}
+use Rattle.plural_reference.specs.Truth.{holds_value, remainder, under}
+use Rattle.plural_operands.specs.Operands.{operand_value}
 use Rattle.plural_runtime.specs.Inner.RuleViews.{lent_relation}
 use Rattle.plural_base.specs.Inner.WholeNumbers.{IsTold}
 use Rattle.plural_base.proofs.rules.fractions.told_relation.Goals as goal

@@ -1,5 +1,5 @@
 use Rattle.std.proofs.Common.{◌≡◌, Bool}
-use Rattle.plural_reference.specs.Operands.{Operands}
+use Rattle.plural_operands.specs.Operands.{Operands}
 use Rattle.plural_runtime.specs.PackedTruth.{packed_truth}
 use Rattle.plural_base.specs.Inner.FractionClasses.{IsOfFractions}
 use Rattle.plural_base.specs.Inner.WholeNumbers.{IsTold}

@@ -1,5 +1,5 @@
 use Rattle.std.proofs.Common.{◌≡◌, ℕ, ◌∙◌, sym, ap, subst, Bool}
-use Rattle.plural_reference.specs.Operands.{of_whole}
+use Rattle.plural_operands.specs.Operands.{of_whole}
 use Rattle.plural_reference.specs.Truth.{is_in_ranges, remainder, under}
 use Rattle.plural_runtime.specs.RuleKinds.{operator_of, tree_operand_of}
 use Rattle.plural_runtime.specs.Inner.RuleViews.{lent_relation}

@@ -1,5 +1,5 @@
 use Rattle.std.proofs.Common.{◌≡◌, ℕ, Bool}
-use Rattle.plural_reference.specs.Operands.{of_whole}
+use Rattle.plural_operands.specs.Operands.{of_whole}
 use Rattle.plural_runtime.specs.PackedTruth.{packed_truth}
 use Rattle.plural_base.specs.Inner.WholeNumbers.{IsInClass, IsTold}
 use Rattle.plural_base.proofs.integers.Walk.{truth_from}

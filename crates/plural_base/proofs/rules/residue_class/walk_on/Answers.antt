@@ -1,5 +1,5 @@
 use Rattle.std.proofs.Common.{subst}
-use Rattle.plural_reference.specs.Operands.{of_whole}
+use Rattle.plural_operands.specs.Operands.{of_whole}
 use Rattle.plural_runtime.specs.declared.kinds.AndOr.{AndOr}
 use Rattle.plural_runtime.specs.PackedTruth.{is_true_at}
 use Rattle.plural_runtime.specs.Inner.RuleViews.{lent_relation}

@@ -1,5 +1,5 @@
 use Rattle.std.proofs.Common.{◌∷◌, [], arith, rules}
-use Rattle.plural_reference.proofs.numbers.ShortReading.{nothing_left}
+use Rattle.plural_operands.proofs.numbers.ShortReading.{nothing_left}
 use Rattle.plural_reference.proofs.samples.PlainBytes.{ShowsAt, split_front}
 use Rattle.plural_reference.proofs.samples.PlainLists.{end_leads, list_leads}
 use Rattle.plural_reference.proofs.parser.plain.next_list.Goals as goal

@@ -1,6 +1,6 @@
 use Rattle.std.proofs.Common.{sym, subst}
 use Rattle.std.specs.Prelude.{Contains}
-use Rattle.plural_reference.specs.Operands.{of_whole}
+use Rattle.plural_operands.specs.Operands.{of_whole}
 use Rattle.plural_runtime.specs.PackedTruth.{packed_truth}
 use Rattle.plural_base.specs.declared.category.PluralCategory.{PluralCategory}
 use Rattle.plural_base.specs.FiveRules.{categories_of}

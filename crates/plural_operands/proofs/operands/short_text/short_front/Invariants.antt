@@ -1,0 +1,14 @@
+use Rattle.std.proofs.Common.{◌≤◌, ◌-◌, take, length}
+use Rattle.plural_operands.specs.Inner.ShortTexts.{AreDigitsOf}
+use Rattle.plural_operands.proofs.operands.short_text.short_front.Given as goal
+
+-- so many digits are at the front, and write the number so far
+abbrev pub invariant-loop-at : goal.invariant-loop-at
+invariant-loop-at l = record {
+  within : l.at ≤ length l.text;
+  few : l.at ≤ 18;
+  so_far : AreDigitsOf (take l.at l.text) l.number;
+}
+
+abbrev pub decreases-loop-at : goal.decreases-loop-at
+decreases-loop-at l = length l.text - l.at

@@ -1,9 +1,0 @@
-use Rattle.std.proofs.Common.{◌≡◌, ◌-◌, ◌*◌, ◌^◌, ◌≤◌}
-use Rattle.plural_reference.proofs.operands.fraction.without_zeros.Given as goal
-
--- What is left and its zeros write the same number.
-abbrev pub invariant-loop-left : goal.invariant-loop-left
-invariant-loop-left l = (l.left ≤ l.shown) × (l.number * 10 ^ l.zeros ≡ l.rest * 10 ^ (l.shown - l.left))
-
-abbrev pub decreases-loop-left : goal.decreases-loop-left
-decreases-loop-left l = l.left

@@ -1,5 +1,0 @@
-use Rattle.plural_reference.proofs.numbers.ShortReading.{signed_if_read}
-use Rattle.plural_reference.proofs.operands.short_text.short_operands.Goals as goal
-
-pub returns : goal.returns
-returns c = signed_if_read c.args.text.now c.behind_any_sign.result.now c.short_unsigned.result c.behind_any_sign.ensures c.short_unsigned.ensures
