@@ -41,10 +41,20 @@ impl<'a> Model for Cursor<'a> {
     } };
 }
 
+impl<'a> PackedList<'a> {
+    /// Returns a cursor at the first item, or `None` if there is no item.
+    #[inline]
+    pub fn cursor(&self) -> Option<Cursor<'a>>
+        ensures { MatchOption result (self.now ≡ []) (λ cursor. self.now ≡ cursor.item ∷ cursor.rest) }
+    {
+        Cursor::of(PackedList { bytes: self.bytes })
+    }
+}
+
 impl<'a> Cursor<'a> {
     // The cursor at the first item of a list.
     #[inline]
-    pub(crate) fn of(list: PackedList<'a>) -> Option<Cursor<'a>>
+    fn of(list: PackedList<'a>) -> Option<Cursor<'a>>
         ensures { MatchOption result (list.entry ≡ []) (λ cursor. list.entry ≡ cursor.item ∷ cursor.rest) }
     {
         if list.has_no_byte() {

@@ -35,10 +35,20 @@ impl<'a> Model for Items<'a> {
     } };
 }
 
+impl<'a> PackedList<'a> {
+    /// Returns the items, from the first one on.
+    #[inline]
+    pub fn iter(&self) -> Items<'a>
+        ensures { result ≡ self.now }
+    {
+        Items::of(PackedList { bytes: self.bytes })
+    }
+}
+
 impl<'a> Items<'a> {
     // All items of a list.
     #[inline]
-    pub(crate) fn of(list: PackedList<'a>) -> Items<'a>
+    fn of(list: PackedList<'a>) -> Items<'a>
         ensures { result ≡ list.entry }
     {
         Items {

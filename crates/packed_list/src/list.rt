@@ -1,13 +1,11 @@
 //! A list of byte items, borrowed from the bytes that it is packed in.
 
-ghost use Rattle.std.specs.Prelude.{◌≡◌, ◌↔◌, ◌+◌, ◌*◌, ◌/◌, ◌<◌, ◌≤◌, ◌==◌, [], ◌∷◌, ℕ, List, length, slice_get, IfOk, MatchOption, Ok, Err, Some, option_map, unwrap_or};
+ghost use Rattle.std.specs.Prelude.{◌≡◌, ◌↔◌, ◌+◌, ◌*◌, ◌/◌, ◌<◌, ◌≤◌, ◌==◌, ℕ, List, length, slice_get, IfOk, Ok, Err, Some, option_map, unwrap_or};
 ghost use Rattle.std.specs.List.{concat};
 ghost use Rattle.packed_list.specs.ListBytes.{ListBytes, item_starts, HasFault};
 ghost use Rattle.packed_list.specs.Inner.ListReading.{IsList, items_in};
 
-use crate::cursor::Cursor;
 use crate::error::ListError;
-use crate::items::Items;
 use crate::starts::{are_starts, number, part};
 use std::marker::Model;
 
@@ -28,7 +26,7 @@ use std::marker::Model;
 /// ```
 #[derive(Debug, Drop)]
 pub struct PackedList<'a> {
-    bytes: &'a [u8],
+    pub(crate) bytes: &'a [u8],
 }
 
 impl<'a> Model for PackedList<'a> {
@@ -163,22 +161,6 @@ impl<'a> PackedList<'a> {
         } else {
             None
         }
-    }
-
-    /// Returns the items, from the first one on.
-    #[inline]
-    pub fn iter(&self) -> Items<'a>
-        ensures { result ≡ self.now }
-    {
-        Items::of(PackedList { bytes: self.bytes })
-    }
-
-    /// Returns a cursor at the first item, or `None` if there is no item.
-    #[inline]
-    pub fn cursor(&self) -> Option<Cursor<'a>>
-        ensures { MatchOption result (self.now ≡ []) (λ cursor. self.now ≡ cursor.item ∷ cursor.rest) }
-    {
-        Cursor::of(PackedList { bytes: self.bytes })
     }
 
     // Returns whether it has no byte, which is so if and only if it has no item.

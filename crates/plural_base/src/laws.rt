@@ -75,5 +75,4 @@ pub fn ranges_are_their_maps()
     ensures { RangesAreTheirMaps }
 {}
 
-pub mod orders;
 pub mod ranges;

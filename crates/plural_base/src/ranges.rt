@@ -5,7 +5,6 @@ ghost use Rattle.plural_base.specs.declared.category.raw.RawPluralCategory.{RawP
 ghost use Rattle.plural_base.specs.Ranges.{category_at, no_ranges, row_size, size_of, with_range};
 
 pub(crate) mod key;
-pub(crate) mod rules_with_ranges;
 
 use crate::category::by_category::ByCategory;
 use crate::category::raw::{ALL, RawPluralCategory};

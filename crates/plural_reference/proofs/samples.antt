@@ -4,6 +4,4 @@ pub mod SampleSound
 pub mod SampleComplete
 pub mod SampleParserSteps
 pub mod SampleSinks
-pub mod PlainBytes
-pub mod PlainLists
 pub mod WorkedSamples

@@ -5,7 +5,7 @@ use Rattle.std.specs.Prelude.{length, Contains}
 use Rattle.plural_reference.specs.declared.ast.Condition.{Condition}
 use Rattle.plural_operands.specs.declared.operand.Operand.{Operand}
 use Rattle.plural_operands.specs.declared.operand.Operand.TheVariants.{N, I, V, W, F, T, C, E}
-use Rattle.plural_operands.specs.Operands.{Operands, kept_places, kept_limit}
+use Rattle.plural_operands.specs.Operands.{Operands, parts, kept_places, kept_limit}
 use Rattle.plural_reference.specs.Truth.{RelationMeaning, remainder, holds_value, under, is_true_of, meaning_of, groups_of}
 use Rattle.std.specs.Int.{◌∣◌}
 use Rattle.std.specs.List.{AllByRecursion}

@@ -6,8 +6,6 @@ use Rattle.plural_reference.specs.declared.ast.AndCondition.{AndCondition}
 use Rattle.plural_reference.specs.declared.ast.Condition.{Condition}
 use Rattle.plural_reference.specs.declared.ast.DecimalValue.{DecimalValue}
 use Rattle.plural_reference.specs.declared.ast.Expression.{Expression}
-use Rattle.plural_operands.specs.declared.operand.Operand.{Operand}
-use Rattle.plural_operands.specs.declared.operand.Operand.TheVariants.{N, I, F, T, V, W, C, E}
 use Rattle.plural_reference.specs.declared.ast.Operator.{Operator}
 use Rattle.plural_reference.specs.declared.ast.Operator.TheVariants.{Eq, NotEq}
 use Rattle.plural_reference.specs.declared.ast.RangeList.{RangeList}
@@ -19,6 +17,7 @@ use Rattle.plural_reference.specs.declared.ast.SampleList.{SampleList}
 use Rattle.plural_reference.specs.declared.ast.SampleRange.{SampleRange}
 use Rattle.plural_reference.specs.declared.ast.Samples.{Samples}
 use Rattle.plural_reference.specs.declared.ast.Value.{Value}
+use Rattle.plural_operands.specs.Operands.{operand_text}
 use Rattle.plural_reference.specs.Lexer.{ellipsis}
 
 -- the texts of the parts, with the separator between neighbours (`join_by` of std, but one part and

@@ -5,7 +5,6 @@ use Rattle.std.specs.Prelude.{None, option_map}
 use Rattle.std.specs.List.{list_any, list_all}
 use Rattle.plural_reference.specs.declared.ast.Condition.{Condition}
 use Rattle.plural_operands.specs.declared.operand.Operand.{Operand}
-use Rattle.plural_operands.specs.declared.operand.Operand.TheVariants.{N, I, V, W, F, T, C, E}
 use Rattle.plural_reference.specs.declared.ast.Operator.{Operator}
 use Rattle.plural_reference.specs.declared.ast.Operator.TheVariants.{Eq, NotEq}
 use Rattle.plural_reference.specs.declared.ast.RangeList.{RangeList}
@@ -13,7 +12,7 @@ use Rattle.plural_reference.specs.declared.ast.RangeListItem.{RangeListItem}
 use Rattle.plural_reference.specs.declared.ast.RangeListItem.TheVariants as items
 use Rattle.plural_reference.specs.declared.ast.Relation.{Relation}
 use Rattle.plural_reference.specs.declared.ast.Value.{Value}
-use Rattle.plural_operands.specs.Operands.{Operands}
+use Rattle.plural_operands.specs.Operands.{Operands, operand_value}
 use Rattle.plural_reference.specs.declared.ast.Expression.{Expression}
 
 -- ---- A value in ranges

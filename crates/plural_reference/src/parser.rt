@@ -46,7 +46,7 @@ pub use whole::is_read_whole;
 /// let items = &group.0.get(0).ok_or("no relation")?.range_list.0;
 /// assert!(rt; items.len() == values.len());
 /// ```
-#[tactic(auto, using(crate::proofs::reading::Answered::condition_answers))]
+#[tactic(auto, using(crate::proofs::rules::Answered::condition_answers))]
 pub fn parse_condition(alloc: Global, text: &[u8]) -> Result<Condition, ReadError>
     ensures { AnswersExactly Reads Faulty text.now result }
 {

@@ -1,6 +1,6 @@
 use Rattle.std.proofs.lemmas.Result.{err_from_is_err_and}
 use Rattle.plural_reference.proofs.reading.ParserSteps.{passes_on}
-use Rattle.plural_reference.proofs.reading.Answered.{rule_answers, kept_rule_is, condition_fault, samples_fault}
+use Rattle.plural_reference.proofs.rules.Answered.{rule_answers, kept_rule_is, condition_fault, samples_fault}
 use Rattle.plural_reference.proofs.parser.parse.Goals as goal
 
 pub returns-in_err-condition : goal.returns-in_err-condition

@@ -1,6 +1,6 @@
 use Rattle.std.proofs.lemmas.Result.{err_from_is_err_and}
 use Rattle.plural_reference.proofs.reading.ParserSteps.{passes_on}
-use Rattle.plural_reference.proofs.reading.Answered.{condition_fault, samples_fault, without_samples_answers, without_samples_refuses}
+use Rattle.plural_reference.proofs.rules.Answered.{condition_fault, samples_fault, without_samples_answers, without_samples_refuses}
 use Rattle.plural_reference.proofs.parser.parse_without_samples.Goals as goal
 
 pub returns-in_err-condition : goal.returns-in_err-condition

@@ -1,4 +1,4 @@
-use Rattle.plural_reference.proofs.reading.RuleTexts.{texts_are_read}
+use Rattle.plural_reference.proofs.rules.RuleTexts.{texts_are_read}
 use Rattle.plural_reference.proofs.laws.reading.texts_are_read.Goals as goal
 
 pub returns : goal.returns

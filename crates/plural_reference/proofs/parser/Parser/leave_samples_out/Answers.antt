@@ -1,5 +1,5 @@
 use Rattle.std.proofs.lemmas.Result.{err_from_is_err_and}
-use Rattle.plural_reference.proofs.samples.PlainLists.{lists_are_samples}
+use Rattle.plural_reference.proofs.plain.PlainLists.{lists_are_samples}
 use Rattle.plural_reference.proofs.parser.Parser.leave_samples_out.Goals as goal
 
 pub returns-then-is_before_plain_samples : goal.returns-then-is_before_plain_samples

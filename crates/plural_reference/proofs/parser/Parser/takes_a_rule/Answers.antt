@@ -1,7 +1,7 @@
 use Rattle.std.proofs.Common.{None}
 use Rattle.std.proofs.lemmas.Result.{err_from_is_err_and}
 use Rattle.plural_reference.proofs.reading.ParserSteps.{passes_on}
-use Rattle.plural_reference.proofs.reading.WholeRules.{condition_refused, rule_if_at_end, samples_refused}
+use Rattle.plural_reference.proofs.rules.WholeRules.{condition_refused, rule_if_at_end, samples_refused}
 use Rattle.plural_reference.proofs.parser.Parser.takes_a_rule.Goals as goal
 
 pub returns-in_err-condition : goal.returns-in_err-condition

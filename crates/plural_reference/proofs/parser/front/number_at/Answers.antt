@@ -1,7 +1,7 @@
 use Rattle.std.proofs.Common.{◌≡◌, ◌∷◌, [], ◌-◌, ℕ, List, take, drop, length, get_or, arith, rules, refl, ap, ⊎_elim}
 use Rattle.plural_reference.specs.declared.token.Token.TheVariants.{Zero}
 use Rattle.plural_reference.specs.Inner.Scan.{tokens_of, tokens_from}
-use Rattle.plural_reference.proofs.samples.PlainBytes.{split_front}
+use Rattle.plural_reference.proofs.plain.PlainBytes.{split_front}
 use Rattle.plural_reference.proofs.tokens.FirstBytes.{no_value}
 use Rattle.plural_reference.proofs.parser.front.number_at.Goals as goal
 

@@ -1,5 +1,5 @@
 use Rattle.std.proofs.Common.{◌-◌, length, refl}
-use Rattle.plural_reference.proofs.samples.PlainBytes.{short_run}
+use Rattle.plural_reference.proofs.plain.PlainBytes.{short_run}
 use Rattle.plural_reference.proofs.parser.plain.behind_digits.Goals as goal
 
 pub returns-then-count-lt10-clause-digits : goal.returns-then-count-lt10-clause-digits

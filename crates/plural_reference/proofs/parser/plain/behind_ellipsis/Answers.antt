@@ -1,6 +1,6 @@
 use Rattle.std.proofs.Common.{◌∷◌, [], arith, rules}
-use Rattle.plural_reference.proofs.samples.PlainBytes.{ShowsAt, split_front}
-use Rattle.plural_reference.proofs.samples.PlainLists.{ellipsis_leads}
+use Rattle.plural_reference.proofs.plain.PlainBytes.{ShowsAt, split_front}
+use Rattle.plural_reference.proofs.plain.PlainLists.{ellipsis_leads}
 use Rattle.plural_reference.proofs.parser.plain.behind_ellipsis.Goals as goal
 
 pub returns-clause-leads : goal.returns-clause-leads

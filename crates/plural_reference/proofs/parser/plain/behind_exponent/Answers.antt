@@ -1,7 +1,7 @@
 use Rattle.std.proofs.Common.{◌≡◌, ◌-◌, ◌∷◌, [], ℕ, List, drop, get_or, length, take, arith, rules}
 use Rattle.plural_reference.specs.Samples.{IsExponent}
 use Rattle.plural_reference.specs.Inner.PlainSamples.{Begins, IsRun}
-use Rattle.plural_reference.proofs.samples.PlainBytes.{c_exponent, e_exponent, if_some_on, split_front}
+use Rattle.plural_reference.proofs.plain.PlainBytes.{c_exponent, e_exponent, if_some_on, split_front}
 use Rattle.plural_reference.proofs.parser.plain.behind_exponent.Goals as goal
 
 pub returns-in-101-clause-exponent : goal.returns-in-101-clause-exponent

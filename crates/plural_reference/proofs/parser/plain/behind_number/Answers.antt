@@ -1,6 +1,6 @@
 use Rattle.std.proofs.Common.{◌≡◌, ◌-◌, ◌∷◌, [], ℕ, List, drop, get_or, length, take, arith, rules}
 use Rattle.plural_reference.specs.Inner.PlainSamples.{Begins, HasShortRun, IsNumber}
-use Rattle.plural_reference.proofs.samples.PlainBytes.{if_some_on, number_with_fraction, split_front, whole_number}
+use Rattle.plural_reference.proofs.plain.PlainBytes.{if_some_on, number_with_fraction, split_front, whole_number}
 use Rattle.plural_reference.proofs.parser.plain.behind_number.Goals as goal
 
 pub returns-in-46-clause-number : goal.returns-in-46-clause-number

@@ -1,5 +1,5 @@
 use Rattle.plural_reference.specs.Inner.PlainSamples.{Begins, HasShortRun, IsRun}
-use Rattle.plural_reference.proofs.samples.PlainBytes.{if_some_on, one_token}
+use Rattle.plural_reference.proofs.plain.PlainBytes.{if_some_on, one_token}
 use Rattle.plural_reference.proofs.parser.plain.behind_one_run.Goals as goal
 
 pub returns-in-len1-up-clause-run : goal.returns-in-len1-up-clause-run

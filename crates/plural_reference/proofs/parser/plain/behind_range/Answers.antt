@@ -1,6 +1,6 @@
 use Rattle.std.proofs.Common.{◌≡◌, ◌-◌, ◌∷◌, [], ℕ, List, drop, get_or, length, take, arith, rules}
-use Rattle.plural_reference.proofs.samples.PlainBytes.{split_front}
-use Rattle.plural_reference.proofs.samples.PlainLists.{single_leads, double_leads}
+use Rattle.plural_reference.proofs.plain.PlainBytes.{split_front}
+use Rattle.plural_reference.proofs.plain.PlainLists.{single_leads, double_leads}
 use Rattle.plural_reference.proofs.parser.plain.behind_range.Goals as goal
 
 pub returns-in_default-lower-clause-leads : goal.returns-in_default-lower-clause-leads

@@ -1,7 +1,7 @@
 use Rattle.std.proofs.Common.{◌≡◌, ◌-◌, ◌∷◌, ◌∙◌, ℕ, List, take, drop, length, get_or, arith, refl, sym, ap}
 use Rattle.std.proofs.lemmas.List.{take_rest}
 use Rattle.plural_operands.proofs.numbers.OperandTexts.{first_and_rest}
-use Rattle.plural_reference.proofs.samples.PlainBytes.{run_more}
+use Rattle.plural_reference.proofs.plain.PlainBytes.{run_more}
 use Rattle.plural_reference.proofs.parser.plain.behind_run.Goals as goal
 
 pub digits-preserved : goal.digits-preserved

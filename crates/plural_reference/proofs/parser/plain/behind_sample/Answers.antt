@@ -1,6 +1,6 @@
 use Rattle.std.proofs.Common.{◌∷◌, [], ℕ, List, arith, rules}
-use Rattle.plural_reference.proofs.samples.PlainBytes.{ShowsAt, split_front}
-use Rattle.plural_reference.proofs.samples.PlainLists.{number_comma, number_leads}
+use Rattle.plural_reference.proofs.plain.PlainBytes.{ShowsAt, split_front}
+use Rattle.plural_reference.proofs.plain.PlainLists.{number_comma, number_leads}
 use Rattle.plural_reference.proofs.parser.plain.behind_sample.Goals as goal
 
 pub returns-in-44-clause-leads : goal.returns-in-44-clause-leads

@@ -1,5 +1,5 @@
 use Rattle.std.proofs.Common.{◌∷◌, [], arith, rules}
-use Rattle.plural_reference.proofs.samples.PlainBytes.{ShowsAt, decimal_type, integer_type, split_front}
+use Rattle.plural_reference.proofs.plain.PlainBytes.{ShowsAt, decimal_type, integer_type, split_front}
 use Rattle.plural_reference.proofs.parser.plain.behind_type.Goals as goal
 
 pub returns-in-105-clause-kind : goal.returns-in-105-clause-kind

@@ -1,4 +1,4 @@
-use Rattle.plural_reference.proofs.samples.PlainLists.{front_leads}
+use Rattle.plural_reference.proofs.plain.PlainLists.{front_leads}
 use Rattle.plural_reference.proofs.parser.plain.list_front.Goals as goal
 
 pub returns-in-Some-clause-leads : goal.returns-in-Some-clause-leads

@@ -1,7 +1,7 @@
 use Rattle.std.proofs.Common.{◌∷◌, [], arith, rules}
 use Rattle.plural_operands.proofs.numbers.ShortReading.{nothing_left}
-use Rattle.plural_reference.proofs.samples.PlainBytes.{ShowsAt, split_front}
-use Rattle.plural_reference.proofs.samples.PlainLists.{end_leads, list_leads}
+use Rattle.plural_reference.proofs.plain.PlainBytes.{ShowsAt, split_front}
+use Rattle.plural_reference.proofs.plain.PlainLists.{end_leads, list_leads}
 use Rattle.plural_reference.proofs.parser.plain.next_list.Goals as goal
 
 pub returns-in-empty-clause-leads : goal.returns-in-empty-clause-leads

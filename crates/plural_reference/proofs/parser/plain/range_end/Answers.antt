@@ -1,6 +1,6 @@
 use Rattle.std.proofs.Common.{◌∷◌, [], arith, rules}
-use Rattle.plural_reference.proofs.samples.PlainBytes.{ShowsAt, split_front}
-use Rattle.plural_reference.proofs.samples.PlainLists.{comma_leads, range_leads}
+use Rattle.plural_reference.proofs.plain.PlainBytes.{ShowsAt, split_front}
+use Rattle.plural_reference.proofs.plain.PlainLists.{comma_leads, range_leads}
 use Rattle.plural_reference.proofs.parser.plain.range_end.Goals as goal
 
 pub returns-in-44-clause-leads : goal.returns-in-44-clause-leads

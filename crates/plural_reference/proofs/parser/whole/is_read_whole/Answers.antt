@@ -1,4 +1,4 @@
-use Rattle.plural_reference.proofs.reading.WholeRules.{text_is_no_rule, text_is_rule}
+use Rattle.plural_reference.proofs.rules.WholeRules.{text_is_no_rule, text_is_rule}
 use Rattle.plural_reference.proofs.parser.whole.is_read_whole.Goals as goal
 
 pub returns-in-Ok : goal.returns-in-Ok

@@ -9,7 +9,7 @@ use Rattle.plural_reference.specs.Samples.{ReadsCondition, FaultyRule}
 use Rattle.plural_reference.specs.Inner.Scan.{tokens_of}
 use Rattle.plural_reference.specs.Inner.RuleReader.{RuleOutcome, rule_of, without_samples, condition_of_text}
 use Rattle.plural_reference.proofs.tokens.ScanSound.{has_tokens, tokens_are}
-use Rattle.plural_reference.proofs.reading.RuleReadings.{Given, given, reads_rule, faulty_rule}
+use Rattle.plural_reference.proofs.rules.RuleReadings.{Given, given, reads_rule, faulty_rule}
 
 -- the reader gives the condition that is read of the text
 reads_condition : (text : List ℕ) (c : Condition) → TextReads ReadsCondition text c → condition_of_text text ≡ Ok c

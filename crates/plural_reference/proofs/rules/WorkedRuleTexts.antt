@@ -20,7 +20,7 @@ use Rattle.plural_reference.specs.Inner.Reader.{run}
 use Rattle.plural_reference.specs.Inner.SampleReader.{run_samples}
 use Rattle.plural_reference.specs.Inner.RuleReader.{rule_of}
 use Rattle.plural_reference.proofs.tokens.ScanSound.{has_tokens}
-use Rattle.plural_reference.proofs.reading.RuleReadings.{Given, given}
+use Rattle.plural_reference.proofs.rules.RuleReadings.{Given, given}
 
 -- a text is read as the rule that the reader gives
 reads : (text : List ℕ) (r : Rule) → rule_of (tokens_of text) ≡ Ok r → TextReads ReadsRule text r

@@ -17,7 +17,7 @@ use Rattle.plural_reference.specs.Inner.Scan.{tokens_of, tokens_from, in_number,
 use Rattle.plural_reference.specs.Inner.PlainSamples.{Begins, BeginsWithDigit, IsNumber, IsType, AreLists, HasSamples, IsListThenLists, FollowsComma, LeadsTo}
 use Rattle.plural_reference.proofs.tokens.ScanComplete.{begin_digit}
 use Rattle.plural_reference.proofs.samples.SampleComplete.{reads_samples_run}
-use Rattle.plural_reference.proofs.samples.PlainBytes.{comma_front, tilde_front, at_front, ellipsis_front, no_bytes}
+use Rattle.plural_reference.proofs.plain.PlainBytes.{comma_front, tilde_front, at_front, ellipsis_front, no_bytes}
 
 -- ---- aims
 

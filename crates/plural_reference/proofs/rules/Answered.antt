@@ -18,7 +18,7 @@ use Rattle.plural_reference.proofs.tokens.ScanSound.{tokens_are}
 use Rattle.plural_reference.proofs.reading.ReaderSound.{Said, said}
 use Rattle.plural_reference.proofs.reading.Readings.{one_reading}
 use Rattle.plural_reference.proofs.samples.SampleSinks.{kept_is_read}
-use Rattle.plural_reference.proofs.reading.RuleReadings.{Given, given, one_rule}
+use Rattle.plural_reference.proofs.rules.RuleReadings.{Given, given, one_rule}
 
 -- ---- one result
 
