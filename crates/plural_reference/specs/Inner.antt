@@ -2,6 +2,5 @@
 pub mod Scan
 pub mod Front
 pub mod Reader
-pub mod SampleReader
-pub mod PlainSamples
+pub mod SampleReading
 pub mod RuleReader

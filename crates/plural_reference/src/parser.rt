@@ -1,9 +1,7 @@
 //! Reading rules (UTS 35 Part 3, Plural Rules Syntax).
 
 mod front;
-mod plain;
 mod samples;
-mod sink;
 mod whole;
 
 ghost use Rattle.std.specs.Prelude.{◌≡◌, ◌≢◌, ◌∷◌, [], Some, None, Ok, Err, length, ◌≤◌, IfOk, MatchBool, MatchOption, MatchResult};
@@ -23,7 +21,7 @@ use crate::ast::{
 use crate::error::{ParseError, ReadError};
 use crate::lexer::first_token;
 use crate::parser::front::{behind, behind_spaces, number_at, operator_at};
-use crate::parser::sink::Kept;
+use crate::parser::samples::sink::Kept;
 use crate::sequence::Sequence;
 use crate::token::Token;
 use std::alloc::{AllocError, Global};

@@ -16,7 +16,7 @@ use Rattle.plural_reference.specs.declared.token.Token.TheVariants.{Operand, Num
 use Rattle.plural_reference.specs.Lexer.{first, max_number}
 use Rattle.plural_reference.specs.Samples.{IsDigits, IsExponent, token_text}
 use Rattle.plural_reference.specs.Inner.Scan.{tokens_of, tokens_from}
-use Rattle.plural_reference.specs.Inner.PlainSamples.{HasRun, HasShortRun, Begins, IsRun, IsNumber, IsType}
+use Rattle.plural_reference.specs.Inner.SampleReading.PlainSamples.{HasRun, HasShortRun, Begins, IsRun, IsNumber, IsType}
 use Rattle.plural_reference.proofs.tokens.Alone.{point_alone}
 use Rattle.plural_reference.proofs.printing.PrintedTokens.{EndsRun, AreDigits, Spells, run_gives}
 use Rattle.plural_reference.proofs.printing.PrintedDigits.{Retold, digits_retold}

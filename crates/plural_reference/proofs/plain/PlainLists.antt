@@ -6,15 +6,15 @@ use Rattle.std.proofs.lemmas.List.{append-nil}
 use Rattle.std.specs.Char.{is_ascii_digit, digit_value}
 use Rattle.std.specs.List.{flat_map}
 use Rattle.plural_reference.specs.declared.ast.SampleRange.{SampleRange}
-use Rattle.plural_reference.specs.declared.parser.plain.Next.{Next}
-use Rattle.plural_reference.specs.declared.parser.plain.Next.TheVariants as next
+use Rattle.plural_reference.specs.declared.parser.samples.plain.Next.{Next}
+use Rattle.plural_reference.specs.declared.parser.samples.plain.Next.TheVariants as next
 use Rattle.plural_reference.specs.declared.token.Token.{Token}
 use Rattle.plural_reference.specs.declared.token.Token.TheVariants.{Number, Comma, At, Ellipsis, Tilde, Junk}
 use Rattle.plural_reference.specs.Lexer.{max_number}
 use Rattle.plural_reference.specs.Parser.{Separated}
 use Rattle.plural_reference.specs.Samples.{IsExponent, IsSample, IsSampleRange, IsSampleType, samples_of, token_text}
 use Rattle.plural_reference.specs.Inner.Scan.{tokens_of, tokens_from, in_number, number_token}
-use Rattle.plural_reference.specs.Inner.PlainSamples.{Begins, BeginsWithDigit, IsNumber, IsType, AreLists, HasSamples, IsListThenLists, FollowsComma, LeadsTo}
+use Rattle.plural_reference.specs.Inner.SampleReading.PlainSamples.{Begins, BeginsWithDigit, IsNumber, IsType, AreLists, HasSamples, IsListThenLists, FollowsComma, LeadsTo}
 use Rattle.plural_reference.proofs.tokens.ScanComplete.{begin_digit}
 use Rattle.plural_reference.proofs.samples.SampleComplete.{reads_samples_run}
 use Rattle.plural_reference.proofs.plain.PlainBytes.{comma_front, tilde_front, at_front, ellipsis_front, no_bytes}

@@ -12,7 +12,7 @@ use Rattle.plural_reference.specs.Reading.{AnswersExactly, IsAnswer, IsFault, An
 use Rattle.plural_reference.specs.ReadingLaws.{HasOneReading}
 use Rattle.plural_reference.specs.Samples.{ReadsRule, ReadsCondition, FaultyRule}
 use Rattle.plural_reference.specs.Inner.Reader.{run, begin}
-use Rattle.plural_reference.specs.Inner.SampleReader.{ReadsStored, ReadsAllSamples, after_sections, run_samples}
+use Rattle.plural_reference.specs.Inner.SampleReading.SampleReader.{ReadsStored, ReadsAllSamples, after_sections, run_samples}
 use Rattle.plural_reference.specs.Inner.RuleReader.{rule_of, of_condition, with_samples}
 use Rattle.plural_reference.proofs.tokens.ScanSound.{tokens_are}
 use Rattle.plural_reference.proofs.reading.ReaderSound.{Said, said}

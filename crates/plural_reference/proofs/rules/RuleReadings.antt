@@ -9,7 +9,7 @@ use Rattle.plural_reference.specs.Parser.{ReadsUpTo}
 use Rattle.plural_reference.specs.Samples.{Section, samples_of, ReadsSamples, ReadsRule, FaultyRule}
 use Rattle.plural_reference.specs.ReadingLaws.{HasOneReading, HaveOneRule}
 use Rattle.plural_reference.specs.Inner.Reader.{run, begin, Outcome}
-use Rattle.plural_reference.specs.Inner.SampleReader.{after_sections, run_samples, SampleOutcome}
+use Rattle.plural_reference.specs.Inner.SampleReading.SampleReader.{after_sections, run_samples, SampleOutcome}
 use Rattle.plural_reference.specs.Inner.RuleReader.{RuleOutcome, with_samples, of_condition, rule_of}
 use Rattle.plural_reference.proofs.reading.ReaderComplete.{reads_run, faulty_run}
 use Rattle.plural_reference.proofs.reading.ReaderSound.{Said, said}

@@ -11,7 +11,7 @@ use Rattle.plural_reference.specs.Lexer.{AreTokensOf, first}
 use Rattle.plural_reference.specs.Parser.{Continues, IsCondition, IsUnconditional, ReadsUpTo}
 use Rattle.plural_reference.specs.Samples.{AreSections, IsRule, Section, TextIsRule}
 use Rattle.plural_reference.specs.Inner.Reader.{Outcome, begin, run}
-use Rattle.plural_reference.specs.Inner.SampleReader.{ReadsAllSamples, ReadsStored, SampleOutcome, after_sections, run_samples}
+use Rattle.plural_reference.specs.Inner.SampleReading.SampleReader.{ReadsAllSamples, ReadsStored, SampleOutcome, after_sections, run_samples}
 use Rattle.plural_reference.proofs.tokens.ScanSound.{tokens_are}
 use Rattle.plural_reference.proofs.reading.ReaderComplete.{reads_run}
 use Rattle.plural_reference.proofs.reading.ReaderSound.{Said, said}

@@ -17,7 +17,7 @@ use Rattle.plural_reference.specs.Samples.{ReadsRule, FaultyRule}
 use Rattle.plural_reference.specs.Serializer.{rule_text}
 use Rattle.plural_reference.specs.Inner.Scan.{tokens_of, tokens_from}
 use Rattle.plural_reference.specs.Inner.Reader.{run}
-use Rattle.plural_reference.specs.Inner.SampleReader.{run_samples}
+use Rattle.plural_reference.specs.Inner.SampleReading.SampleReader.{run_samples}
 use Rattle.plural_reference.specs.Inner.RuleReader.{rule_of}
 use Rattle.plural_reference.proofs.tokens.ScanSound.{has_tokens}
 use Rattle.plural_reference.proofs.rules.RuleReadings.{Given, given}

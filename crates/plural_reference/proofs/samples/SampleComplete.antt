@@ -24,9 +24,9 @@ use Rattle.plural_reference.specs.Samples.{IsSampleOf, token_text, IsSample, IsU
 use Rattle.plural_reference.specs.Samples.{Section, AreSections, open_range, last_sample, has_exponent, has_point, Takes}
 use Rattle.plural_reference.specs.Samples.{ContinuesSamples, SectionsThen, IsAfterAt, IsBeforeSample, IsAfterComma}
 use Rattle.plural_reference.specs.Samples.{IsAfterMark, FaultyInSamples, sample_fault, type_fault, fault_in_samples}
-use Rattle.plural_reference.specs.Inner.SampleReader.{Partial, SampleState, after_sections, behind_at, awaits_sample, behind_comma}
-use Rattle.plural_reference.specs.Inner.SampleReader.{in_sample, behind_mark, range_of, with_sections, ranges_with, begin_list}
-use Rattle.plural_reference.specs.Inner.SampleReader.{SampleOutcome, sample_proceed, run_samples, joins, tilde_move}
+use Rattle.plural_reference.specs.Inner.SampleReading.SampleReader.{Partial, SampleState, after_sections, behind_at, awaits_sample, behind_comma}
+use Rattle.plural_reference.specs.Inner.SampleReading.SampleReader.{in_sample, behind_mark, range_of, with_sections, ranges_with, begin_list}
+use Rattle.plural_reference.specs.Inner.SampleReading.SampleReader.{SampleOutcome, sample_proceed, run_samples, joins, tilde_move}
 use Rattle.plural_reference.specs.Samples as places
 use Rattle.plural_reference.proofs.reading.ReaderComplete.{last-push}
 use Rattle.plural_reference.proofs.samples.SampleSound.{ReadsSections, open-done, last_sample-range, both_false, left_false, right_false}

@@ -22,11 +22,11 @@ use Rattle.plural_reference.specs.Parser.{token_value}
 use Rattle.plural_reference.specs.Inner.Reader.{TakesValue}
 use Rattle.plural_reference.specs.Samples.{Section, IsDigits, IsExponentMark, IsSampleType, Takes, token_text, has_exponent, has_point}
 use Rattle.plural_reference.specs.Samples.{type_fault, sample_fault, samples_of, with_list}
-use Rattle.plural_reference.specs.Inner.SampleReader.{Partial, after_sections, behind_at, awaits_sample, behind_comma, in_sample}
-use Rattle.plural_reference.specs.Inner.SampleReader.{behind_mark, with_sections, ranges_with, begin_list, run_samples, type_token}
-use Rattle.plural_reference.specs.Inner.SampleReader.{sample_at, joined_list, TakesText, NoDigits, NoMark, ReadsDigits, ReadsNumber}
-use Rattle.plural_reference.specs.Inner.SampleReader.{JoinsExponent, ReadsExponent, ReadsSample, ReadsRange, ReadsRanges, ReadsSampleList}
-use Rattle.plural_reference.specs.Inner.SampleReader.{ReadsLists, ReadsAllSamples}
+use Rattle.plural_reference.specs.Inner.SampleReading.SampleReader.{Partial, after_sections, behind_at, awaits_sample, behind_comma, in_sample}
+use Rattle.plural_reference.specs.Inner.SampleReading.SampleReader.{behind_mark, with_sections, ranges_with, begin_list, run_samples, type_token}
+use Rattle.plural_reference.specs.Inner.SampleReading.SampleReader.{sample_at, joined_list, TakesText, NoDigits, NoMark, ReadsDigits, ReadsNumber}
+use Rattle.plural_reference.specs.Inner.SampleReading.SampleReader.{JoinsExponent, ReadsExponent, ReadsSample, ReadsRange, ReadsRanges, ReadsSampleList}
+use Rattle.plural_reference.specs.Inner.SampleReading.SampleReader.{ReadsLists, ReadsAllSamples}
 use Rattle.plural_reference.proofs.samples.SampleSound.{left_false, right_false}
 use Rattle.plural_reference.proofs.samples.SampleComplete.{any-append, digits_no_mark, digits_no_point, digit_run, point_run, mark_run}
 use Rattle.plural_reference.proofs.samples.SampleComplete.{after_mark_run, first_digit_run, first_point_run}

@@ -17,10 +17,10 @@ use Rattle.plural_reference.specs.declared.token.Token.TheVariants.{Dot, Comma, 
 use Rattle.plural_reference.specs.Lexer.{first}
 use Rattle.plural_reference.specs.Reading.{IsFault}
 use Rattle.plural_reference.specs.Samples.{IsDigits, IsExponentMark, has_exponent, sample_fault, type_fault, with_list}
-use Rattle.plural_reference.specs.Inner.SampleReader.{run_samples, after_sections, IsStored, ReadsStored, type_token}
-use Rattle.plural_reference.specs.Inner.SampleReader.{joined_list, TakesText, NoDigits, NoMark, ReadsDigits, ReadsNumber, ReadsExponent}
-use Rattle.plural_reference.specs.Inner.SampleReader.{ReadsSample, ReadsRange, ReadsRanges, ReadsSampleList, ReadsLists, ReadsAllSamples}
-use Rattle.plural_reference.specs.Inner.SampleReader.{FailsInSample, FailsAtSample, FailsAtRange, FailsAtList}
+use Rattle.plural_reference.specs.Inner.SampleReading.SampleReader.{run_samples, after_sections, IsStored, ReadsStored, type_token}
+use Rattle.plural_reference.specs.Inner.SampleReading.SampleReader.{joined_list, TakesText, NoDigits, NoMark, ReadsDigits, ReadsNumber, ReadsExponent}
+use Rattle.plural_reference.specs.Inner.SampleReading.SampleReader.{ReadsSample, ReadsRange, ReadsRanges, ReadsSampleList, ReadsLists, ReadsAllSamples}
+use Rattle.plural_reference.specs.Inner.SampleReading.SampleReader.{FailsInSample, FailsAtSample, FailsAtRange, FailsAtList}
 use Rattle.plural_reference.proofs.reading.ParserSteps.{passes_on}
 use Rattle.plural_reference.proofs.samples.SampleParserSteps.{no_digits_yet, more_digits}
 use Rattle.plural_reference.proofs.samples.SampleParserSteps.{point_has_no_mark, number_alone, number_with_point}

@@ -23,11 +23,11 @@ use Rattle.plural_reference.specs.Samples.{IsSampleOf, token_text, IsSample, IsU
 use Rattle.plural_reference.specs.Samples.{IsSampleList, Section, AreSections, open_range, last_sample, has_exponent}
 use Rattle.plural_reference.specs.Samples.{has_point, Takes, ContinuesSamples, SectionsThen, IsAfterAt, IsBeforeSample}
 use Rattle.plural_reference.specs.Samples.{IsAfterComma, IsAfterMark, FaultyInSamples, sample_fault}
-use Rattle.plural_reference.specs.Inner.SampleReader.{Partial, SampleState, after_sections, behind_at, awaits_sample}
-use Rattle.plural_reference.specs.Inner.SampleReader.{behind_comma, in_sample, behind_mark, range_of, with_sections, ranges_with}
-use Rattle.plural_reference.specs.Inner.SampleReader.{begin_list, SampleMove, goes, ends, refuses, sample_step, samples_at_end}
-use Rattle.plural_reference.specs.Inner.SampleReader.{SampleOutcome, sample_proceed, run_samples, joins, tilde_move, in_move}
-use Rattle.plural_reference.specs.Inner.SampleReader.{mark_move, at_move, section_move, comma_move, sample_move}
+use Rattle.plural_reference.specs.Inner.SampleReading.SampleReader.{Partial, SampleState, after_sections, behind_at, awaits_sample}
+use Rattle.plural_reference.specs.Inner.SampleReading.SampleReader.{behind_comma, in_sample, behind_mark, range_of, with_sections, ranges_with}
+use Rattle.plural_reference.specs.Inner.SampleReading.SampleReader.{begin_list, SampleMove, goes, ends, refuses, sample_step, samples_at_end}
+use Rattle.plural_reference.specs.Inner.SampleReading.SampleReader.{SampleOutcome, sample_proceed, run_samples, joins, tilde_move, in_move}
+use Rattle.plural_reference.specs.Inner.SampleReading.SampleReader.{mark_move, at_move, section_move, comma_move, sample_move}
 use Rattle.plural_reference.specs.Samples as places
 use Rattle.plural_reference.proofs.reading.ReaderSound.{Terminated, Separated-last, Terminated-push, Terminated-front}
 use Rattle.plural_reference.proofs.reading.ReaderComplete.{last-push}

@@ -9,7 +9,7 @@ use Rattle.plural_reference.specs.declared.token.Token.{Token}
 use Rattle.plural_reference.specs.Samples.{samples_of}
 use Rattle.plural_reference.specs.Inner.Scan.{tokens_of}
 use Rattle.plural_reference.specs.Inner.Reader.{run, begin, Outcome}
-use Rattle.plural_reference.specs.Inner.SampleReader.{after_sections, run_samples, SampleOutcome}
+use Rattle.plural_reference.specs.Inner.SampleReading.SampleReader.{after_sections, run_samples, SampleOutcome}
 
 -- what a whole rule gives
 abbrev pub RuleOutcome : Type 0

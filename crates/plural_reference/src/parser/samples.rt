@@ -1,24 +1,27 @@
 //! Reading the samples of rules (UTS 35 Part 3, Samples).
 
+mod plain;
+pub(super) mod sink;
+
 ghost use Rattle.std.specs.Prelude.{◌≡◌, ◌≤◌, ◌∷◌, [], Some, None, Err, OnOk, false, List, ℕ, length, string_bytes, IfSome, IsTrue, MatchBool, MatchOption, MatchResult};
 ghost use Rattle.plural_reference.specs.declared.error.ParseError.TheVariants.{ExpectedValue};
 ghost use Rattle.plural_reference.specs.declared.token.Token.TheVariants.{At};
 ghost use Rattle.plural_reference.specs.Lexer.{first};
 ghost use Rattle.plural_reference.specs.Reading.{IsAnswer};
 ghost use Rattle.plural_reference.specs.Samples.{IsExponentMark, has_exponent, sample_fault, token_text};
-ghost use Rattle.plural_reference.specs.Inner.SampleReader.{after_sections, run_samples, IsStored, ReadsStored, TakesText, NoDigits, NoMark, NoType, type_token, joined_list, ReadsDigits, ReadsNumber, ReadsExponent, ReadsSample, ReadsRange, ReadsSampleList, ReadsAllSamples, FailsInSample, FailsAtSample, FailsAtRange, FailsAtList};
-ghost use Rattle.plural_reference.specs.Inner.PlainSamples.{AreLists, HasSamples};
+ghost use Rattle.plural_reference.specs.Inner.SampleReading.SampleReader.{after_sections, run_samples, IsStored, ReadsStored, TakesText, NoDigits, NoMark, NoType, type_token, joined_list, ReadsDigits, ReadsNumber, ReadsExponent, ReadsSample, ReadsRange, ReadsSampleList, ReadsAllSamples, FailsInSample, FailsAtSample, FailsAtRange, FailsAtList};
+ghost use Rattle.plural_reference.specs.Inner.SampleReading.PlainSamples.{AreLists, HasSamples};
 ghost use Rattle.plural_reference.specs.Inner.Scan.{tokens_of};
 
 use super::Parser;
 use super::front::behind_spaces;
-use super::plain::are_plain;
-use super::sink::{LeftOut, Sink};
 use crate::ast::{DecimalValue, Operand, SampleList, SampleRange, Samples};
 use crate::error::{ParseError, ReadError};
 use crate::lexer::{first_token, strip_byte};
 use crate::sequence::Sequence;
 use crate::token::Token;
+use plain::are_plain;
+use sink::{LeftOut, Sink};
 use std::alloc::{AllocError, Global};
 
 // The type of a list of samples.

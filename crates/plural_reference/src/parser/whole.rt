@@ -5,7 +5,7 @@ ghost use Rattle.plural_reference.specs.Reading.{IsAnswer};
 ghost use Rattle.plural_reference.specs.Samples.{IsRule, TextIsRule};
 
 use super::Parser;
-use super::sink::LeftOut;
+use super::samples::sink::LeftOut;
 use crate::error::ReadError;
 use std::alloc::{AllocError, Global};
 

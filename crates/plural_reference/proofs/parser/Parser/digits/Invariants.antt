@@ -1,6 +1,6 @@
 use Rattle.std.proofs.Common.{◌≡◌, ◌≤◌, List, ℕ, false, length, string_bytes}
 use Rattle.plural_reference.specs.Samples.{has_exponent}
-use Rattle.plural_reference.specs.Inner.SampleReader.{IsStored, ReadsStored, ReadsDigits}
+use Rattle.plural_reference.specs.Inner.SampleReading.SampleReader.{IsStored, ReadsStored, ReadsDigits}
 use Rattle.plural_reference.proofs.parser.Parser.digits.Given as goal
 
 -- the digits so far have joined the text

@@ -1,5 +1,5 @@
 use Rattle.std.proofs.Common.{subst, sym}
-use Rattle.plural_reference.specs.Inner.PlainSamples.{AreLists}
+use Rattle.plural_reference.specs.Inner.SampleReading.PlainSamples.{AreLists}
 use Rattle.plural_reference.proofs.parser.Parser.is_before_plain_samples.Goals as goal
 
 pub returns-in-Some : goal.returns-in-Some

@@ -1,5 +1,5 @@
 use Rattle.std.proofs.Common.{◌≤◌, length}
-use Rattle.plural_reference.specs.Inner.SampleReader.{ReadsStored, ReadsRanges}
+use Rattle.plural_reference.specs.Inner.SampleReading.SampleReader.{ReadsStored, ReadsRanges}
 use Rattle.plural_reference.proofs.parser.Parser.sample_list.Given as goal
 
 -- the ranges so far are read

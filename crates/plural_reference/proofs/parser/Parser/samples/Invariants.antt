@@ -1,5 +1,5 @@
 use Rattle.std.proofs.Common.{length}
-use Rattle.plural_reference.specs.Inner.SampleReader.{ReadsStored, ReadsLists}
+use Rattle.plural_reference.specs.Inner.SampleReading.SampleReader.{ReadsStored, ReadsLists}
 use Rattle.plural_reference.proofs.parser.Parser.samples.Given as goal
 
 -- the lists so far are read

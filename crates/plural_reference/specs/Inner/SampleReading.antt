@@ -1,0 +1,3 @@
+-- No definitions of the subject: how samples are read.
+pub mod SampleReader
+pub mod PlainSamples
