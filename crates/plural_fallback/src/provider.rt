@@ -1,14 +1,15 @@
 //! A provider over another one, which falls back.
 
-ghost use Rattle.std.specs.Prelude.{◌≡◌, IfOk, IfErr, Some, None};
+ghost use Rattle.std.specs.Prelude.{◌≡◌, IfOk, IfErr, IsErr, Ok};
 ghost use Rattle.plural_base.specs.FiveRules.{rules_of};
 ghost use Rattle.plural_fallback.specs.Chain.{next_of};
-ghost use Rattle.plural_fallback.specs.FirstKeys.{key_at, locale_at, IsFirstKey, Misses};
+ghost use Rattle.plural_fallback.specs.FirstKeys.{LoadsFirst};
+ghost use Rattle.plural_fallback.specs.declared.error.FallbackError.TheVariants.{NotLoaded};
 
 use crate::error::FallbackError;
 use crate::first_key::{MOST_LOCALES, find_first};
 use crate::locales::{Locales, Part};
-use plural_base::{PluralRanges, PluralRulesData, PluralsProvider};
+use plural_base::{DataError, PluralRanges, PluralRulesData, PluralsProvider};
 
 /// A provider, and the keys and parents by which a locale falls back.
 #[derive(Debug, Drop)]
@@ -36,18 +37,11 @@ impl<'a, P: PluralsProvider, L: Locales> FallbackProvider<'a, P, L> {
         &self,
         locale: &str,
     ) -> Result<Loaded<'a, PluralRulesData<'a>>, FallbackError>
-        ensures key { IfOk result (λ loaded. IsFirstKey MOST_LOCALES
-            (key_at (L.keys self.now.locales.now Part.Cardinal) (next_of (L.parent self.now.locales.now)) locale.now) loaded.key.now) }
-        ensures value { IfOk result (λ loaded. P.cardinal self.now.provider.now loaded.key.now ≡ Some (rules_of loaded.value)) }
-        ensures err { IfErr result (Misses MOST_LOCALES (locale_at (next_of (L.parent self.now.locales.now)) locale.now)
-            (key_at (L.keys self.now.locales.now Part.Cardinal) (next_of (L.parent self.now.locales.now)) locale.now)
-            (λ key. P.cardinal self.now.provider.now key ≡ None)) }
+        ensures { LoadsFirst MOST_LOCALES (L.keys self.now.locales.now Part.Cardinal) (next_of (L.parent self.now.locales.now))
+            locale.now (P.cardinal self.now.provider.now) rules_of result }
     {
         let key = find_first(self.locales, Part::Cardinal, locale)?;
-        match self.provider.load_cardinal(key) {
-            Ok(value) => Ok(Loaded { key, value }),
-            Err(_) => Err(FallbackError::NotLoaded),
-        }
+        with_key(key, self.provider.load_cardinal(key))
     }
 
     /// Returns the rules for ordinal numbers; otherwise as [`FallbackProvider::load_cardinal`].
@@ -55,33 +49,33 @@ impl<'a, P: PluralsProvider, L: Locales> FallbackProvider<'a, P, L> {
         &self,
         locale: &str,
     ) -> Result<Loaded<'a, PluralRulesData<'a>>, FallbackError>
-        ensures key { IfOk result (λ loaded. IsFirstKey MOST_LOCALES
-            (key_at (L.keys self.now.locales.now Part.Ordinal) (next_of (L.parent self.now.locales.now)) locale.now) loaded.key.now) }
-        ensures value { IfOk result (λ loaded. P.ordinal self.now.provider.now loaded.key.now ≡ Some (rules_of loaded.value)) }
-        ensures err { IfErr result (Misses MOST_LOCALES (locale_at (next_of (L.parent self.now.locales.now)) locale.now)
-            (key_at (L.keys self.now.locales.now Part.Ordinal) (next_of (L.parent self.now.locales.now)) locale.now)
-            (λ key. P.ordinal self.now.provider.now key ≡ None)) }
+        ensures { LoadsFirst MOST_LOCALES (L.keys self.now.locales.now Part.Ordinal) (next_of (L.parent self.now.locales.now))
+            locale.now (P.ordinal self.now.provider.now) rules_of result }
     {
         let key = find_first(self.locales, Part::Ordinal, locale)?;
-        match self.provider.load_ordinal(key) {
-            Ok(value) => Ok(Loaded { key, value }),
-            Err(_) => Err(FallbackError::NotLoaded),
-        }
+        with_key(key, self.provider.load_ordinal(key))
     }
 
     /// Returns the categories of ranges; otherwise as [`FallbackProvider::load_cardinal`].
     pub fn load_ranges(&self, locale: &str) -> Result<Loaded<'a, PluralRanges>, FallbackError>
-        ensures key { IfOk result (λ loaded. IsFirstKey MOST_LOCALES
-            (key_at (L.keys self.now.locales.now Part.Ranges) (next_of (L.parent self.now.locales.now)) locale.now) loaded.key.now) }
-        ensures value { IfOk result (λ loaded. P.ranges self.now.provider.now loaded.key.now ≡ Some loaded.value) }
-        ensures err { IfErr result (Misses MOST_LOCALES (locale_at (next_of (L.parent self.now.locales.now)) locale.now)
-            (key_at (L.keys self.now.locales.now Part.Ranges) (next_of (L.parent self.now.locales.now)) locale.now)
-            (λ key. P.ranges self.now.provider.now key ≡ None)) }
+        ensures { LoadsFirst MOST_LOCALES (L.keys self.now.locales.now Part.Ranges) (next_of (L.parent self.now.locales.now))
+            locale.now (P.ranges self.now.provider.now) (λ ranges. ranges) result }
     {
         let key = find_first(self.locales, Part::Ranges, locale)?;
-        match self.provider.load_ranges(key) {
-            Ok(value) => Ok(Loaded { key, value }),
-            Err(_) => Err(FallbackError::NotLoaded),
-        }
+        with_key(key, self.provider.load_ranges(key))
+    }
+}
+
+// Returns what was loaded, with its key.
+fn with_key<'a, R: Drop>(
+    key: &'a str,
+    value: Result<R, DataError>,
+) -> Result<Loaded<'a, R>, FallbackError>
+    ensures ok { IfOk result (λ loaded. (loaded.key ≡ key) × (value ≡ Ok loaded.value)) }
+    ensures err { IfErr result (λ error. (error ≡ NotLoaded) × IsErr value) }
+{
+    match value {
+        Ok(value) => Ok(Loaded { key, value }),
+        Err(_) => Err(FallbackError::NotLoaded),
     }
 }
