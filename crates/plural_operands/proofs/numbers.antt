@@ -6,4 +6,5 @@ pub mod Conversion
 pub mod OperandLawsProved
 pub mod OperandTexts
 pub mod ShortReading
+pub mod Shifts
 pub mod NamedOnce

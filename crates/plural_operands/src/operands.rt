@@ -9,6 +9,7 @@ mod error;
 mod fraction;
 mod integers;
 mod kept;
+mod shifted;
 mod short_text;
 mod text;
 

@@ -1,17 +1,18 @@
 -- How a text of at most 18 digits on each side of its point is read in one walk.
 use Rattle.std.proofs.Common.{◌≡◌, ◌≢◌, ℕ, suc, ◌+◌, ◌-◌, ◌*◌, ◌^◌, ◌<◌, ◌≤◌, inl, inr, List, [], ◌∷◌, ◌++◌, refl, sym, ◌∙◌}
-use Rattle.std.proofs.Common.{ap, subst, length, take, arith, get_or, lit<, append_assoc, Option, Some, None}
+use Rattle.std.proofs.Common.{ap, subst, length, take, arith, get_or, lit<, append_assoc, length-append, max, Option, Some, None}
 use Rattle.std.specs.Prelude.{IfSome}
-use Rattle.std.proofs.lemmas.List.{take_more, take_all, length-map, length-take-le, append-nil, map-append}
+use Rattle.std.proofs.lemmas.List.{take_more, take_all, length-map, length-take-le, map-append}
 use Rattle.std.proofs.Math.Nat.{pow-suc, dvd-mul_left, pow-le-pow_right}
 use Rattle.std.specs.Int.{◌∣◌}
 use Rattle.std.specs.Char.{IsAsciiDigit}
 use Rattle.fixed_decimal.specs.Digits.{AreDigits, value_of, text_of}
-use Rattle.fixed_decimal.specs.Places.{Places, IsWithinLimit}
+use Rattle.fixed_decimal.specs.Places.{Places, IsWritten, IsWithinLimit}
 use Rattle.fixed_decimal.specs.Written.{CompactNumber, WritesCompact, IsCompactOverLimit, OneCompact, sign_text}
 use Rattle.fixed_decimal.specs.declared.sign.Sign.{Sign}
-use Rattle.plural_operands.specs.Operands.{Operands, HasFraction, IsKeptAt, AreKept, of_whole}
-use Rattle.plural_operands.specs.Inner.ShortTexts.{AreDigitsOf, HasFront, IsTrimmedAt, IsShortFraction, WritesShort, WritesShortSigned}
+use Rattle.plural_operands.specs.Operands.{Operands, HasFraction, AreKept, of_whole}
+use Rattle.plural_operands.specs.Inner.ShortTexts.{AreDigitsOf, HasFront, IsTrimmedAt, HasFractionFront, ArePlain, HasPlain, IsShortExponent}
+use Rattle.plural_operands.specs.Inner.ShortTexts.{WritesShort, WritesShortSigned}
 use Rattle.plural_operands.proofs.numbers.Numbers.{value_of-append, value_of-below, AreDigits-append}
 use Rattle.plural_operands.proofs.numbers.Conversion.{no_fewer, quotient}
 use Rattle.plural_operands.proofs.numbers.Fractions.{kept_whole-short}
@@ -95,100 +96,220 @@ has_fraction o shown written v f h = record {
   t = quotient o.t shown o.w written h.scaled;
 }
 
--- ... of a text of 1 to 18 digits
-pub short_fraction : (text : List ℕ) (o : Operands) → 0 < length text → length text ≤ 18 → AreDigitsOf text o.f → o.v ≡ length text
-    → IsTrimmedAt (length text) o.f o.w o.t → IsShortFraction text o
-short_fraction text o some few h v trimmed =
-    let size : length h.ds ≡ length text = length_digits text o.f h in
-    let fraction : HasFraction o (length text) o.f = has_fraction o (length text) o.f v refl trimmed in
-    record {
-      ds = h.ds;
-      digits = h.digits;
-      some = omega arith;
-      few = omega arith;
-      spelled = h.spelled;
-      fraction = subst (λ (n : ℕ). HasFraction o n (value_of h.ds)) (sym size) (subst (λ (n : ℕ). HasFraction o (length text) n) h.value fraction);
-    }
+-- ---- the number at the front
 
--- ---- the whole text
+-- how many bytes are at the front
+front_size : (text front rest : List ℕ) → text ≡ front ++ rest → length text - length rest ≡ length front
+front_size text front rest e =
+    let size : length text ≡ length front + length rest = ap length e ∙ length-append front rest in
+    omega arith
 
--- at most 18 places on each side are kept
-kept_at : (x : Places) (o : Operands) → length x.whole ≤ 18 → length x.fraction ≤ 18 → o.i ≡ value_of x.whole
-    → HasFraction o (length x.fraction) (value_of x.fraction) → o.c ≡ 0 → IsKeptAt x 0 o
-kept_at x o whole few i fraction c = record {
-  i = i ∙ sym (kept_whole-short x.whole whole);
-  fraction = subst (λ (l : List ℕ). HasFraction o (length l) (value_of l)) (sym (take_all 18 x.fraction few)) fraction;
-  c = c;
-}
-
--- digits alone
-pub whole_alone : (text rest : List ℕ) (n : ℕ) → HasFront text n rest → rest ≡ [] → 0 < length text → WritesShort text (of_whole n)
-whole_alone text rest n h end some =
-    let all : text ≡ h.front = h.spelled ∙ ap (λ l. h.front ++ l) end ∙ append-nil h.front in
+-- digits without a point
+pub whole_plain : (text rest : List ℕ) (n whole : ℕ) → HasFront text n rest → whole ≡ length text - length rest → 0 < whole
+    → HasPlain text (of_whole n) whole rest
+whole_plain text rest n whole h e some =
     let ds : List ℕ = h.digits.ds in
     let size : length ds ≡ length h.front = length_digits h.front n h.digits in
-    let same : length text ≡ length h.front = ap length all in
+    let all : length text - length rest ≡ length h.front = front_size text h.front rest h.spelled in
     let few : length h.front ≤ 18 = h.few in
-    let short : length ds ≤ 18 = omega arith in
     let x : Places = record { whole = ds; fraction = [] } in
+    let written : IsWritten x = record { nonempty = omega arith; whole = h.digits.digits; fraction = tt } in
     record {
       x = x;
-      written = record {
-        digits = record { nonempty = omega arith; whole = h.digits.digits; fraction = tt };
-        form = inl (refl, all ∙ h.digits.spelled);
+      plain = record {
+        written = written;
+        places = omega arith;
+        few = omega arith;
+        shown = refl;
+        few_shown = omega arith;
+        i = h.digits.value;
+        f = refl;
+        trimmed = no_places;
+        c = refl;
       };
-      whole = short;
-      fraction = omega arith;
-      kept = kept_at x (of_whole n) short (omega arith) h.digits.value (has_fraction (of_whole n) 0 0 refl refl no_places) refl;
+      front = h.front;
+      written = record { digits = written; form = inl (refl, h.digits.spelled) };
+      spelled = h.spelled;
     }
 
--- a point and digits after it
-pointed_at : (text ds fs : List ℕ) (o : Operands) → AreDigits ds → AreDigits fs → 0 < length fs → length ds ≤ 18 → length fs ≤ 18
-    → text ≡ text_of ds ++ 46 ∷ text_of fs → o.i ≡ value_of ds → HasFraction o (length fs) (value_of fs) → o.c ≡ 0 → WritesShort text o
-pointed_at text [] fs o h k some few short e i fraction c =
+-- digits, a point, and digits behind it
+pointed_at : (text front rest ds fs : List ℕ) (whole : ℕ) (o : Operands) → AreDigits ds → AreDigits fs → length ds ≤ 18 → length fs ≤ 18
+    → o.v ≡ length fs → o.v ≢ 0 → front ≡ text_of ds ++ 46 ∷ text_of fs → text ≡ front ++ rest → whole ≡ max (length ds) 1
+    → o.i ≡ value_of ds → o.f ≡ value_of fs → IsTrimmedAt o.v o.f o.w o.t → o.c ≡ 0 → HasPlain text o whole rest
+pointed_at text front rest [] fs whole o h k few short v some e spelled places i f trimmed c =
     let x : Places = record { whole = 0 ∷ []; fraction = fs } in
+    let written : IsWritten x = record { nonempty = lit< tt; whole = (lit< tt, tt); fraction = k } in
+    let one : whole ≡ 1 = omega (arith, places) in
     record {
       x = x;
-      written = record {
-        digits = record { nonempty = lit< tt; whole = (lit< tt, tt); fraction = k };
-        form = inr (inr (some, refl, e));
+      plain = record {
+        written = written;
+        places = sym one;
+        few = omega arith;
+        shown = v;
+        few_shown = omega arith;
+        i = i;
+        f = f;
+        trimmed = trimmed;
+        c = c;
       };
-      whole = omega arith;
-      fraction = short;
-      kept = kept_at x o (omega arith) short i fraction c;
+      front = front;
+      written = record { digits = written; form = inr (inr (omega arith, refl, e)) };
+      spelled = spelled;
     }
-pointed_at text (d ∷ ds) fs o h k some few short e i fraction c =
+pointed_at text front rest (d ∷ ds) fs whole o h k few short v some e spelled places i f trimmed c =
     let x : Places = record { whole = d ∷ ds; fraction = fs } in
+    let written : IsWritten x = record { nonempty = omega arith; whole = h; fraction = k } in
+    let same : whole ≡ length (d ∷ ds) = omega (arith, places) in
     record {
       x = x;
-      written = record {
-        digits = record { nonempty = omega arith; whole = h; fraction = k };
-        form = inr (inl (some, e ∙ sym (append_assoc (text_of (d ∷ ds)) (46 ∷ []) (text_of fs))));
+      plain = record {
+        written = written;
+        places = sym same;
+        few = omega (arith, few);
+        shown = v;
+        few_shown = omega arith;
+        i = i;
+        f = f;
+        trimmed = trimmed;
+        c = c;
       };
-      whole = few;
-      fraction = short;
-      kept = kept_at x o few short i fraction c;
+      front = front;
+      written = record {
+        digits = written;
+        form = inr (inl (omega arith, e ∙ sym (append_assoc (text_of (d ∷ ds)) (46 ∷ []) (text_of fs))));
+      };
+      spelled = spelled;
     }
 
-pub pointed : (text rest more : List ℕ) (n : ℕ) (o : Operands) → HasFront text n rest → rest ≡ 46 ∷ more → IsShortFraction more o
-    → o.i ≡ n → o.c ≡ 0 → WritesShort text o
-pointed text rest more n o h point f i c =
+pub pointed_plain : (text rest after more : List ℕ) (n whole : ℕ) (o : Operands) → HasFront text n rest → rest ≡ 46 ∷ after
+    → HasFractionFront after o more → o.i ≡ n → o.c ≡ 0 → o.v ≢ 0 → whole ≡ max (length text - length rest) 1
+    → HasPlain text o whole more
+pointed_plain text rest after more n whole o h point f i c some places =
     let size : length h.digits.ds ≡ length h.front = length_digits h.front n h.digits in
     let few : length h.front ≤ 18 = h.few in
-    pointed_at text h.digits.ds f.ds o h.digits.digits f.digits f.some (omega arith) f.few
-    (h.spelled ∙ ap (λ l. h.front ++ l) (point ∙ ap (λ l. 46 ∷ l) f.spelled) ∙ ap (λ l. l ++ 46 ∷ text_of f.ds) h.digits.spelled)
-    (i ∙ h.digits.value) f.fraction c
-
--- the same of what is read after the point, if it is read
-pub pointed_if_read : (text rest more : List ℕ) (n : ℕ) (r : Option Operands) → HasFront text n rest → rest ≡ 46 ∷ more
-    → IfSome r (λ o. o.i ≡ n) → IfSome r (λ o. IsShortFraction more o) → IfSome r (λ o. o.c ≡ 0) → IfSome r (λ o. WritesShort text o)
-pointed_if_read text rest more n None h point i f c = tt
-pointed_if_read text rest more n (Some o) h point i f c = pointed text rest more n o h point f i c
+    let fraction_size : length f.digits.ds ≡ length f.front = length_digits f.front o.f f.digits in
+    let fraction_few : length f.front ≤ 18 = f.few in
+    let all : length text - length rest ≡ length h.digits.ds = front_size text h.front rest h.spelled ∙ sym size in
+    pointed_at text (h.front ++ 46 ∷ f.front) more h.digits.ds f.digits.ds whole o h.digits.digits f.digits.digits (omega arith) (omega arith)
+    (f.shown ∙ sym fraction_size) some
+    (ap (λ l. l ++ 46 ∷ f.front) h.digits.spelled ∙ ap (λ l. text_of h.digits.ds ++ 46 ∷ l) f.digits.spelled)
+    (h.spelled ∙ ap (λ l. h.front ++ l) (point ∙ ap (λ l. 46 ∷ l) f.spelled) ∙ sym (append_assoc h.front (46 ∷ f.front) more))
+    (places ∙ ap (λ k. max k 1) all) (i ∙ h.digits.value) f.digits.value f.trimmed c
 
 -- nothing is left
 pub nothing_left : (rest : List ℕ) → length rest < 1 → rest ≡ []
 nothing_left [] h = refl
 nothing_left (b ∷ bytes) h = absurd (omega (arith, h))
+
+-- ---- the exponent
+
+-- one digit
+one_digit_exponent : (text : List ℕ) (d : ℕ) → length text ≡ 1 → get_or text 0 0 ≡ 48 + d → d < 10 → IsShortExponent text d
+one_digit_exponent [] d size e small = absurd (omega (arith, size))
+one_digit_exponent (b ∷ []) d size e small = record {
+  digits = record { ds = d ∷ []; digits = (small, tt); spelled = ap (λ c. c ∷ []) e; value = omega arith };
+  some = omega arith;
+  few = omega arith;
+}
+one_digit_exponent (b ∷ c ∷ text) d size e small = absurd (omega (arith, size))
+
+-- the same if it is one
+pub one_if_digit : (text : List ℕ) (r : Option ℕ) → length text ≡ 1 → IfSome r (λ d. (get_or text 0 0 ≡ 48 + d) × (d < 10))
+    → IfSome r (λ e. IsShortExponent text e)
+one_if_digit text None size h = tt
+one_if_digit text (Some d) size h = one_digit_exponent text d size h.0 h.1
+
+-- two digits
+pub two_digit_exponent : (text : List ℕ) (n m : ℕ) → length text ≡ 2 → get_or text 0 0 ≡ 48 + n → n < 10 → get_or text 1 0 ≡ 48 + m
+    → m < 10 → IsShortExponent text (n * 10 + m)
+two_digit_exponent [] n m size d few e small = absurd (omega (arith, size))
+two_digit_exponent (a ∷ []) n m size d few e small = absurd (omega (arith, size))
+two_digit_exponent (a ∷ b ∷ []) n m size d few e small = record {
+  digits = record {
+    ds = n ∷ m ∷ [];
+    digits = (few, (small, tt));
+    spelled = ap (λ c. c ∷ b ∷ []) d ∙ ap (λ c. (48 + n) ∷ c ∷ []) e;
+    value = omega arith;
+  };
+  some = omega arith;
+  few = omega arith;
+}
+two_digit_exponent (a ∷ b ∷ c ∷ text) n m size d few e small = absurd (omega (arith, size))
+
+-- ---- the whole text
+
+-- no exponent
+pub without_exponent : (text rest : List ℕ) (whole : ℕ) (o : Operands) → HasPlain text o whole rest → rest ≡ [] → WritesShort text o
+without_exponent text rest whole o h end =
+    let few : whole ≤ 18 = h.plain.few in
+    let short : length h.x.whole ≤ 18 = omega (arith, h.plain.places) in
+    let shown : length h.x.fraction ≤ 18 = omega (arith, h.plain.shown, h.plain.few_shown) in
+    let trimmed : IsTrimmedAt (length h.x.fraction) (value_of h.x.fraction) o.w o.t
+    = subst (λ (n : ℕ). IsTrimmedAt n (value_of h.x.fraction) o.w o.t) h.plain.shown
+    (subst (λ (m : ℕ). IsTrimmedAt o.v m o.w o.t) h.plain.f h.plain.trimmed) in
+    record {
+      x = h.x;
+      front = h.front;
+      written = h.written;
+      whole = short;
+      fraction = shown;
+      exponent = 0;
+      behind = rest;
+      has_exponent = inl (end, refl);
+      small = omega arith;
+      spelled = h.spelled;
+      kept = record {
+        i = h.plain.i ∙ sym (kept_whole-short h.x.whole short);
+        fraction = subst (λ (l : List ℕ). HasFraction o (length l) (value_of l)) (sym (take_all 18 h.x.fraction shown))
+            (has_fraction o (length h.x.fraction) (value_of h.x.fraction) h.plain.shown h.plain.f trimmed);
+        c = h.plain.c;
+      };
+    }
+
+-- an exponent of one or two digits
+with_exponent : (text rest more : List ℕ) (whole e : ℕ) (digits o : Operands) → HasPlain text digits whole rest → rest ≡ 99 ∷ more
+    → IsShortExponent more e → ((x : Places) → ArePlain x whole digits → AreKept x e o) → WritesShort text o
+with_exponent text rest more whole e digits o h letter exponent kept =
+    let few : whole ≤ 18 = h.plain.few in
+    let some : 1 ≤ length more = exponent.some in
+    let two : length more ≤ 2 = exponent.few in
+    let ds : List ℕ = exponent.digits.ds in
+    let size : length ds ≡ length more = length_digits more e exponent.digits in
+    let below : value_of ds < 10 ^ length ds = value_of-below ds exponent.digits.digits in
+    let value : e ≡ value_of ds = exponent.digits.value in
+    let short : length ds ≤ 2 = omega arith in
+    let hundred : 10 ^ length ds ≤ 10 ^ 2 = pow-le-pow_right (lit< tt) short in
+    record {
+      x = h.x;
+      front = h.front;
+      written = h.written;
+      whole = omega (arith, h.plain.places);
+      fraction = omega (arith, h.plain.shown, h.plain.few_shown);
+      exponent = e;
+      behind = rest;
+      has_exponent = inr (
+        ds,
+        record {
+          digits = exponent.digits.digits;
+          least = omega arith;
+          most = omega arith;
+          value = value;
+          form = letter ∙ ap (λ l. 99 ∷ l) exponent.digits.spelled;
+        },
+      );
+      small = omega arith;
+      spelled = h.spelled;
+      kept = kept h.x h.plain;
+    }
+
+-- ... if it isn't too large
+pub with_exponent_if_kept : (text rest more : List ℕ) (whole e : ℕ) (digits : Operands) (r : Option Operands) → HasPlain text digits whole rest
+    → rest ≡ 99 ∷ more → IsShortExponent more e → IfSome r (λ o. (x : Places) → ArePlain x whole digits → AreKept x e o)
+    → IfSome r (λ o. WritesShort text o)
+with_exponent_if_kept text rest more whole e digits None h letter exponent kept = tt
+with_exponent_if_kept text rest more whole e digits (Some o) h letter exponent kept
+    = with_exponent text rest more whole e digits o h letter exponent kept
 
 -- after a sign or none
 pub signed_if_read : (text unsigned : List ℕ) (r : Option Operands) → (s : Sign) × (text ≡ sign_text s ++ unsigned)
@@ -200,12 +321,18 @@ signed_if_read text unsigned (Some o) s h = record { sign = s.0; unsigned = unsi
 
 -- the number that a short text writes
 unfoldable pub short_number : (text : List ℕ) (o : Operands) → WritesShortSigned text o → CompactNumber
-short_number text o h = record { significand = record { sign = h.sign; absolute = h.short.x }; exponent = 0 }
+short_number text o h = record { significand = record { sign = h.sign; absolute = h.short.x }; exponent = h.short.exponent }
 
 -- it writes the number
 pub short_writes : (text : List ℕ) (o : Operands) (h : WritesShortSigned text o) → WritesCompact text (short_number text o h)
 unfolding short_number
-short_writes text o h = (text, [], (h.unsigned, h.short.written, h.spelled), inl (refl, refl), sym (append-nil text))
+short_writes text o h = (
+  sign_text h.sign ++ h.short.front,
+  h.short.behind,
+  (h.short.front, h.short.written, refl),
+  h.short.has_exponent,
+  h.spelled ∙ ap (λ l. sign_text h.sign ++ l) h.short.spelled ∙ sym (append_assoc (sign_text h.sign) h.short.front h.short.behind),
+)
 
 -- within the limits
 pub short_limit : (text : List ℕ) (o : Operands) (h : WritesShortSigned text o)
@@ -218,7 +345,7 @@ short_limit text o h =
 
 pub short_exponent : (text : List ℕ) (o : Operands) (h : WritesShortSigned text o) → (short_number text o h).exponent ≤ 255
 unfolding short_number
-short_exponent text o h = omega arith
+short_exponent text o h = let small : h.short.exponent < 100 = h.short.small in omega arith
 
 -- of which the operands are
 pub short_kept : (text : List ℕ) (o : Operands) (h : WritesShortSigned text o)
@@ -233,6 +360,7 @@ unfolding short_number
 short_within text o one h over =
     let whole : length h.short.x.whole ≤ 18 = h.short.whole in
     let fraction : length h.short.x.fraction ≤ 18 = h.short.fraction in
+    let small : h.short.exponent < 100 = h.short.small in
     let same : over.0 ≡ short_number text o h = one text over.0 (short_number text o h) over.1 (short_writes text o h) in
     let large : IsCompactOverLimit (short_number text o h) = subst IsCompactOverLimit same over.2 in
     elim large [

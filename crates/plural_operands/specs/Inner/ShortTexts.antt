@@ -2,10 +2,10 @@
 -- read, for private contracts. A text is a list of bytes.
 use Rattle.std.specs.Prelude.{◌≡◌, ◌≢◌, ◌⊎◌, ℕ, ◌-◌, ◌*◌, ◌%◌, ◌^◌, ◌<◌, ◌≤◌, List, ◌++◌, length}
 use Rattle.fixed_decimal.specs.Digits.{AreDigits, value_of, text_of}
-use Rattle.fixed_decimal.specs.Places.{Places}
-use Rattle.fixed_decimal.specs.Written.{WritesUnsigned, sign_text}
+use Rattle.fixed_decimal.specs.Places.{Places, IsWritten}
+use Rattle.fixed_decimal.specs.Written.{WritesUnsigned, HasExponent, sign_text}
 use Rattle.fixed_decimal.specs.declared.sign.Sign.{Sign}
-use Rattle.plural_operands.specs.Operands.{Operands, HasFraction, IsKeptAt, kept_places}
+use Rattle.plural_operands.specs.Operands.{Operands, AreKept, kept_places}
 
 -- the text is digits, which write the number
 pub record AreDigitsOf (text : List ℕ) (number : ℕ) : Type 0 where
@@ -27,22 +27,56 @@ pub record IsTrimmedAt (places f w t : ℕ) : Type 0 where
   pub scaled : f ≡ t * 10 ^ (places - w)
   pub last : (w ≡ 0) ⊎ (t % 10 ≢ 0)
 
--- the text is 1 to 18 digits of a fraction, of which the operands are
-pub record IsShortFraction (text : List ℕ) (o : Operands) : Type 0 where
-  pub ds : List ℕ
-  pub digits : AreDigits ds
-  pub some : 0 < length ds
-  pub few : length ds ≤ kept_places
-  pub spelled : text ≡ text_of ds
-  pub fraction : HasFraction o (length ds) (value_of ds)
+-- at most 18 digits are at the front, of which the fraction's operands are
+pub record HasFractionFront (text : List ℕ) (o : Operands) (rest : List ℕ) : Type 0 where
+  pub front : List ℕ
+  pub digits : AreDigitsOf front o.f
+  pub few : length front ≤ kept_places
+  pub shown : o.v ≡ length front
+  pub trimmed : IsTrimmedAt o.v o.f o.w o.t
+  pub spelled : text ≡ front ++ rest
 
--- the text writes a number of at most 18 places on each side, of which the operands are
+-- the operands are those of a number of at most 18 places on each side, so many of them integer
+-- places, without an exponent
+pub record ArePlain (x : Places) (whole : ℕ) (o : Operands) : Type 0 where
+  pub written : IsWritten x
+  pub places : length x.whole ≡ whole
+  pub few : whole ≤ kept_places
+  pub shown : o.v ≡ length x.fraction
+  pub few_shown : o.v ≤ kept_places
+  pub i : o.i ≡ value_of x.whole
+  pub f : o.f ≡ value_of x.fraction
+  pub trimmed : IsTrimmedAt o.v o.f o.w o.t
+  pub c : o.c ≡ 0
+
+-- such a number is at the front
+pub record HasPlain (text : List ℕ) (o : Operands) (whole : ℕ) (rest : List ℕ) : Type 0 where
+  pub x : Places
+  pub plain : ArePlain x whole o
+  pub front : List ℕ
+  pub written : WritesUnsigned front x
+  pub spelled : text ≡ front ++ rest
+
+-- the text is one or two digits, which write the exponent
+pub record IsShortExponent (text : List ℕ) (exponent : ℕ) : Type 0 where
+  pub digits : AreDigitsOf text exponent
+  pub some : 1 ≤ length text
+  pub few : length text ≤ 2
+
+-- the text writes a number of at most 18 places on each side, and an exponent of at most two digits
+-- or none, of which the operands are
 pub record WritesShort (text : List ℕ) (o : Operands) : Type 0 where
   pub x : Places
-  pub written : WritesUnsigned text x
+  pub front : List ℕ
+  pub written : WritesUnsigned front x
   pub whole : length x.whole ≤ kept_places
   pub fraction : length x.fraction ≤ kept_places
-  pub kept : IsKeptAt x 0 o
+  pub exponent : ℕ
+  pub behind : List ℕ
+  pub has_exponent : HasExponent behind exponent
+  pub small : exponent < 100
+  pub spelled : text ≡ front ++ behind
+  pub kept : AreKept x exponent o
 
 -- ... after a sign or none
 pub record WritesShortSigned (text : List ℕ) (o : Operands) : Type 0 where

@@ -16,8 +16,8 @@ impl PluralOperands {
     /// [`CompactDecimal`] that [`CompactDecimal::from_str`] reads, and its errors: `Syntax` if the
     /// text isn't of this form, `Limit` if it has more than 32767 places on a side or an exponent
     /// above 255, and `Memory` if the digits can't be allocated, never of a text of at most 16
-    /// bytes. A text of at most 18 digits on each side of the point and without an exponent
-    /// allocates nothing.
+    /// bytes. A text of at most 18 digits on each side of the point allocates nothing if it has no
+    /// exponent, or one of at most two digits that leaves at most 18 integer places.
     #[inline]
     pub fn from_compact_text(alloc: Global, text: &str) -> Result<PluralOperands, DecimalError>
         ensures kept { IfOk result (λ o. (x : CompactNumber) × WritesCompact text.now x

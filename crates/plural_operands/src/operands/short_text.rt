@@ -1,12 +1,13 @@
 //! The operands of texts of at most 18 digits on each side of the point, in one walk.
 
-ghost use Rattle.std.specs.Prelude.{◌≡◌, ◌++◌, IfSome};
+ghost use Rattle.std.specs.Prelude.{◌≡◌, ◌+◌, ◌<◌, ◌++◌, IfSome};
 ghost use Rattle.fixed_decimal.specs.Written.{sign_text};
 ghost use Rattle.fixed_decimal.specs.declared.sign.Sign.{Sign};
-ghost use Rattle.plural_operands.specs.Inner.ShortTexts.{HasFront, IsShortFraction, WritesShort, WritesShortSigned};
+ghost use Rattle.plural_operands.specs.Inner.ShortTexts.{HasFront, HasFractionFront, HasPlain, IsShortExponent, WritesShort, WritesShortSigned};
 
 use crate::operands::PluralOperands;
 use crate::operands::kept::KEPT_PLACES;
+use crate::operands::shifted::shifted;
 
 // The operands of a short text. `None` says nothing.
 #[inline]
@@ -33,11 +34,32 @@ fn behind_any_sign(text: &[u8]) -> &[u8]
 fn short_unsigned(text: &[u8]) -> Option<PluralOperands>
     ensures { IfSome result (λ o. WritesShort text.now o) }
 {
-    let (i, rest) = short_front(text);
+    let (digits, whole, rest) = short_digits(text);
+    if whole == 0 {
+        return None;
+    }
     match rest {
-        [] if !text.is_empty() => Some(PluralOperands::from(i)),
-        [b'.', digits @ ..] => with_fraction(i, digits),
+        [] => Some(digits),
+        [b'c', exponent @ ..] => shifted(digits, whole, short_exponent(exponent)?),
         _ => None,
+    }
+}
+
+// The operands of the number at the front, how many integer places it has, and the rest; 0 places if
+// no number is there.
+#[inline]
+fn short_digits(text: &[u8]) -> (PluralOperands, usize, &[u8])
+    ensures { 0 < result.1 → HasPlain text.now result.0 result.1 result.2.now }
+{
+    let (i, rest) = short_front(text);
+    let whole = text.len() - rest.len();
+    match rest {
+        [b'.', after @ ..] => {
+            let (digits, rest) = with_fraction(i, after);
+            let places = if digits.v == 0 { 0 } else { whole.max(1) };
+            (digits, places, rest)
+        }
+        _ => (PluralOperands::from(i), whole, rest),
     }
 }
 
@@ -55,35 +77,57 @@ fn short_front(text: &[u8]) -> (u64, &[u8])
     (number, &text[at..])
 }
 
-// The operands of an integer part and of 1 to 18 digits after its point.
+// The operands of an integer part and of at most 18 digits after its point, and the rest.
 #[inline]
-fn with_fraction(i: u64, digits: &[u8]) -> Option<PluralOperands>
-    ensures integer { IfSome result (λ o. o.i ≡ i) }
-    ensures fraction { IfSome result (λ o. IsShortFraction digits.now o) }
-    ensures exponent { IfSome result (λ o. o.c ≡ 0) }
+fn with_fraction(i: u64, text: &[u8]) -> (PluralOperands, &[u8])
+    ensures integer { result.0.i ≡ i }
+    ensures fraction { HasFractionFront text.now result.0 result.1.now }
+    ensures exponent { result.0.c ≡ 0 }
 {
-    if digits.is_empty() || digits.len() > KEPT_PLACES {
-        return None;
-    }
+    let most = text.len().min(KEPT_PLACES);
     let mut f = 0;
     let mut w = 0;
     let mut t = 0;
-    for (index, byte) in digits.iter().enumerate() {
-        if !byte.is_ascii_digit() {
-            return None;
-        }
-        f = f * 10 + u64::from(*byte - b'0');
-        if *byte != b'0' {
-            w = index + 1;
+    let mut at = 0;
+    while at < most && text[at].is_ascii_digit() {
+        f = f * 10 + u64::from(text[at] - b'0');
+        if text[at] != b'0' {
+            w = at + 1;
             t = f;
         }
+        at += 1;
     }
-    Some(PluralOperands {
+    let operands = PluralOperands {
         i,
-        v: digits.len(),
+        v: at,
         w,
         f,
         t,
         c: 0,
-    })
+    };
+    (operands, &text[at..])
+}
+
+// The exponent that one or two digits write.
+#[inline]
+fn short_exponent(text: &[u8]) -> Option<usize>
+    ensures { IfSome result (λ e. IsShortExponent text.now e) }
+{
+    match text {
+        [unit] => digit(*unit),
+        [tens, unit] => Some(digit(*tens)? * 10 + digit(*unit)?),
+        _ => None,
+    }
+}
+
+// The number of a digit.
+#[inline]
+fn digit(byte: u8) -> Option<usize>
+    ensures { IfSome result (λ d. (byte ≡ 48 + d) × (d < 10)) }
+{
+    if byte.is_ascii_digit() {
+        Some(usize::from(byte - b'0'))
+    } else {
+        None
+    }
 }
