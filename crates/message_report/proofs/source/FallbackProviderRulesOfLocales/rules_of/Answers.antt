@@ -1,9 +1,9 @@
 use Rattle.message_report.proofs.source.FallbackProviderRulesOfLocales.rules_of.Goals as goal
 
 pub returns-in-Ok : goal.returns-in-Ok
-returns-in-Ok g c = rw c.in-Cardinal.is (c.in-Ok.loaded.key.now, c.in-Ok.ensures.key, c.in-Ok.ensures.value)
+returns-in-Ok g c = rw c.in-Cardinal.is (c.in-Ok.loaded.key.now, c.in-Ok.ensures)
 
 pub returns-in-Ok-load_ordinal : goal.returns-in-Ok-load_ordinal
 returns-in-Ok-load_ordinal g c =
     rw c.in-Ordinal.is
-    (c.in-Ok-load_ordinal.loaded.key.now, c.in-Ok-load_ordinal.ensures.key, c.in-Ok-load_ordinal.ensures.value)
+    (c.in-Ok-load_ordinal.loaded.key.now, c.in-Ok-load_ordinal.ensures)
