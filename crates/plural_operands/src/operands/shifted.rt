@@ -46,8 +46,8 @@ pub(crate) fn shifted(
     })
 }
 
-// Of a fraction's digits without the zeros at their end, those that aren't moved over the point: how
-// many they are, and what they write.
+// How many of a fraction's w digits, which write t, aren't moved over the point, and what these
+// write. It has no zeros at its end.
 #[inline]
 fn left_of_trimmed(w: usize, t: u64, exponent: usize) -> (usize, u64)
     requires { w ≤ 18 }

@@ -45,7 +45,7 @@ fn short_unsigned(text: &[u8]) -> Option<PluralOperands>
     }
 }
 
-// The operands of the number at the front, how many integer places it has, and the rest; 0 places if
+// The operands of the number at the front, how many integer places it has, and the rest. 0 places:
 // no number is there.
 #[inline]
 fn short_digits(text: &[u8]) -> (PluralOperands, usize, &[u8])
