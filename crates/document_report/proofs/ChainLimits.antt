@@ -8,7 +8,7 @@ use Rattle.plural_fallback.specs.Chain.{next_by}
 use Rattle.plural_fallback.specs.FirstKeys.{locale_at}
 use Rattle.plural_fallback.specs.LocaleNames.{before_last}
 use Rattle.plural_fallback.specs.declared.first_key.TheConstants.{MOST_LOCALES}
-use Rattle.document_report.specs.Found.{Found, IsFoundIn, together}
+use Rattle.plural_documents.specs.Found.{Found, IsFoundInMembers, together}
 use Rattle.document_report.specs.Names.{is_long_name}
 use Rattle.document_report.specs.ParentFaults.{found_of_chain, found_of_child, found_of_parent, IsFoundInParent, short_next}
 
@@ -61,8 +61,8 @@ module _ (f g : List ℕ → Option (List ℕ)) (same : (locale : List ℕ) → 
   same_found locale = rw (same_chain locale MOST_LOCALES) refl
 
   -- the same is found in each member
-  pub same_parents : (members : Members) (found : Found) → IsFoundIn (IsFoundInParent f) members found
-      → IsFoundIn (IsFoundInParent g) members found
+  pub same_parents : (members : Members) (found : Found) → IsFoundInMembers (IsFoundInParent f) members found
+      → IsFoundInMembers (IsFoundInParent g) members found
   same_parents no_members found h = h
   same_parents (member key value members) found (first, rest, is, others, whole) = (
     first,

@@ -1,7 +1,7 @@
 -- A fault of a step is the fault of the whole.
 use Rattle.std.proofs.Common.{◌≡◌, Result, Ok, Err, refl, sym, ◌∙◌, ap, subst}
-use Rattle.document_report.specs.CheckedDocument.{◌>>=◌}
-use Rattle.document_report.specs.Inner.CheckCalls.{GivesFault, GivesValue}
+use Rattle.plural_documents.specs.Steps.{◌>>=◌}
+use Rattle.document_report.specs.Inner.CheckCalls.{GivesFault, GivesOnly}
 use Rattle.document_report.specs.declared.error.CheckError.{CheckError}
 use Rattle.document_report.specs.declared.error.CheckError.TheVariants.{Usage, Read, TooLong, Json, Float, NoObject, Write, Memory}
 
@@ -23,14 +23,14 @@ handed_on r e p = p.1 ∙ ap Err p.2
 -- a fault of the first step is the fault of both steps
 pub refused_first : {A B D : Type 0} (seen : D → B) (value : Result A CheckError) (next : A → Result B CheckError)
     (e : CheckError) (r : Result D CheckError) → r ≡ Err e → GivesFault (λ fault. value ≡ Err fault) e
-    → GivesValue seen (value >>= next) r
+    → GivesOnly seen (value >>= next) r
 refused_first seen value next e r is h =
     rw is (mapped (λ fault. value ≡ Err fault) (λ fault. (value >>= next) ≡ Err fault) (λ fault there. rw there refl) e h)
 
 -- after the first step, a call that gives the value of the second step gives the value of both
 pub of_second : {A B D : Type 0} (seen : D → B) (value : Result A CheckError) (x : A) (next : A → Result B CheckError)
-    (r : Result D CheckError) → value ≡ Ok x → GivesValue seen (next x) r → GivesValue seen (value >>= next) r
-of_second {A} seen value x next r there h = subst (λ (v : Result A CheckError). GivesValue seen (v >>= next) r) (sym there) h
+    (r : Result D CheckError) → value ≡ Ok x → GivesOnly seen (next x) r → GivesOnly seen (value >>= next) r
+of_second {A} seen value x next r there h = subst (λ (v : Result A CheckError). GivesOnly seen (v >>= next) r) (sym there) h
 
 -- the value of both steps is that of the second, applied to the value of the first
 pub after : {A B : Type 0} (value : Result A CheckError) (x : A) (next : A → Result B CheckError) (y : Result B CheckError)

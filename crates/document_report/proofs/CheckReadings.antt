@@ -6,9 +6,10 @@ use Rattle.serde_json.specs.Data.{Data, Members, no_members, member}
 use Rattle.serde_json.specs.Find.{as_null, as_object, get}
 use Rattle.serde_json.specs.Written.{has_float}
 use Rattle.plural_documents.specs.PrintedKeys.{name_text}
-use Rattle.document_report.specs.CheckAnswer.{Answer, AnswersDocument, AnswersInput, IsAnswered, IsAnswerTo, check_origin}
-use Rattle.document_report.specs.CheckedDocument.{document_formed, document_with, has_form, locales_formed, object_formed, or_fault, part_formed, parts_formed, value_in, value_of, ◌>>=◌}
-use Rattle.document_report.specs.Inner.CheckCalls.{Gives, GivesAfterReading, GivesFault, answer_view, input_fault}
+use Rattle.document_report.specs.CheckAnswer.{Answer, AnswersDocument, AnswersInput, IsCheckAnswered, IsAnswerTo, check_origin}
+use Rattle.document_report.specs.CheckedDocument.{document_formed, document_with, has_part_form, locales_formed, object_formed, part_formed, parts_formed, value_in, document_of_bytes}
+use Rattle.plural_documents.specs.Steps.{or_fault, ◌>>=◌}
+use Rattle.document_report.specs.Inner.CheckCalls.{Gives, GivesAfterReading, GivesFault, answer_view, check_input_fault}
 use Rattle.plural_fallback.specs.LocalesJson.{part_name}
 use Rattle.document_report.specs.declared.error.CheckError.{CheckError}
 use Rattle.document_report.specs.declared.error.CheckError.TheVariants.{Usage, Read, TooLong, Json, Float, NoObject, Write, Memory}
@@ -41,7 +42,7 @@ chosen_not_long false x y first second h = second h
 locales_not_long : (part : Part) (members : Members) → locales_formed part members ≡ Err TooLong → ⊥
 locales_not_long part no_members h = cc
 locales_not_long part (member locale value members) h =
-    chosen_not_long (has_form part value) (locales_formed part members) (Err (NoObject (place.Locale part (name_text locale))))
+    chosen_not_long (has_part_form part value) (locales_formed part members) (Err (NoObject (place.Locale part (name_text locale))))
     (locales_not_long part members) (λ none. cc) h
 
 -- nor the form of an object
@@ -80,14 +81,14 @@ value_not_long None h = cc
 value_not_long (Some x) h = cc
 
 -- the value of bytes isn't refused for their length
-pub bytes_not_long : (bytes : List ℕ) → value_of bytes ≡ Err TooLong → ⊥
+pub bytes_not_long : (bytes : List ℕ) → document_of_bytes bytes ≡ Err TooLong → ⊥
 bytes_not_long bytes =
     steps_not_long (or_fault Json (json_of bytes)) document_with (value_not_long (json_of bytes))
     (λ value. steps_not_long (document_formed value) (λ _. Ok value) (document_not_long value) (λ done h. cc))
 
 -- nor is the answer to them
-pub answer_not_long : (bytes : List ℕ) → AnswersDocument (value_of bytes) (Err TooLong) → ⊥
-answer_not_long bytes = by_value (value_of bytes) (bytes_not_long bytes)
+pub answer_not_long : (bytes : List ℕ) → AnswersDocument (document_of_bytes bytes) (Err TooLong) → ⊥
+answer_not_long bytes = by_value (document_of_bytes bytes) (bytes_not_long bytes)
   where
     by_value : (value : Result Data CheckError) → (value ≡ Err TooLong → ⊥) → AnswersDocument value (Err TooLong) → ⊥
     by_value (Ok value) none h = h
@@ -133,40 +134,40 @@ without_reading IsAnswer (Err Memory) h = tt
 
 -- if the input is too long or can't be read, that fault is the answer
 of_input : (left : Option (List ℕ)) (e : InputError) → GivesInput left (Err e)
-    → (bytes : List ℕ) × IsInput left bytes × GivesAfterReading (AnswersDocument (value_in bytes)) (Err (input_fault e))
+    → (bytes : List ℕ) × IsInput left bytes × GivesAfterReading (AnswersDocument (value_in bytes)) (Err (check_input_fault e))
 of_input left cause.Read h = let i = some_input left in (i.0, i.1, tt)
 of_input left cause.TooLong h = (
   h.0,
   h.1,
-  subst (λ (value : Result Data CheckError). AnswersDocument value (Err TooLong)) (sym (beyond TooLong value_of h.0 h.2)) refl,
+  subst (λ (value : Result Data CheckError). AnswersDocument value (Err TooLong)) (sym (beyond TooLong document_of_bytes h.0 h.2)) refl,
 )
 of_input left cause.Memory h = let i = some_input left in (i.0, i.1, tt)
 
 -- `?` passes on such a fault
 pub no_input : (left : Option (List ℕ)) (e : InputError) (r : Result CodeAnswer CheckError)
-    → r ≡ Err (input_fault e) → GivesInput left (Err e)
+    → r ≡ Err (check_input_fault e) → GivesInput left (Err e)
     → (bytes : List ℕ) × IsInput left bytes × GivesAfterReading (AnswersDocument (value_in bytes)) r
 no_input left e r is h = rw is (of_input left e h)
 
 -- what was read at an error of the input was read at its fault
 read_at : (old new : Option (List ℕ)) (e : InputError)
-    → IsReadAfter (input_origin e) old new → IsReadAfter (check_origin (input_fault e)) old new
+    → IsReadAfter (input_origin e) old new → IsReadAfter (check_origin (check_input_fault e)) old new
 read_at old new cause.Read h = h
 read_at old new cause.TooLong h = h
 read_at old new cause.Memory h = h
 
 -- `?` passes on such a fault
 pub read_on : {B : Type 0} (old new : Option (List ℕ)) (e : InputError) (r : Result B CheckError)
-    → r ≡ Err (input_fault e) → IsReadAfter (input_origin e) old new → IsRead check_origin old new r
+    → r ≡ Err (check_input_fault e) → IsReadAfter (input_origin e) old new → IsRead check_origin old new r
 read_on old new e r is h = rw is (read_at old new e h)
 
 -- the answer to the bytes is the answer to the input
 pub of_all : (whole bytes : List ℕ) → length whole ≤ most_bytes → bytes ≡ whole → (r : Result CodeAnswer CheckError)
-    → Gives answer_view (AnswersDocument (value_of bytes)) r → GivesAfterReading (AnswersDocument (value_in whole)) r
+    → Gives answer_view (AnswersDocument (document_of_bytes bytes)) r → GivesAfterReading (AnswersDocument (value_in whole)) r
 of_all whole bytes short same r h =
-    let all = subst (λ (read : List ℕ). Gives answer_view (AnswersDocument (value_of read)) r) same h in
-    subst (λ (value : Result Data CheckError). GivesAfterReading (AnswersDocument value) r) (sym (within TooLong value_of whole short))
-    (without_reading (AnswersDocument (value_of whole)) r all)
+    let all = subst (λ (read : List ℕ). Gives answer_view (AnswersDocument (document_of_bytes read)) r) same h in
+    subst (λ (value : Result Data CheckError). GivesAfterReading (AnswersDocument value) r) (sym (within TooLong document_of_bytes whole short))
+    (without_reading (AnswersDocument (document_of_bytes whole)) r all)
 
 -- if no answer says that the input is too long, it was read to its end
 pub to_the_end : (IsAnswer : Result Answer CheckError → Type 0) (old new : Option (List ℕ)) → (IsAnswer (Err TooLong) → ⊥)
@@ -191,7 +192,7 @@ kept (Some xs) = refl
 
 -- a fault is the answer, and nothing is written
 of_fault : (IsAnswer : Result Answer CheckError → Type 0) (known : Option (List ℕ)) (e : CheckError)
-    → GivesAfterReading IsAnswer (Err e) → IsAnswered IsAnswer known known (Err e)
+    → GivesAfterReading IsAnswer (Err e) → IsCheckAnswered IsAnswer known known (Err e)
 of_fault IsAnswer known Usage h = (h, kept known)
 of_fault IsAnswer known Read h = kept known
 of_fault IsAnswer known TooLong h = (h, kept known)
@@ -203,7 +204,7 @@ of_fault IsAnswer known Memory h = kept known
 
 -- `?` passes on such a fault
 pub not_written : (IsAnswer : Result Answer CheckError → Type 0) (known : Option (List ℕ)) (e : CheckError) (r : Result Verdict CheckError)
-    → r ≡ Err e → GivesAfterReading IsAnswer (Err e) → IsAnswered IsAnswer known known r
+    → r ≡ Err e → GivesAfterReading IsAnswer (Err e) → IsCheckAnswered IsAnswer known known r
 not_written IsAnswer known e r is h = rw is (of_fault IsAnswer known e h)
 
 -- a call that gives an answer of one kind also gives an answer of a wider kind

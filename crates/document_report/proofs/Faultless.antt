@@ -31,13 +31,13 @@ use Rattle.plural_checker.specs.LanguageTexts.{SixTexts}
 use Rattle.plural_checker.specs.TextChecks.{IsFoundInCategoryText}
 use Rattle.plural_checker.specs.TextChecks as text
 use Rattle.plural_checker.specs.declared.Fault.{Fault}
-use Rattle.document_report.specs.CheckedDocument.{document_formed, has_form, locales_formed, members_at, members_or_none, part_formed}
+use Rattle.document_report.specs.CheckedDocument.{document_formed, has_part_form, locales_formed, members_at, members_or_none, part_formed}
 use Rattle.document_report.specs.CheckedDocument.{parts_formed, table_in}
 use Rattle.document_report.specs.DocumentReport.{IsFoundInDocument, IsFoundInEntry, IsFoundInRanges, IsFoundInRules, IsReportOf, all_texts_in}
 use Rattle.document_report.specs.DocumentReport.{faults_of, found_by_check, found_of_count, found_of_key, found_of_other, found_of_rules, found_under}
 use Rattle.document_report.specs.DocumentReport.{found_under_all, has_locale, text_order, texts_at}
 use Rattle.document_report.specs.FaultlessDocuments.{FaultlessDocumentsAreTaken, HasAll}
-use Rattle.document_report.specs.Found.{Found, IsFoundIn}
+use Rattle.plural_documents.specs.Found.{Found, IsFoundInMembers}
 use Rattle.plural_documents.specs.PrintedKeys.{name_text}
 use Rattle.plural_fallback.specs.LocalesJson.{part_name}
 use Rattle.document_report.specs.declared.error.CheckError.{CheckError}
@@ -59,7 +59,7 @@ abbrev Each : (List ℕ → Data → Type 0) → Members → Type 0
 Each Has no_members = Unit {0}
 Each Has (member key value members) = Has key value × Each Has members
 
-each_faultless : (Is : List ℕ → Data → Found → Type 0) (members : Members) (all : Found) → IsFoundIn Is members all
+each_faultless : (Is : List ℕ → Data → Found → Type 0) (members : Members) (all : Found) → IsFoundInMembers Is members all
     → all.faults ≡ 0 → Each (λ key value. (one : Found) × Is key value one × (one.faults ≡ 0)) members
 each_faultless Is no_members all h none = tt
 each_faultless Is (member key value members) all (first, rest, is, others, whole) none =
@@ -354,14 +354,14 @@ ranges_mean document locale value all (entries, is, whole) none formed =
 
 -- the members have the form of their part
 each_formed : (part : Part) (members : Members) → locales_formed part members ≡ Ok tt
-    → Each (λ key value. has_form part value ≡ true) members
+    → Each (λ key value. has_part_form part value ≡ true) members
 each_formed part no_members h = tt
-each_formed part (member locale value members) h = at (has_form part value) refl _ (each_formed part members) h
+each_formed part (member locale value members) h = at (has_part_form part value) refl _ (each_formed part members) h
   where
-    at : (b : Bool) → has_form part value ≡ b → (fault : CheckError)
-        → (locales_formed part members ≡ Ok tt → Each (λ key value. has_form part value ≡ true) members)
+    at : (b : Bool) → has_part_form part value ≡ b → (fault : CheckError)
+        → (locales_formed part members ≡ Ok tt → Each (λ key value. has_part_form part value ≡ true) members)
         → (if b then locales_formed part members else Err fault) ≡ Ok tt
-        → Each (λ key value. has_form part value ≡ true) (member locale value members)
+        → Each (λ key value. has_part_form part value ≡ true) (member locale value members)
     at true is fault rest h = (is, rest h)
     at false is fault rest h = absurd cc
 
@@ -397,7 +397,7 @@ module _ {A : Type 0} (meant : Data → Stands A) where
     pub finds : (locale : List ℕ) → IsTrue (is_some (option_and_then (get locale) value)) → IsTrue (is_some (found locale rows))
 
   has_map : (part : Part) (value : Option Data) → part_formed part value ≡ Ok tt
-      → (Each (λ key value. has_form part value ≡ true) (members_or_none (option_and_then as_object value))
+      → (Each (λ key value. has_part_form part value ≡ true) (members_or_none (option_and_then as_object value))
       → Each (λ key value. Means (meant value)) (members_or_none (option_and_then as_object value)))
       → HasMap value
   has_map part None formed means = record { rows = []; meant_as = refl; finds = λ locale there. there }
@@ -518,7 +518,7 @@ of_parts one value all formed (keys, cardinal, ordinal, ranges, parents, in_keys
     )
   where
     formed_members : (value : Option Data) → part_formed Ranges value ≡ Ok tt
-        → Each (λ key value. has_form Ranges value ≡ true) (members_or_none (option_and_then as_object value))
+        → Each (λ key value. has_part_form Ranges value ≡ true) (members_or_none (option_and_then as_object value))
     formed_members None h = tt
     formed_members (Some null) h = tt
     formed_members (Some (boolean b)) h = tt

@@ -1,7 +1,7 @@
 -- Parts that have their form together have it one by one.
 use Rattle.std.proofs.Common.{◌≡◌, Result, Ok, Err, refl}
 use Rattle.std.specs.Prelude.{⊤}
-use Rattle.document_report.specs.CheckedDocument.{◌>>=◌}
+use Rattle.plural_documents.specs.Steps.{◌>>=◌}
 use Rattle.document_report.specs.declared.error.CheckError.{CheckError}
 
 -- each step had a value

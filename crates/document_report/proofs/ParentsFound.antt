@@ -5,12 +5,12 @@ use Rattle.serde_json.specs.Data.{Data, Members}
 use Rattle.serde_json.specs.Find.{as_null, as_object, get}
 use Rattle.plural_fallback.specs.LocalesJson.{parent_in}
 use Rattle.document_report.specs.CheckedDocument.{members_or_none}
-use Rattle.document_report.specs.Found.{Found, IsFoundIn, nothing, one_fault, together}
-use Rattle.document_report.specs.Inner.Additions.{Adds}
+use Rattle.plural_documents.specs.Found.{Found, IsFoundInMembers, nothing_found, one_fault, together}
+use Rattle.plural_documents.specs.Found.{HasGrownBy}
 use Rattle.document_report.specs.Inner.ParentRows.{parent_among}
 use Rattle.document_report.specs.ParentFaults.{found_of_shape, IsFoundInParent, IsFoundInParents}
 use Rattle.document_report.proofs.ChainLimits.{same_parents}
-use Rattle.document_report.proofs.FoundParts.{together-nothing, two_added}
+use Rattle.plural_documents.proofs.FoundLemmas.{together-nothing, two_added}
 use Rattle.document_report.proofs.RowLookups.{parents_are}
 
 -- a part of another kind has a line
@@ -22,16 +22,16 @@ no_object value null object = rw (null, object) refl
 pub with_members : (document : Data) (members : Members) (old shaped new : Found)
     → Some members ≡ option_and_then as_object (get (codes "parents") document)
     → shaped ≡ together old (found_of_shape (get (codes "parents") document))
-    → Adds (IsFoundIn (IsFoundInParent (parent_among members)) members) shaped new
-    → Adds (IsFoundInParents document) old new
+    → HasGrownBy (IsFoundInMembers (IsFoundInParent (parent_among members)) members) shaped new
+    → HasGrownBy (IsFoundInParents document) old new
 with_members document members old shaped new there shape (each, is, added) =
     let here = found_of_shape (get (codes "parents") document) in
-    let by_document : IsFoundIn (IsFoundInParent (parent_in document)) members each =
+    let by_document : IsFoundInMembers (IsFoundInParent (parent_in document)) members each =
     same_parents (parent_among members) (parent_in document) (parents_are document members (sym there)) members each is in (
       together here each,
       (
         each,
-        subst (λ (o : Option Members). IsFoundIn (IsFoundInParent (parent_in document)) (members_or_none o) each) there by_document,
+        subst (λ (o : Option Members). IsFoundInMembers (IsFoundInParent (parent_in document)) (members_or_none o) each) there by_document,
         refl,
       ),
       two_added old here each shaped new shape added,
@@ -40,13 +40,13 @@ with_members document members old shaped new there shape (each, is, added) =
 -- the part is no object
 pub without_members : (document : Data) (old shaped : Found) → None ≡ option_and_then as_object (get (codes "parents") document)
     → shaped ≡ together old (found_of_shape (get (codes "parents") document))
-    → Adds (IsFoundInParents document) old shaped
+    → HasGrownBy (IsFoundInParents document) old shaped
 without_members document old shaped none shape =
     let here = found_of_shape (get (codes "parents") document) in (
-      together here nothing,
+      together here nothing_found,
       (
-        nothing,
-        subst (λ (o : Option Members). IsFoundIn (IsFoundInParent (parent_in document)) (members_or_none o) nothing) none refl,
+        nothing_found,
+        subst (λ (o : Option Members). IsFoundInMembers (IsFoundInParent (parent_in document)) (members_or_none o) nothing_found) none refl,
         refl,
       ),
       shape ∙ ap (together old) (sym (together-nothing here)),

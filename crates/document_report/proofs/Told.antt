@@ -11,11 +11,13 @@ use Rattle.icu_plurals.specs.declared.PluralCategory.{PluralCategory}
 use Rattle.icu_plurals.specs.declared.PluralCategory.TheVariants.{Zero, One, Two, Few, Many, Other}
 use Rattle.icu_plurals.specs.Categories.{place_of}
 use Rattle.plural_checker.specs.declared.Fault.{Fault}
-use Rattle.document_report.specs.DocumentReport.{fault_line, faults_of, found_told, most_told, rest_lines}
-use Rattle.document_report.specs.Found.{Found, nothing, together}
-use Rattle.document_report.specs.Inner.Additions.{lines_alone, told_after}
+use Rattle.document_report.specs.DocumentReport.{category_place, fault_line, faults_of, found_told}
+use Rattle.plural_documents.specs.FirstLines.{most_told, rest_lines}
+use Rattle.plural_documents.specs.Found.{Found, nothing_found, together}
+use Rattle.plural_documents.specs.Found.{faults_alone, lines_alone}
+use Rattle.document_report.specs.Inner.Additions.{told_after}
 use Rattle.plural_fallback.specs.declared.locales.Part.{Part}
-use Rattle.document_report.proofs.FoundParts.{together_assoc}
+use Rattle.plural_documents.proofs.FoundLemmas.{together_assoc}
 
 -- ---- Which faults are of a text
 
@@ -116,20 +118,20 @@ next_told part name mine more fault count first now next is counted so_far step 
 pub all_told : (part : Part) (name : List ℕ) (category : PluralCategory) (mine : List Fault) (count : ℕ) (first now rest next : Found)
     → count ≡ length mine
     → now ≡ together first (lines_alone (told_lines part name mine))
-    → rest ≡ together now (lines_alone (rest_lines part name category count))
-    → next ≡ together rest (record nothing { faults = count })
+    → rest ≡ together now (lines_alone (rest_lines (category_place part name category) count))
+    → next ≡ together rest (faults_alone count)
     → next ≡ together first (found_told part name category mine)
 all_told part name category mine count first now rest next counted so_far more all =
     all
-    ∙ ap (λ (f : Found). together f (record nothing { faults = count }))
-    (more ∙ ap (λ (f : Found). together f (lines_alone (rest_lines part name category count))) so_far)
-    ∙ together_assoc (together first (lines_alone (told_lines part name mine))) (lines_alone (rest_lines part name category count))
-    (record nothing { faults = count })
+    ∙ ap (λ (f : Found). together f (faults_alone count))
+    (more ∙ ap (λ (f : Found). together f (lines_alone (rest_lines (category_place part name category) count))) so_far)
+    ∙ together_assoc (together first (lines_alone (told_lines part name mine))) (lines_alone (rest_lines (category_place part name category) count))
+    (faults_alone count)
     ∙ together_assoc first (lines_alone (told_lines part name mine))
-    (together (lines_alone (rest_lines part name category count)) (record nothing { faults = count }))
+    (together (lines_alone (rest_lines (category_place part name category) count)) (faults_alone count))
     ∙ ap (λ (f : Found). together first f) joined
   where
     joined : together (lines_alone (told_lines part name mine))
-        (together (lines_alone (rest_lines part name category count)) (record nothing { faults = count }))
+        (together (lines_alone (rest_lines (category_place part name category) count)) (faults_alone count))
         ≡ found_told part name category mine
-    joined = rw (counted, append-nil (rest_lines part name category (length mine)), zero-add (length mine), zero-add (length mine)) refl
+    joined = rw (counted, append-nil (rest_lines (category_place part name category) (length mine)), zero-add (length mine), zero-add (length mine)) refl

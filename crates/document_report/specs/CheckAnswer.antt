@@ -21,11 +21,11 @@ pub record Answer : Type 0 where
   pub text : List ℕ
   pub verdict : Verdict
 
-abbrev pub verdict_of : Report → Verdict
-verdict_of report = if report.found.faults == 0 then NoFaults else Faults
+abbrev pub verdict_of_report : Report → Verdict
+verdict_of_report report = if report.found.faults == 0 then NoFaults else Faults
 
 abbrev pub answer_with : Report → Answer
-answer_with report = record { text = report_text report; verdict = verdict_of report }
+answer_with report = record { text = report_text report; verdict = verdict_of_report report }
 
 -- the answer to a document
 abbrev pub IsAnswerTo : Data → Answer → Type 0
@@ -54,19 +54,19 @@ check_origin fault = from_answer
 -- The result, and what the writer took: the answer's text and nothing else, or a fault and nothing
 -- at all. Out of memory, a failed read and a failed write come from outside; a failed write took a
 -- beginning of the text, and nothing else.
-abbrev pub IsAnswered : (Result Answer CheckError → Type 0) → Option (List ℕ) → Option (List ℕ) → Result Verdict CheckError
+abbrev pub IsCheckAnswered : (Result Answer CheckError → Type 0) → Option (List ℕ) → Option (List ℕ) → Result Verdict CheckError
     → Type 0
-IsAnswered IsAnswer old new (Ok verdict) =
+IsCheckAnswered IsAnswer old new (Ok verdict) =
     (answer : Answer) × IsAnswer (Ok answer) × (verdict ≡ answer.verdict) × Appends old new answer.text
-IsAnswered IsAnswer old new (Err Memory) = Keeps old new
-IsAnswered IsAnswer old new (Err Read) = Keeps old new
-IsAnswered IsAnswer old new (Err Write) = (answer : Answer) × IsAnswer (Ok answer) × IsPartWritten old new answer.text
-IsAnswered IsAnswer old new (Err fault) = IsAnswer (Err fault) × Keeps old new
+IsCheckAnswered IsAnswer old new (Err Memory) = Keeps old new
+IsCheckAnswered IsAnswer old new (Err Read) = Keeps old new
+IsCheckAnswered IsAnswer old new (Err Write) = (answer : Answer) × IsAnswer (Ok answer) × IsPartWritten old new answer.text
+IsCheckAnswered IsAnswer old new (Err fault) = IsAnswer (Err fault) × Keeps old new
 
 -- the exit status of the program: without a report 2, whatever the reason
-abbrev pub status_of : CheckError → ℕ
-status_of fault = 2
+abbrev pub check_status : CheckError → ℕ
+check_status fault = 2
 
-abbrev pub verdict_status : Verdict → ℕ
-verdict_status NoFaults = 0
-verdict_status Faults = 1
+abbrev pub report_status : Verdict → ℕ
+report_status NoFaults = 0
+report_status Faults = 1

@@ -10,25 +10,13 @@ use Rattle.serde_json.specs.Find.{get, as_null, as_object}
 use Rattle.serde_json.specs.Written.{has_float}
 use Rattle.plural_documents.specs.Inputs.{within_limit, json_of}
 use Rattle.plural_documents.specs.PrintedKeys.{name_text}
+use Rattle.plural_documents.specs.Steps.{◌>>=◌, or_fault}
 use Rattle.plural_fallback.specs.LocalesJson.{part_name}
 use Rattle.document_report.specs.declared.error.CheckError.{CheckError}
 use Rattle.document_report.specs.declared.error.CheckError.TheVariants.{TooLong, Json, Float, NoObject}
 use Rattle.plural_fallback.specs.declared.locales.Part.{Part}
 use Rattle.plural_fallback.specs.declared.locales.Part.TheVariants.{Cardinal, Ordinal, Ranges}
 use Rattle.document_report.specs.declared.place.Place.TheVariants as place
-
--- ---- One step after another: a fault of the first is the result
-
--- the second after the first
-infixl 10 ◌>>=◌
-abbrev pub ◌>>=◌ : {A B : Type 0} → Result A CheckError → (A → Result B CheckError) → Result B CheckError
-(Ok x) >>= next = next x
-(Err fault) >>= next = Err fault
-
--- the value, or this fault if there is none
-abbrev pub or_fault : {A : Type 0} → CheckError → Option A → Result A CheckError
-or_fault fault None = Err fault
-or_fault fault (Some x) = Ok x
 
 -- ---- Objects
 
@@ -37,16 +25,16 @@ abbrev pub table_in : Data → Option Members
 table_in value = option_and_then as_object (get (codes "ranges") value)
 
 -- the value of a locale is an object; in the part `ranges`, it has an object under `ranges`
-abbrev pub has_form : Part → Data → Bool
-has_form Cardinal value = is_some (as_object value)
-has_form Ordinal value = is_some (as_object value)
-has_form Ranges value = is_some (table_in value)
+abbrev pub has_part_form : Part → Data → Bool
+has_part_form Cardinal value = is_some (as_object value)
+has_part_form Ordinal value = is_some (as_object value)
+has_part_form Ranges value = is_some (table_in value)
 
 -- all locales have the form of the part, or the fault names the first one that hasn't
 abbrev pub locales_formed : Part → Members → Result ⊤ CheckError
 locales_formed part no_members = Ok tt
 locales_formed part (member locale value members) =
-    if has_form part value then locales_formed part members else Err (NoObject (place.Locale part (name_text locale)))
+    if has_part_form part value then locales_formed part members else Err (NoObject (place.Locale part (name_text locale)))
 
 -- the object of a part
 abbrev pub object_formed : Part → Option Members → Result ⊤ CheckError
@@ -78,12 +66,12 @@ abbrev pub document_with : Data → Result Data CheckError
 document_with value = document_formed value >>= λ _. Ok value
 
 -- the value of the bytes
-abbrev pub value_of : List ℕ → Result Data CheckError
-value_of bytes = or_fault Json (json_of bytes) >>= document_with
+abbrev pub document_of_bytes : List ℕ → Result Data CheckError
+document_of_bytes bytes = or_fault Json (json_of bytes) >>= document_with
 
 -- the value of an input; its length is checked first
 abbrev pub value_in : List ℕ → Result Data CheckError
-value_in input = within_limit TooLong value_of input
+value_in input = within_limit TooLong document_of_bytes input
 
 -- ---- What a document has
 

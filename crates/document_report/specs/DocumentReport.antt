@@ -3,7 +3,7 @@
 -- (docs/JSON.md). The locales of a part are in the order of their bytes, and so are the entries of
 -- a locale's ranges.
 --     IsReportOf value report      this is the report of a document's value
-use Rattle.std.specs.Prelude.{◌≡◌, ◌≢◌, ℕ, ◌+◌, ◌&&◌, not, ◌-◌, ◌==◌, ◌||◌, ◌⊎◌, nat_lt, bytes_eq, List, [], ◌∷◌, ◌++◌, length, codes, count_by, filter, map, take}
+use Rattle.std.specs.Prelude.{◌≡◌, ◌≢◌, ℕ, ◌+◌, ◌&&◌, not, ◌==◌, ◌||◌, ◌⊎◌, bytes_eq, List, [], ◌∷◌, ◌++◌, length, codes, count_by, filter, map, take}
 use Rattle.std.specs.Prelude.{Bool, true, IsTrue, IsFalse}
 use Rattle.std.specs.Prelude.{Option, Some, None, is_some, if◌then◌else◌}
 use Rattle.serde_json.specs.Data.{Data}
@@ -11,7 +11,6 @@ use Rattle.serde_json.specs.Find.{get, as_null, as_object, as_str}
 use Rattle.icu_plurals.specs.declared.PluralCategory.{PluralCategory}
 use Rattle.icu_plurals.specs.declared.PluralCategory.TheVariants.{Zero, One, Two, Few, Many, Other}
 use Rattle.icu_plurals.specs.declared.provider.RawPluralCategory.{RawPluralCategory}
-use Rattle.std.specs.Fmt.{decimal}
 use Rattle.icu_plurals.specs.Categories.{category_of, name_of, place_of}
 use Rattle.icu_plurals.specs.DocumentJson.{value_of_locale}
 use Rattle.icu_plurals.specs.FiveRules.{five}
@@ -24,7 +23,8 @@ use Rattle.plural_checker.specs.TextChecks.{AreFindingsOf}
 use Rattle.plural_checker.specs.declared.Fault.{Fault}
 use Rattle.plural_checker.specs.declared.Report.{Report as Checked}
 use Rattle.document_report.specs.CheckedDocument.{members_at, members_or_none, table_in}
-use Rattle.document_report.specs.Found.{Found, nothing, one_fault, one_rule, together, IsFoundIn}
+use Rattle.plural_documents.specs.Found.{Found, cases_alone, checked_alone, nothing_found, one_fault, together, IsFoundInMembers}
+use Rattle.plural_documents.specs.FirstLines.{most_told, rest_lines}
 use Rattle.document_report.specs.ParentFaults.{IsFoundInParents}
 use Rattle.plural_documents.specs.PrintedKeys.{name_text}
 use Rattle.document_report.specs.Names.{has_underscore, is_long_name}
@@ -48,17 +48,21 @@ locale_line part name fault = locale_place part name ++ codes ": " ++ fault
 -- a long key has a line
 abbrev pub found_of_length : Part → List ℕ → Found
 found_of_length part locale =
-    if is_long_name locale then one_fault (locale_line part (name_text locale) (codes "key too long")) else nothing
+    if is_long_name locale then one_fault (locale_line part (name_text locale) (codes "key too long")) else nothing_found
 
 -- and so has one with `_`, which CLDR writes where documents have a hyphen
 abbrev pub found_of_underscore : Part → List ℕ → Found
 found_of_underscore part locale =
-    if has_underscore locale then one_fault (locale_line part (name_text locale) (codes "key with _")) else nothing
+    if has_underscore locale then one_fault (locale_line part (name_text locale) (codes "key with _")) else nothing_found
 
 abbrev pub found_of_key : Part → List ℕ → Found
 found_of_key part locale = together (found_of_length part locale) (found_of_underscore part locale)
 
 -- ---- The rules of a locale, whose printed name is given
+
+-- `cardinal ru few`
+abbrev pub category_place : Part → List ℕ → PluralCategory → List ℕ
+category_place part name category = locale_place part name ++ codes " " ++ name_of category
 
 -- the value of a category is no text
 abbrev pub no_text_line : Part → List ℕ → PluralCategory → List ℕ
@@ -68,43 +72,33 @@ no_text_line part name category = locale_place part name ++ codes " " ++ name_of
 abbrev pub fault_line : Part → List ℕ → Fault → List ℕ
 fault_line part name fault = locale_place part name ++ codes " " ++ fault_text fault
 
+-- a rule text is checked
+abbrev pub one_rule : Found
+one_rule = checked_alone 1
+
 -- a text is counted; a value that is neither null nor a text has a line
 abbrev pub found_under : Part → List ℕ → PluralCategory → Option Data → Found
-found_under part name category None = nothing
+found_under part name category None = nothing_found
 found_under part name category (Some value) =
-    if is_some (as_null value) then nothing
+    if is_some (as_null value) then nothing_found
     else (if is_some (as_str value) then one_rule else one_fault (no_text_line part name category))
 
 -- the faults of one category's text
 abbrev pub faults_of : PluralCategory → List Fault → List Fault
 faults_of category faults = filter (λ fault. place_of fault.category == place_of category) faults
 
--- the most faults of a text that are told
-abbrev pub most_told : ℕ
-most_told = 10
-
--- how many more there are
-abbrev pub rest_line : Part → List ℕ → PluralCategory → ℕ → List ℕ
-rest_line part name category rest =
-    locale_place part name ++ codes " " ++ name_of category ++ codes ": and " ++ decimal rest ++ codes " more"
-
--- that line, if there are more than are told
-abbrev pub rest_lines : Part → List ℕ → PluralCategory → ℕ → List (List ℕ)
-rest_lines part name category count =
-    if nat_lt most_told count then rest_line part name category (count - most_told) ∷ [] else []
-
 -- the first faults of a text have a line each, and the others are counted in one
 abbrev pub found_told : Part → List ℕ → PluralCategory → List Fault → Found
 found_told part name category faults = record {
-  lines = map (fault_line part name) (take most_told faults) ++ rest_lines part name category (length faults);
+  lines = map (fault_line part name) (take most_told faults) ++ rest_lines (category_place part name category) (length faults);
   faults = length faults;
-  rules = 0;
-  numbers = 0;
+  checked = 0;
+  cases = 0;
 }
 
 -- what is found under each of these categories, and in its text
 abbrev pub found_under_all : Part → List ℕ → Data → List Fault → List PluralCategory → Found
-found_under_all part name value faults [] = nothing
+found_under_all part name value faults [] = nothing_found
 found_under_all part name value faults (category ∷ categories) =
     together (found_under part name category (get (name_of category) value))
     (together (found_told part name category (faults_of category faults)) (found_under_all part name value faults categories))
@@ -116,7 +110,7 @@ text_order = Zero ∷ One ∷ Two ∷ Few ∷ Many ∷ Other ∷ []
 -- the faults of the texts, and the count of their numbers
 abbrev pub found_by_check : Part → List ℕ → Data → Checked → Found
 found_by_check part name value checked =
-    together (found_under_all part name value checked.faults text_order) (record nothing { numbers = checked.numbers })
+    together (found_under_all part name value checked.faults text_order) (cases_alone checked.numbers)
 
 -- the texts of all six categories
 abbrev pub all_texts_in : Data → SixTexts
@@ -132,7 +126,7 @@ abbrev pub lacks_other : Data → Bool
 lacks_other value = is_absent (get (name_of Other) value)
 
 abbrev pub found_of_other : Part → List ℕ → Data → Found
-found_of_other part name value = if lacks_other value then one_fault (locale_line part name (codes "no other")) else nothing
+found_of_other part name value = if lacks_other value then one_fault (locale_line part name (codes "no other")) else nothing_found
 
 -- the key names a category
 abbrev pub IsCategoryName : List ℕ → Type 0
@@ -145,7 +139,7 @@ category_line part name key = locale_place part name ++ codes " " ++ name_text k
 -- a key that names no category has a line, and its value isn't looked at
 abbrev pub IsFoundInKey : Part → List ℕ → List ℕ → Data → Found → Type 0
 IsFoundInKey part name key value found =
-    (IsCategoryName key × (found ≡ nothing)) ⊎ ((¬ (IsCategoryName key)) × (found ≡ one_fault (category_line part name key)))
+    (IsCategoryName key × (found ≡ nothing_found)) ⊎ ((¬ (IsCategoryName key)) × (found ≡ one_fault (category_line part name key)))
 
 -- what is found in the rules of a locale: first in its key, then that it has no other; then
 -- category by category that the value is no text, or the faults of the text; then the keys that
@@ -153,7 +147,7 @@ IsFoundInKey part name key value found =
 abbrev pub IsFoundInRules : Part → List ℕ → Data → Found → Type 0
 IsFoundInRules part locale value found =
     (checked : Checked) × (others : Found) × AreFindingsOf (all_texts_in value) checked
-    × IsFoundIn (IsFoundInKey part (name_text locale)) (members_or_none (as_object value)) others
+    × IsFoundInMembers (IsFoundInKey part (name_text locale)) (members_or_none (as_object value)) others
     × (found ≡ together (found_of_key part locale) (together (found_of_other part (name_text locale) value)
     (together (found_by_check part (name_text locale) value checked) others)))
 
@@ -206,7 +200,7 @@ abbrev pub entry_line : List ℕ → List ℕ → EntryFault → List ℕ
 entry_line name key fault = locale_place Ranges name ++ codes " " ++ name_text key ++ codes ": " ++ entry_fault_text fault
 
 abbrev pub found_of_entry : List ℕ → List ℕ → Option EntryFault → Found
-found_of_entry name key None = nothing
+found_of_entry name key None = nothing_found
 found_of_entry name key (Some fault) = one_fault (entry_line name key fault)
 
 abbrev pub IsFoundInEntry : SixTexts → List ℕ → List ℕ → Data → Found → Type 0
@@ -216,14 +210,14 @@ IsFoundInEntry texts name key value found =
 -- a locale without cardinal rules has a line
 abbrev pub found_of_rules : List ℕ → Option Data → Found
 found_of_rules name None = one_fault (locale_line Ranges name (codes "no cardinal rules"))
-found_of_rules name (Some rules) = nothing
+found_of_rules name (Some rules) = nothing_found
 
 -- what is found in the ranges of a locale: first in its key, then that it has no cardinal rules, then
 -- the faults of its entries
 abbrev pub IsFoundInRanges : Data → List ℕ → Data → Found → Type 0
 IsFoundInRanges document locale value found =
     let rules = value_of_locale (part_name Cardinal) locale document in
-    (entries : Found) × IsFoundIn (IsFoundInEntry (texts_at rules) (name_text locale)) (members_or_none (table_in value)) entries
+    (entries : Found) × IsFoundInMembers (IsFoundInEntry (texts_at rules) (name_text locale)) (members_or_none (table_in value)) entries
     × (found ≡ together (found_of_key Ranges locale) (together (found_of_rules (name_text locale) rules) entries))
 
 -- ---- The document
@@ -254,23 +248,23 @@ is_part_name key =
 
 -- any other has a line, and its value isn't looked at: `cardinals: not a part`
 abbrev pub found_of_part : List ℕ → Found
-found_of_part key = if is_part_name key then nothing else one_fault (name_text key ++ codes ": not a part")
+found_of_part key = if is_part_name key then nothing_found else one_fault (name_text key ++ codes ": not a part")
 
 abbrev pub IsFoundInPartKey : List ℕ → Data → Found → Type 0
 IsFoundInPartKey key value found = found ≡ found_of_part key
 
 -- a document without locales has a line
 abbrev pub found_of_count : ℕ → Found
-found_of_count locales = if locales == 0 then one_fault (codes "document: no locale") else nothing
+found_of_count locales = if locales == 0 then one_fault (codes "document: no locale") else nothing_found
 
 -- what is found in the keys of the parts, in all three parts, and in the parents
 abbrev pub IsFoundInDocument : Data → Found → Type 0
 IsFoundInDocument document found =
     (keys cardinal ordinal ranges parents : Found)
-    × IsFoundIn IsFoundInPartKey (members_or_none (as_object document)) keys
-    × IsFoundIn (IsFoundInRules Cardinal) (members_at Cardinal document) cardinal
-    × IsFoundIn (IsFoundInRules Ordinal) (members_at Ordinal document) ordinal
-    × IsFoundIn (IsFoundInRanges document) (members_at Ranges document) ranges
+    × IsFoundInMembers IsFoundInPartKey (members_or_none (as_object document)) keys
+    × IsFoundInMembers (IsFoundInRules Cardinal) (members_at Cardinal document) cardinal
+    × IsFoundInMembers (IsFoundInRules Ordinal) (members_at Ordinal document) ordinal
+    × IsFoundInMembers (IsFoundInRanges document) (members_at Ranges document) ranges
     × IsFoundInParents document parents
     × (found ≡ together keys (together cardinal (together ordinal (together ranges parents))))
 

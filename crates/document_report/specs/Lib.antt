@@ -1,6 +1,5 @@
 pub mod Names
 pub mod CheckedDocument
-pub mod Found
 pub mod ParentFaults
 pub mod DocumentReport
 pub mod ReportText

@@ -11,15 +11,15 @@ use Rattle.plural_fallback.specs.FirstKeys.{locale_at}
 use Rattle.plural_fallback.specs.LocalesJson.{parent_in}
 use Rattle.plural_fallback.specs.declared.first_key.TheConstants.{MOST_LOCALES}
 use Rattle.document_report.specs.CheckedDocument.{members_or_none}
-use Rattle.document_report.specs.Found.{Found, IsFoundIn, nothing, one_fault, together}
+use Rattle.plural_documents.specs.Found.{Found, IsFoundInMembers, nothing_found, one_fault, together}
 use Rattle.plural_documents.specs.PrintedKeys.{name_text}
 use Rattle.document_report.specs.Names.{is_long_name}
 
 -- a part that is neither absent, null nor an object has a line
 abbrev pub found_of_shape : Option Data → Found
-found_of_shape None = nothing
+found_of_shape None = nothing_found
 found_of_shape (Some value) =
-    if is_some (as_null value) || is_some (as_object value) then nothing else one_fault (codes "parents: no object")
+    if is_some (as_null value) || is_some (as_object value) then nothing_found else one_fault (codes "parents: no object")
 
 -- `parents pt-AO: no text`
 abbrev pub parent_line : List ℕ → List ℕ → List ℕ
@@ -27,13 +27,13 @@ parent_line locale fault = codes "parents " ++ name_text locale ++ codes ": " ++
 
 -- a long key has a line
 abbrev pub found_of_child : List ℕ → Found
-found_of_child locale = if is_long_name locale then one_fault (parent_line locale (codes "key too long")) else nothing
+found_of_child locale = if is_long_name locale then one_fault (parent_line locale (codes "key too long")) else nothing_found
 
 -- and so has a parent that is no text, or a long one
 abbrev pub found_of_parent : List ℕ → Option (List ℕ) → Found
 found_of_parent locale None = one_fault (parent_line locale (codes "no text"))
 found_of_parent locale (Some parent) =
-    if is_long_name parent then one_fault (parent_line locale (codes "parent too long")) else nothing
+    if is_long_name parent then one_fault (parent_line locale (codes "parent too long")) else nothing_found
 
 -- the next locale of a chain, where `parent` names the parents; a long one is the last
 abbrev pub short_next : (List ℕ → Option (List ℕ)) → List ℕ → Option (List ℕ)
@@ -43,7 +43,7 @@ short_next parent locale = if is_long_name locale then None else next_of parent 
 abbrev pub found_of_chain : (List ℕ → Option (List ℕ)) → List ℕ → Found
 found_of_chain parent locale =
     if is_some (locale_at (short_next parent) locale MOST_LOCALES)
-    then one_fault (parent_line locale (codes "the chain of parents doesn't end")) else nothing
+    then one_fault (parent_line locale (codes "the chain of parents doesn't end")) else nothing_found
 
 abbrev pub IsFoundInParent : (List ℕ → Option (List ℕ)) → List ℕ → Data → Found → Type 0
 IsFoundInParent parent locale value found =
@@ -52,5 +52,5 @@ IsFoundInParent parent locale value found =
 abbrev pub IsFoundInParents : Data → Found → Type 0
 IsFoundInParents document found =
     let parents = get (codes "parents") document in
-    (each : Found) × IsFoundIn (IsFoundInParent (parent_in document)) (members_or_none (option_and_then as_object parents)) each
+    (each : Found) × IsFoundInMembers (IsFoundInParent (parent_in document)) (members_or_none (option_and_then as_object parents)) each
     × (found ≡ together (found_of_shape parents) each)

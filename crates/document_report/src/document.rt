@@ -1,25 +1,27 @@
 //! The JSON value of an input, and the members of a document.
 
-ghost use Rattle.std.specs.Prelude.{◌≡◌, option_map};
+ghost use Rattle.std.specs.Prelude.{◌≡◌, OnOk, option_map};
 ghost use Rattle.std.specs.Option.{option_and_then};
 ghost use Rattle.serde_json.specs.Find.{as_object, get};
 ghost use Rattle.serde_json.specs.View.{members_view, view};
-ghost use Rattle.document_report.specs.CheckedDocument.{or_fault, value_of};
-ghost use Rattle.document_report.specs.Inner.CheckCalls.{GivesValue};
+ghost use Rattle.document_report.specs.CheckedDocument.{members_or_none, document_of_bytes};
+ghost use Rattle.plural_documents.specs.Found.{HasGrownBy, IsFoundInMembers};
+ghost use Rattle.plural_documents.specs.Steps.{or_fault};
+ghost use Rattle.document_report.specs.Inner.CheckCalls.{GivesOnly};
 ghost use Rattle.plural_fallback.specs.LocalesJson.{part_name};
 ghost use Rattle.document_report.specs.declared.error.CheckError.TheVariants.{Json};
 ghost use Rattle.plural_documents.specs.Inputs.{json_of};
 
 use crate::error::CheckError;
 use crate::form::check_document;
-use plural_documents::{JsonTextError, json_value};
+use plural_documents::{Found, JsonTextError, MemberCheck, add_members, json_value};
 use plural_fallback::Part;
 use serde_json::{Map, Value};
-use std::alloc::Global;
+use std::alloc::{AllocError, Global};
 
 // Returns the document that the bytes write: a value whose parts and locales are objects.
 pub(crate) fn value_of(alloc: Global, bytes: &[u8]) -> Result<Value, CheckError>
-    ensures { GivesValue view (value_of bytes.now) result }
+    ensures { GivesOnly view (document_of_bytes bytes.now) result }
 {
     let value = json_of(alloc, bytes)?;
     check_document(alloc, &value)?;
@@ -28,7 +30,7 @@ pub(crate) fn value_of(alloc: Global, bytes: &[u8]) -> Result<Value, CheckError>
 
 // Returns the JSON value that the bytes write.
 fn json_of(alloc: Global, bytes: &[u8]) -> Result<Value, CheckError>
-    ensures { GivesValue view (or_fault Json (json_of bytes.now)) result }
+    ensures { GivesOnly view (or_fault Json (json_of bytes.now)) result }
 {
     match json_value(alloc, bytes) {
         Ok(value) => Ok(value),
@@ -50,4 +52,21 @@ pub(crate) fn value_at<'a>(document: &'a Value, part: Part, locale: &str) -> Opt
     ensures { option_map (λ v. view v.now) result ≡ option_and_then (get locale.now) (get (part_name part) (view document.now)) }
 {
     document.get(part.as_str())?.get(locale)
+}
+
+// Adds what is found in each member, if there are any.
+pub(crate) fn add_members_of<C: MemberCheck>(
+    alloc: Global,
+    check: &C,
+    members: Option<&Map<String, Value>>,
+    found: &mut Found,
+) -> Result<(), AllocError>
+    ensures { OnOk result (HasGrownBy
+        (IsFoundInMembers (C.finds check.now) (members_or_none (option_map (λ m. members_view m.now.entries) members.entry)))
+        found.old found.new) }
+{
+    match members {
+        Some(members) => add_members(alloc, check, members, found),
+        None => Ok(()),
+    }
 }

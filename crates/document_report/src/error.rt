@@ -1,7 +1,7 @@
 //! Why there is no report.
 
-ghost use Rattle.document_report.specs.CheckAnswer.{status_of};
-ghost use Rattle.document_report.specs.Inner.CheckCalls.{input_fault};
+ghost use Rattle.document_report.specs.CheckAnswer.{check_status};
+ghost use Rattle.document_report.specs.Inner.CheckCalls.{check_input_fault};
 ghost use Rattle.std.specs.Prelude.{◌≡◌};
 
 use crate::place::Place;
@@ -40,7 +40,7 @@ pub enum CheckError {
 }
 
 impl From<InputError> for CheckError {
-    ghost from_gives = { λ error fault. fault ≡ input_fault error };
+    ghost from_gives = { λ error fault. fault ≡ check_input_fault error };
 
     fn from(error: InputError) -> CheckError {
         match error {
@@ -55,7 +55,7 @@ impl CheckError {
     /// Returns the exit status of the program without a report, which is 2. With one it is that of
     /// the [`Verdict`](crate::Verdict).
     pub fn status(&self) -> u8
-        ensures { result ≡ status_of self.now }
+        ensures { result ≡ check_status self.now }
     {
         2
     }

@@ -5,9 +5,9 @@ ghost use Rattle.std.specs.Prelude.{◌≡◌, is_some, option_map};
 ghost use Rattle.std.specs.Option.{option_and_then};
 ghost use Rattle.serde_json.specs.Find.{as_object, get};
 ghost use Rattle.serde_json.specs.View.{members_view, view};
-ghost use Rattle.document_report.specs.CheckedDocument.{document_formed, has_form, locales_formed, part_formed};
+ghost use Rattle.document_report.specs.CheckedDocument.{document_formed, has_part_form, locales_formed, part_formed};
 ghost use Rattle.document_report.specs.CheckedDocument.{parts_formed, table_in};
-ghost use Rattle.document_report.specs.Inner.CheckCalls.{GivesFault, GivesValue};
+ghost use Rattle.document_report.specs.Inner.CheckCalls.{GivesFault, GivesOnly};
 ghost use Rattle.plural_documents.specs.PrintedKeys.{name_text};
 ghost use Rattle.plural_fallback.specs.LocalesJson.{part_name};
 ghost use Rattle.document_report.specs.declared.error.CheckError.TheVariants.{NoObject};
@@ -22,7 +22,7 @@ use std::alloc::Global;
 
 // Checks the form of a document. The error names the first place that has another form.
 pub(crate) fn check_document(alloc: Global, value: &Value) -> Result<(), CheckError>
-    ensures { GivesValue (λ done. done) (document_formed (view value.now)) result }
+    ensures { GivesOnly (λ done. done) (document_formed (view value.now)) result }
 {
     if holds_float(value) {
         return Err(CheckError::Float);
@@ -35,7 +35,7 @@ pub(crate) fn check_document(alloc: Global, value: &Value) -> Result<(), CheckEr
 
 // Checks its three parts.
 fn check_parts(alloc: Global, value: &Value) -> Result<(), CheckError>
-    ensures { GivesValue (λ done. done) (parts_formed (view value.now)) result }
+    ensures { GivesOnly (λ done. done) (parts_formed (view value.now)) result }
 {
     check_part(alloc, Part::Cardinal, value)?;
     check_part(alloc, Part::Ordinal, value)?;
@@ -44,14 +44,14 @@ fn check_parts(alloc: Global, value: &Value) -> Result<(), CheckError>
 
 // Checks one part.
 fn check_part(alloc: Global, part: Part, value: &Value) -> Result<(), CheckError>
-    ensures { GivesValue (λ done. done) (part_formed part (get (part_name part) (view value.now))) result }
+    ensures { GivesOnly (λ done. done) (part_formed part (get (part_name part) (view value.now))) result }
 {
     check_members(alloc, part, value.get(part.as_str()))
 }
 
 // Checks the value of a part, which may be absent or null.
 fn check_members(alloc: Global, part: Part, value: Option<&Value>) -> Result<(), CheckError>
-    ensures { GivesValue (λ done. done) (part_formed part (option_map (λ v. view v.now) value.entry)) result }
+    ensures { GivesOnly (λ done. done) (part_formed part (option_map (λ v. view v.now) value.entry)) result }
 {
     let Some(value) = value else {
         return Ok(());
@@ -67,7 +67,7 @@ fn check_members(alloc: Global, part: Part, value: Option<&Value>) -> Result<(),
 
 // Checks the value of each locale in a part.
 fn check_locales(alloc: Global, part: Part, members: &Map<String, Value>) -> Result<(), CheckError>
-    ensures { GivesValue (λ done. done) (locales_formed part (members_view members.now.entries)) result }
+    ensures { GivesOnly (λ done. done) (locales_formed part (members_view members.now.entries)) result }
 {
     for (locale, value) in members.iter() {
         if !has_form(part, value) {
@@ -79,7 +79,7 @@ fn check_locales(alloc: Global, part: Part, members: &Map<String, Value>) -> Res
 
 // Returns whether a locale's value has the form of the part.
 fn has_form(part: Part, value: &Value) -> bool
-    ensures { result ≡ has_form part (view value.now) }
+    ensures { result ≡ has_part_form part (view value.now) }
 {
     match part {
         Part::Cardinal | Part::Ordinal => value.is_object(),

@@ -3,13 +3,12 @@
 ghost use Rattle.std.specs.Prelude.{◌≡◌, IfOk, OnOk, string_bytes};
 ghost use Rattle.document_report.specs.DocumentReport.{category_line, found_of_key, found_of_length, found_of_underscore};
 ghost use Rattle.document_report.specs.DocumentReport.{found_of_part, is_part_name, IsFoundInKey, IsFoundInPartKey, locale_line};
-ghost use Rattle.document_report.specs.Found.{together};
+ghost use Rattle.plural_documents.specs.Found.{together};
 ghost use Rattle.plural_documents.specs.PrintedKeys.{name_text};
 
-use crate::found::{Found, MemberCheck};
 use crate::names::{has_underscore, is_long_name};
 use icu_plurals::PluralCategory;
-use plural_documents::name_text;
+use plural_documents::{Found, MemberCheck, name_text};
 use plural_fallback::Part;
 use serde_json::Value;
 use std::alloc::{AllocError, Global};

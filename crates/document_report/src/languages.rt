@@ -5,25 +5,24 @@ ghost use Rattle.std.specs.Option.{option_copied};
 ghost use Rattle.icu_plurals.specs.RulesJson.{text_under};
 ghost use Rattle.icu_plurals.specs.Categories.{name_of};
 ghost use Rattle.plural_checker.specs.LanguageTexts.{six_texts};
-ghost use Rattle.document_report.specs.DocumentReport.{all_texts_in, fault_line, faults_of, found_of_other, found_told};
-ghost use Rattle.document_report.specs.DocumentReport.{found_under, found_under_all, lacks_other, no_text_line, rest_line, rest_lines};
+ghost use Rattle.document_report.specs.DocumentReport.{all_texts_in, category_place, fault_line, faults_of, found_of_other, found_told};
+ghost use Rattle.document_report.specs.DocumentReport.{found_under, found_under_all, lacks_other, no_text_line};
+ghost use Rattle.plural_documents.specs.FirstLines.{rest_lines};
 ghost use Rattle.document_report.specs.DocumentReport.{text_order, IsFoundInRules};
-ghost use Rattle.document_report.specs.Found.{together};
-ghost use Rattle.document_report.specs.Inner.Additions.{lines_alone, told_after};
+ghost use Rattle.plural_documents.specs.Found.{together};
+ghost use Rattle.plural_documents.specs.Found.{lines_alone};
+ghost use Rattle.document_report.specs.Inner.Additions.{told_after};
 ghost use Rattle.serde_json.specs.View.{view};
 
-use crate::found::{Found, MemberCheck, add_members, sum};
+use crate::document::add_members_of;
 use crate::keys::{CategoryCheck, add_key, locale_line};
 use icu_plurals::PluralCategory;
 use icu_plurals::provider::RawPluralCategory;
 use plural_checker::{Fault, LanguageTexts, check_texts};
-use plural_documents::name_text;
+use plural_documents::{Found, MOST_TOLD, MemberCheck, add_rest, name_text, sum};
 use plural_fallback::Part;
 use serde_json::Value;
 use std::alloc::{AllocError, Global};
-
-// The most faults of a text that have a line each.
-const MOST_TOLD: u64 = 10;
 
 // The categories in the order of the rules.
 const TEXT_ORDER: [PluralCategory; 6] = [
@@ -58,12 +57,12 @@ impl MemberCheck for LanguageCheck {
         add_other(alloc, self.part, name, value, found)?;
         let faults = checked.faults.as_slice();
         add_texts(alloc, self.part, name, value, faults, found)?;
-        found.add_numbers(checked.numbers)?;
+        found.add_cases(checked.numbers)?;
         let keys = CategoryCheck {
             part: self.part,
             name,
         };
-        add_members(alloc, &keys, value.as_object(), found)
+        add_members_of(alloc, &keys, value.as_object(), found)
     }
 }
 
@@ -175,7 +174,7 @@ fn add_value(
         return Ok(());
     }
     if value.is_string() {
-        return found.add_rule();
+        return found.add_checked(1);
     }
     let line = no_text_line(alloc, part, name, category)?;
     found.add_fault(line)
@@ -243,33 +242,26 @@ fn tell_rest(
     count: u64,
     found: &mut Found,
 ) -> Result<(), AllocError>
-    ensures { OnOk result (found.new ≡ together found.old (lines_alone (rest_lines part name.now category count))) }
+    ensures { OnOk result (found.new ≡ together found.old (lines_alone (rest_lines (category_place part name.now category) count))) }
 {
     if count <= MOST_TOLD {
         return Ok(());
     }
-    let line = rest_line(alloc, part, name, category, count - MOST_TOLD)?;
-    found.add_line(line)
+    let place = category_place(alloc, part, name, category)?;
+    add_rest(alloc, place.as_str(), count, found)
 }
 
-// Returns the line for this many faults.
-fn rest_line(
+// Returns the place of a category's text.
+fn category_place(
     alloc: Global,
     part: Part,
     name: &str,
     category: PluralCategory,
-    rest: u64,
 ) -> Result<String, AllocError>
-    ensures { IfOk result (λ line. string_bytes line ≡ rest_line part name.now category rest) }
+    ensures { IfOk result (λ place. string_bytes place ≡ category_place part name.now category) }
 {
     let category = name_of(category);
-    format!(in alloc;
-        "{} {} {}: and {} more",
-        part.as_str(),
-        name,
-        category,
-        rest
-    )
+    format!(in alloc; "{} {} {}", part.as_str(), name, category)
 }
 
 // Returns the line for a fault of a text.

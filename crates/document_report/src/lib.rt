@@ -6,7 +6,6 @@ mod document;
 mod entry;
 mod error;
 mod form;
-mod found;
 mod keys;
 mod languages;
 pub mod laws;

@@ -6,7 +6,7 @@ ghost use Rattle.document_report.specs.DocumentReport.{first_count, has_locale, 
 ghost use Rattle.serde_json.specs.View.{members_view, view};
 
 use crate::document::{members_of, value_at};
-use crate::found::sum;
+use plural_documents::sum;
 use plural_fallback::Part;
 use serde_json::{Map, Value};
 use std::alloc::AllocError;

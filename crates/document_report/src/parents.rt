@@ -3,18 +3,17 @@
 ghost use Rattle.std.specs.Prelude.{◌≡◌, codes, IfOk, OnOk, is_some, option_map, string_bytes};
 ghost use Rattle.std.specs.Option.{option_and_then, option_copied};
 ghost use Rattle.plural_fallback.specs.FirstKeys.{locale_at};
-ghost use Rattle.document_report.specs.Found.{together, IsFoundIn};
-ghost use Rattle.document_report.specs.Inner.Additions.{Adds};
+ghost use Rattle.plural_documents.specs.Found.{together, IsFoundInMembers};
+ghost use Rattle.plural_documents.specs.Found.{HasGrownBy};
 ghost use Rattle.document_report.specs.Inner.ParentRows.{named_parent, parent_among};
 ghost use Rattle.document_report.specs.ParentFaults.{found_of_chain, found_of_child, found_of_parent, found_of_shape};
 ghost use Rattle.document_report.specs.ParentFaults.{IsFoundInParent, IsFoundInParents, parent_line, short_next};
 ghost use Rattle.serde_json.specs.Find.{as_object, get};
 ghost use Rattle.serde_json.specs.View.{members_view, view};
 
-use crate::found::{Found, MemberCheck, add_members};
 use crate::names::{MOST_NAME_BYTES, is_long_name};
 use crate::parent_rows::Parents;
-use plural_documents::name_text;
+use plural_documents::{Found, MemberCheck, add_members, name_text};
 use plural_fallback::{MOST_LOCALES, next_locale};
 use serde_json::{Map, Value};
 use std::alloc::{AllocError, Global};
@@ -25,7 +24,7 @@ pub(crate) fn add_parents(
     document: &Value,
     found: &mut Found,
 ) -> Result<(), AllocError>
-    ensures { OnOk result (Adds (IsFoundInParents (view document.now)) found.old found.new) }
+    ensures { OnOk result (HasGrownBy (IsFoundInParents (view document.now)) found.old found.new) }
 {
     add_shape(alloc, document.get("parents"), found)?;
     match parents_of(document) {
@@ -68,12 +67,12 @@ fn add_named(
     members: &Map<String, Value>,
     found: &mut Found,
 ) -> Result<(), AllocError>
-    ensures { OnOk result (Adds (IsFoundIn (IsFoundInParent (parent_among (members_view members.now.entries)))
+    ensures { OnOk result (HasGrownBy (IsFoundInMembers (IsFoundInParent (parent_among (members_view members.now.entries)))
         (members_view members.now.entries)) found.old found.new) }
 {
     let parents = Parents::of(alloc, members)?;
     let check = ParentCheck { parents: &parents };
-    add_members(alloc, &check, Some(members), found)
+    add_members(alloc, &check, members, found)
 }
 
 // Checks a member, beside all parents.

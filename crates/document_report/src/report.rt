@@ -1,22 +1,21 @@
 //! The report of a document.
 
-ghost use Rattle.std.specs.Prelude.{◌≡◌, ◌++◌, IfOk, OnOk, map, string_bytes};
-ghost use Rattle.std.specs.List.{flat_map};
-ghost use Rattle.document_report.specs.CheckAnswer.{verdict_of, verdict_status};
+ghost use Rattle.std.specs.Prelude.{◌≡◌, IfOk, OnOk, string_bytes};
+ghost use Rattle.document_report.specs.CheckAnswer.{verdict_of_report, report_status};
 ghost use Rattle.document_report.specs.DocumentReport.{found_of_count, IsFoundInDocument, IsFoundInRules, IsReportOf};
 ghost use Rattle.document_report.specs.CheckedDocument.{members_at};
-ghost use Rattle.document_report.specs.Found.{together, IsFoundIn};
-ghost use Rattle.document_report.specs.Inner.Additions.{Adds};
-ghost use Rattle.document_report.specs.ReportText.{counts_line, counts_of, ended_line, report_text};
+ghost use Rattle.plural_documents.specs.Found.{together, IsFoundInMembers};
+ghost use Rattle.plural_documents.specs.Found.{HasGrownBy};
+ghost use Rattle.document_report.specs.ReportText.{counts_line, counts_of, report_text};
 ghost use Rattle.serde_json.specs.View.{view};
 
-use crate::document::members_of;
-use crate::found::{Found, add_members};
+use crate::document::{add_members_of, members_of};
 use crate::keys::PartCheck;
 use crate::languages::LanguageCheck;
 use crate::locales::locale_count;
 use crate::parents::add_parents;
 use crate::tables::TableCheck;
+use plural_documents::{Found, push_lines};
 use plural_fallback::Part;
 use serde_json::Value;
 use std::alloc::{AllocError, Global};
@@ -40,7 +39,7 @@ pub enum Verdict {
 impl Verdict {
     /// Returns the exit status of the program: 0 without faults, 1 with some.
     pub fn status(self) -> u8
-        ensures { result ≡ verdict_status self }
+        ensures { result ≡ report_status self }
     {
         match self {
             Verdict::NoFaults => 0,
@@ -74,11 +73,11 @@ fn found_in(alloc: Global, document: &Value) -> Result<Found, AllocError>
     ensures { IfOk result (λ found. IsFoundInDocument (view document.now) found) }
 {
     let mut found = Found::new(alloc);
-    add_members(alloc, &PartCheck, document.as_object(), &mut found)?;
+    add_members_of(alloc, &PartCheck, document.as_object(), &mut found)?;
     add_rules(alloc, document, Part::Cardinal, &mut found)?;
     add_rules(alloc, document, Part::Ordinal, &mut found)?;
     let ranges = members_of(document, Part::Ranges);
-    add_members(alloc, &TableCheck { document }, ranges, &mut found)?;
+    add_members_of(alloc, &TableCheck { document }, ranges, &mut found)?;
     add_parents(alloc, document, &mut found)?;
     Ok(found)
 }
@@ -90,16 +89,16 @@ fn add_rules(
     part: Part,
     found: &mut Found,
 ) -> Result<(), AllocError>
-    ensures { OnOk result (Adds (IsFoundIn (IsFoundInRules part) (members_at part (view document.now))) found.old found.new) }
+    ensures { OnOk result (HasGrownBy (IsFoundInMembers (IsFoundInRules part) (members_at part (view document.now))) found.old found.new) }
 {
     let members = members_of(document, part);
-    add_members(alloc, &LanguageCheck { part }, members, found)
+    add_members_of(alloc, &LanguageCheck { part }, members, found)
 }
 
 impl Report {
     // Returns whether the document has a fault.
     pub(crate) fn verdict(&self) -> Verdict
-        ensures { result ≡ verdict_of self.now }
+        ensures { result ≡ verdict_of_report self.now }
     {
         if self.found.faults() == 0 {
             Verdict::NoFaults
@@ -126,8 +125,8 @@ impl Report {
         counts_line(
             alloc,
             self.locales,
-            found.rules(),
-            found.numbers(),
+            found.checked(),
+            found.cases(),
             found.faults(),
         )
     }
@@ -144,15 +143,4 @@ fn counts_line(
     ensures { IfOk result (λ line. string_bytes line ≡ counts_line locales rules numbers faults) }
 {
     format!(in alloc; "locales: {locales}, rules: {rules}, numbers: {numbers}, faults: {faults}\n")
-}
-
-// Appends the lines, each followed by a newline.
-fn push_lines(text: &mut String, lines: &[String]) -> Result<(), AllocError>
-    ensures { OnOk result (string_bytes text.new ≡ string_bytes text.old ++ flat_map ended_line (map string_bytes lines.now)) }
-{
-    for line in lines {
-        text.push_str(line.as_str())?;
-        text.push_str("\n")?;
-    }
-    Ok(())
 }

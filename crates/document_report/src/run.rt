@@ -1,8 +1,8 @@
 //! Reads an input and writes the answer to it.
 
 ghost use Rattle.std.specs.Prelude.{◌≡◌, ◌≢◌, Err, IfErr, IfOk, List, ℕ, IsFalse, IsTrue};
-ghost use Rattle.document_report.specs.CheckAnswer.{AnswersDocument, AnswersInput, IsAnswered, IsAnswerTo, check_origin};
-ghost use Rattle.document_report.specs.CheckedDocument.{value_in, value_of};
+ghost use Rattle.document_report.specs.CheckAnswer.{AnswersDocument, AnswersInput, IsCheckAnswered, IsAnswerTo, check_origin};
+ghost use Rattle.document_report.specs.CheckedDocument.{value_in, document_of_bytes};
 ghost use Rattle.document_report.specs.Inner.CheckCalls.{Gives, GivesAfterReading, answer_view};
 ghost use Rattle.document_report.specs.declared.error.CheckError.TheVariants.{Usage};
 ghost use Rattle.plural_documents.specs.Inputs.{IsInput, IsRead};
@@ -46,7 +46,7 @@ pub fn run<R: Read, W: Write>(
 ) -> Result<Verdict, CheckError>
     // The answer is that of some input: what remained in the reader, if that is known.
     ensures answers { (input : List ℕ) × IsInput (R.remaining reader.old) input
-        × IsAnswered (AnswersInput has_words input) (W.contents writer.old) (W.contents writer.new) result }
+        × IsCheckAnswered (AnswersInput has_words input) (W.contents writer.old) (W.contents writer.new) result }
     ensures reads { IsFalse has_words → IsRead check_origin (R.remaining reader.old) (R.remaining reader.new) result }
     ensures reads_nothing { IsTrue has_words → (reader.new ≡ reader.old) × (result ≡ Err Usage) }
     ensures writes_nothing { IfErr result (λ e. e ≢ CheckError.Write → writer.new ≡ writer.old) }
@@ -73,7 +73,7 @@ fn answer_to_reader<R: Read>(alloc: Global, reader: &mut R) -> Result<Answer, Ch
 
 // Returns the answer to the bytes of an input.
 pub(crate) fn answer_to(alloc: Global, bytes: &[u8]) -> Result<Answer, CheckError>
-    ensures { Gives answer_view (AnswersDocument (value_of bytes.now)) result }
+    ensures { Gives answer_view (AnswersDocument (document_of_bytes bytes.now)) result }
 {
     let document = value_of(alloc, bytes)?;
     match answer_of(alloc, &document) {

@@ -3,17 +3,16 @@
 ghost use Rattle.std.specs.Prelude.{◌≡◌, IfOk, OnOk, option_map, string_bytes};
 ghost use Rattle.plural_checker.specs.LanguageTexts.{six_texts};
 ghost use Rattle.document_report.specs.DocumentReport.{entry_line, found_of_rules, texts_at, IsFoundInEntry, IsFoundInRanges};
-ghost use Rattle.document_report.specs.Found.{together};
+ghost use Rattle.plural_documents.specs.Found.{together};
 ghost use Rattle.serde_json.specs.View.{view};
 
-use crate::document::value_at;
+use crate::document::{add_members_of, value_at};
 use crate::entry::{EntryFault, entry_fault};
 use crate::form::table_in;
-use crate::found::{Found, MemberCheck, add_members};
 use crate::keys::{add_key, locale_line};
 use crate::languages::texts_of;
 use plural_checker::LanguageTexts;
-use plural_documents::name_text;
+use plural_documents::{Found, MemberCheck, name_text};
 use plural_fallback::Part;
 use serde_json::Value;
 use std::alloc::{AllocError, Global};
@@ -42,7 +41,7 @@ impl<'a> MemberCheck for TableCheck<'a> {
             texts: texts_at(rules),
             name: name.as_str(),
         };
-        add_members(alloc, &entries, table_in(value), found)?;
+        add_members_of(alloc, &entries, table_in(value), found)?;
         Ok(())
     }
 }

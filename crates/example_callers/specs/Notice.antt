@@ -9,8 +9,8 @@ use Rattle.message_format.specs.FormatSteps.{TwoRules}
 use Rattle.example_callers.specs.declared.notices.NoticeError.{NoticeError}
 use Rattle.example_callers.specs.declared.notices.NoticeError.TheVariants as notice_error
 use Rattle.serde_json.specs.Data.{Data}
-use Rattle.message_report.specs.FoundInMessages.{Found}
-use Rattle.message_report.specs.MessagesReport.{IsFoundInDocument}
+use Rattle.plural_documents.specs.Found.{Found}
+use Rattle.message_report.specs.MessagesReport.{IsFoundInMessagesDocument}
 use Rattle.message_report.specs.RulesSource.{RulesSource}
 
 -- the count, under its name
@@ -35,4 +35,4 @@ IsNoticeFault rules text count (notice_error.Format format_error.Memory) = Unit 
 -- under the rules of a source it has none, or some
 abbrev pub IsComplete : RulesSource → Data → Bool → Type 0
 IsComplete source document complete =
-    (found : Found) × IsFoundInDocument source document found × (complete ≡ (found.faults == 0))
+    (found : Found) × IsFoundInMessagesDocument source document found × (complete ≡ (found.faults == 0))

@@ -5,7 +5,7 @@ use Rattle.std.specs.Io.KnownBytes.{Appends}
 use Rattle.std.proofs.KnownBytes.{Keeps-refl}
 use Rattle.std.proofs.Math.Seq.{drop-cons}
 use Rattle.std.proofs.lemmas.List.{append-nil}
-use Rattle.message_report.specs.MessagesReportText.{report_text}
+use Rattle.message_report.specs.MessagesReportText.{messages_report_text}
 use Rattle.message_report.specs.declared.file.MessageFile.{MessageFile}
 use Rattle.plural_documents.specs.Inputs.{IsPartWritten}
 use Rattle.plural_fallback.specs.declared.locales.Part.{Part}
@@ -143,7 +143,7 @@ pub check_noted : (files : List MessageFile) (input notes : List ℕ) (old new b
 check_noted files input notes old new before after (Ok verdict) result a (inl w) = rw w.0 a
 check_noted files input notes old new before after (Ok verdict) result a (inr w) =
     let r = a.1 in
-    rw w.0 (r.0, r.1, r.2, r.3, (r.4.0, r.4.1, whole_part old new (report_text r.4.0) r.4.3))
+    rw w.0 (r.0, r.1, r.2, r.3, (r.4.0, r.4.1, whole_part old new (messages_report_text r.4.0) r.4.3))
 check_noted files input notes old new before after (Err error) result a w = rw w.0 a
 
 -- ---- The answers to a document, with their notes

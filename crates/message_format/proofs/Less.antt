@@ -10,7 +10,7 @@ use Rattle.message_pattern.specs.PatternParts.{Part, Branching}
 use Rattle.message_format.specs.declared.error.ArgumentFault.TheVariants.{NotANumber, OverLimit}
 use Rattle.message_format.specs.declared.error.FormatError.{FormatError}
 use Rattle.message_format.specs.declared.error.FormatError.TheVariants as error
-use Rattle.message_format.specs.declared.steps.Step as steps
+use Rattle.message_format.specs.declared.step.Step as steps
 use Rattle.message_format.specs.FormatBranches.{IsBranchOfNumber}
 use Rattle.message_format.specs.FormatOffsets.{IsDifference, plain}
 use Rattle.message_format.specs.FormatSteps.{Step, Chooses, Fails, IsCountedBy, IsLess, IsCountedLess}

@@ -10,7 +10,7 @@ use Rattle.plural_base.specs.DecimalChoice.{IsKeptChoice}
 use Rattle.plural_base.specs.FiveRules.{FiveRules}
 use Rattle.plural_base.specs.declared.category.PluralCategory.{PluralCategory}
 use Rattle.plural_base.specs.Categories.{name_of}
-use Rattle.message_pattern.specs.PatternParts.{Part, Piece, Text, Hash, Argument, Begin, Branch, End, Branching}
+use Rattle.message_pattern.specs.PatternParts.{Part, PatternPiece, Text, Hash, Argument, Begin, Branch, End, Branching}
 use Rattle.message_pattern.specs.declared.part.ArgumentKind.{ArgumentKind}
 use Rattle.message_pattern.specs.declared.part.ArgumentKind.TheVariants.{Plural, Ordinal, Select}
 use Rattle.message_format.specs.declared.error.ArgumentFault.{ArgumentFault}
@@ -145,7 +145,7 @@ one_choice one rules hash Plural name offset bs value s t h k = one_plural one r
 one_choice one rules hash Ordinal name offset bs value s t h k = one_plural one rules.ordinal name offset bs value s t h k
 one_choice one rules hash Select name offset bs value s t h k = h ∙ sym k
 
-one_step : OneNumber → (arguments : List argument.Argument) (rules : TwoRules) (hash : List ℕ) (depth : ℕ) (piece : Piece) (rest : List Part) (s t : Step)
+one_step : OneNumber → (arguments : List argument.Argument) (rules : TwoRules) (hash : List ℕ) (depth : ℕ) (piece : PatternPiece) (rest : List Part) (s t : Step)
     → IsStep arguments rules hash depth piece rest s → IsStep arguments rules hash depth piece rest t → s ≡ t
 one_step one arguments rules hash depth (Text text) rest s t h k = h ∙ sym k
 one_step one arguments rules hash depth Hash rest s t h k = h ∙ sym k

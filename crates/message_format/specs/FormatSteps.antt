@@ -5,7 +5,7 @@ use Rattle.fixed_decimal.specs.Shown.{decimal_text}
 use Rattle.fixed_decimal.specs.Written.{CompactNumber, WritesUnsigned, WritesCompact, IsCompactOverLimit}
 use Rattle.fixed_decimal.specs.declared.decimal.Decimal.{Decimal}
 use Rattle.plural_base.specs.FiveRules.{FiveRules}
-use Rattle.message_pattern.specs.PatternParts.{Part, Piece, Hash, Begin, Branch, End, Branching, branches_of}
+use Rattle.message_pattern.specs.PatternParts.{Part, PatternPiece, Hash, Begin, Branch, End, Branching, branches_of}
 use Rattle.message_pattern.specs.PatternParts as piece
 use Rattle.message_pattern.specs.declared.part.ArgumentKind.{ArgumentKind}
 use Rattle.message_pattern.specs.declared.part.ArgumentKind.TheVariants.{Plural, Ordinal, Select}
@@ -92,7 +92,7 @@ IsChoice rules hash Ordinal name offset bs value step = IsPlural rules.ordinal n
 IsChoice rules hash Select name offset bs value step = step ≡ selected hash name bs value
 
 -- What a piece at a depth does, which these parts follow, where `#` is the first text.
-abbrev pub IsStep : List Argument → TwoRules → List ℕ → ℕ → Piece → List Part → Step → Type 0
+abbrev pub IsStep : List Argument → TwoRules → List ℕ → ℕ → PatternPiece → List Part → Step → Type 0
 IsStep arguments rules hash depth (piece.Text text) rest step = step ≡ Prints text
 IsStep arguments rules hash depth Hash rest step = step ≡ Prints hash
 IsStep arguments rules hash depth (piece.Argument name) rest step = step ≡ shown_value name (value_named name arguments)

@@ -9,7 +9,8 @@ ghost use Rattle.message_format.specs.Inner.FormatViews.{GivesOutcome, outcome_o
 use crate::arguments::Argument;
 use crate::branches::behind_end;
 use crate::error::FormatError;
-use crate::steps::{Rules, Step, step_of};
+use crate::step::Step;
+use crate::steps::{Rules, step_of};
 use fixed_decimal::laws::texts_write_one_number;
 use message_pattern::{Part, Pattern};
 use std::alloc::Global;

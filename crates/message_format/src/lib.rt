@@ -9,6 +9,7 @@ mod formatting;
 pub mod laws;
 mod numbers;
 mod offsets;
+mod step;
 mod steps;
 
 pub use arguments::{Argument, Value};

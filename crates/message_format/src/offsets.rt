@@ -7,12 +7,12 @@ ghost use Rattle.fixed_decimal.specs.declared.decimal.Decimal.{Decimal as Signed
 ghost use Rattle.message_pattern.specs.PatternParts.{parts_view, branches_of};
 ghost use Rattle.message_format.specs.FormatOffsets.{IsDifference};
 ghost use Rattle.message_format.specs.FormatSteps.{IsCountedBy, IsLess, IsCountedLess};
-ghost use Rattle.message_format.specs.Inner.FormatViews.{GivesStep, IsBehind};
+ghost use Rattle.message_format.specs.Inner.FormatViews.{GivesStep, ChoosesWithin};
 
 use crate::branches::branch_of_number;
 use crate::difference::difference;
 use crate::error::{ArgumentFault, FormatError};
-use crate::steps::{Shown, Step};
+use crate::step::{Shown, Step};
 use fixed_decimal::laws::{numbers_are_read_again, texts_write_one_number};
 use fixed_decimal::{CompactDecimal, DecimalError, UnsignedDecimal};
 use message_pattern::Part;
@@ -44,7 +44,7 @@ fn counted_by<'s, 'p: 's>(
     requires number { IsWithinLimit number.now.significand.absolute }
     requires offset { IsWithinLimit offset.now }
     ensures step { GivesStep (λ step. (less : SignedNumber) × IsDifference number.now.significand offset.now less × IsCountedBy rules.now name.now (branches_of depth (parts_view rest.now)) number.now less step) result }
-    ensures shorter { IsBehind (length rest.now) result }
+    ensures shorter { ChoosesWithin (length rest.now) result }
 {
     numbers_are_read_again();
     texts_write_one_number();
@@ -72,7 +72,7 @@ fn less<'s, 'p: 's>(
 ) -> Result<Step<'s, 'p>, FormatError<'p>>
     requires { IsWithinLimit number.now.significand.absolute }
     ensures step { GivesStep (λ step. IsLess rules.now name.now (branches_of depth (parts_view rest.now)) digits.now number.now step) result }
-    ensures shorter { IsBehind (length rest.now) result }
+    ensures shorter { ChoosesWithin (length rest.now) result }
 {
     if number.exponent() != 0 {
         return Err(FormatError::Argument(ArgumentFault::CompactOffset, name));
@@ -99,7 +99,7 @@ pub(crate) fn counted_less<'s, 'p: 's>(
     text: &str,
 ) -> Result<Step<'s, 'p>, FormatError<'p>>
     ensures step { GivesStep (λ step. IsCountedLess rules.now name.now (branches_of depth (parts_view rest.now)) digits.now text.now step) result }
-    ensures shorter { IsBehind (length rest.now) result }
+    ensures shorter { ChoosesWithin (length rest.now) result }
 {
     match CompactDecimal::from_str(alloc, text) {
         Ok(number) => less(alloc, rules, name, digits, depth, rest, &number),

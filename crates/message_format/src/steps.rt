@@ -4,12 +4,13 @@ ghost use Rattle.std.specs.Prelude.{◌≡◌, ◌≤◌, length, IfOk, Some};
 ghost use Rattle.message_pattern.specs.PatternParts.{parts_view, piece_view, offset_view, branches_of};
 ghost use Rattle.message_format.specs.FormatArguments.{arguments_view, value_view};
 ghost use Rattle.message_format.specs.FormatSteps.{shown_value, selected, IsCounted, IsPlural, IsChoice, IsStep};
-ghost use Rattle.message_format.specs.Inner.FormatViews.{any_value, GivesStep, IsBehind, two_rules};
+ghost use Rattle.message_format.specs.Inner.FormatViews.{any_value, GivesStep, ChoosesWithin, two_rules};
 
 use crate::arguments::{Argument, Value, value_named};
 use crate::branches::{branch_of_number, branch_or_other};
 use crate::error::{ArgumentFault, FormatError};
 use crate::offsets::counted_less;
+use crate::step::{Shown, Step};
 use fixed_decimal::laws::texts_write_one_number;
 use fixed_decimal::{CompactDecimal, DecimalError};
 use message_pattern::{ArgumentKind, Part, Piece};
@@ -25,47 +26,13 @@ pub struct Rules<'r, 'data> {
     pub ordinal: &'r PluralRules<'data>,
 }
 
-// What a part does.
-#[derive(Drop)]
-pub(crate) enum Step<'s, 'p> {
-    // Ends the message.
-    Stops,
-    // Prints a text.
-    Prints(&'s [u8]),
-    // Chooses a branch: the text of `#` in it, and the parts from it on.
-    Chooses(Shown<'s>, &'s [Part<'p>]),
-}
-
-// The text of `#`.
-#[derive(Drop)]
-pub(crate) enum Shown<'s> {
-    // As it is given.
-    Given(&'s [u8]),
-    // Of a number less an offset.
-    Less(Vec<u8>),
-}
-
-impl<'s> Shown<'s> {
-    ghost use Rattle.message_format.specs.Inner.FormatViews.{shown_view};
-
-    // The text.
-    pub(crate) fn as_bytes(&self) -> &[u8]
-        ensures { result.now ≡ shown_view self.now }
-    {
-        match self {
-            Shown::Given(text) => *text,
-            Shown::Less(text) => text.as_slice(),
-        }
-    }
-}
-
 // What `{name}` prints.
 fn shown_value<'s, 'p: 's>(
     name: &'p [u8],
     value: Option<Value<'s>>,
 ) -> Result<Step<'s, 'p>, FormatError<'p>>
     ensures step { GivesStep (λ step. step ≡ shown_value name.now (any_value value.entry)) result }
-    ensures shorter { IsBehind 0 result }
+    ensures shorter { ChoosesWithin 0 result }
 {
     match value {
         Some(Value::Number(number)) => Ok(Step::Prints(number.as_bytes())),
@@ -83,7 +50,7 @@ fn selected<'s, 'p: 's>(
     value: Option<Value<'s>>,
 ) -> Result<Step<'s, 'p>, FormatError<'p>>
     ensures step { GivesStep (λ step. step ≡ selected hash.now name.now (branches_of depth (parts_view rest.now)) (any_value value.entry)) result }
-    ensures shorter { IsBehind (length rest.now) result }
+    ensures shorter { ChoosesWithin (length rest.now) result }
 {
     match value {
         Some(Value::Text(text)) => {
@@ -105,7 +72,7 @@ fn counted<'s, 'p: 's>(
     text: &'s str,
 ) -> Result<Step<'s, 'p>, FormatError<'p>>
     ensures step { GivesStep (λ step. IsCounted rules.now name.now (branches_of depth (parts_view rest.now)) text.now step) result }
-    ensures shorter { IsBehind (length rest.now) result }
+    ensures shorter { ChoosesWithin (length rest.now) result }
 {
     match CompactDecimal::from_str(alloc, text) {
         Ok(number) => {
@@ -129,7 +96,7 @@ fn plural<'s, 'p: 's>(
     value: Option<Value<'s>>,
 ) -> Result<Step<'s, 'p>, FormatError<'p>>
     ensures step { GivesStep (λ step. IsPlural rules.now name.now (offset_view offset.entry) (branches_of depth (parts_view rest.now)) (any_value value.entry) step) result }
-    ensures shorter { IsBehind (length rest.now) result }
+    ensures shorter { ChoosesWithin (length rest.now) result }
 {
     match value {
         Some(Value::Number(text)) => match offset {
@@ -151,7 +118,7 @@ pub(crate) fn step_of<'s, 'p: 's>(
     rest: &'s [Part<'p>],
 ) -> Result<Step<'s, 'p>, FormatError<'p>>
     ensures step { GivesStep (λ step. IsStep (arguments_view arguments.now) (two_rules rules.now) hash.now part.entry.depth (piece_view part.entry.piece) (parts_view rest.now) step) result }
-    ensures shorter { IsBehind (length rest.now) result }
+    ensures shorter { ChoosesWithin (length rest.now) result }
 {
     match part.piece {
         Piece::Text(text) => Ok(Step::Prints(text)),

@@ -8,7 +8,7 @@ use Rattle.message_pattern.specs.declared.part.ArgumentKind.{ArgumentKind}
 use Rattle.message_pattern.specs.declared.part.ArgumentKind.TheVariants.{Plural, Ordinal, Select}
 use Rattle.message_pattern.specs.PatternBytes.{comma, equals, opening, closing, is_empty_text, begins, behind_run, after_white, after_word}
 use Rattle.message_pattern.specs.PatternParts.{Selector, Exactly, Keyword}
-use Rattle.message_pattern.specs.PatternHeads.{◌>>=◌, fault_at, missing, Head, Plain, Choice, is_bad_number, name_front, kind_named, kind_before, kind_front, offset_behind, offset_front, behind_name, head_front, is_counting, is_number, exact_front, keyword_front, selector_front, branch_opens, next_branch, branch_front, BranchFront}
+use Rattle.message_pattern.specs.PatternHeads.{and_then, fault_at, missing, Head, Plain, Choice, is_bad_number, name_front, kind_named, kind_before, kind_front, offset_behind, offset_front, behind_name, head_front, is_counting, is_number, exact_front, keyword_front, selector_front, branch_opens, next_branch, branch_front, BranchFront}
 use Rattle.message_pattern.specs.PatternHeads as branch
 use Rattle.message_pattern.specs.PatternGrammar.{IsLongest, IsNameOrNumber, IsArgumentType, IsOffsetValue, IsOffset, IsSelector}
 use Rattle.message_pattern.proofs.Longest.{longest_run, longest_rest, longest_begins}
@@ -61,19 +61,19 @@ offset_again Ordinal s offset rest h = value_again (after_white s) offset rest h
 pub plain_again : (s name t rest : List ℕ) → IsNameOrNumber (after_white s) name t → after_white t ≡ closing ∷ rest
     → head_front s ≡ Ok (Plain name, rest)
 plain_again s name t rest h e =
-    ap (λ (r : Result (List ℕ × List ℕ) Fault). r >>= λ n. behind_name n.0 n.1) (name_again (after_white s) name t h)
+    ap (λ (r : Result (List ℕ × List ℕ) Fault). and_then r (λ n. behind_name n.0 n.1)) (name_again (after_white s) name t h)
     ∙ ap (λ (r : List ℕ). behind_name name r) e
 
 pub choice_again : (kind : ArgumentKind) (offset : Option (List ℕ)) (s name t u v w x : List ℕ)
     → IsNameOrNumber (after_white s) name t → after_white t ≡ comma ∷ u → IsArgumentType (after_white u) kind v → after_white v ≡ comma ∷ w
     → IsOffset kind w offset x → head_front s ≡ Ok (Choice kind name offset, x)
 choice_again kind offset s name t u v w x h e i f o =
-    ap (λ (r : Result (List ℕ × List ℕ) Fault). r >>= λ n. behind_name n.0 n.1) (name_again (after_white s) name t h)
+    ap (λ (r : Result (List ℕ × List ℕ) Fault). and_then r (λ n. behind_name n.0 n.1)) (name_again (after_white s) name t h)
     ∙ (ap (λ (r : List ℕ). behind_name name r) e
     ∙ (ap
-    (λ (r : Result (ArgumentKind × List ℕ) Fault). r >>= λ k. offset_front k.0 k.1 >>= λ y. Ok (Choice k.0 name y.0, y.1))
+    (λ (r : Result (ArgumentKind × List ℕ) Fault). and_then r (λ k. and_then (offset_front k.0 k.1) (λ y. Ok (Choice k.0 name y.0, y.1))))
     (kind_again (after_white u) kind v w i f)
-    ∙ ap (λ (r : Result (Option (List ℕ) × List ℕ) Fault). r >>= λ y. Ok (Choice kind name y.0, y.1)) (offset_again kind w offset x o)))
+    ∙ ap (λ (r : Result (Option (List ℕ) × List ℕ) Fault). and_then r (λ y. Ok (Choice kind name y.0, y.1))) (offset_again kind w offset x o)))
 
 -- ---- and before a branch
 
@@ -136,9 +136,9 @@ opens_again kind other s t u sel i e =
     ∙ (ap
     (λ (v : Bool).
     if v then (if other then Ok (branch.Closes b.more) else Err (fault_at MissingOther (b.byte ∷ b.more)))
-    else (selector_front kind b.byte b.more >>= λ y. branch_opens y.0 (after_white y.1)))
+    else and_then (selector_front kind b.byte b.more) (λ y. branch_opens y.0 (after_white y.1)))
     b.no_end
-    ∙ (ap (λ (r : Result (Selector × List ℕ) Fault). r >>= λ y. branch_opens y.0 (after_white y.1)) b.reads
+    ∙ (ap (λ (r : Result (Selector × List ℕ) Fault). and_then r (λ y. branch_opens y.0 (after_white y.1))) b.reads
     ∙ ap (λ (l : List ℕ). branch_opens sel l) e))
 
 pub closes_again : (kind : ArgumentKind) (s rest : List ℕ) → after_white s ≡ closing ∷ rest → branch_front kind true s ≡ Ok (branch.Closes rest)

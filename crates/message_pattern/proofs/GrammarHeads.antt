@@ -9,7 +9,7 @@ use Rattle.message_pattern.specs.declared.part.ArgumentKind.TheVariants.{Plural,
 use Rattle.message_pattern.specs.PatternBytes.{comma, equals, opening, closing, is_empty_text, class_front}
 use Rattle.message_pattern.specs.PatternBytes.{behind_run, after_white, after_word}
 use Rattle.message_pattern.specs.PatternParts.{Selector, Exactly}
-use Rattle.message_pattern.specs.PatternHeads.{◌>>=◌, fault_at, unclosed, missing, Head, Plain, Choice, is_bad_number, name_front, kind_named, style_front, kind_before, kind_front, digits_front, offset_behind, offset_front, choice_front, behind_name, head_front, is_counting, is_number, exact_front, keyword_front, selector_front, branch_opens, next_branch, branch_front, BranchFront}
+use Rattle.message_pattern.specs.PatternHeads.{and_then, fault_at, unclosed, missing, Head, Plain, Choice, is_bad_number, name_front, kind_named, style_front, kind_before, kind_front, digits_front, offset_behind, offset_front, choice_front, behind_name, head_front, is_counting, is_number, exact_front, keyword_front, selector_front, branch_opens, next_branch, branch_front, BranchFront}
 use Rattle.message_pattern.specs.PatternHeads as branch
 use Rattle.message_pattern.specs.PatternGrammar.{IsNameOrNumber, IsArgumentType, IsOffsetValue, IsOffset, IsSelector}
 use Rattle.message_pattern.proofs.Longest.{is_longest}
@@ -25,7 +25,7 @@ no_ok e = cc
 same_ok : {A : Type 0} {x y : A} → ok_of x ≡ ok_of y → x ≡ y
 same_ok e = cc
 
-bind_ok : {A B : Type 0} (r : Result A Fault) (f : A → Result B Fault) (y : B) → (r >>= f) ≡ Ok y → (x : A) × (r ≡ Ok x) × (f x ≡ Ok y)
+bind_ok : {A B : Type 0} (r : Result A Fault) (f : A → Result B Fault) (y : B) → and_then r f ≡ Ok y → (x : A) × (r ≡ Ok x) × (f x ≡ Ok y)
 bind_ok (Ok x) f y e = (x, refl, e)
 bind_ok (Err d) f y e = absurd (no_ok e)
 
@@ -189,7 +189,7 @@ closes_step kind false b s x h e = absurd (no_ok e)
 
 next_step : (kind : ArgumentKind) (other : Bool) (b : ℕ) (s : List ℕ) (v : Bool) (x : BranchFront) → (b == closing) ≡ v
     → (if v then (if other then Ok (branch.Closes s) else Err (fault_at MissingOther (b ∷ s)))
-    else (selector_front kind b s >>= λ y. branch_opens y.0 (after_white y.1))) ≡ Ok x → BranchIs kind other (b ∷ s) x
+    else and_then (selector_front kind b s) (λ y. branch_opens y.0 (after_white y.1))) ≡ Ok x → BranchIs kind other (b ∷ s) x
 next_step kind other b s true x h e = closes_step kind other b s x (eqb-true b closing h) e
 next_step kind other b s false x h e =
     let k = bind_ok (selector_front kind b s) _ x e in

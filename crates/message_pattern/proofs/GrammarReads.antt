@@ -8,7 +8,7 @@ use Rattle.message_pattern.specs.declared.part.ArgumentKind.{ArgumentKind}
 use Rattle.message_pattern.specs.declared.reader.TheConstants.{DEPTH_LIMIT}
 use Rattle.message_pattern.specs.declared.text.Context.{Context}
 use Rattle.message_pattern.specs.PatternText.{Front, End, Closes, Opens, Takes, front, is_nested}
-use Rattle.message_pattern.specs.PatternParts.{Part, Piece, Selector, Argument, Begin, Branch}
+use Rattle.message_pattern.specs.PatternParts.{Part, PatternPiece, Selector, Argument, Begin, Branch}
 use Rattle.message_pattern.specs.PatternParts as piece
 use Rattle.message_pattern.specs.PatternHeads.{Head, Plain, Choice, BranchFront, head_front, branch_front, is_other, unclosed, fault_at}
 use Rattle.message_pattern.specs.PatternHeads as branch

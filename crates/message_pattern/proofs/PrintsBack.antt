@@ -9,7 +9,7 @@ use Rattle.message_pattern.specs.declared.text.Context.TheVariants.{Whole}
 use Rattle.message_pattern.specs.PatternBytes.{apostrophe, hash, comma, opening, closing, class_front, behind_run, after_white}
 use Rattle.message_pattern.specs.declared.bytes.Class.TheVariants as class
 use Rattle.message_pattern.specs.PatternText.{Front, Closes, Opens, Takes, takes_text, front, is_nested, is_counted, is_quotable, apostrophe_front, quoted_apostrophe}
-use Rattle.message_pattern.specs.PatternParts.{Part, Piece, Text, Hash, Argument, Begin, Branch, Selector}
+use Rattle.message_pattern.specs.PatternParts.{Part, PatternPiece, Text, Hash, Argument, Begin, Branch, Selector}
 use Rattle.message_pattern.specs.PatternParts as piece
 use Rattle.message_pattern.specs.PatternHeads.{is_other}
 use Rattle.message_pattern.specs.PatternReading.{PatternPlace, InMessage, InArgument, InBranches, one, at_most_one, context_of}
@@ -64,7 +64,7 @@ front_piece c false (b ∷ s) =
     (chosen c (b == closing && is_nested c) (Closes s) number tt
     (hash_chosen c (b == hash) (is_counted c) s alone refl (chosen c (b == closing || b == hash) (takes_text (b ∷ []) false s) last tt tt))))
 
-piece_is : (c : Context) (q r : Bool) (s t : List ℕ) (p : Option Piece) → front c q s ≡ Takes p r t → IsMessagePiece c (Takes p r t)
+piece_is : (c : Context) (q r : Bool) (s t : List ℕ) (p : Option PatternPiece) → front c q s ≡ Takes p r t → IsMessagePiece c (Takes p r t)
 piece_is c q r s t p e = subst (λ (f : Front). IsMessagePiece c f) e (front_piece c q s)
 
 -- ---- what follows a message
@@ -128,7 +128,7 @@ hash_part c d k more n h t rest e =
           (one d Hash ++ m.2.0, message_text c d false false (hash ∷ (m.0 ++ t)) (m.0 ++ t) rest (Some Hash) m.2.0 (hash_front c (m.0 ++ t) n) m.2.1, ap (λ (l : List Part). one d Hash ++ l) m.2.2)),
     )
 
-pieces_back : (c : Context) (d : ℕ) (p : Option Piece) (r : Bool) (t : List ℕ) (more : List Part) → IsMessagePiece c (Takes p r t)
+pieces_back : (c : Context) (d : ℕ) (p : Option PatternPiece) (r : Bool) (t : List ℕ) (more : List Part) → IsMessagePiece c (Takes p r t)
     → ((k : Bool) → MessageBack c d k more) → (k : Bool) → MessageBack c d k (at_most_one d p ++ more)
 pieces_back c d None r t more e h k = h k
 pieces_back c d (Some (Text s)) r t more e h k = text_part c d k s more (h (quoted_behind c k s))

@@ -8,7 +8,7 @@ use Rattle.message_pattern.specs.declared.error.FaultKind.TheVariants.{TooDeep}
 use Rattle.message_pattern.specs.declared.part.ArgumentKind.{ArgumentKind}
 use Rattle.message_pattern.specs.declared.text.Context.{Context}
 use Rattle.message_pattern.specs.PatternText.{Front, End, Closes, Opens, Takes, front, is_nested}
-use Rattle.message_pattern.specs.PatternParts.{Part, Piece, Selector, Argument, Begin, Branch}
+use Rattle.message_pattern.specs.PatternParts.{Part, PatternPiece, Selector, Argument, Begin, Branch}
 use Rattle.message_pattern.specs.PatternParts as piece
 use Rattle.message_pattern.specs.PatternHeads.{Head, Plain, Choice, BranchFront, head_front, branch_front, is_other, unclosed, fault_at}
 use Rattle.message_pattern.specs.PatternHeads as branch
@@ -22,7 +22,7 @@ pub front_decides : (c : Context) (d : ℕ) (q : Bool) (s : List ℕ) (f : Front
 front_decides c d q s f before o e h = subst (λ (g : Front). ReadsTo (message_step c d g) before o) (sym e) h
 
 -- a piece is a part
-pub piece_read : (c : Context) (d : ℕ) (q r : Bool) (s rest : List ℕ) (p : Option Piece) (before after : List Part) (o : ReadOutcome)
+pub piece_read : (c : Context) (d : ℕ) (q r : Bool) (s rest : List ℕ) (p : Option PatternPiece) (before after : List Part) (o : ReadOutcome)
     → front c q s ≡ Takes p r rest → after ≡ before ++ at_most_one d p → ReadsTo (read_step (InMessage c d r) rest) after o
     → ReadsTo (read_step (InMessage c d q) s) before o
 piece_read c d q r s rest p before after o e f h =

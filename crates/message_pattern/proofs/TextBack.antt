@@ -6,7 +6,7 @@ use Rattle.message_pattern.specs.declared.bytes.Class.TheVariants.{Plain, Unquot
 use Rattle.message_pattern.specs.declared.text.Context.{Context}
 use Rattle.message_pattern.specs.PatternBytes.{apostrophe, hash, opening, closing, begins, class_front, behind_run}
 use Rattle.message_pattern.specs.PatternText.{Front, End, Closes, Opens, Takes, takes_text, front, is_nested, is_counted, is_quotable, apostrophe_front, quoted_apostrophe}
-use Rattle.message_pattern.specs.PatternParts.{Part, Piece, Text, Hash}
+use Rattle.message_pattern.specs.PatternParts.{Part, PatternPiece, Text, Hash}
 use Rattle.message_pattern.specs.PatternReading.{PatternPlace, InMessage, InArgument, InBranches, one, at_most_one}
 use Rattle.message_pattern.specs.PatternGrammar.{IsReadAt, message_ends, message_closes, message_text, message_argument, none_arg, complex_arg, style_branch, style_ends}
 use Rattle.message_pattern.specs.PatternPrinting.{letters, spelled, end_of_quote, byte_text, text_text, quoted_behind}
@@ -20,20 +20,20 @@ IsReadAs place s parts rest = (again : List Part) × IsReadAt place s again rest
 -- a message whose front is a piece is that piece and the message behind it
 abbrev pub BeginsWith : PatternPlace → List ℕ → List Part → List ℕ → Type 0
 BeginsWith (InMessage c d q) s parts rest =
-    (p : Option Piece) (r : Bool) (t : List ℕ) → front c q s ≡ Takes p r t → (more : List Part) × IsReadAt (InMessage c d r) t more rest × (parts ≡ at_most_one d p ++ more)
+    (p : Option PatternPiece) (r : Bool) (t : List ℕ) → front c q s ≡ Takes p r t → (more : List Part) × IsReadAt (InMessage c d r) t more rest × (parts ≡ at_most_one d p ++ more)
 BeginsWith (InArgument d) s parts rest = Unit {0}
 BeginsWith (InBranches k d o) s parts rest = Unit {0}
 
-no_piece : {f : Front} (p : Option Piece) (r : Bool) (t : List ℕ) → f ≡ End → f ≡ Takes p r t → ⊥
+no_piece : {f : Front} (p : Option PatternPiece) (r : Bool) (t : List ℕ) → f ≡ End → f ≡ Takes p r t → ⊥
 no_piece p r t e h = let x : End ≡ Takes p r t = sym e ∙ h in cc
 
-no_piece_closes : {f : Front} (p : Option Piece) (r : Bool) (t s : List ℕ) → f ≡ Closes s → f ≡ Takes p r t → ⊥
+no_piece_closes : {f : Front} (p : Option PatternPiece) (r : Bool) (t s : List ℕ) → f ≡ Closes s → f ≡ Takes p r t → ⊥
 no_piece_closes p r t s e h = let x : Closes s ≡ Takes p r t = sym e ∙ h in cc
 
-no_piece_opens : {f : Front} (p : Option Piece) (r : Bool) (t s : List ℕ) → f ≡ Opens s → f ≡ Takes p r t → ⊥
+no_piece_opens : {f : Front} (p : Option PatternPiece) (r : Bool) (t s : List ℕ) → f ≡ Opens s → f ≡ Takes p r t → ⊥
 no_piece_opens p r t s e h = let x : Opens s ≡ Takes p r t = sym e ∙ h in cc
 
-same_piece : (c : Context) (d : ℕ) (p p' : Option Piece) (r r' : Bool) (t t' rest : List ℕ) (more : List Part)
+same_piece : (c : Context) (d : ℕ) (p p' : Option PatternPiece) (r r' : Bool) (t t' rest : List ℕ) (more : List Part)
     → Takes p r t ≡ Takes p' r' t' → IsReadAt (InMessage c d r) t more rest
     → (again : List Part) × IsReadAt (InMessage c d r') t' again rest × (at_most_one d p ++ more ≡ at_most_one d p' ++ again)
 same_piece c d p p' r r' t t' rest more e h =
@@ -42,7 +42,7 @@ same_piece c d p p' r r' t t' rest more e h =
     let k : t ≡ t' = cc in (
       more,
       subst (λ (v : Bool). IsReadAt (InMessage c d v) t' more rest) g (subst (λ (u : List ℕ). IsReadAt (InMessage c d r) u more rest) k h),
-      ap (λ (x : Option Piece). at_most_one d x ++ more) f,
+      ap (λ (x : Option PatternPiece). at_most_one d x ++ more) f,
     )
 
 begins_with : {place : PatternPlace} {s rest : List ℕ} {parts : List Part} → IsReadAt place s parts rest → BeginsWith place s parts rest

@@ -10,7 +10,7 @@ use Rattle.message_pattern.specs.declared.reader.TheConstants.{DEPTH_LIMIT}
 use Rattle.message_pattern.specs.declared.text.Context.{Context}
 use Rattle.message_pattern.specs.PatternBytes.{comma, equals, opening, closing, begins, after_white, after_word}
 use Rattle.message_pattern.specs.PatternText.{front, is_nested, End, Closes, Opens, Takes}
-use Rattle.message_pattern.specs.PatternParts.{Part, Piece, Selector, Exactly, Keyword, Argument, Begin, Branch}
+use Rattle.message_pattern.specs.PatternParts.{Part, PatternPiece, Selector, Exactly, Keyword, Argument, Begin, Branch}
 use Rattle.message_pattern.specs.PatternParts as piece
 use Rattle.message_pattern.specs.PatternHeads.{is_bad_number, kind_named, is_counting, is_number, is_other}
 use Rattle.message_pattern.specs.PatternReading.{PatternPlace, InMessage, InArgument, InBranches, one, at_most_one, context_of}
@@ -61,7 +61,7 @@ pub data IsReadAt : PatternPlace → List ℕ → List Part → List ℕ → Typ
   -- message = messageText (argument messageText)*
   message_ends : (c : Context) (d : ℕ) (q : Bool) (s : List ℕ) → front c q s ≡ End → is_nested c ≡ false → IsReadAt (InMessage c d q) s [] []
   message_closes : (c : Context) (d : ℕ) (q : Bool) (s rest : List ℕ) → front c q s ≡ Closes rest → IsReadAt (InMessage c d q) s [] rest
-  message_text : (c : Context) (d : ℕ) (q r : Bool) (s t rest : List ℕ) (p : Option Piece) (more : List Part) → front c q s ≡ Takes p r t
+  message_text : (c : Context) (d : ℕ) (q r : Bool) (s t rest : List ℕ) (p : Option PatternPiece) (more : List Part) → front c q s ≡ Takes p r t
       → IsReadAt (InMessage c d r) t more rest → IsReadAt (InMessage c d q) s (at_most_one d p ++ more) rest
   message_argument : (c : Context) (d : ℕ) (q : Bool) (s t u rest : List ℕ) (inner more : List Part) → front c q s ≡ Opens t
       → IsReadAt (InArgument d) t inner u → IsReadAt (InMessage c d false) u more rest → IsReadAt (InMessage c d q) s (inner ++ more) rest

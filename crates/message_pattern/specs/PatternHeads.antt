@@ -11,10 +11,10 @@ use Rattle.message_pattern.specs.declared.part.ArgumentKind.TheVariants.{Plural,
 use Rattle.message_pattern.specs.PatternBytes.{comma, minus_sign, decimal_point, equals, opening, closing, is_empty_text, class_front, behind_run, after_white, after_word}
 use Rattle.message_pattern.specs.PatternParts.{Selector, Exactly, Keyword}
 
-infixl 10 ◌>>=◌
-abbrev pub ◌>>=◌ : {A B : Type 0} → Result A Fault → (A → Result B Fault) → Result B Fault
-(Ok x) >>= f = f x
-(Err e) >>= f = Err e
+-- what follows a value; a fault is the result
+abbrev pub and_then : {A B : Type 0} → Result A Fault → (A → Result B Fault) → Result B Fault
+and_then (Ok x) f = f x
+and_then (Err e) f = Err e
 
 -- ---- faults
 
@@ -95,8 +95,8 @@ offset_front _ s = offset_behind (after_word (codes "offset:") (after_white s)) 
 -- the argument with this name chooses: its type and its offset are in front of s
 abbrev pub choice_front : List ℕ → List ℕ → Result (Head × List ℕ) Fault
 choice_front name s =
-    kind_front (after_white s) >>= λ kind. offset_front kind.0 kind.1 >>= λ offset.
-    Ok (Choice kind.0 name offset.0, offset.1)
+    and_then (kind_front (after_white s)) (λ kind. and_then (offset_front kind.0 kind.1) (λ offset.
+    Ok (Choice kind.0 name offset.0, offset.1)))
 
 -- what follows the name of an argument
 abbrev pub behind_name : List ℕ → List ℕ → Result (Head × List ℕ) Fault
@@ -108,7 +108,7 @@ behind_name name (b ∷ s) =
 
 -- the head of an argument in front of s
 abbrev pub head_front : List ℕ → Result (Head × List ℕ) Fault
-head_front s = name_front (after_white s) >>= λ name. behind_name name.0 name.1
+head_front s = and_then (name_front (after_white s)) (λ name. behind_name name.0 name.1)
 
 -- ---- what stands before a branch
 
@@ -164,7 +164,7 @@ abbrev pub next_branch : ArgumentKind → Bool → List ℕ → Result BranchFro
 next_branch kind has_other [] = Err unclosed
 next_branch kind has_other (b ∷ s) =
     if b == closing then (if has_other then Ok (Closes s) else Err (fault_at MissingOther (b ∷ s)))
-    else (selector_front kind b s >>= λ x. branch_opens x.0 (after_white x.1))
+    else and_then (selector_front kind b s) (λ x. branch_opens x.0 (after_white x.1))
 
 abbrev pub branch_front : ArgumentKind → Bool → List ℕ → Result BranchFront Fault
 branch_front kind has_other s = next_branch kind has_other (after_white s)

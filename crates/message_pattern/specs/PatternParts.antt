@@ -14,24 +14,24 @@ pub data Selector : Type 0 where
   Keyword : List ℕ → Selector
 
 -- a piece of a pattern, its texts as bytes
-pub data Piece : Type 0 where
+pub data PatternPiece : Type 0 where
   -- text that stands for itself
-  Text : List ℕ → Piece
+  Text : List ℕ → PatternPiece
   -- `#`: the number less the offset
-  Hash : Piece
+  Hash : PatternPiece
   -- `{name}`
-  Argument : List ℕ → Piece
+  Argument : List ℕ → PatternPiece
   -- the beginning of an argument that chooses: its kind, its name, and the digits of its offset
-  Begin : ArgumentKind → List ℕ → Option (List ℕ) → Piece
+  Begin : ArgumentKind → List ℕ → Option (List ℕ) → PatternPiece
   -- the selector of a branch, whose parts follow it one level deeper
-  Branch : Selector → Piece
+  Branch : Selector → PatternPiece
   -- the end of an argument that chooses
-  End : Piece
+  End : PatternPiece
 
 -- a piece at a depth
 pub record Part : Type 0 where
   pub depth : ℕ
-  pub piece : Piece
+  pub piece : PatternPiece
 
 -- ---- the same of the types of the code
 
@@ -44,7 +44,7 @@ abbrev pub offset_view : Option (Bor (List ℕ)) → Option (List ℕ)
 offset_view None = None
 offset_view (Some digits) = Some digits.now
 
-abbrev pub piece_view : pieces.Piece → Piece
+abbrev pub piece_view : pieces.Piece → PatternPiece
 piece_view (piece.Text text) = Text text.now
 piece_view piece.Hash = Hash
 piece_view (piece.Argument name) = Argument name.now

@@ -7,7 +7,7 @@ use Rattle.message_pattern.specs.declared.text.Context.TheVariants.{Whole}
 use Rattle.message_pattern.specs.PatternBytes.{apostrophe, comma, equals, opening, closing}
 use Rattle.message_pattern.specs.PatternBytes as byte
 use Rattle.message_pattern.specs.PatternText.{is_quotable}
-use Rattle.message_pattern.specs.PatternParts.{Part, Piece, Selector, Exactly, Keyword, Text, Hash, Argument, Begin, Branch}
+use Rattle.message_pattern.specs.PatternParts.{Part, PatternPiece, Selector, Exactly, Keyword, Text, Hash, Argument, Begin, Branch}
 use Rattle.message_pattern.specs.PatternParts as piece
 use Rattle.message_pattern.specs.PatternHeads.{is_other}
 use Rattle.message_pattern.specs.PatternReading.{PatternPlace, InMessage, InArgument, InBranches, one, context_of}
@@ -20,7 +20,7 @@ abbrev pub letters : ℕ → List ℕ → List Part
 letters depth [] = []
 letters depth (b ∷ s) = one depth (Text (b ∷ [])) ++ letters depth s
 
-abbrev pub spelled_piece : ℕ → Piece → List Part
+abbrev pub spelled_piece : ℕ → PatternPiece → List Part
 spelled_piece depth (Text s) = letters depth s
 spelled_piece depth p = one depth p
 

@@ -8,7 +8,7 @@ use Rattle.message_pattern.specs.declared.part.ArgumentKind.TheVariants.{Plural,
 use Rattle.message_pattern.specs.declared.text.Context.{Context}
 use Rattle.message_pattern.specs.declared.text.Context.TheVariants.{Whole, Counted, Selected}
 use Rattle.message_pattern.specs.PatternText.{Front, End, Closes, Opens, Takes, front, is_nested}
-use Rattle.message_pattern.specs.PatternParts.{Part, Piece, Selector}
+use Rattle.message_pattern.specs.PatternParts.{Part, PatternPiece, Selector}
 use Rattle.message_pattern.specs.PatternParts as piece
 use Rattle.message_pattern.specs.PatternHeads.{Head, Plain, Choice, BranchFront, head_front, branch_front, is_other, unclosed, fault_at}
 use Rattle.message_pattern.specs.PatternHeads as branch
@@ -42,7 +42,7 @@ pub data ReadStep : Type 0 where
   Calls : List Part → PatternPlace → PatternPlace → List ℕ → ReadStep
 
 -- a part alone
-abbrev pub one : ℕ → Piece → List Part
+abbrev pub one : ℕ → PatternPiece → List Part
 one depth p = record { depth = depth; piece = p } ∷ []
 
 -- what a branch of such an argument is
@@ -56,7 +56,7 @@ abbrev pub step_at_end : Context → ReadStep
 step_at_end context = if is_nested context then Fails unclosed else Ends [] []
 
 -- a piece alone, or none
-abbrev pub at_most_one : ℕ → Option Piece → List Part
+abbrev pub at_most_one : ℕ → Option PatternPiece → List Part
 at_most_one depth None = []
 at_most_one depth (Some p) = one depth p
 

@@ -4,7 +4,7 @@ use Rattle.std.specs.Prelude.{ℕ, ◌==◌, List, [], ◌∷◌, Bool, true, fa
 use Rattle.message_pattern.specs.declared.bytes.Class.TheVariants.{Plain, Unquoted}
 use Rattle.message_pattern.specs.declared.text.Context.{Context}
 use Rattle.message_pattern.specs.declared.text.Context.TheVariants.{Whole, Counted, Selected}
-use Rattle.message_pattern.specs.PatternParts.{Piece, Text, Hash}
+use Rattle.message_pattern.specs.PatternParts.{PatternPiece, Text, Hash}
 use Rattle.message_pattern.specs.PatternBytes.{apostrophe, hash, opening, closing, class_front, behind_run}
 
 -- what stands at the front, and what follows it
@@ -17,7 +17,7 @@ pub data Front : Type 0 where
   Opens : List ℕ → Front
   -- a piece, or none for an apostrophe that begins or ends quoted text; and whether what follows is
   -- quoted
-  Takes : Option Piece → Bool → List ℕ → Front
+  Takes : Option PatternPiece → Bool → List ℕ → Front
 
 -- text that stands for itself
 abbrev pub takes_text : List ℕ → Bool → List ℕ → Front

@@ -9,7 +9,7 @@ use Rattle.message_pattern.specs.declared.part.Piece as pieces
 use Rattle.message_pattern.specs.declared.part.Piece.TheVariants as piece
 use Rattle.message_pattern.specs.declared.part.Selector as selectors
 use Rattle.message_report.specs.FormFaults.{Language}
-use Rattle.message_report.specs.FoundInMessages.{Found}
+use Rattle.plural_documents.specs.Found.{Found}
 use Rattle.message_report.specs.Inner.ArgumentViews.{branching}
 use Rattle.message_report.specs.Inner.ToldLines.{Tells, remembered}
 use Rattle.message_report.specs.MessagesReport.{branch_lines, fault_lines, most_compared, selector_name}

@@ -8,7 +8,7 @@ use Rattle.plural_checker.specs.LanguageTexts.{categories_with_rule}
 use Rattle.plural_checker.specs.declared.coverage.CategorySet.{CategorySet}
 use Rattle.plural_checker.specs.WholeNumbers.{AreTwoLeastOf}
 use Rattle.message_report.specs.ChosenNumbers.{Chooses}
-use Rattle.message_report.specs.FormFaults.{has_category, IsLanguageOf}
+use Rattle.message_report.specs.FormFaults.{has_category_rule, IsLanguageOf}
 use Rattle.message_report.specs.Inner.KnownNumbers.{AreNumbersOf, chosen_of}
 use Rattle.message_report.specs.Inner.LanguageViews.{is_in_set, language_view, numbers_at}
 use Rattle.message_report.specs.declared.language.Language.{Language}
@@ -28,7 +28,7 @@ language_is rules language categories zero one two few many other = record {
   numbers = at;
 }
   where
-    ruled : (category : PluralCategory) → is_in_set (categories_with_rule rules) category ≡ has_category rules category
+    ruled : (category : PluralCategory) → is_in_set (categories_with_rule rules) category ≡ has_category_rule rules category
     ruled Zero = refl
     ruled One = refl
     ruled Two = refl

@@ -1,5 +1,5 @@
 pub mod ChosenLemmas
-pub mod FoundLemmas
+pub mod EachFound
 pub mod LanguageLemmas
 pub mod PartLemmas
 -- rules that choose alike for whole numbers that leave the same by 100

@@ -6,7 +6,7 @@ use Rattle.serde_json.specs.Data.{no_members}
 use Rattle.serde_json.specs.View.{members_view}
 use Rattle.serde_json.specs.declared.Value.{Value}
 use Rattle.message_report.specs.FormFaults.{Language}
-use Rattle.message_report.specs.FoundInMessages.{Found}
+use Rattle.plural_documents.specs.Found.{Found}
 use Rattle.message_report.specs.MessagesReport.{HasLanguage, IsFoundInMessages, IsFoundUnder}
 use Rattle.plural_documents.specs.PrintedKeys.{name_text}
 use Rattle.message_report.specs.RulesSource.{RulesSource}

@@ -8,7 +8,7 @@ use Rattle.message_pattern.specs.declared.part.ArgumentKind.{ArgumentKind}
 use Rattle.message_pattern.specs.declared.part.Part as parts
 use Rattle.message_pattern.specs.declared.part.Piece as pieces
 use Rattle.message_pattern.specs.declared.part.Piece.TheVariants as piece
-use Rattle.message_report.specs.FoundInMessages.{Found}
+use Rattle.plural_documents.specs.Found.{Found}
 use Rattle.message_report.specs.Inner.ToldLines.{Tells, TellsThose}
 use Rattle.message_report.specs.MessagesReport.{HasPatternLines, HasPieceLines}
 use Rattle.message_report.specs.PatternFaults.{TwoLanguages}

@@ -7,11 +7,12 @@ use Rattle.std.proofs.Math.Seq.{take-nil}
 use Rattle.std.proofs.lemmas.Bool.{ltb-true, ltb-false}
 use Rattle.std.proofs.lemmas.List.{append-nil, length-append, length-take-le, take_all, take-append-le}
 use Rattle.message_pattern.specs.PatternParts.{Selector}
-use Rattle.message_report.specs.FoundInMessages.{Found, one_fault, together}
-use Rattle.message_report.specs.Inner.Added.{faults_alone, lines_alone}
+use Rattle.plural_documents.specs.Found.{Found, one_fault, together}
+use Rattle.plural_documents.specs.Found.{faults_alone, lines_alone}
 use Rattle.message_report.specs.Inner.ToldLines.{Tells, remembered, told_lines}
-use Rattle.message_report.specs.MessagesReport.{found_of_lines, most_compared, most_told, rest_lines}
-use Rattle.message_report.proofs.FoundLemmas.{none_added, together_assoc}
+use Rattle.message_report.specs.MessagesReport.{found_of_lines, most_compared}
+use Rattle.plural_documents.specs.FirstLines.{most_told, rest_lines}
+use Rattle.plural_documents.proofs.FoundLemmas.{none_added, together_assoc}
 
 -- the first part and the rest
 pub headed : {A : Type 0} (ps : List A) (d : A) (n : ℕ) → 1 ≤ length ps → n ≡ length ps → ps ≡ get_or ps 0 d ∷ take (n - 1) (drop 1 ps)
@@ -64,7 +65,7 @@ tells_line before old count new line few told counted = record {
   counted = counted;
 }
   where
-    by : (n : ℕ) → 0 < n → one_fault line ≡ record { lines = take n (line ∷ []); messages = 0; forms = 0; faults = 1 }
+    by : (n : ℕ) → 0 < n → one_fault line ≡ record { lines = take n (line ∷ []); faults = 1; checked = 0; cases = 0 }
     by zero some = absurd (omega arith)
     by (suc n) some = rw (take-nil {A = List ℕ} n) refl
 

@@ -5,15 +5,15 @@ use Rattle.message_pattern.specs.PatternAnswers.{ParsesExactly, HasPatternFault,
 use Rattle.message_pattern.specs.PatternParts.{Part}
 use Rattle.message_pattern.specs.declared.error.FaultKind.{FaultKind}
 use Rattle.message_pattern.specs.declared.error.PatternError.TheVariants as error
-use Rattle.message_report.specs.FoundInMessages.{Found, one_fault, together}
-use Rattle.message_report.specs.Inner.Added.{Adds}
+use Rattle.plural_documents.specs.Found.{Found, one_fault, together}
+use Rattle.plural_documents.specs.Found.{HasGrownBy}
 use Rattle.message_report.specs.MessagesReport.{IsFoundInArguments, IsFoundInText, no_pattern_line}
 use Rattle.message_report.specs.PatternFaults.{TwoLanguages}
 
 -- a pattern
 pub pattern_found : (two : TwoLanguages) (place text bytes : List ℕ) (ps shown : List Part) (old new : Found) → bytes ≡ text
-    → ParsesExactly bytes (Ok ps) → shown ≡ ps → Adds (IsFoundInArguments two place shown) old new
-    → Adds (IsFoundInText two place text) old new
+    → ParsesExactly bytes (Ok ps) → shown ≡ ps → HasGrownBy (IsFoundInArguments two place shown) old new
+    → HasGrownBy (IsFoundInText two place text) old new
 pattern_found two place text bytes ps shown old new same answers is added = (
   added.0,
   inl (ps, subst (λ (b : List ℕ). IsPattern b ps) same answers.only, subst (λ (l : List Part). IsFoundInArguments two place l added.0) is added.1),
@@ -23,7 +23,7 @@ pattern_found two place text bytes ps shown old new same answers is added = (
 -- none
 pub fault_found : (two : TwoLanguages) (place text bytes : List ℕ) (kind : FaultKind) (byte : ℕ) (old new : Found) → bytes ≡ text
     → ParsesExactly bytes (Err (error.Fault kind byte)) → new ≡ together old (one_fault (no_pattern_line place kind byte))
-    → Adds (IsFoundInText two place text) old new
+    → HasGrownBy (IsFoundInText two place text) old new
 fault_found two place text bytes kind byte old new same answers added = (
   one_fault (no_pattern_line place kind byte),
   inr (kind, byte, subst (λ (b : List ℕ). HasPatternFault b kind byte) same answers.only, refl),

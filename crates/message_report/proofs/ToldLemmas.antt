@@ -5,20 +5,21 @@ use Rattle.std.specs.Prelude.{nat_lt}
 use Rattle.std.proofs.lemmas.Bool.{ltb-true, ltb-false}
 use Rattle.std.proofs.Math.Nat.{add-zero}
 use Rattle.serde_json.specs.Data.{Data, Members, member}
-use Rattle.message_report.specs.FoundInMessages.{Found, together}
+use Rattle.plural_documents.specs.Found.{Found, together}
 use Rattle.message_report.specs.MessageForms.{is_form_name}
-use Rattle.message_report.specs.MessagesReport.{found_of_keys, key_line, most_told, other_keys, rest_lines}
-use Rattle.message_report.specs.Inner.Added.{lines_alone}
+use Rattle.message_report.specs.MessagesReport.{found_of_keys, key_line, other_keys}
+use Rattle.plural_documents.specs.FirstLines.{most_told, rest_lines}
+use Rattle.plural_documents.specs.Found.{lines_alone}
 use Rattle.message_report.specs.Inner.ToldKeys.{count_at, told_at, told_key}
-use Rattle.message_report.proofs.FoundLemmas.{nothing-together, together_assoc}
+use Rattle.plural_documents.proofs.FoundLemmas.{nothing-together, together_assoc}
 
 -- what is told of these keys, if so many come before them
 abbrev pub told_from : List ℕ → ℕ → List (List ℕ) → Found
 told_from place before keys = record {
   lines = map (key_line place) (take (most_told - before) keys);
-  messages = 0;
-  forms = 0;
   faults = length keys;
+  checked = 0;
+  cases = 0;
 }
 
 -- one that names no form comes first

@@ -24,13 +24,13 @@ use Rattle.message_report.specs.declared.form.Form.TheVariants.{ExplicitZero, Ex
 -- ---- A language
 
 -- a language has the categories that have a rule, and other
-abbrev pub has_category : FiveRules → PluralCategory → Bool
-has_category rules Zero = is_some rules.zero
-has_category rules One = is_some rules.one
-has_category rules Two = is_some rules.two
-has_category rules Few = is_some rules.few
-has_category rules Many = is_some rules.many
-has_category rules Other = true
+abbrev pub has_category_rule : FiveRules → PluralCategory → Bool
+has_category_rule rules Zero = is_some rules.zero
+has_category_rule rules One = is_some rules.one
+has_category_rule rules Two = is_some rules.two
+has_category_rule rules Few = is_some rules.few
+has_category_rule rules Many = is_some rules.many
+has_category_rule rules Other = true
 
 -- the categories that it has; and the two least whole numbers that choose the form of one of these, where 0 and 1 may have forms of
 -- their own
@@ -39,7 +39,7 @@ pub record Language : Type 0 where
   pub numbers : PluralCategory → Bool → Bool → TwoNumbers
 
 pub record IsLanguageOf (rules : FiveRules) (language : Language) : Type 0 where
-  pub has : (category : PluralCategory) → language.has category ≡ has_category rules category
+  pub has : (category : PluralCategory) → language.has category ≡ has_category_rule rules category
   pub numbers : (category : PluralCategory) → IsTrue (language.has category) → (own_zero own_one : Bool)
       → AreTwoLeastOf (Chooses rules category own_zero own_one)
       (language.numbers category own_zero own_one).first (language.numbers category own_zero own_one).second
@@ -82,14 +82,14 @@ HasCategoryFault language category message fault =
     HasFaultUnder language category (numbers_in language category message) (form_under (Category category) message) fault
 
 -- a value that is there should be a text
-abbrev pub value_fault : Option Data → Option FormFault
-value_fault None = None
-value_fault (Some value) = if is_some (as_str value) then None else Some NoText
+abbrev pub form_value_fault : Option Data → Option FormFault
+form_value_fault None = None
+form_value_fault (Some value) = if is_some (as_str value) then None else Some NoText
 
 abbrev pub HasFormFault : Option Language → Form → Data → Option FormFault → Type 0
-HasFormFault language ExplicitZero message fault = fault ≡ value_fault (form_under ExplicitZero message)
-HasFormFault language ExplicitOne message fault = fault ≡ value_fault (form_under ExplicitOne message)
-HasFormFault None (Category category) message fault = fault ≡ value_fault (form_under (Category category) message)
+HasFormFault language ExplicitZero message fault = fault ≡ form_value_fault (form_under ExplicitZero message)
+HasFormFault language ExplicitOne message fault = fault ≡ form_value_fault (form_under ExplicitOne message)
+HasFormFault None (Category category) message fault = fault ≡ form_value_fault (form_under (Category category) message)
 HasFormFault (Some language) (Category category) message fault = HasCategoryFault language category message fault
 
 -- ---- The texts of faults

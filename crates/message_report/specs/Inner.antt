@@ -1,5 +1,4 @@
 -- No definitions of the subject: words of private contracts.
-pub mod Added
 pub mod ArgumentViews
 pub mod KnownNumbers
 pub mod LanguageViews

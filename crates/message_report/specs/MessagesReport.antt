@@ -1,11 +1,10 @@
 -- The report of files of messages (docs/TRANSLATORS.md): what is found in each locale, in the order of their bytes. In a locale
 -- first in its keys, then in its messages for cardinal numbers, in those for ordinal numbers, and in its patterns; in a message form
 -- by form, and then in its other keys; in a pattern argument by argument, first the missing branches, then branch by branch.
---     IsFoundInDocument source document found      what is found in a document under the rules of a source
+--     IsFoundInMessagesDocument source document found      what is found in a document under the rules of a source
 --     IsFoundInFiles source files found      what is found in files, each line after the name of its file
-use Rattle.std.specs.Prelude.{◌≡◌, ℕ, ◌-◌, nat_lt, ◌||◌, bytes_eq, Bool, List, [], ◌∷◌, ◌++◌, codes, length, map, take}
+use Rattle.std.specs.Prelude.{◌≡◌, ℕ, ◌||◌, bytes_eq, Bool, List, [], ◌∷◌, ◌++◌, codes, length, map, take}
 use Rattle.std.specs.Prelude.{Option, Some, None, is_some, ◌⊎◌, if◌then◌else◌}
-use Rattle.std.specs.Fmt.{decimal}
 use Rattle.serde_json.specs.Data.{Data, Members, no_members, member}
 use Rattle.serde_json.specs.Find.{get, as_object, as_str}
 use Rattle.serde_json.specs.View.{view}
@@ -15,16 +14,18 @@ use Rattle.icu_plurals.specs.declared.PluralCategory.{PluralCategory}
 use Rattle.icu_plurals.specs.declared.PluralCategory.TheVariants.{Zero, One, Two, Few, Many, Other}
 use Rattle.icu_plurals.specs.declared.PluralRuleType.{PluralRuleType}
 use Rattle.icu_plurals.specs.declared.PluralRuleType.TheVariants.{Cardinal, Ordinal}
-use Rattle.message_pattern.specs.PatternParts.{Branching, Part, Piece, Selector, Exactly, Keyword, Begin}
+use Rattle.message_pattern.specs.PatternParts.{Branching, Part, PatternPiece, Selector, Exactly, Keyword, Begin}
 use Rattle.message_pattern.specs.PatternAnswers.{HasPatternFault, IsPattern, pattern_error_text}
 use Rattle.message_pattern.specs.declared.error.FaultKind.{FaultKind}
 use Rattle.message_pattern.specs.declared.error.PatternError.TheVariants as error
 use Rattle.message_report.specs.FormFaults.{Language, HasFormFault, IsLanguageOf, form_fault_text}
-use Rattle.message_report.specs.FoundInMessages.{Found, IsFoundIn, IsFoundInEach, nothing, one_fault, one_form, one_message, together}
+use Rattle.message_report.specs.FoundInMessages.{IsFoundInEach, one_form, one_message}
+use Rattle.plural_documents.specs.Found.{Found, IsFoundInMembers, nothing_found, one_fault, together}
 use Rattle.message_report.specs.MessageForms.{form_name, form_order, has_form, is_form_name}
 use Rattle.message_report.specs.PatternFaults.{IsArgumentAt, PluralArgument, TwoLanguages, branch_fault, branch_fault_text, language_of, missing_fault, type_of_kind}
 use Rattle.plural_documents.specs.PrintedKeys.{name_text}
 use Rattle.message_report.specs.PrintedKeys.{bytes_text, message_text}
+use Rattle.plural_documents.specs.FirstLines.{most_told, rest_lines}
 use Rattle.message_report.specs.RulesSource.{RulesSource, HasRules}
 use Rattle.message_report.specs.declared.branch_fault.BranchFault.{BranchFault}
 use Rattle.message_report.specs.declared.fault.FormFault.{FormFault}
@@ -59,11 +60,11 @@ named_line place name fault = place ++ (codes " " ++ (name ++ (codes ": " ++ fau
 
 -- a form that is there is counted
 abbrev pub form_count : Form → Data → Found
-form_count form message = if has_form form message then one_form else nothing
+form_count form message = if has_form form message then one_form else nothing_found
 
 -- its fault has a line: `ru files one: no {}, but 1 and 21 are one`
 abbrev pub found_of_fault : List ℕ → Form → Option FormFault → Found
-found_of_fault place form None = nothing
+found_of_fault place form None = nothing_found
 found_of_fault place form (Some fault) = one_fault (named_line place (form_name form) (form_fault_text fault))
 
 abbrev pub IsFoundInForm : Option Language → List ℕ → Data → Form → Found → Type 0
@@ -80,25 +81,13 @@ other_keys (member key value members) = if is_form_name key then other_keys memb
 abbrev pub key_line : List ℕ → List ℕ → List ℕ
 key_line place key = named_line place (name_text key) (codes "not a form")
 
--- the most such keys of a message that are told
-abbrev pub most_told : ℕ
-most_told = 10
-
--- how many more there are: `ru files: and 5 more`
-abbrev pub rest_line : List ℕ → ℕ → List ℕ
-rest_line place rest = place_line place (codes "and " ++ (decimal rest ++ codes " more"))
-
--- that line, if there are more than are told
-abbrev pub rest_lines : List ℕ → ℕ → List (List ℕ)
-rest_lines place count = if nat_lt most_told count then rest_line place (count - most_told) ∷ [] else []
-
 -- the first keys have a line each, and the others are counted in one
 abbrev pub found_of_keys : List ℕ → List (List ℕ) → Found
 found_of_keys place keys = record {
   lines = map (key_line place) (take most_told keys) ++ rest_lines place (length keys);
-  messages = 0;
-  forms = 0;
   faults = length keys;
+  checked = 0;
+  cases = 0;
 }
 
 -- first in the forms, then in the other keys
@@ -123,7 +112,7 @@ no_rules_text Ordinal = codes "no ordinal rules"
 
 abbrev pub found_of_language : PluralRuleType → List ℕ → Option Language → Found
 found_of_language type locale None = one_fault (place_line locale (no_rules_text type))
-found_of_language type locale (Some language) = nothing
+found_of_language type locale (Some language) = nothing_found
 
 -- the language of the rules, if there are any
 abbrev pub IsLanguageIf : Option FiveRules → Option Language → Type 0
@@ -139,12 +128,12 @@ HasLanguage source type locale language =
 -- first that there are no rules
 abbrev pub IsFoundUnder : Option Language → PluralRuleType → List ℕ → Members → Found → Type 0
 IsFoundUnder language type locale members found =
-    (messages : Found) × IsFoundIn (IsFoundInMessage language type locale) members messages
+    (messages : Found) × IsFoundInMembers (IsFoundInMessage language type locale) members messages
     × (found ≡ together (found_of_language type locale language) messages)
 
 -- under the rules of the locale; without messages none are needed
 abbrev pub IsFoundInMessages : RulesSource → PluralRuleType → List ℕ → Members → Found → Type 0
-IsFoundInMessages source type locale no_members found = found ≡ nothing
+IsFoundInMessages source type locale no_members found = found ≡ nothing_found
 IsFoundInMessages source type locale (member key value members) found =
     (language : Option Language) × HasLanguage source type locale language
     × IsFoundUnder language type (name_text locale) (member key value members) found
@@ -156,7 +145,7 @@ IsFoundInObject source type locale None found =
 IsFoundInObject source type locale (Some members) found = IsFoundInMessages source type locale members found
 
 abbrev pub IsFoundInPart : RulesSource → PluralRuleType → List ℕ → Option Data → Found → Type 0
-IsFoundInPart source type locale None found = found ≡ nothing
+IsFoundInPart source type locale None found = found ≡ nothing_found
 IsFoundInPart source type locale (Some part) found = IsFoundInObject source type locale (as_object part) found
 
 -- ---- A pattern
@@ -214,7 +203,7 @@ argument_lines two place None a = []
 argument_lines two place (Some type) a = lines_under type (argument_place place a.name) (language_of two type) a
 
 -- of a piece at a depth that these parts follow, if it begins an argument
-abbrev pub HasPieceLines : TwoLanguages → List ℕ → ℕ → Piece → List Part → List (List ℕ) → Type 0
+abbrev pub HasPieceLines : TwoLanguages → List ℕ → ℕ → PatternPiece → List Part → List (List ℕ) → Type 0
 HasPieceLines two place depth (Begin kind name offset) ps lines =
     (a : PluralArgument) × IsArgumentAt name (is_some offset) depth ps a × (lines ≡ argument_lines two place (type_of_kind kind) a)
 HasPieceLines two place depth piece ps lines = lines ≡ []
@@ -230,9 +219,9 @@ HasPatternLines two place (p ∷ ps) lines =
 abbrev pub found_of_lines : List ℕ → List (List ℕ) → Found
 found_of_lines place lines = record {
   lines = take most_told lines ++ rest_lines place (length lines);
-  messages = 0;
-  forms = 0;
   faults = length lines;
+  checked = 0;
+  cases = 0;
 }
 
 -- `ru pattern files: no pattern: a brace isn't closed at byte 2`
@@ -276,7 +265,7 @@ patterns_place locale = locale ++ codes " patterns"
 
 abbrev pub IsFoundInPatterns : RulesSource → List ℕ → Members → Found → Type 0
 IsFoundInPatterns source locale members found =
-    (two : TwoLanguages) × HaveLanguages source locale two × IsFoundIn (IsFoundInPattern two (name_text locale)) members found
+    (two : TwoLanguages) × HaveLanguages source locale two × IsFoundInMembers (IsFoundInPattern two (name_text locale)) members found
 
 abbrev pub IsFoundInPatternsObject : RulesSource → List ℕ → Option Members → Found → Type 0
 IsFoundInPatternsObject source locale None found =
@@ -284,21 +273,21 @@ IsFoundInPatternsObject source locale None found =
 IsFoundInPatternsObject source locale (Some members) found = IsFoundInPatterns source locale members found
 
 abbrev pub IsFoundInPatternsPart : RulesSource → List ℕ → Option Data → Found → Type 0
-IsFoundInPatternsPart source locale None found = found ≡ nothing
+IsFoundInPatternsPart source locale None found = found ≡ nothing_found
 IsFoundInPatternsPart source locale (Some part) found = IsFoundInPatternsObject source locale (as_object part) found
 
 -- ---- The document
 
-abbrev pub is_part_name : List ℕ → Bool
-is_part_name key = bytes_eq key (type_name Cardinal) || bytes_eq key (type_name Ordinal) || bytes_eq key patterns_name
+abbrev pub is_locale_part : List ℕ → Bool
+is_locale_part key = bytes_eq key (type_name Cardinal) || bytes_eq key (type_name Ordinal) || bytes_eq key patterns_name
 
 -- `ru cardinals: not a part`
 abbrev pub found_of_part_key : List ℕ → List ℕ → Found
 found_of_part_key locale key =
-    if is_part_name key then nothing else one_fault (named_line locale (name_text key) (codes "not a part"))
+    if is_locale_part key then nothing_found else one_fault (named_line locale (name_text key) (codes "not a part"))
 
-abbrev pub IsFoundInPartKey : List ℕ → List ℕ → Data → Found → Type 0
-IsFoundInPartKey locale key value found = found ≡ found_of_part_key locale key
+abbrev pub IsFoundInLocaleKey : List ℕ → List ℕ → Data → Found → Type 0
+IsFoundInLocaleKey locale key value found = found ≡ found_of_part_key locale key
 
 -- first cardinal numbers
 abbrev pub IsFoundInBoth : RulesSource → List ℕ → Data → Found → Type 0
@@ -318,7 +307,7 @@ IsFoundInAll source locale value found =
 abbrev pub IsFoundInParts : RulesSource → List ℕ → Data → Option Members → Found → Type 0
 IsFoundInParts source locale value None found = found ≡ one_fault (place_line (name_text locale) (codes "no object"))
 IsFoundInParts source locale value (Some members) found =
-    (keys parts : Found) × IsFoundIn (IsFoundInPartKey (name_text locale)) members keys × IsFoundInAll source locale value parts
+    (keys parts : Found) × IsFoundInMembers (IsFoundInLocaleKey (name_text locale)) members keys × IsFoundInAll source locale value parts
     × (found ≡ together keys parts)
 
 abbrev pub IsFoundInLocale : RulesSource → List ℕ → Data → Found → Type 0
@@ -326,10 +315,10 @@ IsFoundInLocale source locale value found = IsFoundInParts source locale value (
 
 abbrev pub IsFoundInLocales : RulesSource → Option Members → Found → Type 0
 IsFoundInLocales source None found = found ≡ one_fault (codes "document: no object")
-IsFoundInLocales source (Some members) found = IsFoundIn (IsFoundInLocale source) members found
+IsFoundInLocales source (Some members) found = IsFoundInMembers (IsFoundInLocale source) members found
 
-abbrev pub IsFoundInDocument : RulesSource → Data → Found → Type 0
-IsFoundInDocument source document found = IsFoundInLocales source (as_object document) found
+abbrev pub IsFoundInMessagesDocument : RulesSource → Data → Found → Type 0
+IsFoundInMessagesDocument source document found = IsFoundInLocales source (as_object document) found
 
 -- ---- Files
 
@@ -341,14 +330,14 @@ file_line name line = name ++ (codes ": " ++ line)
 abbrev pub named : List ℕ → Found → Found
 named name found = record {
   lines = map (file_line name) found.lines;
-  messages = found.messages;
-  forms = found.forms;
   faults = found.faults;
+  checked = found.checked;
+  cases = found.cases;
 }
 
 abbrev pub IsFoundInFile : RulesSource → MessageFile → Found → Type 0
 IsFoundInFile source file found =
-    (inside : Found) × IsFoundInDocument source (view file.document.now) inside × (found ≡ named file.name.now inside)
+    (inside : Found) × IsFoundInMessagesDocument source (view file.document.now) inside × (found ≡ named file.name.now inside)
 
 -- file by file, in the order in which they are given
 abbrev pub IsFoundInFiles : RulesSource → List MessageFile → Found → Type 0

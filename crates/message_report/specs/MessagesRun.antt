@@ -4,8 +4,8 @@ use Rattle.std.specs.Prelude.{◌≡◌, ℕ, ◌==◌, List, Option, Result, Ok
 use Rattle.std.specs.Io.KnownBytes.{Appends, Keeps}
 use Rattle.plural_documents.specs.Inputs.{IsPartWritten}
 use Rattle.message_report.specs.MessagesReport.{IsFoundInFiles}
-use Rattle.message_report.specs.MessagesReportText.{counts_of, report_text}
-use Rattle.message_report.specs.FoundInMessages.{Found}
+use Rattle.message_report.specs.MessagesReportText.{counts_found, messages_report_text}
+use Rattle.plural_documents.specs.Found.{Found}
 use Rattle.message_report.specs.RulesSource.{RulesSource}
 use Rattle.message_report.specs.declared.counts.Counts.{Counts}
 use Rattle.message_report.specs.declared.error.ReportError.{ReportError}
@@ -15,9 +15,9 @@ use Rattle.message_report.specs.declared.file.MessageFile.{MessageFile}
 -- The report and its counts; or the writer failed, and took a beginning of the report, or memory ran out, and it took nothing.
 abbrev pub IsReported : RulesSource → List MessageFile → Option (List ℕ) → Option (List ℕ) → Result Counts ReportError → Type 0
 IsReported source files old new (Ok counts) =
-    (found : Found) × IsFoundInFiles source files found × (counts ≡ counts_of found) × Appends old new (report_text found)
+    (found : Found) × IsFoundInFiles source files found × (counts ≡ counts_found found) × Appends old new (messages_report_text found)
 IsReported source files old new (Err Write) =
-    (found : Found) × IsFoundInFiles source files found × IsPartWritten old new (report_text found)
+    (found : Found) × IsFoundInFiles source files found × IsPartWritten old new (messages_report_text found)
 IsReported source files old new (Err Memory) = Keeps old new
 
 -- the exit status of a program

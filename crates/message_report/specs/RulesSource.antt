@@ -7,6 +7,7 @@ use Rattle.icu_plurals.specs.declared.PluralRuleType.TheVariants.{Cardinal, Ordi
 use Rattle.plural_fallback.specs.Chain.{next_of}
 use Rattle.plural_fallback.specs.FirstKeys.{key_at, locale_at, IsFirstKey, Misses}
 use Rattle.plural_fallback.specs.declared.error.FallbackError.{FallbackError}
+use Rattle.plural_fallback.specs.declared.first_key.TheConstants.{MOST_LOCALES}
 use Rattle.plural_fallback.specs.declared.locales.Part.{Part}
 use Rattle.plural_fallback.specs.declared.locales.Part.TheVariants as part
 
@@ -35,10 +36,6 @@ source_of cardinal ordinal keys parent = record {
   parent = parent;
 }
 
--- the most locales of a chain that are looked up
-abbrev pub most_locales : ℕ
-most_locales = 32
-
 -- the key after so many steps of the chain
 abbrev pub chain_key : RulesSource → PluralRuleType → List ℕ → ℕ → Option (List ℕ)
 chain_key source type locale = key_at (source.keys type) (next_of source.parent) locale
@@ -46,8 +43,8 @@ chain_key source type locale = key_at (source.keys type) (next_of source.parent)
 -- the rules under the first key of the chain; or there is no key among the first locales, or no rules under it
 abbrev pub HasRules : RulesSource → PluralRuleType → List ℕ → Option FiveRules → Type 0
 HasRules source type locale (Some rules) =
-    (key : List ℕ) × IsFirstKey most_locales (chain_key source type locale) key × (source.under type key ≡ Some rules)
+    (key : List ℕ) × IsFirstKey MOST_LOCALES (chain_key source type locale) key × (source.under type key ≡ Some rules)
 HasRules source type locale None =
     (error : FallbackError)
-    × Misses most_locales (locale_at (next_of source.parent) locale) (chain_key source type locale)
+    × Misses MOST_LOCALES (locale_at (next_of source.parent) locale) (chain_key source type locale)
     (λ key. source.under type key ≡ None) error

@@ -1,21 +1,20 @@
 //! What is found in a document of messages.
 
 ghost use Rattle.std.specs.Prelude.{◌≡◌, codes, IfOk, OnOk, Some, string_bytes};
-ghost use Rattle.message_report.specs.FoundInMessages.{together, IsFoundIn};
-ghost use Rattle.message_report.specs.Inner.Added.{Adds};
-ghost use Rattle.message_report.specs.MessagesReport.{found_of_part_key, is_part_name, place_line};
-ghost use Rattle.message_report.specs.MessagesReport.{IsFoundInAll, IsFoundInBoth, IsFoundInDocument, IsFoundInLocale, IsFoundInPartKey, IsFoundInParts};
+ghost use Rattle.plural_documents.specs.Found.{together, IsFoundInMembers};
+ghost use Rattle.plural_documents.specs.Found.{HasGrownBy};
+ghost use Rattle.message_report.specs.MessagesReport.{found_of_part_key, is_locale_part, place_line};
+ghost use Rattle.message_report.specs.MessagesReport.{IsFoundInAll, IsFoundInBoth, IsFoundInMessagesDocument, IsFoundInLocale, IsFoundInLocaleKey, IsFoundInParts};
 ghost use Rattle.plural_documents.specs.PrintedKeys.{name_text};
 ghost use Rattle.serde_json.specs.Find.{as_object};
 ghost use Rattle.serde_json.specs.View.{members_view, view};
 
-use crate::found::{Found, MemberCheck, add_members};
 use crate::keys::{named_line, place_line};
 use crate::part::add_part;
 use crate::patterns::add_patterns;
 use crate::source::RulesOfLocales;
 use icu_plurals::PluralRuleType;
-use plural_documents::name_text;
+use plural_documents::{Found, MemberCheck, add_members, name_text};
 use serde_json::{Map, Value};
 use std::alloc::{AllocError, Global};
 
@@ -25,7 +24,7 @@ pub(crate) fn found_in<S: RulesOfLocales>(
     source: &S,
     document: &Value,
 ) -> Result<Found, AllocError>
-    ensures { IfOk result (λ found. IsFoundInDocument (S.source source.now) (view document.now) found) }
+    ensures { IfOk result (λ found. IsFoundInMessagesDocument (S.source source.now) (view document.now) found) }
 {
     let mut found = Found::new(alloc);
     add_document(alloc, source, document, &mut found)?;
@@ -39,7 +38,7 @@ fn add_document<S: RulesOfLocales>(
     document: &Value,
     found: &mut Found,
 ) -> Result<(), AllocError>
-    ensures { OnOk result (Adds (IsFoundInDocument (S.source source.now) (view document.now)) found.old found.new) }
+    ensures { OnOk result (HasGrownBy (IsFoundInMessagesDocument (S.source source.now) (view document.now)) found.old found.new) }
 {
     match document.as_object() {
         Some(locales) => add_members(alloc, &LocaleCheck { source }, locales, found),
@@ -87,7 +86,7 @@ fn add_locale<S: RulesOfLocales>(
     members: &Map<String, Value>,
     found: &mut Found,
 ) -> Result<(), AllocError>
-    ensures { OnOk result (Adds (IsFoundInParts (S.source source.now) locale.now (view value.now)
+    ensures { OnOk result (HasGrownBy (IsFoundInParts (S.source source.now) locale.now (view value.now)
         (Some (members_view members.now.entries))) found.old found.new) }
 {
     let name = name_text(alloc, locale)?;
@@ -103,7 +102,7 @@ fn add_all<S: RulesOfLocales>(
     value: &Value,
     found: &mut Found,
 ) -> Result<(), AllocError>
-    ensures { OnOk result (Adds (IsFoundInAll (S.source source.now) locale.now (view value.now)) found.old found.new) }
+    ensures { OnOk result (HasGrownBy (IsFoundInAll (S.source source.now) locale.now (view value.now)) found.old found.new) }
 {
     add_parts(alloc, source, locale, value, found)?;
     add_patterns(alloc, source, locale, value, found)
@@ -117,7 +116,7 @@ fn add_parts<S: RulesOfLocales>(
     value: &Value,
     found: &mut Found,
 ) -> Result<(), AllocError>
-    ensures { OnOk result (Adds (IsFoundInBoth (S.source source.now) locale.now (view value.now)) found.old found.new) }
+    ensures { OnOk result (HasGrownBy (IsFoundInBoth (S.source source.now) locale.now (view value.now)) found.old found.new) }
 {
     add_part(
         alloc,
@@ -137,7 +136,7 @@ fn add_part_keys(
     members: &Map<String, Value>,
     found: &mut Found,
 ) -> Result<(), AllocError>
-    ensures { OnOk result (Adds (IsFoundIn (IsFoundInPartKey locale.now) (members_view members.now.entries)) found.old found.new) }
+    ensures { OnOk result (HasGrownBy (IsFoundInMembers (IsFoundInLocaleKey locale.now) (members_view members.now.entries)) found.old found.new) }
 {
     add_members(alloc, &PartKeyCheck { locale }, members, found)
 }
@@ -149,7 +148,7 @@ struct PartKeyCheck<'a> {
 }
 
 impl<'a> MemberCheck for PartKeyCheck<'a> {
-    ghost finds = { λ check. IsFoundInPartKey check.locale.now };
+    ghost finds = { λ check. IsFoundInLocaleKey check.locale.now };
 
     fn add(
         &self,
@@ -175,7 +174,7 @@ fn add_part_key(alloc: Global, locale: &str, key: &str, found: &mut Found) -> Re
 
 // Returns whether a key names a part.
 fn is_part_name(key: &str) -> bool
-    ensures { result ≡ is_part_name key.now }
+    ensures { result ≡ is_locale_part key.now }
 {
     key == "cardinal" || key == "ordinal" || key == "patterns"
 }

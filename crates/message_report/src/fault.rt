@@ -1,7 +1,7 @@
 //! What is wrong with a form of a message.
 
 ghost use Rattle.std.specs.Prelude.{◌≡◌, Some, None, option_map};
-ghost use Rattle.message_report.specs.FormFaults.{form_fault_text, no_number, numbers_in, value_fault};
+ghost use Rattle.message_report.specs.FormFaults.{form_fault_text, no_number, numbers_in, form_value_fault};
 ghost use Rattle.message_report.specs.FormFaults.{HasCategoryFault, HasFaultUnder, HasFormFault, HasPresentFault, HasTextFault};
 ghost use Rattle.message_report.specs.Inner.LanguageViews.{language_view};
 ghost use Rattle.message_report.specs.declared.form.Form.TheVariants.{Category};
@@ -92,7 +92,7 @@ fn category_fault_if(
 
 // Returns that a value is no text, if there is one.
 fn value_fault(value: Option<&Value>) -> Option<FormFault>
-    ensures { result ≡ value_fault (option_map (λ v. view v.now) value.entry) }
+    ensures { result ≡ form_value_fault (option_map (λ v. view v.now) value.entry) }
 {
     if value?.is_string() {
         None

@@ -1,13 +1,13 @@
 //! What is found in files of messages.
 
-ghost use Rattle.std.specs.Prelude.{◌≡◌, IfOk, OnOk};
-ghost use Rattle.message_report.specs.FoundInMessages.{nothing, together};
-ghost use Rattle.message_report.specs.Inner.Added.{Adds};
-ghost use Rattle.message_report.specs.MessagesReport.{IsFoundInFile, IsFoundInFiles};
+ghost use Rattle.std.specs.Prelude.{◌≡◌, IfOk, OnOk, map, string_bytes};
+ghost use Rattle.plural_documents.specs.Found.{nothing_found, together};
+ghost use Rattle.plural_documents.specs.Found.{HasGrownBy, lines_alone};
+ghost use Rattle.message_report.specs.MessagesReport.{file_line, named, IsFoundInFile, IsFoundInFiles};
 
 use crate::document::found_in;
-use crate::found::Found;
 use crate::source::RulesOfLocales;
+use plural_documents::Found;
 use serde_json::Value;
 use std::alloc::{AllocError, Global};
 
@@ -40,7 +40,7 @@ fn add_files<S: RulesOfLocales>(
     files: &[MessageFile<'_>],
     found: &mut Found,
 ) -> Result<(), AllocError>
-    ensures { OnOk result (Adds (IsFoundInFiles (S.source source.now) files.now) found.old found.new) }
+    ensures { OnOk result (HasGrownBy (IsFoundInFiles (S.source source.now) files.now) found.old found.new) }
 {
     for file in files {
         add_file(alloc, source, file, found)?;
@@ -55,8 +55,47 @@ fn add_file<S: RulesOfLocales>(
     file: &MessageFile<'_>,
     found: &mut Found,
 ) -> Result<(), AllocError>
-    ensures { OnOk result (Adds (IsFoundInFile (S.source source.now) file.now) found.old found.new) }
+    ensures { OnOk result (HasGrownBy (IsFoundInFile (S.source source.now) file.now) found.old found.new) }
 {
     let inside = found_in(alloc, source, file.document)?;
-    found.add_named(alloc, file.name, &inside)
+    add_named(alloc, file.name, &inside, found)
+}
+
+// Adds what was found in a file, each line after the file's name. A count that is too large is
+// reported as out of memory.
+fn add_named(
+    alloc: Global,
+    name: &str,
+    inside: &Found,
+    found: &mut Found,
+) -> Result<(), AllocError>
+    ensures { OnOk result (found.new ≡ together found.old (named name.now inside.now)) }
+{
+    found.add_checked(inside.checked())?;
+    found.add_cases(inside.cases())?;
+    found.add_faults(inside.faults())?;
+    add_lines(alloc, name, inside.lines(), found)
+}
+
+// Adds lines, each after the name of a file.
+fn add_lines(
+    alloc: Global,
+    name: &str,
+    more: &[String],
+    found: &mut Found,
+) -> Result<(), AllocError>
+    ensures { OnOk result (found.new
+        ≡ together found.old (lines_alone (map (file_line name.now) (map string_bytes more.now)))) }
+{
+    for line in more {
+        found.add_line(file_line(alloc, name, line.as_str())?)?;
+    }
+    Ok(())
+}
+
+// Returns a line after the name of a file.
+fn file_line(alloc: Global, name: &str, line: &str) -> Result<String, AllocError>
+    ensures { IfOk result (λ text. string_bytes text ≡ file_line name.now line.now) }
+{
+    format!(in alloc; "{name}: {line}")
 }

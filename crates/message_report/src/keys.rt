@@ -1,20 +1,15 @@
 //! The keys of a message that name no form.
 
 ghost use Rattle.std.specs.Prelude.{◌≡◌, IfOk, OnOk, string_bytes};
-ghost use Rattle.message_report.specs.FoundInMessages.{together};
-ghost use Rattle.message_report.specs.Inner.Added.{lines_alone};
+ghost use Rattle.plural_documents.specs.Found.{together};
 ghost use Rattle.message_report.specs.Inner.ToldKeys.{count_at, told_at, told_key};
-ghost use Rattle.message_report.specs.MessagesReport.{found_of_keys, key_line, named_line, other_keys, place_line, rest_line, rest_lines};
+ghost use Rattle.message_report.specs.MessagesReport.{found_of_keys, key_line, named_line, other_keys, place_line};
 ghost use Rattle.serde_json.specs.View.{members_view};
 
 use crate::form::is_form_name;
-use crate::found::{Found, sum};
-use plural_documents::name_text;
+use plural_documents::{Found, MOST_TOLD, add_rest, name_text, sum};
 use serde_json::{Map, Value};
 use std::alloc::{AllocError, Global};
-
-// The most such keys of a message, or faults of a pattern, that have a line each.
-pub(crate) const MOST_TOLD: u64 = 10;
 
 // Adds what is found in the keys that name no form: the first ones have a line each, and the others one.
 pub(crate) fn add_keys(
@@ -62,33 +57,10 @@ fn tell(
     ensures { OnOk result (found.new ≡ together found.old (told_key place.now before key.now)) }
 {
     if before >= MOST_TOLD {
-        return found.count_fault();
+        return found.add_faults(1);
     }
     let line = key_line(alloc, place, key)?;
     found.add_fault(line)
-}
-
-// Adds a line for what isn't told, if there is any.
-pub(crate) fn add_rest(
-    alloc: Global,
-    place: &str,
-    count: u64,
-    found: &mut Found,
-) -> Result<(), AllocError>
-    ensures { OnOk result (found.new ≡ together found.old (lines_alone (rest_lines place.now count))) }
-{
-    if count <= MOST_TOLD {
-        return Ok(());
-    }
-    let line = rest_line(alloc, place, count - MOST_TOLD)?;
-    found.add_line(line)
-}
-
-// Returns the line for this many more.
-fn rest_line(alloc: Global, place: &str, rest: u64) -> Result<String, AllocError>
-    ensures { IfOk result (λ line. string_bytes line ≡ rest_line place.now rest) }
-{
-    format!(in alloc; "{place}: and {rest} more")
 }
 
 // Returns the line for a key that names no form.

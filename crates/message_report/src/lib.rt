@@ -10,7 +10,6 @@ mod error;
 mod fault;
 mod file;
 mod form;
-mod found;
 mod keys;
 mod language;
 pub mod laws;

@@ -1,8 +1,9 @@
 //! What is found in a message.
 
 ghost use Rattle.std.specs.Prelude.{◌≡◌, IfOk, OnOk, Some, option_map, string_bytes};
-ghost use Rattle.message_report.specs.FoundInMessages.{together, IsFoundInEach};
-ghost use Rattle.message_report.specs.Inner.Added.{Adds};
+ghost use Rattle.message_report.specs.FoundInMessages.{IsFoundInEach};
+ghost use Rattle.plural_documents.specs.Found.{together};
+ghost use Rattle.plural_documents.specs.Found.{HasGrownBy};
 ghost use Rattle.message_report.specs.Inner.LanguageViews.{language_view};
 ghost use Rattle.message_report.specs.FormFaults.{form_fault_text};
 ghost use Rattle.message_report.specs.MessageForms.{form_name, form_order};
@@ -14,11 +15,11 @@ ghost use Rattle.serde_json.specs.View.{members_view, view};
 
 use crate::fault::{FormFault, form_fault};
 use crate::form::Form;
-use crate::found::{Found, MemberCheck};
 use crate::keys::{add_keys, place_line};
 use crate::language::Language;
 use crate::printed_key::message_text;
 use icu_plurals::{PluralCategory, PluralRuleType};
+use plural_documents::{Found, MemberCheck};
 use serde_json::{Map, Value};
 use std::alloc::{AllocError, Global};
 
@@ -53,7 +54,7 @@ impl<'a> MemberCheck for MessageCheck<'a> {
         found: &mut Found,
     ) -> Result<(), AllocError> {
         let place = place_of(alloc, self.rule_type, self.locale, key)?;
-        found.add_message()?;
+        found.add_checked(1)?;
         add_forms(alloc, self.language, place.as_str(), message, found)
     }
 }
@@ -94,7 +95,7 @@ fn add_forms(
     message: &Value,
     found: &mut Found,
 ) -> Result<(), AllocError>
-    ensures { OnOk result (Adds (IsFoundInForms (option_map language_view language) place.now (view message.now)
+    ensures { OnOk result (HasGrownBy (IsFoundInForms (option_map language_view language) place.now (view message.now)
         (as_object (view message.now))) found.old found.new) }
 {
     match message.as_object() {
@@ -112,7 +113,7 @@ fn add_all(
     members: &Map<String, Value>,
     found: &mut Found,
 ) -> Result<(), AllocError>
-    ensures { OnOk result (Adds (IsFoundInForms (option_map language_view language) place.now (view message.now)
+    ensures { OnOk result (HasGrownBy (IsFoundInForms (option_map language_view language) place.now (view message.now)
         (Some (members_view members.now.entries))) found.old found.new) }
 {
     add_each_form(alloc, language, place, message, found)?;
@@ -127,7 +128,7 @@ fn add_each_form(
     message: &Value,
     found: &mut Found,
 ) -> Result<(), AllocError>
-    ensures { OnOk result (Adds (IsFoundInEach (IsFoundInForm (option_map language_view language) place.now (view message.now))
+    ensures { OnOk result (HasGrownBy (IsFoundInEach (IsFoundInForm (option_map language_view language) place.now (view message.now))
         form_order) found.old found.new) }
 {
     for form in &FORM_ORDER {
@@ -145,7 +146,7 @@ fn add_form(
     form: Form,
     found: &mut Found,
 ) -> Result<(), AllocError>
-    ensures { OnOk result (Adds (IsFoundInForm (option_map language_view language) place.now (view message.now) form)
+    ensures { OnOk result (HasGrownBy (IsFoundInForm (option_map language_view language) place.now (view message.now) form)
         found.old found.new) }
 {
     let fault = form_fault(language, form, message);
@@ -158,7 +159,7 @@ fn count_form(message: &Value, form: Form, found: &mut Found) -> Result<(), Allo
     ensures { OnOk result (found.new ≡ together found.old (form_count form (view message.now))) }
 {
     if form.is_in(message) {
-        found.add_form()
+        found.add_cases(1)
     } else {
         Ok(())
     }

@@ -1,8 +1,8 @@
 //! What is found in the messages of a type.
 
 ghost use Rattle.std.specs.Prelude.{◌≡◌, codes, IfOk, OnOk, option_map, string_bytes};
-ghost use Rattle.message_report.specs.FoundInMessages.{together};
-ghost use Rattle.message_report.specs.Inner.Added.{Adds};
+ghost use Rattle.plural_documents.specs.Found.{together};
+ghost use Rattle.plural_documents.specs.Found.{HasGrownBy};
 ghost use Rattle.message_report.specs.Inner.LanguageViews.{language_view};
 ghost use Rattle.message_report.specs.MessagesReport.{found_of_language, no_rules_text, part_place, place_line, type_name};
 ghost use Rattle.message_report.specs.MessagesReport.{IsFoundInMessages, IsFoundInObject, IsFoundInPart, IsFoundUnder, HasLanguage};
@@ -10,13 +10,12 @@ ghost use Rattle.plural_documents.specs.PrintedKeys.{name_text};
 ghost use Rattle.serde_json.specs.Find.{as_object, get};
 ghost use Rattle.serde_json.specs.View.{members_view, view};
 
-use crate::found::{Found, add_members};
 use crate::keys::place_line;
 use crate::language::Language;
 use crate::message::MessageCheck;
 use crate::source::RulesOfLocales;
 use icu_plurals::PluralRuleType;
-use plural_documents::name_text;
+use plural_documents::{Found, add_members, name_text};
 use serde_json::{Map, Value};
 use std::alloc::{AllocError, Global};
 
@@ -39,7 +38,7 @@ pub(crate) fn add_part<S: RulesOfLocales>(
     value: &Value,
     found: &mut Found,
 ) -> Result<(), AllocError>
-    ensures { OnOk result (Adds (IsFoundInPart (S.source source.now) rule_type locale.now
+    ensures { OnOk result (HasGrownBy (IsFoundInPart (S.source source.now) rule_type locale.now
         (get (type_name rule_type) (view value.now))) found.old found.new) }
 {
     match value.get(type_name(rule_type)) {
@@ -57,7 +56,7 @@ fn add_object<S: RulesOfLocales>(
     part: &Value,
     found: &mut Found,
 ) -> Result<(), AllocError>
-    ensures { OnOk result (Adds (IsFoundInObject (S.source source.now) rule_type locale.now
+    ensures { OnOk result (HasGrownBy (IsFoundInObject (S.source source.now) rule_type locale.now
         (as_object (view part.now))) found.old found.new) }
 {
     match part.as_object() {
@@ -92,7 +91,7 @@ fn add_messages<S: RulesOfLocales>(
     members: &Map<String, Value>,
     found: &mut Found,
 ) -> Result<(), AllocError>
-    ensures { OnOk result (Adds (IsFoundInMessages (S.source source.now) rule_type locale.now
+    ensures { OnOk result (HasGrownBy (IsFoundInMessages (S.source source.now) rule_type locale.now
         (members_view members.now.entries)) found.old found.new) }
 {
     if members.is_empty() {
@@ -126,7 +125,7 @@ fn add_under(
     members: &Map<String, Value>,
     found: &mut Found,
 ) -> Result<(), AllocError>
-    ensures { OnOk result (Adds (IsFoundUnder (option_map language_view language) rule_type locale.now
+    ensures { OnOk result (HasGrownBy (IsFoundUnder (option_map language_view language) rule_type locale.now
         (members_view members.now.entries)) found.old found.new) }
 {
     add_no_rules(alloc, language, rule_type, locale, found)?;

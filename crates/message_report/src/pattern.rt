@@ -2,8 +2,8 @@
 
 ghost use Rattle.std.specs.Prelude.{◌≡◌, IfOk, OnOk, string_bytes};
 ghost use Rattle.message_pattern.specs.PatternParts.{parts_view};
-ghost use Rattle.message_report.specs.FoundInMessages.{one_fault, together};
-ghost use Rattle.message_report.specs.Inner.Added.{Adds};
+ghost use Rattle.plural_documents.specs.Found.{one_fault, together};
+ghost use Rattle.plural_documents.specs.Found.{HasGrownBy};
 ghost use Rattle.message_report.specs.Inner.ArgumentViews.{languages_view};
 ghost use Rattle.message_report.specs.MessagesReport.{no_pattern_line, pattern_place, place_line};
 ghost use Rattle.message_report.specs.MessagesReport.{IsFoundInArguments, IsFoundInPattern, IsFoundInText, IsFoundInTextIf};
@@ -11,11 +11,11 @@ ghost use Rattle.message_report.specs.PrintedKeys.{message_text};
 ghost use Rattle.serde_json.specs.Find.{as_str};
 ghost use Rattle.serde_json.specs.View.{view};
 
-use crate::found::{Found, MemberCheck};
-use crate::keys::{add_rest, place_line};
+use crate::keys::place_line;
 use crate::pattern_lines::{Languages, tell_pattern};
 use crate::printed_key::message_text;
 use message_pattern::{FaultKind, Part, Pattern, PatternError};
+use plural_documents::{Found, MemberCheck, add_rest};
 use serde_json::Value;
 use std::alloc::{AllocError, Global};
 
@@ -37,7 +37,7 @@ impl<'a> MemberCheck for PatternCheck<'a> {
         found: &mut Found,
     ) -> Result<(), AllocError> {
         let place = place_of(alloc, self.locale, key)?;
-        found.add_message()?;
+        found.add_checked(1)?;
         add_value(alloc, &self.languages, place.as_str(), value, found)
     }
 }
@@ -65,7 +65,7 @@ fn add_value(
     value: &Value,
     found: &mut Found,
 ) -> Result<(), AllocError>
-    ensures { OnOk result (Adds (IsFoundInTextIf (languages_view languages.now) place.now (as_str (view value.now))) found.old found.new) }
+    ensures { OnOk result (HasGrownBy (IsFoundInTextIf (languages_view languages.now) place.now (as_str (view value.now))) found.old found.new) }
 {
     match value.as_str() {
         Some(text) => add_text(alloc, languages, place, text, found),
@@ -81,7 +81,7 @@ fn add_text(
     text: &str,
     found: &mut Found,
 ) -> Result<(), AllocError>
-    ensures { OnOk result (Adds (IsFoundInText (languages_view languages.now) place.now text.now) found.old found.new) }
+    ensures { OnOk result (HasGrownBy (IsFoundInText (languages_view languages.now) place.now text.now) found.old found.new) }
 {
     match Pattern::parse(alloc, text.as_bytes()) {
         Ok(pattern) => add_lines(alloc, languages, place, pattern.parts(), found),
@@ -98,7 +98,7 @@ fn add_lines(
     parts: &[Part<'_>],
     found: &mut Found,
 ) -> Result<(), AllocError>
-    ensures { OnOk result (Adds (IsFoundInArguments (languages_view languages.now) place.now (parts_view parts.now)) found.old found.new) }
+    ensures { OnOk result (HasGrownBy (IsFoundInArguments (languages_view languages.now) place.now (parts_view parts.now)) found.old found.new) }
 {
     let count = tell_pattern(alloc, languages, place, parts, found)?;
     add_rest(alloc, place, count, found)

@@ -15,13 +15,13 @@ ghost use Rattle.message_report.specs.PatternFaults.{branch_fault, branch_fault_
 use crate::argument::{Argument, argument_at};
 use crate::branch_fault::{BranchFault, branch_fault, missing_fault};
 use crate::form::name_of;
-use crate::found::{Found, sum};
-use crate::keys::{MOST_TOLD, place_line};
+use crate::keys::place_line;
 use crate::language::Language;
 use crate::part::no_rules_text;
 use crate::printed_key::bytes_text;
 use icu_plurals::{PluralCategory, PluralRuleType};
 use message_pattern::{ArgumentKind, Part, Piece, Selector};
+use plural_documents::{Found, MOST_TOLD, sum};
 use std::alloc::{AllocError, Global};
 
 // The most selectors of an argument with which a further one is compared.
@@ -192,7 +192,7 @@ fn tell_no_rules(
     if before < MOST_TOLD {
         found.add_fault(place_line(alloc, place, no_rules_text(rule_type))?)?;
     } else {
-        found.count_fault()?;
+        found.add_faults(1)?;
     }
     sum(before, 1)
 }
@@ -337,7 +337,7 @@ fn tell(
     if before < MOST_TOLD {
         found.add_fault(branch_line(alloc, place, name, fault)?)?;
     } else {
-        found.count_fault()?;
+        found.add_faults(1)?;
     }
     sum(before, 1)
 }

@@ -1,7 +1,7 @@
 //! What is found in the patterns of a locale.
 
 ghost use Rattle.std.specs.Prelude.{◌≡◌, codes, IfOk, OnOk, string_bytes};
-ghost use Rattle.message_report.specs.Inner.Added.{Adds};
+ghost use Rattle.plural_documents.specs.Found.{HasGrownBy};
 ghost use Rattle.message_report.specs.Inner.ArgumentViews.{languages_view};
 ghost use Rattle.message_report.specs.MessagesReport.{patterns_name, patterns_place, place_line};
 ghost use Rattle.message_report.specs.MessagesReport.{HaveLanguages, IsFoundInPatterns, IsFoundInPatternsObject, IsFoundInPatternsPart};
@@ -9,14 +9,13 @@ ghost use Rattle.plural_documents.specs.PrintedKeys.{name_text};
 ghost use Rattle.serde_json.specs.Find.{as_object, get};
 ghost use Rattle.serde_json.specs.View.{members_view, view};
 
-use crate::found::{Found, add_members};
 use crate::keys::place_line;
 use crate::part::language_at;
 use crate::pattern::PatternCheck;
 use crate::pattern_lines::Languages;
 use crate::source::RulesOfLocales;
 use icu_plurals::PluralRuleType;
-use plural_documents::name_text;
+use plural_documents::{Found, add_members, name_text};
 use serde_json::{Map, Value};
 use std::alloc::{AllocError, Global};
 
@@ -28,7 +27,7 @@ pub(crate) fn add_patterns<S: RulesOfLocales>(
     value: &Value,
     found: &mut Found,
 ) -> Result<(), AllocError>
-    ensures { OnOk result (Adds (IsFoundInPatternsPart (S.source source.now) locale.now
+    ensures { OnOk result (HasGrownBy (IsFoundInPatternsPart (S.source source.now) locale.now
         (get patterns_name (view value.now))) found.old found.new) }
 {
     match value.get("patterns") {
@@ -45,7 +44,7 @@ fn add_object<S: RulesOfLocales>(
     part: &Value,
     found: &mut Found,
 ) -> Result<(), AllocError>
-    ensures { OnOk result (Adds (IsFoundInPatternsObject (S.source source.now) locale.now
+    ensures { OnOk result (HasGrownBy (IsFoundInPatternsObject (S.source source.now) locale.now
         (as_object (view part.now))) found.old found.new) }
 {
     match part.as_object() {
@@ -78,7 +77,7 @@ fn add_each<S: RulesOfLocales>(
     members: &Map<String, Value>,
     found: &mut Found,
 ) -> Result<(), AllocError>
-    ensures { OnOk result (Adds (IsFoundInPatterns (S.source source.now) locale.now
+    ensures { OnOk result (HasGrownBy (IsFoundInPatterns (S.source source.now) locale.now
         (members_view members.now.entries)) found.old found.new) }
 {
     let name = name_text(alloc, locale)?;

@@ -1,16 +1,15 @@
 //! The text of a report.
 
-ghost use Rattle.std.specs.Prelude.{◌≡◌, ◌++◌, IfOk, OnOk, map, string_bytes};
-ghost use Rattle.std.specs.List.{flat_map};
-ghost use Rattle.message_report.specs.MessagesReportText.{counts_line, counts_of, ended_line, report_text};
+ghost use Rattle.std.specs.Prelude.{◌≡◌, IfOk, string_bytes};
+ghost use Rattle.message_report.specs.MessagesReportText.{message_counts_line, counts_found, messages_report_text};
 
 use crate::counts::Counts;
-use crate::found::Found;
+use plural_documents::{Found, push_lines};
 use std::alloc::{AllocError, Global};
 
 // Returns the text of a report: its lines, and a line with the counts.
 pub(crate) fn report_text(alloc: Global, found: &Found) -> Result<String, AllocError>
-    ensures { IfOk result (λ text. string_bytes text ≡ report_text found.now) }
+    ensures { IfOk result (λ text. string_bytes text ≡ messages_report_text found.now) }
 {
     let mut text = String::new(alloc);
     push_lines(&mut text, found.lines())?;
@@ -20,32 +19,21 @@ pub(crate) fn report_text(alloc: Global, found: &Found) -> Result<String, AllocE
 
 // Returns the counts of what was found.
 pub(crate) fn counts_of(found: &Found) -> Counts
-    ensures { result ≡ counts_of found.now }
+    ensures { result ≡ counts_found found.now }
 {
     Counts {
-        messages: found.messages(),
-        forms: found.forms(),
+        messages: found.checked(),
+        forms: found.cases(),
         faults: found.faults(),
     }
 }
 
 // Returns the line with the counts.
 fn counts_line(alloc: Global, counts: Counts) -> Result<String, AllocError>
-    ensures { IfOk result (λ line. string_bytes line ≡ counts_line counts) }
+    ensures { IfOk result (λ line. string_bytes line ≡ message_counts_line counts) }
 {
     let (messages, forms, faults) = (counts.messages, counts.forms, counts.faults);
     format!(in alloc;
         "messages: {messages}, forms: {forms}, faults: {faults}, numbers tried: 0 to 9999\n"
     )
-}
-
-// Appends the lines, each followed by a newline.
-fn push_lines(text: &mut String, lines: &[String]) -> Result<(), AllocError>
-    ensures { OnOk result (string_bytes text.new ≡ string_bytes text.old ++ flat_map ended_line (map string_bytes lines.now)) }
-{
-    for line in lines {
-        text.push_str(line.as_str())?;
-        text.push_str("\n")?;
-    }
-    Ok(())
 }

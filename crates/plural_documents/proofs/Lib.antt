@@ -1,3 +1,4 @@
+pub mod FoundLemmas
 pub mod InputLemmas
 pub mod JsonTextLemmas
 pub mod OutputLemmas

@@ -1,12 +1,16 @@
 //! What the programs that read JSON documents share: an input read to a limit, the JSON value of
-//! bytes, how its keys are printed, and an output written.
+//! bytes, how its keys are printed, what a report finds in it, and an output written.
 #![tactic(auto)]
 
+mod first_lines;
+mod found;
 mod input;
 mod json_text;
 mod output;
 mod printed_key;
 
+pub use first_lines::{MOST_TOLD, add_rest, push_lines};
+pub use found::{Found, MemberCheck, add_members, sum};
 pub use input::{InputError, read_input};
 pub use json_text::{JsonTextError, json_value};
 pub use output::{OutputError, write_output};

@@ -17,10 +17,10 @@ abbrev pub answer_view : CodeAnswer → Answer
 answer_view answer = record { text = string_bytes answer.text; verdict = answer.verdict }
 
 -- the fault that an error of the input becomes
-abbrev pub input_fault : InputError → CheckError
-input_fault cause.Read = Read
-input_fault cause.TooLong = TooLong
-input_fault cause.Memory = Memory
+abbrev pub check_input_fault : InputError → CheckError
+check_input_fault cause.Read = Read
+check_input_fault cause.TooLong = TooLong
+check_input_fault cause.Memory = Memory
 
 -- the category of a number in a range's byte
 abbrev pub category_numbered : ℕ → PluralCategory
@@ -44,8 +44,8 @@ Gives seen IsAnswer (Ok x) = IsAnswer (Ok (seen x))
 Gives seen IsAnswer (Err e) = GivesFault (λ fault. IsAnswer (Err fault)) e
 
 -- the same if there is only one result
-abbrev pub GivesValue : {A B : Type 0} → (A → B) → Result B CheckError → Result A CheckError → Type 0
-GivesValue seen value = Gives seen (λ answer. value ≡ answer)
+abbrev pub GivesOnly : {A B : Type 0} → (A → B) → Result B CheckError → Result A CheckError → Type 0
+GivesOnly seen value = Gives seen (λ answer. value ≡ answer)
 
 -- the result of a call that reads, which may fail
 abbrev pub GivesAfterReading : (Result Answer CheckError → Type 0) → Result CodeAnswer CheckError → Type 0

@@ -9,10 +9,10 @@ use Rattle.message_format.specs.declared.arguments.Value as values
 use Rattle.message_format.specs.declared.error.FormatError.{FormatError}
 use Rattle.message_format.specs.declared.error.FormatError.TheVariants as error
 use Rattle.message_format.specs.declared.steps.Rules as rules
-use Rattle.message_format.specs.declared.steps.Shown as shown
-use Rattle.message_format.specs.declared.steps.Shown.TheVariants as shows
-use Rattle.message_format.specs.declared.steps.Step as steps
-use Rattle.message_format.specs.declared.steps.Step.TheVariants as step
+use Rattle.message_format.specs.declared.step.Shown as shown
+use Rattle.message_format.specs.declared.step.Shown.TheVariants as shows
+use Rattle.message_format.specs.declared.step.Step as steps
+use Rattle.message_format.specs.declared.step.Step.TheVariants as step
 use Rattle.message_format.specs.FormatArguments.{Argument, Value, value_view}
 use Rattle.message_format.specs.FormatNumbers.{digit_of}
 use Rattle.message_format.specs.FormatSteps.{Step, Stops, Prints, Chooses, Fails, TwoRules}
@@ -43,9 +43,9 @@ GivesStep IsStep (Err (error.Argument fault name)) = IsStep (Fails fault name.no
 GivesStep IsStep (Err error.Memory) = Unit {0}
 
 -- a branch that is chosen is no longer than the parts that it is chosen from
-abbrev pub IsBehind : ℕ → Result steps.Step FormatError → Type 0
-IsBehind n (Ok (step.Chooses number branch)) = length branch.now ≤ n
-IsBehind n _ = Unit {0}
+abbrev pub ChoosesWithin : ℕ → Result steps.Step FormatError → Type 0
+ChoosesWithin n (Ok (step.Chooses number branch)) = length branch.now ≤ n
+ChoosesWithin n _ = Unit {0}
 
 -- the rules, as contracts see them
 abbrev pub two_rules : rules.Rules → TwoRules

@@ -5,7 +5,7 @@ use Rattle.message_pattern.specs.declared.text.Context.TheVariants.{Whole}
 use Rattle.message_pattern.specs.declared.print.Spot.{Spot}
 use Rattle.message_pattern.specs.declared.print.Spot.TheVariants.{Message, Branches}
 use Rattle.message_pattern.specs.PatternBytes.{hash, comma, opening, closing}
-use Rattle.message_pattern.specs.PatternParts.{Part, Piece, Text, Hash, Argument, Begin, Branch, End}
+use Rattle.message_pattern.specs.PatternParts.{Part, PatternPiece, Text, Hash, Argument, Begin, Branch, End}
 use Rattle.message_pattern.specs.PatternReading.{context_of}
 use Rattle.message_pattern.specs.PatternPrinting.{end_of_quote, text_text, quoted_behind, kind_text, offset_text, selector_text}
 
@@ -23,7 +23,7 @@ abbrev pub end_of_branch : Spot → List ℕ
 end_of_branch (Message quoted) = end_of_quote quoted ++ closing ∷ []
 end_of_branch Branches = []
 
-abbrev pub piece_text : Context → Spot → Piece → List ℕ
+abbrev pub piece_text : Context → Spot → PatternPiece → List ℕ
 piece_text c at (Text s) = text_text c (is_quoted at) s
 piece_text c at Hash = end_of_text at ++ hash ∷ []
 piece_text c at (Argument name) = end_of_text at ++ opening ∷ (name ++ closing ∷ [])
@@ -31,7 +31,7 @@ piece_text c at (Begin kind name offset) = end_of_text at ++ opening ∷ (name +
 piece_text c at (Branch sel) = end_of_branch at ++ 32 ∷ (selector_text sel ++ 32 ∷ opening ∷ [])
 piece_text c at End = end_of_branch at ++ closing ∷ []
 
-abbrev pub spot_behind : Context → Spot → Piece → Spot
+abbrev pub spot_behind : Context → Spot → PatternPiece → Spot
 spot_behind c at (Text s) = Message (quoted_behind c (is_quoted at) s)
 spot_behind c at (Begin kind name offset) = Branches
 spot_behind c at p = Message false
@@ -45,12 +45,12 @@ abbrev pub other_contexts : List Context → List Context
 other_contexts [] = []
 other_contexts (c ∷ outer) = outer
 
-abbrev pub context_behind : Context → List Context → Piece → Context
+abbrev pub context_behind : Context → List Context → PatternPiece → Context
 context_behind c outer (Begin kind name offset) = context_of kind
 context_behind c outer End = first_context outer
 context_behind c outer p = c
 
-abbrev pub outer_behind : Context → List Context → Piece → List Context
+abbrev pub outer_behind : Context → List Context → PatternPiece → List Context
 outer_behind c outer (Begin kind name offset) = c ∷ outer
 outer_behind c outer End = other_contexts outer
 outer_behind c outer p = outer

@@ -17,12 +17,12 @@ use Rattle.message_pattern.specs.declared.head.Head.TheVariants as head
 use Rattle.message_pattern.specs.declared.branch.BranchFront as branches
 use Rattle.message_pattern.specs.declared.branch.BranchFront.TheVariants as branch
 use Rattle.message_pattern.specs.PatternText.{Front, End, Closes, Opens, Takes}
-use Rattle.message_pattern.specs.PatternParts.{Piece, offset_view, selector_view, piece_view, parts_view}
+use Rattle.message_pattern.specs.PatternParts.{PatternPiece, offset_view, selector_view, piece_view, parts_view}
 use Rattle.message_pattern.specs.PatternReading.{ReadStep, ReadsTo, Read, Faulty}
 use Rattle.message_pattern.specs.PatternHeads.{Head, Plain, Choice, BranchFront}
 use Rattle.message_pattern.specs.PatternHeads as spec
 
-abbrev pub any_view : Option pieces.Piece → Option Piece
+abbrev pub any_view : Option pieces.Piece → Option PatternPiece
 any_view None = None
 any_view (Some piece) = Some (piece_view piece)
 

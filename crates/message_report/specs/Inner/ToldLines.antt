@@ -1,16 +1,17 @@
 -- Not a definition of the subject: what is told of the lines of a pattern, by how many come before them.
 use Rattle.std.specs.Prelude.{◌≡◌, ℕ, ◌+◌, ◌-◌, nat_lt, List, [], ◌∷◌, ◌++◌, length, take, if◌then◌else◌}
 use Rattle.message_pattern.specs.PatternParts.{Selector}
-use Rattle.message_report.specs.FoundInMessages.{Found, together}
-use Rattle.message_report.specs.MessagesReport.{most_compared, most_told}
+use Rattle.plural_documents.specs.Found.{Found, together}
+use Rattle.message_report.specs.MessagesReport.{most_compared}
+use Rattle.plural_documents.specs.FirstLines.{most_told}
 
 -- so many come before these
 abbrev pub told_lines : ℕ → List (List ℕ) → Found
 told_lines before lines = record {
   lines = take (most_told - before) lines;
-  messages = 0;
-  forms = 0;
   faults = length lines;
+  checked = 0;
+  cases = 0;
 }
 
 -- these lines were told, or counted

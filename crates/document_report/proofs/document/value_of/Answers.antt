@@ -1,7 +1,8 @@
 use Rattle.std.proofs.Common.{Ok, refl}
 use Rattle.std.proofs.lemmas.Result.{err_from_is_err_and}
 use Rattle.serde_json.specs.View.{view}
-use Rattle.document_report.specs.CheckedDocument.{document_formed, document_with, or_fault}
+use Rattle.document_report.specs.CheckedDocument.{document_formed, document_with}
+use Rattle.plural_documents.specs.Steps.{or_fault}
 use Rattle.document_report.specs.declared.error.CheckError.TheVariants.{Json}
 use Rattle.plural_documents.specs.Inputs.{json_of}
 use Rattle.document_report.proofs.CheckFaults.{after, handed_on, of_second, refused_first}

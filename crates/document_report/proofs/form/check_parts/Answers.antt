@@ -2,7 +2,8 @@ use Rattle.std.specs.Prelude.{⊤}
 use Rattle.std.proofs.lemmas.Result.{err_from_is_err_and}
 use Rattle.serde_json.specs.Find.{get}
 use Rattle.serde_json.specs.View.{view}
-use Rattle.document_report.specs.CheckedDocument.{◌>>=◌, part_formed}
+use Rattle.document_report.specs.CheckedDocument.{part_formed}
+use Rattle.plural_documents.specs.Steps.{◌>>=◌}
 use Rattle.plural_fallback.specs.LocalesJson.{part_name}
 use Rattle.plural_fallback.specs.declared.locales.Part.TheVariants.{Cardinal, Ordinal, Ranges}
 use Rattle.document_report.proofs.CheckFaults.{handed_on, of_second, refused_first}

@@ -1,9 +1,10 @@
 use Rattle.std.proofs.Common.{◌≡◌, ◌≢◌, ◌+◌, ◌∷◌, [], length, take, refl, ap, sym, ◌∙◌, rules}
 use Rattle.std.proofs.lemmas.List.{length-append, take_all}
 use Rattle.document_report.specs.DocumentReport.{faults_of}
-use Rattle.document_report.specs.Found.{together}
-use Rattle.document_report.specs.Inner.Additions.{lines_alone}
-use Rattle.document_report.proofs.FoundParts.{on_ok, together-nothing}
+use Rattle.plural_documents.specs.Found.{together}
+use Rattle.plural_documents.specs.Found.{lines_alone}
+use Rattle.document_report.proofs.FoundParts.{on_ok}
+use Rattle.plural_documents.proofs.FoundLemmas.{together-nothing}
 use Rattle.document_report.proofs.Told.{all_told, next_told, none_of, one_of, told_lines}
 use Rattle.document_report.proofs.languages.add_faults.Goals as goal
 use Rattle.document_report.proofs.languages.add_faults.Goals.{then-eq+in_ok-tell+in_ok-count, else-eq}

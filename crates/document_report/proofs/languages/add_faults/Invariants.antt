@@ -1,7 +1,7 @@
 use Rattle.std.proofs.Common.{◌≡◌, length, take}
 use Rattle.document_report.specs.DocumentReport.{faults_of}
-use Rattle.document_report.specs.Found.{together}
-use Rattle.document_report.specs.Inner.Additions.{lines_alone}
+use Rattle.plural_documents.specs.Found.{together}
+use Rattle.plural_documents.specs.Found.{lines_alone}
 use Rattle.document_report.proofs.Told.{told_lines}
 use Rattle.document_report.proofs.languages.add_faults.Given as goal
 

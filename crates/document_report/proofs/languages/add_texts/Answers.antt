@@ -4,7 +4,7 @@ use Rattle.serde_json.specs.Find.{get}
 use Rattle.serde_json.specs.View.{view}
 use Rattle.icu_plurals.specs.declared.PluralCategory.TheVariants.{Zero}
 use Rattle.document_report.specs.DocumentReport.{found_under, text_order}
-use Rattle.document_report.specs.Found.{together}
+use Rattle.plural_documents.specs.Found.{together}
 use Rattle.document_report.proofs.FoundParts.{next_under}
 use Rattle.document_report.proofs.languages.add_texts.Goals as goal
 

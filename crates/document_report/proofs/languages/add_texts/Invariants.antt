@@ -1,6 +1,6 @@
 use Rattle.std.proofs.Common.{◌≡◌, drop}
 use Rattle.document_report.specs.DocumentReport.{found_under_all, text_order}
-use Rattle.document_report.specs.Found.{together}
+use Rattle.plural_documents.specs.Found.{together}
 use Rattle.serde_json.specs.View.{view}
 use Rattle.document_report.proofs.languages.add_texts.Given as goal
 

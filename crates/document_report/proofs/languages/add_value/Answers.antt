@@ -1,6 +1,6 @@
 use Rattle.std.proofs.Common.{ℕ, List, ap, sym, ◌∙◌}
 use Rattle.serde_json.specs.View.{view}
-use Rattle.document_report.specs.Found.{Found, one_fault, together}
+use Rattle.plural_documents.specs.Found.{Found, one_fault, together}
 use Rattle.document_report.proofs.FoundParts.{no_text, on_ok}
 use Rattle.document_report.proofs.languages.add_value.Goals as goal
 

@@ -1,6 +1,6 @@
 use Rattle.std.proofs.Common.{List, ℕ, ap, sym, ◌∙◌}
 use Rattle.serde_json.specs.View.{view}
-use Rattle.document_report.specs.Found.{Found, one_fault, together}
+use Rattle.plural_documents.specs.Found.{Found, one_fault, together}
 use Rattle.document_report.proofs.FoundParts.{on_ok}
 use Rattle.document_report.proofs.ParentsFound.{no_object}
 use Rattle.document_report.proofs.parents.add_value.Goals as goal

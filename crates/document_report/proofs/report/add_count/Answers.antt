@@ -1,6 +1,6 @@
 use Rattle.std.proofs.Common.{◌≡◌, ℕ, List, ap, sym, ◌∙◌, arith}
 use Rattle.document_report.specs.DocumentReport.{found_of_count}
-use Rattle.document_report.specs.Found.{one_fault, together}
+use Rattle.plural_documents.specs.Found.{one_fault, together}
 use Rattle.document_report.proofs.FoundParts.{on_ok}
 use Rattle.document_report.proofs.report.add_count.Goals as goal
 

@@ -3,12 +3,12 @@ use Rattle.std.specs.Prelude.{OnOk}
 use Rattle.serde_json.specs.Data.{Members}
 use Rattle.document_report.specs.CheckedDocument.{members_or_none}
 use Rattle.document_report.specs.DocumentReport.{IsFoundInRules}
-use Rattle.document_report.specs.Found.{IsFoundIn}
-use Rattle.document_report.specs.Inner.Additions.{Adds}
+use Rattle.plural_documents.specs.Found.{IsFoundInMembers}
+use Rattle.plural_documents.specs.Found.{HasGrownBy}
 use Rattle.document_report.proofs.report.add_rules.Goals as goal
 
 pub returns : goal.returns
 returns c =
-    subst (λ (members : Members). OnOk c.add_members.result
-    (Adds (IsFoundIn (IsFoundInRules c.args.part) members) c.args.found.now c.add_members.new.found))
-    (ap members_or_none c.members_of-members.ensures) c.add_members.ensures
+    subst (λ (members : Members). OnOk c.add_members_of.result
+    (HasGrownBy (IsFoundInMembers (IsFoundInRules c.args.part) members) c.args.found.now c.add_members_of.new.found))
+    (ap members_or_none c.members_of-members.ensures) c.add_members_of.ensures

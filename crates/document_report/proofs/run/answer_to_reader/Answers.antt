@@ -1,7 +1,7 @@
 use Rattle.std.proofs.lemmas.Result.{err_from_is_err_and}
 use Rattle.document_report.specs.CheckAnswer.{AnswersDocument}
-use Rattle.document_report.specs.CheckedDocument.{value_of}
-use Rattle.document_report.specs.Inner.CheckCalls.{input_fault}
+use Rattle.document_report.specs.CheckedDocument.{document_of_bytes}
+use Rattle.document_report.specs.Inner.CheckCalls.{check_input_fault}
 use Rattle.document_report.proofs.CheckFaults.{handed_on}
 use Rattle.document_report.proofs.CheckReadings.{answer_not_long, no_input, of_all, read_on, to_the_end}
 use Rattle.document_report.proofs.run.answer_to_reader.Goals as goal
@@ -9,13 +9,13 @@ use Rattle.document_report.proofs.run.answer_to_reader.Goals as goal
 pub returns-in_err-input-clause-answers : goal.returns-in_err-input-clause-answers
 returns-in_err-input-clause-answers g c =
     no_input (g.R.Read.remaining c.args.reader.now) c.in_err-input.field-0.0 c.from_residual.result
-    (handed_on _ (input_fault c.in_err-input.field-0.0) (err_from_is_err_and c.from_residual.result c.from_residual.ensures.1))
+    (handed_on _ (check_input_fault c.in_err-input.field-0.0) (err_from_is_err_and c.from_residual.result c.from_residual.ensures.1))
     c.in_err-input.ensures.input
 
 pub returns-in_err-input-clause-reads : goal.returns-in_err-input-clause-reads
 returns-in_err-input-clause-reads g c =
     read_on _ _ c.in_err-input.field-0.0 c.from_residual.result
-    (handed_on _ (input_fault c.in_err-input.field-0.0) (err_from_is_err_and c.from_residual.result c.from_residual.ensures.1))
+    (handed_on _ (check_input_fault c.in_err-input.field-0.0) (err_from_is_err_and c.from_residual.result c.from_residual.ensures.1))
     c.in_err-input.ensures.read
 
 pub returns-clause-answers : goal.returns-clause-answers
@@ -28,6 +28,6 @@ returns-clause-answers g c = (
 
 pub returns-clause-reads : goal.returns-clause-reads
 returns-clause-reads g c =
-    to_the_end (AnswersDocument (value_of c.as_slice.result.now))
+    to_the_end (AnswersDocument (document_of_bytes c.as_slice.result.now))
     (g.R.Read.remaining c.args.reader.now) (g.R.Read.remaining c.read_input.new.reader)
     (answer_not_long c.as_slice.result.now) c.in_ok-input.ensures.read c.answer_to.result c.answer_to.ensures

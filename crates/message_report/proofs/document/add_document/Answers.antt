@@ -1,9 +1,9 @@
 use Rattle.std.proofs.Common.{ℕ, List, codes, ap, refl, subst, ◌∙◌}
 use Rattle.std.specs.Prelude.{Option}
 use Rattle.serde_json.specs.Data.{Members}
-use Rattle.message_report.specs.FoundInMessages.{one_fault, together}
+use Rattle.plural_documents.specs.Found.{one_fault, together}
 use Rattle.message_report.specs.MessagesReport.{IsFoundInLocales}
-use Rattle.message_report.proofs.FoundLemmas.{on_ok}
+use Rattle.message_report.proofs.EachFound.{on_ok}
 use Rattle.message_report.proofs.document.add_document.Goals as goal
 
 pub returns-in_ok-from_str-in-None : goal.returns-in_ok-from_str-in-None

@@ -1,9 +1,10 @@
 use Rattle.std.proofs.Common.{◌≡◌, ℕ, List, refl, subst, ◌∙◌}
 use Rattle.serde_json.specs.View.{members_view}
-use Rattle.message_report.specs.FoundInMessages.{together, IsFoundIn}
-use Rattle.message_report.specs.MessagesReport.{IsFoundInPartKey}
+use Rattle.plural_documents.specs.Found.{together, IsFoundInMembers}
+use Rattle.message_report.specs.MessagesReport.{IsFoundInLocaleKey}
 use Rattle.plural_documents.specs.PrintedKeys.{name_text}
-use Rattle.message_report.proofs.FoundLemmas.{on_ok, two_added}
+use Rattle.message_report.proofs.EachFound.{on_ok}
+use Rattle.plural_documents.proofs.FoundLemmas.{two_added}
 use Rattle.message_report.proofs.document.add_locale.Goals as goal
 
 pub returns : goal.returns
@@ -16,7 +17,7 @@ returns g c =
       (
         keys.0,
         added.0,
-        subst (λ (name : List ℕ). IsFoundIn (IsFoundInPartKey name) (members_view c.args.members.now.entries) keys.0) named keys.1,
+        subst (λ (name : List ℕ). IsFoundInMembers (IsFoundInLocaleKey name) (members_view c.args.members.now.entries) keys.0) named keys.1,
         added.1,
         refl,
       ),

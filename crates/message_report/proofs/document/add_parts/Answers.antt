@@ -1,6 +1,7 @@
 use Rattle.std.proofs.Common.{refl}
-use Rattle.message_report.specs.FoundInMessages.{together}
-use Rattle.message_report.proofs.FoundLemmas.{on_ok, two_added}
+use Rattle.plural_documents.specs.Found.{together}
+use Rattle.message_report.proofs.EachFound.{on_ok}
+use Rattle.plural_documents.proofs.FoundLemmas.{two_added}
 use Rattle.message_report.proofs.document.add_parts.Goals as goal
 
 pub returns : goal.returns

@@ -1,6 +1,6 @@
 use Rattle.std.proofs.Common.{refl}
 use Rattle.message_report.specs.MessagesReport.{named}
-use Rattle.message_report.proofs.FoundLemmas.{on_ok}
+use Rattle.message_report.proofs.EachFound.{on_ok}
 use Rattle.message_report.proofs.file.add_file.Goals as goal
 
 pub returns : goal.returns

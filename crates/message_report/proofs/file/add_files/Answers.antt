@@ -1,9 +1,9 @@
 use Rattle.std.proofs.Common.{drop, subst}
 use Rattle.std.proofs.lemmas.List.{drop_all}
-use Rattle.message_report.specs.Inner.Added.{Adds}
+use Rattle.plural_documents.specs.Found.{HasGrownBy}
 use Rattle.message_report.specs.MessagesReport.{IsFoundInFile}
 use Rattle.message_report.specs.declared.file.MessageFile.{MessageFile}
-use Rattle.message_report.proofs.FoundLemmas.{each_begins, each_ends, each_goes_on}
+use Rattle.message_report.proofs.EachFound.{each_begins, each_ends, each_goes_on}
 use Rattle.message_report.proofs.file.add_files.Goals as goal
 
 pub loop-file-init : goal.loop-file-init
@@ -14,7 +14,7 @@ loop-file-preserved g c =
     let Is = IsFoundInFile (g.S.RulesOfLocales.source c.args.source.now) in
     each_goes_on Is c.args.files.now c.args.found.now c.loop-file.file-index c.file-item.result c.loop-file.found c.add_file.new.found
     c.loop-file-test.true c.loop-file.invariant
-    (subst (λ (file : MessageFile). Adds (Is file) c.loop-file.found c.add_file.new.found) c.file-item.is c.in_ok-add_file.ensures)
+    (subst (λ (file : MessageFile). HasGrownBy (Is file) c.loop-file.found c.add_file.new.found) c.file-item.is c.in_ok-add_file.ensures)
 
 pub returns : goal.returns
 returns g c =

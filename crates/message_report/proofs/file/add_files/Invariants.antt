@@ -1,6 +1,6 @@
 use Rattle.std.proofs.Common.{drop}
 use Rattle.message_report.specs.MessagesReport.{IsFoundInFile}
-use Rattle.message_report.proofs.FoundLemmas.{CompletesEach}
+use Rattle.message_report.proofs.EachFound.{CompletesEach}
 use Rattle.message_report.proofs.file.add_files.Given as goal
 
 -- what is found in the remaining files completes what was found so far

@@ -1,7 +1,7 @@
 use Rattle.std.proofs.Common.{ℕ, ◌+◌, List, string_bytes, length, ap, sym, ◌∙◌, arith}
 use Rattle.serde_json.specs.Data.{Members}
 use Rattle.serde_json.specs.View.{view, members_view}
-use Rattle.message_report.specs.FoundInMessages.{together}
+use Rattle.plural_documents.specs.Found.{together}
 use Rattle.message_report.specs.MessagesReport.{other_keys}
 use Rattle.message_report.specs.Inner.ToldKeys.{count_at, told_at}
 use Rattle.message_report.proofs.ToldLemmas.{next_count, next_key, told_from}

@@ -1,6 +1,6 @@
 use Rattle.std.proofs.Common.{◌≡◌, ◌+◌, length}
 use Rattle.serde_json.specs.View.{members_view}
-use Rattle.message_report.specs.FoundInMessages.{together}
+use Rattle.plural_documents.specs.Found.{together}
 use Rattle.message_report.specs.MessagesReport.{other_keys}
 use Rattle.message_report.proofs.ToldLemmas.{told_from}
 use Rattle.message_report.proofs.keys.add_keys.Given as goal

@@ -1,8 +1,9 @@
 use Rattle.std.proofs.Common.{refl}
 use Rattle.serde_json.specs.View.{members_view}
-use Rattle.message_report.specs.FoundInMessages.{together}
+use Rattle.plural_documents.specs.Found.{together}
 use Rattle.message_report.specs.MessagesReport.{found_of_keys, other_keys}
-use Rattle.message_report.proofs.FoundLemmas.{on_ok, two_added}
+use Rattle.message_report.proofs.EachFound.{on_ok}
+use Rattle.plural_documents.proofs.FoundLemmas.{two_added}
 use Rattle.message_report.proofs.message.add_all.Goals as goal
 
 pub returns : goal.returns

@@ -6,7 +6,7 @@ use Rattle.message_report.specs.Inner.LanguageViews.{language_view}
 use Rattle.message_report.specs.MessageForms.{form_order}
 use Rattle.message_report.specs.MessagesReport.{IsFoundInForm}
 use Rattle.message_report.specs.declared.form.Form.TheVariants.{ExplicitZero}
-use Rattle.message_report.proofs.FoundLemmas.{each_begins, each_ends, each_goes_on}
+use Rattle.message_report.proofs.EachFound.{each_begins, each_ends, each_goes_on}
 use Rattle.message_report.proofs.message.add_each_form.Goals as goal
 
 pub loop-form-init : goal.loop-form-init

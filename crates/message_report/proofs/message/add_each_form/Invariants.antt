@@ -4,7 +4,7 @@ use Rattle.serde_json.specs.View.{view}
 use Rattle.message_report.specs.Inner.LanguageViews.{language_view}
 use Rattle.message_report.specs.MessageForms.{form_order}
 use Rattle.message_report.specs.MessagesReport.{IsFoundInForm}
-use Rattle.message_report.proofs.FoundLemmas.{CompletesEach}
+use Rattle.message_report.proofs.EachFound.{CompletesEach}
 use Rattle.message_report.proofs.message.add_each_form.Given as goal
 
 -- what is found in the remaining forms completes what was found so far

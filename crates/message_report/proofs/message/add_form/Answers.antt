@@ -1,8 +1,9 @@
 use Rattle.std.proofs.Common.{refl}
 use Rattle.serde_json.specs.View.{view}
-use Rattle.message_report.specs.FoundInMessages.{together}
+use Rattle.plural_documents.specs.Found.{together}
 use Rattle.message_report.specs.MessagesReport.{form_count, found_of_fault}
-use Rattle.message_report.proofs.FoundLemmas.{on_ok, two_added}
+use Rattle.message_report.proofs.EachFound.{on_ok}
+use Rattle.plural_documents.proofs.FoundLemmas.{two_added}
 use Rattle.message_report.proofs.message.add_form.Goals as goal
 
 pub returns : goal.returns

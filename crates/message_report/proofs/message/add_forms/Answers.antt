@@ -2,10 +2,10 @@ use Rattle.std.proofs.Common.{ℕ, List, codes, ap, refl, subst, ◌∙◌}
 use Rattle.std.specs.Prelude.{Option, option_map}
 use Rattle.serde_json.specs.Data.{Members}
 use Rattle.serde_json.specs.View.{view}
-use Rattle.message_report.specs.FoundInMessages.{one_fault, together}
+use Rattle.plural_documents.specs.Found.{one_fault, together}
 use Rattle.message_report.specs.Inner.LanguageViews.{language_view}
 use Rattle.message_report.specs.MessagesReport.{place_line, IsFoundInForms}
-use Rattle.message_report.proofs.FoundLemmas.{on_ok}
+use Rattle.message_report.proofs.EachFound.{on_ok}
 use Rattle.message_report.proofs.message.add_forms.Goals as goal
 
 pub returns-in_ok-place_line-in-None : goal.returns-in_ok-place_line-in-None

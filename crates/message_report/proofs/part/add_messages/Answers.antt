@@ -2,19 +2,20 @@ use Rattle.std.proofs.Common.{◌≡◌, ℕ, List, refl, subst, sym, ◌∙◌,
 use Rattle.std.specs.Prelude.{option_map}
 use Rattle.serde_json.specs.Data.{Members}
 use Rattle.serde_json.specs.View.{members_view}
-use Rattle.message_report.specs.FoundInMessages.{nothing}
+use Rattle.plural_documents.specs.Found.{nothing_found}
 use Rattle.message_report.specs.Inner.LanguageViews.{language_view}
 use Rattle.message_report.specs.MessagesReport.{IsFoundInMessages, IsFoundUnder}
 use Rattle.plural_documents.specs.PrintedKeys.{name_text}
-use Rattle.message_report.proofs.FoundLemmas.{none_added, on_ok}
+use Rattle.message_report.proofs.EachFound.{on_ok}
+use Rattle.plural_documents.proofs.FoundLemmas.{none_added}
 use Rattle.message_report.proofs.PartLemmas.{none_there, under_messages}
 use Rattle.message_report.proofs.part.add_messages.Goals as goal
 
 pub returns-then-is_empty : goal.returns-then-is_empty
 returns-then-is_empty g c = (
-  nothing,
+  nothing_found,
   subst (λ (members : Members).
-      IsFoundInMessages (g.S.RulesOfLocales.source c.args.source.now) c.args.rule_type c.args.locale.now members nothing)
+      IsFoundInMessages (g.S.RulesOfLocales.source c.args.source.now) c.args.rule_type c.args.locale.now members nothing_found)
       (sym (none_there c.args.members.now.entries (c.is_empty.ensures.0 c.if-is_empty.true))) refl,
   none_added c.args.found.now,
 )

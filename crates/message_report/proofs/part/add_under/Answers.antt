@@ -1,9 +1,10 @@
 use Rattle.std.specs.Prelude.{option_map}
 use Rattle.std.proofs.Common.{refl}
-use Rattle.message_report.specs.FoundInMessages.{together}
+use Rattle.plural_documents.specs.Found.{together}
 use Rattle.message_report.specs.Inner.LanguageViews.{language_view}
 use Rattle.message_report.specs.MessagesReport.{found_of_language}
-use Rattle.message_report.proofs.FoundLemmas.{on_ok, two_added}
+use Rattle.message_report.proofs.EachFound.{on_ok}
+use Rattle.plural_documents.proofs.FoundLemmas.{two_added}
 use Rattle.message_report.proofs.part.add_under.Goals as goal
 
 pub returns : goal.returns

@@ -1,8 +1,9 @@
 use Rattle.std.proofs.Common.{◌≡◌, refl}
-use Rattle.message_report.specs.FoundInMessages.{together}
-use Rattle.message_report.specs.Inner.Added.{lines_alone}
-use Rattle.message_report.specs.MessagesReport.{found_of_lines, rest_lines}
-use Rattle.message_report.proofs.FoundLemmas.{on_ok}
+use Rattle.plural_documents.specs.Found.{together}
+use Rattle.plural_documents.specs.Found.{lines_alone}
+use Rattle.message_report.specs.MessagesReport.{found_of_lines}
+use Rattle.plural_documents.specs.FirstLines.{rest_lines}
+use Rattle.message_report.proofs.EachFound.{on_ok}
 use Rattle.message_report.proofs.TellLemmas.{all_lines}
 use Rattle.message_report.proofs.pattern.add_lines.Goals as goal
 

@@ -1,7 +1,7 @@
 use Rattle.std.proofs.Common.{◌≡◌}
 use Rattle.message_pattern.specs.PatternParts.{parts_view}
 use Rattle.message_report.specs.Inner.ArgumentViews.{languages_view}
-use Rattle.message_report.proofs.FoundLemmas.{on_ok}
+use Rattle.message_report.proofs.EachFound.{on_ok}
 use Rattle.message_report.proofs.TextLemmas.{fault_found, pattern_found}
 use Rattle.message_report.proofs.pattern.add_text.Goals as goal
 

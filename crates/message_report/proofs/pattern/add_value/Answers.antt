@@ -1,9 +1,9 @@
 use Rattle.std.proofs.Common.{ℕ, List, codes, ap, refl, subst, ◌∙◌}
 use Rattle.std.specs.Prelude.{Option}
-use Rattle.message_report.specs.FoundInMessages.{one_fault, together}
+use Rattle.plural_documents.specs.Found.{one_fault, together}
 use Rattle.message_report.specs.Inner.ArgumentViews.{languages_view}
 use Rattle.message_report.specs.MessagesReport.{place_line, IsFoundInTextIf}
-use Rattle.message_report.proofs.FoundLemmas.{on_ok}
+use Rattle.message_report.proofs.EachFound.{on_ok}
 use Rattle.message_report.proofs.pattern.add_value.Goals as goal
 
 pub returns-in_ok-place_line-in-None : goal.returns-in_ok-place_line-in-None

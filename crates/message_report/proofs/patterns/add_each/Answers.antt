@@ -1,10 +1,10 @@
 use Rattle.std.proofs.Common.{◌≡◌, ℕ, List, subst, ◌∙◌}
 use Rattle.serde_json.specs.View.{members_view}
-use Rattle.message_report.specs.FoundInMessages.{IsFoundIn}
+use Rattle.plural_documents.specs.Found.{IsFoundInMembers}
 use Rattle.message_report.specs.Inner.ArgumentViews.{languages_view}
 use Rattle.message_report.specs.MessagesReport.{IsFoundInPattern}
 use Rattle.plural_documents.specs.PrintedKeys.{name_text}
-use Rattle.message_report.proofs.FoundLemmas.{on_ok}
+use Rattle.message_report.proofs.EachFound.{on_ok}
 use Rattle.message_report.proofs.patterns.add_each.Goals as goal
 
 pub returns : goal.returns
@@ -17,7 +17,7 @@ returns g c =
       (
         two,
         c.languages_at.ensures,
-        subst (λ (name : List ℕ). IsFoundIn (IsFoundInPattern two name) (members_view c.args.members.now.entries) added.0) named added.1,
+        subst (λ (name : List ℕ). IsFoundInMembers (IsFoundInPattern two name) (members_view c.args.members.now.entries) added.0) named added.1,
       ),
       added.2,
     ))

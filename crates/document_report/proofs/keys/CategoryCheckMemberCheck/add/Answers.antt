@@ -1,8 +1,9 @@
 use Rattle.std.proofs.Common.{ℕ, List, ap, refl, sym, ◌∙◌, inl, inr}
 use Rattle.document_report.specs.DocumentReport.{category_line}
-use Rattle.document_report.specs.Found.{nothing, one_fault, together}
+use Rattle.plural_documents.specs.Found.{nothing_found, one_fault, together}
 use Rattle.document_report.proofs.Entries.{no_category}
-use Rattle.document_report.proofs.FoundParts.{on_ok, together-nothing}
+use Rattle.document_report.proofs.FoundParts.{on_ok}
+use Rattle.plural_documents.proofs.FoundLemmas.{together-nothing}
 use Rattle.document_report.proofs.keys.CategoryCheckMemberCheck.add.Goals as goal
 
 pub returns-in_ok-category_line-in-None : goal.returns-in_ok-category_line-in-None
@@ -18,4 +19,4 @@ returns-in_ok-category_line-in-None c =
 
 pub returns-in-Some : goal.returns-in-Some
 returns-in-Some c =
-    (nothing, inl ((c.in-Some.field-0, (c.in-Some.ensures c.in-Some.field-0).0 refl), refl), sym (together-nothing c.args.found.now))
+    (nothing_found, inl ((c.in-Some.field-0, (c.in-Some.ensures c.in-Some.field-0).0 refl), refl), sym (together-nothing c.args.found.now))

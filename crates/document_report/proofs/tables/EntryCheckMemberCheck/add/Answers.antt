@@ -1,7 +1,8 @@
 use Rattle.std.proofs.Common.{ℕ, List, Some, None, ap, refl, sym, ◌∙◌}
 use Rattle.document_report.specs.DocumentReport.{entry_line}
-use Rattle.document_report.specs.Found.{nothing, one_fault, together}
-use Rattle.document_report.proofs.FoundParts.{on_ok, together-nothing}
+use Rattle.plural_documents.specs.Found.{nothing_found, one_fault, together}
+use Rattle.document_report.proofs.FoundParts.{on_ok}
+use Rattle.plural_documents.proofs.FoundLemmas.{together-nothing}
 use Rattle.document_report.proofs.tables.EntryCheckMemberCheck.add.Goals as goal
 
 pub returns-in_ok-entry_line-in-Some : goal.returns-in_ok-entry_line-in-Some
@@ -15,4 +16,4 @@ returns-in_ok-entry_line-in-Some c =
     c.add_fault.ensures
 
 pub returns-in-None : goal.returns-in-None
-returns-in-None c = (nothing, (None, c.in-None.ensures, refl), sym (together-nothing c.args.found.now))
+returns-in-None c = (nothing_found, (None, c.in-None.ensures, refl), sym (together-nothing c.args.found.now))

@@ -2,10 +2,10 @@ use Rattle.std.proofs.Common.{ℕ, List, codes, ap, refl, subst, ◌∙◌}
 use Rattle.std.specs.Prelude.{Option}
 use Rattle.serde_json.specs.Data.{Members}
 use Rattle.serde_json.specs.View.{view}
-use Rattle.message_report.specs.FoundInMessages.{one_fault, together}
+use Rattle.plural_documents.specs.Found.{one_fault, together}
 use Rattle.message_report.specs.MessagesReport.{place_line, IsFoundInParts}
 use Rattle.plural_documents.specs.PrintedKeys.{name_text}
-use Rattle.message_report.proofs.FoundLemmas.{on_ok}
+use Rattle.message_report.proofs.EachFound.{on_ok}
 use Rattle.message_report.proofs.document.LocaleCheckMemberCheck.add.Goals as goal
 
 pub returns-in_ok-locale_line-in-None : goal.returns-in_ok-locale_line-in-None

@@ -2,11 +2,13 @@ use Rattle.std.specs.Prelude.{option_map}
 use Rattle.std.proofs.Common.{◌≡◌, ℕ, List, refl, subst, ◌∙◌}
 use Rattle.serde_json.specs.Find.{as_object}
 use Rattle.serde_json.specs.View.{view}
-use Rattle.message_report.specs.FoundInMessages.{one_message, together}
+use Rattle.message_report.specs.FoundInMessages.{one_message}
+use Rattle.plural_documents.specs.Found.{together}
 use Rattle.message_report.specs.Inner.LanguageViews.{language_view}
 use Rattle.message_report.specs.MessagesReport.{message_place, IsFoundInForms}
 use Rattle.message_report.specs.PrintedKeys.{message_text}
-use Rattle.message_report.proofs.FoundLemmas.{on_ok, two_added}
+use Rattle.message_report.proofs.EachFound.{on_ok}
+use Rattle.plural_documents.proofs.FoundLemmas.{two_added}
 use Rattle.message_report.proofs.message.MessageCheckMemberCheck.add.Goals as goal
 
 pub returns : goal.returns
@@ -24,6 +26,6 @@ returns c =
             place added.1,
         refl,
       ),
-      two_added c.args.found.now one_message added.0 c.add_message.new.self c.add_forms.new.found c.in_ok-add_message.ensures added.2,
+      two_added c.args.found.now one_message added.0 c.add_checked.new.self c.add_forms.new.found c.in_ok-add_checked.ensures added.2,
     ))
     c.add_forms.ensures

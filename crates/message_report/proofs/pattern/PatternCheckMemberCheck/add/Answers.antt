@@ -1,11 +1,13 @@
 use Rattle.std.proofs.Common.{◌≡◌, ℕ, List, refl, subst, ◌∙◌}
 use Rattle.serde_json.specs.Find.{as_str}
 use Rattle.serde_json.specs.View.{view}
-use Rattle.message_report.specs.FoundInMessages.{one_message, together}
+use Rattle.message_report.specs.FoundInMessages.{one_message}
+use Rattle.plural_documents.specs.Found.{together}
 use Rattle.message_report.specs.Inner.ArgumentViews.{languages_view}
 use Rattle.message_report.specs.MessagesReport.{pattern_place, IsFoundInTextIf}
 use Rattle.message_report.specs.PrintedKeys.{message_text}
-use Rattle.message_report.proofs.FoundLemmas.{on_ok, two_added}
+use Rattle.message_report.proofs.EachFound.{on_ok}
+use Rattle.plural_documents.proofs.FoundLemmas.{two_added}
 use Rattle.message_report.proofs.pattern.PatternCheckMemberCheck.add.Goals as goal
 
 pub returns : goal.returns
@@ -22,6 +24,6 @@ returns c =
         subst (λ (p : List ℕ). IsFoundInTextIf (languages_view check.languages) p (as_str value) added.0) place added.1,
         refl,
       ),
-      two_added c.args.found.now one_message added.0 c.add_message.new.self c.add_value.new.found c.in_ok-add_message.ensures added.2,
+      two_added c.args.found.now one_message added.0 c.add_checked.new.self c.add_value.new.found c.in_ok-add_checked.ensures added.2,
     ))
     c.add_value.ensures

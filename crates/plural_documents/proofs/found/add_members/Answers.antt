@@ -1,8 +1,8 @@
 use Rattle.std.proofs.Common.{string_bytes, ap, subst, ◌∙◌}
 use Rattle.serde_json.specs.View.{view, members_view}
-use Rattle.document_report.specs.Inner.Additions.{Adds}
-use Rattle.document_report.proofs.FoundParts.{Completes, begins, ends, goes_on}
-use Rattle.document_report.proofs.found.add_all.Goals as goal
+use Rattle.plural_documents.specs.Found.{HasGrownBy}
+use Rattle.plural_documents.proofs.FoundLemmas.{Completes, begins, ends, goes_on}
+use Rattle.plural_documents.proofs.found.add_members.Goals as goal
 
 pub loop-key-init : goal.loop-key-init
 loop-key-init g c =
@@ -16,7 +16,7 @@ loop-key-preserved g c =
     let value = view c.in-Some.value.now in
     goes_on Is all c.args.found.now (string_bytes c.in-Some.key.now) value (members_view c.next.new.self) c.loop-key.found c.add.new.found
     (subst (λ es. Completes Is (members_view es) all c.loop-key.found c.args.found.now) c.in-Some.ensures.steps c.loop-key.invariant)
-    (subst (λ key. Adds (Is key value) c.loop-key.found c.add.new.found) c.as_str.ensures.value c.in_ok-add.ensures)
+    (subst (λ key. HasGrownBy (Is key value) c.loop-key.found c.add.new.found) c.as_str.ensures.value c.in_ok-add.ensures)
 
 pub returns : goal.returns
 returns g c =

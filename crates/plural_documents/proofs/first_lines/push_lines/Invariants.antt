@@ -1,7 +1,7 @@
 use Rattle.std.proofs.Common.{◌≡◌, ◌++◌, drop, map, string_bytes}
 use Rattle.std.specs.List.{flat_map}
-use Rattle.document_report.specs.ReportText.{ended_line}
-use Rattle.document_report.proofs.report.push_lines.Given as goal
+use Rattle.plural_documents.specs.FirstLines.{ended_line}
+use Rattle.plural_documents.proofs.first_lines.push_lines.Given as goal
 
 -- the text so far, and then the remaining lines
 abbrev pub invariant-loop-line : goal.invariant-loop-line

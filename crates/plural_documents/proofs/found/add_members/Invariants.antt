@@ -1,6 +1,6 @@
 use Rattle.serde_json.specs.View.{members_view}
-use Rattle.message_report.proofs.FoundLemmas.{Completes}
-use Rattle.message_report.proofs.found.add_members.Given as goal
+use Rattle.plural_documents.proofs.FoundLemmas.{Completes}
+use Rattle.plural_documents.proofs.found.add_members.Given as goal
 
 -- what is found in the remaining members completes what was found so far
 abbrev pub invariant-loop-key : goal.invariant-loop-key
