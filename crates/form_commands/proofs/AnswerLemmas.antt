@@ -16,9 +16,9 @@ use Rattle.plural_documents.proofs.InputLemmas.{some_input}
 use Rattle.plural_fallback.specs.declared.locales.Part.{Part}
 use Rattle.serde_json.specs.Data.{Data}
 use Rattle.serde_json.specs.declared.Value.{Value}
-use Rattle.form_commands.specs.FormsAnswers.{IsAnswered, IsAnsweredLines, IsChecked, IsDocumentIn}
-use Rattle.form_commands.specs.Inner.FormsInputFaults.{input_fault, refused_rules}
-use Rattle.form_commands.specs.Inner.RunSteps.{AnswersLines, Checks, GivesDocument, GivesValue, WritesAnswer, WritesText}
+use Rattle.form_commands.specs.FormsAnswers.{IsAnsweredLines, IsAnsweredText, IsChecked, IsDocumentIn, IsStreamed}
+use Rattle.form_commands.specs.Inner.FormsInputFaults.{rules_input_fault, refused_rules}
+use Rattle.form_commands.specs.Inner.RunSteps.{AnswersLines, Checks, GivesDocument, GivesJsonValue, WritesAnswer, WritesText}
 use Rattle.form_commands.specs.PrintedTexts.{PrintedText}
 use Rattle.form_commands.specs.declared.error.FormsError.{FormsError}
 use Rattle.form_commands.specs.declared.error.FormsError.TheVariants.{Rules, TooLong, Json, Refused, Language, Numbers, Write, Memory}
@@ -28,7 +28,7 @@ use Rattle.form_commands.specs.declared.error.Verdict.{Verdict}
 -- ---- The document
 
 -- an input that isn't read has no document
-pub no_document : (left : Option (List ℕ)) (error : InputError) (r : Result Value FormsError) → r ≡ Err (input_fault error)
+pub no_document : (left : Option (List ℕ)) (error : InputError) (r : Result Value FormsError) → r ≡ Err (rules_input_fault error)
     → GivesInput left (Err error) → (input : List ℕ) × IsInput left input × GivesDocument input r
 no_document left cause.Read r is given = let some = some_input left in (some.0, some.1, rw is tt)
 no_document left cause.TooLong r is given = (given.0, given.1, rw is given.2)
@@ -36,7 +36,7 @@ no_document left cause.Memory r is given = let some = some_input left in (some.0
 
 -- the document is that of the bytes that were read
 pub document_in : (input bytes : List ℕ) (r : Result Value FormsError) → bytes ≡ input → length input ≤ most_bytes
-    → GivesValue bytes r → GivesDocument input r
+    → GivesJsonValue bytes r → GivesDocument input r
 document_in input bytes (Ok value) is short given = (short, rw (← is) given)
 document_in input bytes (Err Rules) is short given = tt
 document_in input bytes (Err TooLong) is short given = absurd given
@@ -51,7 +51,8 @@ document_in input bytes (Err Memory) is short given = tt
 
 -- without a document nothing is
 pub no_answer : (IsAnswer : Data → Result PrintedText LanguageError → Type 0) (input : List ℕ) (old : Option (List ℕ)) (error : FormsError)
-    → GivesDocument input (Err error) → IsAnswered IsAnswer input old old (Err error)
+    → GivesDocument input (Err error) → IsAnsweredText IsAnswer input old old (Err error)
+unfolding IsAnsweredText
 no_answer IsAnswer input old Rules given = Keeps-refl old
 no_answer IsAnswer input old TooLong given = (given, Keeps-refl old)
 no_answer IsAnswer input old Json given = (given, Keeps-refl old)
@@ -63,7 +64,8 @@ no_answer IsAnswer input old Memory given = Keeps-refl old
 
 text_answered : (IsAnswer : Data → Result PrintedText LanguageError → Type 0) (input : List ℕ) (document : Data) (old new : Option (List ℕ))
     (printed : PrintedText) (r : Result Verdict FormsError)
-    → IsDocumentIn input document → IsAnswer document (Ok printed) → WritesText printed old new r → IsAnswered IsAnswer input old new r
+    → IsDocumentIn input document → IsAnswer document (Ok printed) → WritesText printed old new r → IsAnsweredText IsAnswer input old new r
+unfolding IsAnsweredText
 text_answered IsAnswer input document old new printed (Ok verdict) given answer written =
     (document, printed, given, answer, written.0, written.1)
 text_answered IsAnswer input document old new printed (Err error) given answer written =
@@ -72,7 +74,8 @@ text_answered IsAnswer input document old new printed (Err error) given answer w
 -- the answer of a document, or that there is none
 pub document_answered : (IsAnswer : Data → Result PrintedText LanguageError → Type 0) (input : List ℕ) (document : Data) (old new : Option (List ℕ))
     (answer : Result (Result PrintedText LanguageError) AllocError) (r : Result Verdict FormsError)
-    → IsDocumentIn input document → IfOk answer (λ a. IsAnswer document a) → WritesAnswer answer old new r → IsAnswered IsAnswer input old new r
+    → IsDocumentIn input document → IfOk answer (λ a. IsAnswer document a) → WritesAnswer answer old new r → IsAnsweredText IsAnswer input old new r
+unfolding IsAnsweredText
 document_answered IsAnswer input document old new (Ok (Ok printed)) r given is written =
     text_answered IsAnswer input document old new printed r given is written
 document_answered IsAnswer input document old new (Ok (Err error)) r given is written =
@@ -84,6 +87,7 @@ document_answered IsAnswer input document old new (Err error) r given is written
 -- without a document nothing is taken
 pub no_lines : (part : Part) (locale input : List ℕ) (before old : Option (List ℕ)) (error : FormsError)
     → GivesDocument input (Err error) → IsAnsweredLines part locale input before before old old (Err error)
+unfolding IsAnsweredLines
 no_lines part locale input before old Rules given = (Keeps-refl before, Keeps-refl old)
 no_lines part locale input before old TooLong given = (given, (Keeps-refl before, Keeps-refl old))
 no_lines part locale input before old Json given = (given, (Keeps-refl before, Keeps-refl old))
@@ -97,6 +101,7 @@ no_lines part locale input before old Memory given = inl (Keeps-refl before, Kee
 pub lines_answered : (part : Part) (locale input : List ℕ) (document : Data) (before left old new : Option (List ℕ)) (r : Result Verdict FormsError)
     → IsDocumentIn input document → AnswersLines document part locale before left old new r
     → IsAnsweredLines part locale input before left old new r
+unfolding IsAnsweredLines IsStreamed
 lines_answered part locale input document before left old new (Ok verdict) given (inl by) =
     (document, by.0, given, by.1, by.2)
 lines_answered part locale input document before left old new (Err Rules) given (inl by) = absurd by.2
@@ -115,6 +120,7 @@ lines_answered part locale input document before left old new r given (inr (inr 
 -- without a document nothing is reported
 pub no_report : (files : List MessageFile) (input : List ℕ) (old : Option (List ℕ)) (error : FormsError)
     → GivesDocument input (Err error) → IsChecked files input old old (Err error)
+unfolding IsChecked
 no_report files input old Rules given = Keeps-refl old
 no_report files input old TooLong given = (given, Keeps-refl old)
 no_report files input old Json given = (given, Keeps-refl old)
@@ -127,6 +133,7 @@ no_report files input old Memory given = Keeps-refl old
 -- the report under the rules of a document
 pub report_checked : (files : List MessageFile) (input : List ℕ) (value : Data) (old new : Option (List ℕ)) (r : Result Verdict FormsError)
     → IsDocumentIn input value → Checks value files old new r → IsChecked files input old new r
+unfolding IsChecked
 report_checked files input value old new r given (inl (document, is, (Ok counts, reported, same))) =
     rw same (counts, (value, document, given, is, reported), refl)
 report_checked files input value old new r given (inl (document, is, (Err report.Write, reported, same))) =

@@ -17,9 +17,9 @@ use Rattle.plural_checker.specs.WholeNumbers.{IsLeastFrom}
 use Rattle.plural_fallback.specs.declared.locales.Part.{Part}
 use Rattle.serde_json.specs.Data.{Data}
 use Rattle.serde_json.specs.View.{view}
-use Rattle.form_commands.specs.Languages.{IsLanguageOf}
+use Rattle.form_commands.specs.Languages.{IsFoundFor}
 use Rattle.form_commands.specs.declared.language.Language.{Language}
-use Rattle.form_commands.specs.CExpressions.{choice_text, choice_value, condition_text, condition_value}
+use Rattle.form_commands.specs.CExpressions.{c_condition_text, choice_text, choice_value, condition_value}
 use Rattle.form_commands.specs.GettextLines.{AreFormsOf, FormsAreChosen, HasForm, SomeHas, tried_powers, condition_if, conditions_of, rule_for, whole_category}
 use Rattle.form_commands.proofs.ConditionValues.{condition_values}
 
@@ -118,11 +118,11 @@ four_parts old c a p b rest = simp append_assoc
 pub choice_grown : (rules : FiveRules) (forms : List PluralCategory) (i : ℕ) (form : PluralCategory) (old choice new : List ℕ)
     → i + 1 < length forms → get_or forms i form ≡ form
     → old ++ choice_text i (conditions_of rules (drop i forms)) ≡ choice_text 0 (conditions_of rules forms)
-    → choice ≡ condition_text (condition_if (rule_for rules form)) ++ (codes " ? " ++ (decimal i ++ codes " : ")) → new ≡ old ++ choice
+    → choice ≡ c_condition_text (condition_if (rule_for rules form)) ++ (codes " ? " ++ (decimal i ++ codes " : ")) → new ≡ old ++ choice
     → new ++ choice_text (i + 1) (conditions_of rules (drop (i + 1) forms)) ≡ choice_text 0 (conditions_of rules forms)
 choice_grown rules forms i form old choice new within is so_far chosen grown =
     let rest = choice_text (i + 1) (conditions_of rules (drop (i + 1) forms)) in
-    let condition = condition_text (condition_if (rule_for rules form)) in
+    let condition = c_condition_text (condition_if (rule_for rules form)) in
     let here : conditions_of rules (drop i forms) ≡ condition_if (rule_for rules form) ∷ conditions_of rules (drop (i + 1) forms) =
     condition_next rules forms i form within
     ∙ ap (λ (c : PluralCategory). condition_if (rule_for rules c) ∷ conditions_of rules (drop (i + 1) forms)) is in
@@ -280,7 +280,7 @@ forms_chosen rules forms n are has =
 -- ---- The rules of a language
 
 -- they are those of its value
-pub found_language : (document : Data) (part : Part) (locale : List ℕ) (language : Language) → IsLanguageOf document part locale (Ok language)
+pub found_language : (document : Data) (part : Part) (locale : List ℕ) (language : Language) → IsFoundFor document part locale (Ok language)
     → rules_of_json (view language.value.now) ≡ Ok language.rules
 found_language document part locale language (inl found) = found.2.2
 found_language document part locale language (inr none) = absurd (cc none.2)

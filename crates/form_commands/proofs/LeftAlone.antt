@@ -40,6 +40,7 @@ nothing_written A B text old new answer result writer notes after =
 -- the lines of numbers are read only if the rules have no fault
 pub lines_left : (rules : FiveRules) (before left old new : Option (List ℕ)) (P : Type 0) (r : Result Verdict FormsError)
     → IsStreamed rules before left old new r → IfErr r (λ e. IsTrue (is_of_rules e) → P)
+unfolding IsStreamed
 lines_left rules before left old new P (Ok verdict) s = tt
 lines_left rules before left old new P (Err Rules) s = absurd s
 lines_left rules before left old new P (Err TooLong) s = absurd s

@@ -13,7 +13,7 @@ use Rattle.plural_fallback.specs.declared.locales.Part.TheVariants.{Cardinal, Or
 use Rattle.serde_json.specs.Data.{Data, Members, no_members, member}
 use Rattle.serde_json.specs.View.{members_view}
 use Rattle.serde_json.specs.declared.Value.{Value}
-use Rattle.form_commands.specs.FormsAnswers.{IsAnswered, IsAnsweredLines, IsChecked, IsDocumentIn}
+use Rattle.form_commands.specs.FormsAnswers.{IsAnsweredLines, IsAnsweredText, IsChecked, IsDocumentIn, IsStreamed}
 use Rattle.form_commands.specs.InputLines.{lines_of}
 use Rattle.form_commands.specs.Inner.NoteSteps.{Notes, NotesAfter, Writes}
 use Rattle.form_commands.specs.Inner.RunSteps.{AnswersLines, Checks}
@@ -108,6 +108,7 @@ whole_part old new text appended = (text, [], sym (append-nil text), appended)
 pub noted : (AreNotes : Data → List ℕ → Type 0) (IsResult : Result Verdict FormsError → Type 0) (input : List ℕ) (document : Data)
     (notes : List ℕ) (old new : Option (List ℕ)) (answer result : Result Verdict FormsError) → IsDocumentIn input document
     → AreNotes document notes → IsResult answer → Notes answer notes old new result → AreNoted AreNotes IsResult input old new result
+unfolding AreNoted
 noted AreNotes IsResult input document notes old new (Ok verdict) result given are whole (inl w) =
     rw w.0 (document, notes, given, are, w.1)
 noted AreNotes IsResult input document notes old new (Ok verdict) result given are whole (inr w) =
@@ -115,8 +116,9 @@ noted AreNotes IsResult input document notes old new (Ok verdict) result given a
 noted AreNotes IsResult input document notes old new (Err error) result given are whole w = rw w.0 (inl w.1)
 
 pub answer_noted : (IsAnswer : Data → Result PrintedText LanguageError → Type 0) (input notes : List ℕ) (old new before after : Option (List ℕ))
-    (answer result : Result Verdict FormsError) → IsAnswered IsAnswer input old new answer → Notes answer notes before after result
-    → IsAnswered IsAnswer input old new result
+    (answer result : Result Verdict FormsError) → IsAnsweredText IsAnswer input old new answer → Notes answer notes before after result
+    → IsAnsweredText IsAnswer input old new result
+unfolding IsAnsweredText
 answer_noted IsAnswer input notes old new before after (Ok verdict) result a (inl w) = rw w.0 a
 answer_noted IsAnswer input notes old new before after (Ok verdict) result a (inr w) =
     rw w.0 (a.0, a.1, a.2, a.3, whole_part old new a.1.text a.5)
@@ -125,6 +127,7 @@ answer_noted IsAnswer input notes old new before after (Err error) result a w = 
 pub lines_noted : (part : Part) (locale input notes : List ℕ) (taken left old new before after : Option (List ℕ))
     (answer result : Result Verdict FormsError) → IsAnsweredLines part locale input taken left old new answer
     → Notes answer notes before after result → IsAnsweredLines part locale input taken left old new result
+unfolding IsAnsweredLines IsStreamed
 lines_noted part locale input notes taken left old new before after (Ok verdict) result a (inl w) = rw w.0 a
 lines_noted part locale input notes taken left old new before after (Ok verdict) result a (inr w) =
     let s = a.4 in
@@ -140,6 +143,7 @@ lines_noted part locale input notes taken left old new before after (Err error) 
 pub check_noted : (files : List MessageFile) (input notes : List ℕ) (old new before after : Option (List ℕ))
     (answer result : Result Verdict FormsError) → IsChecked files input old new answer → Notes answer notes before after result
     → IsChecked files input old new result
+unfolding IsChecked
 check_noted files input notes old new before after (Ok verdict) result a (inl w) = rw w.0 a
 check_noted files input notes old new before after (Ok verdict) result a (inr w) =
     let r = a.1 in
@@ -151,11 +155,12 @@ check_noted files input notes old new before after (Err error) result a w = rw w
 pub printed_noted : (IsAnswer : Data → Result PrintedText LanguageError → Type 0) (AreNotes : Data → List ℕ → Type 0) (input : List ℕ)
     (document : Data) (old new before after : Option (List ℕ)) (result : Result Verdict FormsError) → IsDocumentIn input document
     → NotesAfter (Writes (IsAnswer document) old new) (AreNotes document) before after result
-    → IsNoted AreNotes (IsAnswered IsAnswer input old new) input before after result
+    → IsNoted AreNotes (IsAnsweredText IsAnswer input old new) input before after result
+unfolding AreNoted
 printed_noted IsAnswer AreNotes input document old new before after result given (inl n) =
     let answer = document_answered IsAnswer input document old new n.2.0 n.0 given n.2.1 n.2.2 in (
       answer_noted IsAnswer input n.1 old new before after n.0 result answer n.4,
-      noted AreNotes (IsAnswered IsAnswer input old new) input document n.1 before after n.0 result given n.3 answer n.4,
+      noted AreNotes (IsAnsweredText IsAnswer input old new) input document n.1 before after n.0 result given n.3 answer n.4,
     )
 printed_noted IsAnswer AreNotes input document old new before after result given (inr n) = (
   rw n.1 (document_answered IsAnswer input document old new n.0.0 (Err Memory) given n.0.1 n.0.2),
@@ -166,6 +171,7 @@ pub lines_noted_by : (part : Part) (locale : List ℕ) (AreNotes : Data → List
     (taken left old new before after : Option (List ℕ)) (result : Result Verdict FormsError) → IsDocumentIn input document
     → NotesAfter (AnswersLines document part locale taken left old new) (AreNotes document) before after result
     → IsNoted AreNotes (IsAnsweredLines part locale input taken left old new) input before after result
+unfolding AreNoted
 lines_noted_by part locale AreNotes input document taken left old new before after result given (inl n) =
     let answer = lines_answered part locale input document taken left old new n.0 given n.2 in (
       lines_noted part locale input n.1 taken left old new before after n.0 result answer n.4,
@@ -181,6 +187,7 @@ pub report_noted : (files : List MessageFile) (AreNotes : Data → List ℕ → 
     (old new before after : Option (List ℕ)) (result : Result Verdict FormsError) → IsDocumentIn input document
     → NotesAfter (Checks document files old new) (AreNotes document) before after result
     → IsNoted AreNotes (IsChecked files input old new) input before after result
+unfolding AreNoted
 report_noted files AreNotes input document old new before after result given (inl n) =
     let answer = report_checked files input document old new n.0 given n.2 in (
       check_noted files input n.1 old new before after n.0 result answer n.4,
@@ -194,4 +201,5 @@ report_noted files AreNotes input document old new before after result given (in
 -- without a document there are none
 pub none_noted : (AreNotes : Data → List ℕ → Type 0) (IsResult : Result Verdict FormsError → Type 0) (input : List ℕ)
     (old : Option (List ℕ)) (error : FormsError) → IsResult (Err error) → IsNoted AreNotes IsResult input old old (Err error)
+unfolding AreNoted
 none_noted AreNotes IsResult input old error is = (is, inl (Keeps-refl old))

@@ -8,9 +8,9 @@ use Rattle.plural_documents.proofs.InputLemmas.{all_is_some}
 use Rattle.plural_fallback.specs.declared.locales.Part.{Part}
 use Rattle.serde_json.specs.Data.{Data}
 use Rattle.serde_json.specs.declared.Value.{Value}
-use Rattle.form_commands.specs.FormsAnswers.{IsAnswered, IsAnsweredLines, IsChecked, IsDocumentIn, forms_origin}
-use Rattle.form_commands.specs.Inner.FormsInputFaults.{input_fault}
-use Rattle.form_commands.specs.Inner.RunSteps.{GivesValue}
+use Rattle.form_commands.specs.FormsAnswers.{IsAnsweredLines, IsAnsweredText, IsChecked, IsDocumentIn, forms_origin}
+use Rattle.form_commands.specs.Inner.FormsInputFaults.{rules_input_fault}
+use Rattle.form_commands.specs.Inner.RunSteps.{GivesJsonValue}
 use Rattle.form_commands.specs.PrintedTexts.{PrintedText}
 use Rattle.form_commands.specs.declared.error.FormsError.{FormsError}
 use Rattle.form_commands.specs.declared.error.FormsError.TheVariants.{Rules, TooLong, Json, Refused, Language, Numbers, Write, Memory}
@@ -19,12 +19,12 @@ use Rattle.form_commands.specs.declared.error.Verdict.{Verdict}
 
 -- what was read at an error of the input was read at its fault
 read_at : (old new : Option (List ℕ)) (error : InputError) → IsReadAfter (input_origin error) old new
-    → IsReadAfter (forms_origin (input_fault error)) old new
+    → IsReadAfter (forms_origin (rules_input_fault error)) old new
 read_at old new cause.Read read = read
 read_at old new cause.TooLong read = read
 read_at old new cause.Memory read = read
 
-pub read_on : {B : Type 0} (old new : Option (List ℕ)) (error : InputError) (r : Result B FormsError) → r ≡ Err (input_fault error)
+pub read_on : {B : Type 0} (old new : Option (List ℕ)) (error : InputError) (r : Result B FormsError) → r ≡ Err (rules_input_fault error)
     → IsReadAfter (input_origin error) old new → IsRead forms_origin old new r
 read_on old new error r is read = rw is (read_at old new error read)
 
@@ -42,9 +42,9 @@ read_to_end old new (Err Write) end short = end
 read_to_end old new (Err Memory) end short = all_is_some old new end
 
 pub value_read : (left rest : Option (List ℕ)) (bytes : List ℕ) (r : Result Value FormsError) → IsReadToEnd left rest
-    → GivesValue bytes r → IsRead forms_origin left rest r
+    → GivesJsonValue bytes r → IsRead forms_origin left rest r
 value_read left rest bytes r end given =
-    read_to_end left rest r end (λ is. subst (GivesValue bytes) is given)
+    read_to_end left rest r end (λ is. subst (GivesJsonValue bytes) is given)
 
 -- no input is both within the limit and above it
 not_both : (n most : ℕ) → n ≤ most → most < n → ⊥
@@ -52,14 +52,16 @@ not_both n most short long = omega arith
 
 pub answer_read : (IsAnswer : Data → Result PrintedText LanguageError → Type 0) (left rest old new : Option (List ℕ)) (input : List ℕ)
     (document : Data) (r : Result Verdict FormsError) → IsReadToEnd left rest → IsDocumentIn input document
-    → IsAnswered IsAnswer input old new r → IsRead forms_origin left rest r
+    → IsAnsweredText IsAnswer input old new r → IsRead forms_origin left rest r
+unfolding IsAnsweredText
 answer_read IsAnswer left rest old new input document r end given answered =
     read_to_end left rest r end
-    (λ is. let long = subst (IsAnswered IsAnswer input old new) is answered in not_both (length input) most_bytes given.0 long.0)
+    (λ is. let long = subst (IsAnsweredText IsAnswer input old new) is answered in not_both (length input) most_bytes given.0 long.0)
 
 pub lines_read : (part : Part) (locale : List ℕ) (left rest before after old new : Option (List ℕ)) (input : List ℕ) (document : Data)
     (r : Result Verdict FormsError) → IsReadToEnd left rest → IsDocumentIn input document
     → IsAnsweredLines part locale input before after old new r → IsRead forms_origin left rest r
+unfolding IsAnsweredLines
 lines_read part locale left rest before after old new input document r end given answered =
     read_to_end left rest r end
     (λ is. let long = subst (IsAnsweredLines part locale input before after old new) is answered in
@@ -68,6 +70,7 @@ lines_read part locale left rest before after old new input document r end given
 pub report_read : (files : List MessageFile) (left rest old new : Option (List ℕ)) (input : List ℕ) (document : Data)
     (r : Result Verdict FormsError) → IsReadToEnd left rest → IsDocumentIn input document
     → IsChecked files input old new r → IsRead forms_origin left rest r
+unfolding IsChecked
 report_read files left rest old new input document r end given checked =
     read_to_end left rest r end
     (λ is. let long = subst (IsChecked files input old new) is checked in not_both (length input) most_bytes given.0 long.0)

@@ -7,14 +7,14 @@ use Rattle.std.proofs.lemmas.List.{append-nil}
 use Rattle.std.specs.declared.alloc.AllocError.{AllocError}
 use Rattle.icu_plurals.specs.FiveRules.{FiveRules}
 use Rattle.plural_documents.specs.Inputs.{IsPartWritten}
-use Rattle.form_commands.specs.FormsAnswers.{IsBegun, IsCutOff, IsStreamed}
+use Rattle.form_commands.specs.FormsAnswers.{IsAnsweredInPart, IsStreamed}
 use Rattle.form_commands.specs.InputLines.{lines_of}
-use Rattle.form_commands.specs.Inner.LineSteps.{EndsLine, Forgets, Takes}
+use Rattle.form_commands.specs.Inner.LineSteps.{EndsLine, Forgets, TakesBytes}
 use Rattle.form_commands.specs.Inner.RunSteps.{WritesText}
 use Rattle.form_commands.specs.Inner.StreamSteps.{FinishesLines, IsBegunAfter, IsWrittenAfter, TakesAndWrites}
 use Rattle.form_commands.specs.PrintedTexts.{after_text, verdict_of}
 use Rattle.form_commands.specs.declared.error.FormsError.{FormsError}
-use Rattle.form_commands.specs.declared.error.FormsError.TheVariants.{Write, Memory}
+use Rattle.form_commands.specs.declared.error.FormsError.TheVariants.{Numbers, Write, Memory}
 use Rattle.form_commands.specs.declared.error.Verdict.{Verdict}
 use Rattle.form_commands.specs.declared.stream.Lines.{Lines}
 use Rattle.form_commands.proofs.AfterLemmas.{begun_part, last_answered, none_left, written_on}
@@ -27,7 +27,7 @@ on_ok (Err e) f h = tt
 -- ---- Bytes are taken
 
 pub wrote_on : (rules : FiveRules) (more : List ℕ) (lines mid new : Lines) (before after : Option (List ℕ)) (r : Result ⊤ FormsError)
-    → Takes rules more lines mid → OnOk r (Appends before after mid.printed.text) → OnOk r (Forgets mid new)
+    → TakesBytes rules more lines mid → OnOk r (Appends before after mid.printed.text) → OnOk r (Forgets mid new)
     → IfErr r (λ e. (e ≡ Write) × IsPartWritten before after mid.printed.text) → TakesAndWrites rules more lines new before after r
 wrote_on rules more lines mid new before after (Ok x) takes appended forgets part = λ bytes text h.
     (mid.printed.text, appended, written_on rules (bytes ++ more) text mid new (takes bytes text h.0) forgets)
@@ -86,7 +86,7 @@ part_after old mid new text more before part = (
 )
 
 pub begun_all : (rules : FiveRules) (bytes text : List ℕ) (before left old mid new : Option (List ℕ)) → Consumes before left bytes
-    → Appends old mid text → IsBegunAfter rules bytes text mid new → IsBegun rules before left old new
+    → Appends old mid text → IsBegunAfter rules bytes text mid new → IsAnsweredInPart rules before left old new
 begun_all rules bytes text before left old mid new consumed appended b = (
   bytes,
   b.0,
@@ -100,7 +100,9 @@ begun_all rules bytes text before left old mid new consumed appended b = (
 
 -- the reader failed
 pub cut_off : (rules : FiveRules) (bytes text : List ℕ) (lines : Lines) (before left old new : Option (List ℕ)) → Consumes before left bytes
-    → Appends old new text → IsWrittenAfter rules bytes text lines → IsCutOff rules before left old new
+    → Appends old new text → IsWrittenAfter rules bytes text lines
+    → IsStreamed rules before left old new (Err Numbers)
+unfolding IsStreamed
 cut_off rules bytes text lines before left old new consumed appended after =
     let a = after.0 in (
       bytes,
@@ -114,7 +116,8 @@ cut_off rules bytes text lines before left old new consumed appended after =
 
 -- memory ran out, or the writer failed
 pub failed : (rules : FiveRules) (before left old new : Option (List ℕ)) (error : FormsError) → (error ≡ Memory) ⊎ (error ≡ Write)
-    → IsBegun rules before left old new → IsStreamed rules before left old new (Err error)
+    → IsAnsweredInPart rules before left old new → IsStreamed rules before left old new (Err error)
+unfolding IsStreamed
 failed rules before left old new error (inl is) begun = rw is begun
 failed rules before left old new error (inr is) begun = rw is begun
 
@@ -122,6 +125,7 @@ failed rules before left old new error (inr is) begun = rw is begun
 pub streamed : (rules : FiveRules) (bytes text : List ℕ) (lines : Lines) (before left old mid new : Option (List ℕ)) (r : Result Verdict FormsError)
     → Consumes before left bytes → IsAtEnd left → Appends old mid text → IsWrittenAfter rules bytes text lines
     → FinishesLines rules lines mid new r → IsStreamed rules before left old new r
+unfolding IsStreamed
 streamed rules bytes text lines before left old mid new (Ok verdict) consumed end appended after finish =
     let f = finish bytes text after in (
       bytes,

@@ -1,6 +1,6 @@
 -- Expressions of C over an unsigned integer n: what there is of them in the line for gettext, how they are written, and what they mean.
 -- A remainder binds more than a comparison, that more than `&&`, that more than `||`, and that more than `? :`.
---     condition_text condition      what a condition is written as: conjunctions of atoms, with `||` between them
+--     c_condition_text condition      what a condition is written as: conjunctions of atoms, with `||` between them
 --     condition_value n condition      whether it isn't 0
 --     choice_text place conditions      conditions, each with `?` and its place, and the last place
 --     choice_value place n conditions      the place of the first condition that isn't 0, else the last one
@@ -18,13 +18,13 @@ pub data Sign : Type 0 where
   at_most : Sign
   at_least : Sign
 
-abbrev pub sign_text : Sign → List ℕ
-sign_text equal = codes " == "
-sign_text unequal = codes " != "
-sign_text below = codes " < "
-sign_text above = codes " > "
-sign_text at_most = codes " <= "
-sign_text at_least = codes " >= "
+abbrev pub comparison_sign_text : Sign → List ℕ
+comparison_sign_text equal = codes " == "
+comparison_sign_text unequal = codes " != "
+comparison_sign_text below = codes " < "
+comparison_sign_text above = codes " > "
+comparison_sign_text at_most = codes " <= "
+comparison_sign_text at_least = codes " >= "
 
 abbrev pub sign_value : Sign → ℕ → ℕ → Bool
 sign_value equal a b = a == b
@@ -44,7 +44,7 @@ abbrev pub term_text : ℕ → List ℕ
 term_text modulus = if modulus == 0 then codes "n" else (codes "n % " ++ decimal modulus)
 
 abbrev pub comparison_text : Comparison → List ℕ
-comparison_text comparison = term_text comparison.modulus ++ sign_text comparison.sign ++ decimal comparison.number
+comparison_text comparison = term_text comparison.modulus ++ comparison_sign_text comparison.sign ++ decimal comparison.number
 
 abbrev pub comparison_value : ℕ → Comparison → Bool
 comparison_value n comparison = sign_value comparison.sign (remainder comparison.modulus n) comparison.number
@@ -80,8 +80,8 @@ abbrev pub atom_value : ℕ → Atom → Bool
 atom_value n (compared comparison) = comparison_value n comparison
 atom_value n (bracketed conjunctions) = some_group (comparison_value n) conjunctions
 
-abbrev pub condition_text : List (List Atom) → List ℕ
-condition_text condition = or_text (map (λ all. and_text (map atom_text all)) condition)
+abbrev pub c_condition_text : List (List Atom) → List ℕ
+c_condition_text condition = or_text (map (λ all. and_text (map atom_text all)) condition)
 
 abbrev pub condition_value : ℕ → List (List Atom) → Bool
 condition_value n condition = some_group (atom_value n) condition
@@ -91,7 +91,7 @@ condition_value n condition = some_group (atom_value n) condition
 abbrev pub choice_text : ℕ → List (List (List Atom)) → List ℕ
 choice_text place [] = decimal place
 choice_text place (condition ∷ conditions) =
-    condition_text condition ++ (codes " ? " ++ (decimal place ++ (codes " : " ++ choice_text (place + 1) conditions)))
+    c_condition_text condition ++ (codes " ? " ++ (decimal place ++ (codes " : " ++ choice_text (place + 1) conditions)))
 
 abbrev pub choice_value : ℕ → ℕ → List (List (List Atom)) → ℕ
 choice_value place n [] = place

@@ -1,7 +1,7 @@
 -- The answers to questions of a document, and what is read and written of them.
 --     IsListAnswer part locale language printed      the forms of a language
 --     Answers Prints part locale document answer      what is printed by the rules of a locale, or why there are none
---     IsAnswered IsAnswer input old new result      what a writer took, and the result
+--     IsAnsweredText IsAnswer input old new result      what a writer took, and the result
 --     IsAnsweredLines part locale input before left old new result      the same for the lines of another input
 --     IsChecked files input old new result      the same for files of messages
 --     forms_origin fault      where a fault comes from: what was read of the rules by then
@@ -23,7 +23,7 @@ use Rattle.serde_json.specs.Data.{Data}
 use Rattle.form_commands.specs.FormLines.{IsFormList}
 use Rattle.form_commands.specs.GettextLines.{IsGettextLine}
 use Rattle.form_commands.specs.InputLines.{AreEndedIn, lines_of}
-use Rattle.form_commands.specs.Languages.{IsLanguageOf}
+use Rattle.form_commands.specs.Languages.{IsFoundFor}
 use Rattle.form_commands.specs.NumberAnswers.{AreLineAnswers, AreNumberAnswers}
 use Rattle.form_commands.specs.PrintedTexts.{PrintedText, only_text, verdict_of}
 use Rattle.form_commands.specs.declared.error.FormsError.{FormsError}
@@ -58,34 +58,34 @@ IsNumbersAnswer words language printed = AreNumberAnswers language.rules words p
 -- what is printed by the rules of a locale, or why there are none
 abbrev pub Answers : (code.Language → PrintedText → Type 0) → Part → List ℕ → Data → Result PrintedText LanguageError → Type 0
 Answers Prints part locale document (Ok printed) =
-    (language : code.Language) × IsLanguageOf document part locale (Ok language) × Prints language printed
-Answers Prints part locale document (Err error) = IsLanguageOf document part locale (Err error)
+    (language : code.Language) × IsFoundFor document part locale (Ok language) × Prints language printed
+Answers Prints part locale document (Err error) = IsFoundFor document part locale (Err error)
 
 -- ---- What is written
 
 -- the answer, or a beginning of it; or a fault, and nothing at all
-abbrev pub IsAnswered : (Data → Result PrintedText LanguageError → Type 0) → List ℕ → Option (List ℕ) → Option (List ℕ)
+unfoldable pub IsAnsweredText : (Data → Result PrintedText LanguageError → Type 0) → List ℕ → Option (List ℕ) → Option (List ℕ)
     → Result Verdict FormsError → Type 0
-IsAnswered IsAnswer input old new (Ok verdict) =
+IsAnsweredText IsAnswer input old new (Ok verdict) =
     (document : Data) × (printed : PrintedText) × IsDocumentIn input document × IsAnswer document (Ok printed)
     × (verdict ≡ verdict_of printed) × Appends old new printed.text
-IsAnswered IsAnswer input old new (Err Rules) = Keeps old new
-IsAnswered IsAnswer input old new (Err TooLong) = (most_bytes < length input) × Keeps old new
-IsAnswered IsAnswer input old new (Err Json) = IsNoJson input × Keeps old new
-IsAnswered IsAnswer input old new (Err (Refused error)) = ⊥
-IsAnswered IsAnswer input old new (Err (Language error)) =
+IsAnsweredText IsAnswer input old new (Err Rules) = Keeps old new
+IsAnsweredText IsAnswer input old new (Err TooLong) = (most_bytes < length input) × Keeps old new
+IsAnsweredText IsAnswer input old new (Err Json) = IsNoJson input × Keeps old new
+IsAnsweredText IsAnswer input old new (Err (Refused error)) = ⊥
+IsAnsweredText IsAnswer input old new (Err (Language error)) =
     (document : Data) × IsDocumentIn input document × IsAnswer document (Err error) × Keeps old new
-IsAnswered IsAnswer input old new (Err Numbers) = ⊥
-IsAnswered IsAnswer input old new (Err Write) =
+IsAnsweredText IsAnswer input old new (Err Numbers) = ⊥
+IsAnsweredText IsAnswer input old new (Err Write) =
     (document : Data) × (printed : PrintedText) × IsDocumentIn input document × IsAnswer document (Ok printed)
     × IsPartWritten old new printed.text
-IsAnswered IsAnswer input old new (Err Memory) = Keeps old new
+IsAnsweredText IsAnswer input old new (Err Memory) = Keeps old new
 
 -- ---- The lines of another input
 
 -- Some of it was taken, and what was written is the answers to its first lines, or a beginning of them.
-abbrev pub IsBegun : FiveRules → Option (List ℕ) → Option (List ℕ) → Option (List ℕ) → Option (List ℕ) → Type 0
-IsBegun rules before left old new =
+abbrev pub IsAnsweredInPart : FiveRules → Option (List ℕ) → Option (List ℕ) → Option (List ℕ) → Option (List ℕ) → Type 0
+IsAnsweredInPart rules before left old new =
     (numbers : List ℕ) × (done rest : List (List ℕ)) × (printed : PrintedText) × Consumes before left numbers
     × (lines_of numbers ≡ done ++ rest) × AreLineAnswers rules done printed × IsPartWritten old new printed.text
 
@@ -96,7 +96,7 @@ IsCutOff rules before left old new =
     × AreLineAnswers rules ended printed × Appends old new printed.text
 
 -- the answers to all its lines, or a beginning of them
-abbrev pub IsStreamed : FiveRules → Option (List ℕ) → Option (List ℕ) → Option (List ℕ) → Option (List ℕ) → Result Verdict FormsError → Type 0
+unfoldable pub IsStreamed : FiveRules → Option (List ℕ) → Option (List ℕ) → Option (List ℕ) → Option (List ℕ) → Result Verdict FormsError → Type 0
 IsStreamed rules before left old new (Ok verdict) =
     (numbers : List ℕ) × (printed : PrintedText) × Consumes before left numbers × IsAtEnd left
     × AreLineAnswers rules (lines_of numbers) printed × (verdict ≡ verdict_of printed) × Appends old new printed.text
@@ -106,21 +106,21 @@ IsStreamed rules before left old new (Err Json) = ⊥
 IsStreamed rules before left old new (Err (Refused error)) = ⊥
 IsStreamed rules before left old new (Err (Language error)) = ⊥
 IsStreamed rules before left old new (Err Numbers) = IsCutOff rules before left old new
-IsStreamed rules before left old new (Err Write) = IsBegun rules before left old new
-IsStreamed rules before left old new (Err Memory) = IsBegun rules before left old new
+IsStreamed rules before left old new (Err Write) = IsAnsweredInPart rules before left old new
+IsStreamed rules before left old new (Err Memory) = IsAnsweredInPart rules before left old new
 
 -- by the rules of a locale
 abbrev pub IsStreamedFor : Part → List ℕ → List ℕ → Option (List ℕ) → Option (List ℕ) → Option (List ℕ) → Option (List ℕ)
     → Result Verdict FormsError → Type 0
 IsStreamedFor part locale input before left old new result =
-    (document : Data) × (language : code.Language) × IsDocumentIn input document × IsLanguageOf document part locale (Ok language)
+    (document : Data) × (language : code.Language) × IsDocumentIn input document × IsFoundFor document part locale (Ok language)
     × IsStreamed language.rules before left old new result
 
 -- nothing is taken, and nothing is written
 abbrev pub IsUntouched : Option (List ℕ) → Option (List ℕ) → Option (List ℕ) → Option (List ℕ) → Type 0
 IsUntouched before left old new = Keeps before left × Keeps old new
 
-abbrev pub IsAnsweredLines : Part → List ℕ → List ℕ → Option (List ℕ) → Option (List ℕ) → Option (List ℕ) → Option (List ℕ)
+unfoldable pub IsAnsweredLines : Part → List ℕ → List ℕ → Option (List ℕ) → Option (List ℕ) → Option (List ℕ) → Option (List ℕ)
     → Result Verdict FormsError → Type 0
 IsAnsweredLines part locale input before left old new (Ok verdict) = IsStreamedFor part locale input before left old new (Ok verdict)
 IsAnsweredLines part locale input before left old new (Err Rules) = IsUntouched before left old new
@@ -128,7 +128,7 @@ IsAnsweredLines part locale input before left old new (Err TooLong) = (most_byte
 IsAnsweredLines part locale input before left old new (Err Json) = IsNoJson input × IsUntouched before left old new
 IsAnsweredLines part locale input before left old new (Err (Refused error)) = ⊥
 IsAnsweredLines part locale input before left old new (Err (Language error)) =
-    (document : Data) × IsDocumentIn input document × IsLanguageOf document part locale (Err error) × IsUntouched before left old new
+    (document : Data) × IsDocumentIn input document × IsFoundFor document part locale (Err error) × IsUntouched before left old new
 IsAnsweredLines part locale input before left old new (Err Numbers) = IsStreamedFor part locale input before left old new (Err Numbers)
 IsAnsweredLines part locale input before left old new (Err Write) = IsStreamedFor part locale input before left old new (Err Write)
 IsAnsweredLines part locale input before left old new (Err Memory) =
@@ -152,7 +152,7 @@ abbrev pub verdict_of_counts : Counts → Verdict
 verdict_of_counts counts = if counts.faults == 0 then Complete else Faults
 
 -- the report, or a beginning of it; or a fault, and nothing at all
-abbrev pub IsChecked : List MessageFile → List ℕ → Option (List ℕ) → Option (List ℕ) → Result Verdict FormsError → Type 0
+unfoldable pub IsChecked : List MessageFile → List ℕ → Option (List ℕ) → Option (List ℕ) → Result Verdict FormsError → Type 0
 IsChecked files input old new (Ok verdict) =
     (counts : Counts) × IsReportedBy files input old new (Ok counts) × (verdict ≡ verdict_of_counts counts)
 IsChecked files input old new (Err Rules) = Keeps old new

@@ -21,9 +21,9 @@ abbrev pub language_status : LanguageError → ℕ
 language_status (NotFound part locale chain.NotFound) = 1
 language_status error = 2
 
-abbrev pub status_of : FormsError → ℕ
-status_of (forms.Language error) = language_status error
-status_of error = 2
+abbrev pub forms_status : FormsError → ℕ
+forms_status (forms.Language error) = language_status error
+forms_status error = 2
 
 -- the rules are at fault
 abbrev pub is_of_rules : FormsError → Bool

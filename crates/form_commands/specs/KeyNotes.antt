@@ -84,7 +84,7 @@ AreFileNotes document (file ∷ files) notes =
 -- ---- What is written
 
 -- the notes, if there is an answer; else none, or, after the whole answer, a beginning of them
-abbrev pub AreNoted : (Data → List ℕ → Type 0) → (Result Verdict FormsError → Type 0) → List ℕ → Option (List ℕ) → Option (List ℕ)
+unfoldable pub AreNoted : (Data → List ℕ → Type 0) → (Result Verdict FormsError → Type 0) → List ℕ → Option (List ℕ) → Option (List ℕ)
     → Result Verdict FormsError → Type 0
 AreNoted AreNotes IsResult input old new (Ok verdict) =
     (document : Data) × (notes : List ℕ) × IsDocumentIn input document × AreNotes document notes × Appends old new notes

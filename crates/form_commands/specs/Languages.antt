@@ -1,5 +1,5 @@
 -- The rules that a document has for a locale: those of the first key along the locale's chain.
---     IsLanguageOf document part locale answer      the rules, or why there are none
+--     IsFoundFor document part locale answer      the rules, or why there are none
 use Rattle.std.specs.Prelude.{◌≡◌, ◌⊎◌, ℕ, List, Option, Some, None, Result, Ok, Err}
 use Rattle.std.specs.Option.{option_and_then}
 use Rattle.serde_json.specs.Data.{Data}
@@ -60,7 +60,7 @@ IsFoundAt document part key (Err error) =
 -- ---- The rules of a locale
 
 -- those of the first key, or why there are none
-abbrev pub IsLanguageOf : Data → Part → List ℕ → Result Language LanguageError → Type 0
-IsLanguageOf document part locale answer =
+abbrev pub IsFoundFor : Data → Part → List ℕ → Result Language LanguageError → Type 0
+IsFoundFor document part locale answer =
     ((key : List ℕ) × IsKeyOf document part locale key × IsFoundAt document part key answer)
     ⊎ ((reason : FallbackError) × HasNoKey document part locale reason × (answer ≡ Err (NotFound part locale reason)))

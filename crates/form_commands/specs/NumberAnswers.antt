@@ -10,7 +10,7 @@ use Rattle.icu_plurals.specs.Places.{IsWithinLimit}
 use Rattle.icu_plurals.specs.Written.{CompactNumber, WritesCompact, IsCompactOverLimit}
 use Rattle.icu_plurals.specs.declared.PluralCategory.{PluralCategory}
 use Rattle.icu_plurals.specs.DecimalChoice.{HasCategory}
-use Rattle.form_commands.specs.PrintedTexts.{PrintedText, joined, nothing}
+use Rattle.form_commands.specs.PrintedTexts.{PrintedText, both_printed, nothing}
 use Rattle.form_commands.specs.declared.printed.NumberFault.{NumberFault}
 use Rattle.form_commands.specs.declared.printed.NumberFault.TheVariants.{TooLong, NotText, Syntax, Limit}
 use Rattle.form_commands.specs.declared.printed.Place.{Place}
@@ -48,9 +48,9 @@ IsCategoryOf rules word answer =
 
 -- ---- Its line
 
-abbrev pub place_text : Place → List ℕ
-place_text (Line place) = codes "line " ++ decimal place
-place_text (Number place) = codes "number " ++ decimal place
+abbrev pub number_place_text : Place → List ℕ
+number_place_text (Line place) = codes "line " ++ decimal place
+number_place_text (Number place) = codes "number " ++ decimal place
 
 abbrev pub number_fault_text : NumberFault → List ℕ
 number_fault_text TooLong = codes "more than 65540 bytes"
@@ -62,7 +62,7 @@ abbrev pub category_answer : PluralCategory → PrintedText
 category_answer category = record { text = name_of category ++ codes "\n"; has_fault = false }
 
 abbrev pub fault_answer : Place → NumberFault → PrintedText
-fault_answer place fault = record { text = place_text place ++ codes ": " ++ number_fault_text fault ++ codes "\n"; has_fault = true }
+fault_answer place fault = record { text = number_place_text place ++ codes ": " ++ number_fault_text fault ++ codes "\n"; has_fault = true }
 
 abbrev pub answer_text : Place → Result PluralCategory NumberFault → PrintedText
 answer_text place (Ok category) = category_answer category
@@ -83,7 +83,7 @@ abbrev pub AreAnswersFrom : (ℕ → Place) → FiveRules → ℕ → List (List
 AreAnswersFrom at rules place [] printed = printed ≡ nothing
 AreAnswersFrom at rules place (word ∷ words) printed =
     (first rest : PrintedText) × IsAnswerAt rules (at place) word first × AreAnswersFrom at rules (next_place place) words rest
-    × (printed ≡ joined first rest)
+    × (printed ≡ both_printed first rest)
 
 -- the words of a command line
 abbrev pub AreNumberAnswers : FiveRules → List (List ℕ) → PrintedText → Type 0

@@ -1,5 +1,5 @@
 -- What is printed: a text, and whether a line of it tells a fault.
---     joined first second      one after the other
+--     both_printed first second      one after the other
 use Rattle.std.specs.Prelude.{ℕ, List, [], ◌++◌, Bool, false, ◌||◌, if◌then◌else◌}
 use Rattle.form_commands.specs.declared.error.Verdict.{Verdict}
 use Rattle.form_commands.specs.declared.error.Verdict.TheVariants.{Complete, Faults}
@@ -14,8 +14,8 @@ nothing = record { text = []; has_fault = false }
 abbrev pub only_text : List ℕ → PrintedText
 only_text text = record { text = text; has_fault = false }
 
-abbrev pub joined : PrintedText → PrintedText → PrintedText
-joined first second = record { text = first.text ++ second.text; has_fault = first.has_fault || second.has_fault }
+abbrev pub both_printed : PrintedText → PrintedText → PrintedText
+both_printed first second = record { text = first.text ++ second.text; has_fault = first.has_fault || second.has_fault }
 
 abbrev pub without_text : PrintedText → PrintedText
 without_text printed = record { text = []; has_fault = printed.has_fault }

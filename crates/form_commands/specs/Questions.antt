@@ -30,9 +30,9 @@ pub record PartAndRest : Type 0 where
 abbrev pub in_part : Part → List (List ℕ) → PartAndRest
 in_part part rest = record { part = part; rest = rest }
 
-abbrev pub part_of : List (List ℕ) → PartAndRest
-part_of [] = in_part Cardinal []
-part_of (first ∷ rest) = if bytes_eq first (codes "--ordinal") then in_part Ordinal rest else in_part Cardinal (first ∷ rest)
+abbrev pub part_of_words : List (List ℕ) → PartAndRest
+part_of_words [] = in_part Cardinal []
+part_of_words (first ∷ rest) = if bytes_eq first (codes "--ordinal") then in_part Ordinal rest else in_part Cardinal (first ∷ rest)
 
 -- the file that `--rules` at the front names, and the words after it
 pub record FileAndRest : Type 0 where
@@ -59,10 +59,10 @@ options_with file found = record { part = found.part; file = file; rest = found.
 -- `--ordinal`, and then `--rules FILE`; or, if `--ordinal` isn't first, these in the other order; each may be absent
 abbrev pub options_after : Part → FileAndRest → Options
 options_after Ordinal found = options_with found.file (in_part Ordinal found.rest)
-options_after part found = options_with found.file (part_of found.rest)
+options_after part found = options_with found.file (part_of_words found.rest)
 
 abbrev pub options_of : List (List ℕ) → Options
-options_of words = options_after (part_of words).part (file_of (part_of words).rest)
+options_of words = options_after (part_of_words words).part (file_of (part_of_words words).rest)
 
 -- ---- Questions
 

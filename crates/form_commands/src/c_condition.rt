@@ -6,7 +6,7 @@ ghost use Rattle.icu_plurals.specs.Truth.{is_in_ranges, under};
 ghost use Rattle.icu_plurals.specs.PackedRelations.{PackedRelation};
 ghost use Rattle.icu_plurals.specs.RuleKinds.{tree_operand_of};
 ghost use Rattle.icu_plurals.specs.RuleViews.{lent_relation};
-ghost use Rattle.form_commands.specs.CExpressions.{and_text, atom_text, comparison_text, condition_text, or_text, term_text};
+ghost use Rattle.form_commands.specs.CExpressions.{and_text, atom_text, c_condition_text, comparison_text, or_text, term_text};
 ghost use Rattle.form_commands.specs.RuleConditions.{atoms_under, condition_of, in_ranges, inside, is_of_number, outside};
 ghost use Rattle.form_commands.specs.Inner.ConditionSteps.{AreCut, IsGroup, Joins, begun_before, ended_before, group_texts};
 
@@ -26,7 +26,7 @@ pub(crate) struct Group {
 // Returns the condition of a rule. Relations that are true of all whole numbers are left out, and so are groups that have one that
 // is false of all.
 pub(crate) fn condition_text(alloc: Global, rule: &Rule<'_>) -> Result<String, AllocError>
-    ensures { IfOk result (λ text. string_bytes text ≡ condition_text (condition_of rule.now)) }
+    ensures { IfOk result (λ text. string_bytes text ≡ c_condition_text (condition_of rule.now)) }
 {
     let mut ended = Joined::new(alloc);
     let mut current = Group::new(alloc);

@@ -1,7 +1,7 @@
 //! Why a question has no answer, and the exit status of the program.
 
 ghost use Rattle.std.specs.Prelude.{◌≡◌, Some};
-ghost use Rattle.form_commands.specs.FormsErrors.{is_of_rules, language_error_text, language_status, status_of, verdict_status};
+ghost use Rattle.form_commands.specs.FormsErrors.{forms_status, is_of_rules, language_error_text, language_status, verdict_status};
 
 use crate::name::Name;
 use icu_plurals::JsonError;
@@ -102,9 +102,9 @@ pub enum FormsError {
 }
 
 impl From<InputError> for FormsError {
-    ghost use Rattle.form_commands.specs.Inner.FormsInputFaults.{input_fault};
+    ghost use Rattle.form_commands.specs.Inner.FormsInputFaults.{rules_input_fault};
 
-    ghost from_gives = { λ error fault. fault ≡ input_fault error };
+    ghost from_gives = { λ error fault. fault ≡ rules_input_fault error };
 
     fn from(error: InputError) -> FormsError {
         match error {
@@ -145,7 +145,7 @@ impl FormsError {
 
     /// Returns the exit status of the program: 1 if the locale has no rules, otherwise 2.
     pub fn status(&self) -> u8
-        ensures { result ≡ status_of self.now }
+        ensures { result ≡ forms_status self.now }
     {
         match self {
             FormsError::Language(error) => error.status(),

@@ -6,7 +6,7 @@ ghost use Rattle.std.specs.Option.{option_copied};
 ghost use Rattle.icu_plurals.specs.FiveRules.{FiveRules, categories_of, rules_of};
 ghost use Rattle.icu_plurals.specs.RulesJson.{rules_of_json};
 ghost use Rattle.plural_checker.specs.WholeNumbers.{HasWhole};
-ghost use Rattle.form_commands.specs.CExpressions.{choice_text, condition_text};
+ghost use Rattle.form_commands.specs.CExpressions.{c_condition_text, choice_text};
 ghost use Rattle.form_commands.specs.GettextLines.{AreFormsOf, HasForm, IsGettextLine, SomeHas, condition_if, conditions_of, line_text, rule_for, tried_powers};
 ghost use Rattle.serde_json.specs.View.{view};
 
@@ -144,7 +144,7 @@ fn choice_of(
     place: usize,
 ) -> Result<String, AllocError>
     ensures { IfOk result (λ text. string_bytes text
-        ≡ condition_text (condition_if (rule_for (rules_of five.now) category)) ++ (codes " ? " ++ (decimal place ++ codes " : "))) }
+        ≡ c_condition_text (condition_if (rule_for (rules_of five.now) category)) ++ (codes " ? " ++ (decimal place ++ codes " : "))) }
 {
     let condition = condition_for(alloc, rule_for(five, category))?;
     format!(in alloc; "{condition} ? {place} : ")
@@ -152,7 +152,7 @@ fn choice_of(
 
 // Returns the condition of a rule, or 0 without one.
 fn condition_for(alloc: Global, rule: Option<&Rule<'_>>) -> Result<String, AllocError>
-    ensures { IfOk result (λ text. string_bytes text ≡ condition_text (condition_if (option_copied rule.entry))) }
+    ensures { IfOk result (λ text. string_bytes text ≡ c_condition_text (condition_if (option_copied rule.entry))) }
 {
     match rule {
         Some(rule) => condition_text(alloc, rule),

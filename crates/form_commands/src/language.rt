@@ -1,7 +1,7 @@
 //! The rules that a document has for a locale.
 
 ghost use Rattle.std.specs.Prelude.{◌≡◌, Err, IfOk, option_map};
-ghost use Rattle.form_commands.specs.Languages.{IsFoundAt, IsLanguageOf, value_at};
+ghost use Rattle.form_commands.specs.Languages.{IsFoundAt, IsFoundFor, value_at};
 ghost use Rattle.serde_json.specs.View.{view};
 
 use crate::error::LanguageError;
@@ -27,7 +27,7 @@ pub(crate) fn language_of<'a>(
     part: Part,
     locale: &str,
 ) -> Result<Result<Language<'a>, LanguageError>, AllocError>
-    ensures { IfOk result (λ answer. IsLanguageOf (view document.now) part locale.now answer) }
+    ensures { IfOk result (λ answer. IsFoundFor (view document.now) part locale.now answer) }
 {
     match find_first(document, part, locale) {
         Ok(key) => at_key(alloc, document, part, key),

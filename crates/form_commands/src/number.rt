@@ -1,7 +1,7 @@
 //! The categories of numbers.
 
 ghost use Rattle.std.specs.Prelude.{◌≡◌, IfOk, OnOk};
-ghost use Rattle.form_commands.specs.Inner.PrintedSteps.{Adds};
+ghost use Rattle.form_commands.specs.Inner.PrintedSteps.{AddsPrinted};
 ghost use Rattle.form_commands.specs.Inner.QuestionViews.{words_view};
 ghost use Rattle.form_commands.specs.NumberAnswers.{AreNumberAnswers, IsAnswerAt, IsCategoryOf, IsShortCategoryOf, next_place};
 
@@ -53,7 +53,7 @@ pub(crate) fn push_answer(
     number: &[u8],
     printed: &mut Printed,
 ) -> Result<(), AllocError>
-    ensures { OnOk result (Adds (IsAnswerAt rules.now place number.now) printed.old printed.new) }
+    ensures { OnOk result (AddsPrinted (IsAnswerAt rules.now place number.now) printed.old printed.new) }
 {
     match category_of(alloc, rules, number)? {
         Ok(category) => printed.push_category(category),

@@ -3,7 +3,7 @@
 ghost use Rattle.std.specs.Prelude.{◌≡◌, ◌≢◌, IfErr, OnOk, string_bytes};
 ghost use Rattle.form_commands.specs.Inner.RunSteps.{WritesText};
 ghost use Rattle.form_commands.specs.NumberAnswers.{category_answer, fault_answer};
-ghost use Rattle.form_commands.specs.PrintedTexts.{joined, nothing, only_text, verdict_of, without_text};
+ghost use Rattle.form_commands.specs.PrintedTexts.{both_printed, nothing, only_text, verdict_of, without_text};
 
 use crate::error::{FormsError, Verdict};
 use icu_plurals::PluralCategory;
@@ -54,9 +54,9 @@ pub enum NumberFault {
 
 impl fmt::Display for Place {
     ghost use Rattle.std.specs.Prelude.{Some};
-    ghost use Rattle.form_commands.specs.NumberAnswers.{place_text};
+    ghost use Rattle.form_commands.specs.NumberAnswers.{number_place_text};
 
-    ghost output = { λ place. Some (place_text place) };
+    ghost output = { λ place. Some (number_place_text place) };
 
     fn fmt<W: fmt::Write>(&self, f: &mut fmt::Formatter<W>) -> fmt::Result {
         match self {
@@ -141,7 +141,7 @@ impl Printed {
 
     // Appends the line of a category.
     pub(crate) fn push_category(&mut self, category: PluralCategory) -> Result<(), AllocError>
-        ensures { OnOk result (self.new ≡ joined self.old (category_answer category)) }
+        ensures { OnOk result (self.new ≡ both_printed self.old (category_answer category)) }
     {
         self.text
             .push_str(RawPluralCategory::from(category).as_str())?;
@@ -155,7 +155,7 @@ impl Printed {
         place: Place,
         fault: NumberFault,
     ) -> Result<(), AllocError>
-        ensures { OnOk result (self.new ≡ joined self.old (fault_answer place fault)) }
+        ensures { OnOk result (self.new ≡ both_printed self.old (fault_answer place fault)) }
     {
         let line = format!(in alloc; "{place}: {fault}\n")?;
         self.text.push_str(line.as_str())?;

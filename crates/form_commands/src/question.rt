@@ -2,7 +2,7 @@
 
 ghost use Rattle.std.specs.Prelude.{◌≡◌, map, option_map};
 ghost use Rattle.std.specs.Option.{option_copied};
-ghost use Rattle.form_commands.specs.Questions.{file_of, has_option, in_part, of_command, of_files, of_other, of_word, of_words, options_after, options_of, options_with, part_of, with_file};
+ghost use Rattle.form_commands.specs.Questions.{file_of, has_option, in_part, of_command, of_files, of_other, of_word, of_words, options_after, options_of, options_with, part_of_words, with_file};
 ghost use Rattle.form_commands.specs.Inner.QuestionViews.{options_view, question_view, words_view};
 
 use plural_fallback::Part;
@@ -137,7 +137,7 @@ fn options_after<'w>(part: Part, words: &'w [&'w str]) -> Options<'w>
 
 // The options after `--rules FILE`, or without it.
 fn options_with<'w>(file: Option<&'w str>, words: &'w [&'w str]) -> Options<'w>
-    ensures { options_view result ≡ options_with (option_copied file.entry) (part_of (words_view words.now)) }
+    ensures { options_view result ≡ options_with (option_copied file.entry) (part_of_words (words_view words.now)) }
 {
     let (part, rest) = part_of(words);
     Options { part, file, rest }
@@ -145,7 +145,7 @@ fn options_with<'w>(file: Option<&'w str>, words: &'w [&'w str]) -> Options<'w>
 
 // The part that `--ordinal` at the front names, or the cardinal one; and the words after it.
 fn part_of<'w>(words: &'w [&'w str]) -> (Part, &'w [&'w str])
-    ensures { in_part result.0 (words_view result.1.now) ≡ part_of (words_view words.now) }
+    ensures { in_part result.0 (words_view result.1.now) ≡ part_of_words (words_view words.now) }
 {
     match words {
         [first, rest @ ..] if *first == "--ordinal" => (Part::Ordinal, rest),

@@ -1,12 +1,12 @@
 //! The answers to questions, over any readers and writer.
 
 ghost use Rattle.std.specs.Prelude.{◌≡◌, ◌≢◌, [], IfErr, IfOk, IsTrue, List, ℕ};
-ghost use Rattle.form_commands.specs.FormsAnswers.{Answers, IsAnswered, IsAnsweredLines, IsChecked, IsGettextAnswer, IsListAnswer, IsNumbersAnswer, forms_origin, verdict_of_counts};
+ghost use Rattle.form_commands.specs.FormsAnswers.{Answers, IsAnsweredLines, IsAnsweredText, IsChecked, IsGettextAnswer, IsListAnswer, IsNumbersAnswer, forms_origin, verdict_of_counts};
 ghost use Rattle.form_commands.specs.FormsErrors.{is_of_rules};
 ghost use Rattle.form_commands.specs.Inner.FormsInputFaults.{refused_rules};
 ghost use Rattle.form_commands.specs.Inner.NoteSteps.{NotesAfter, Writes};
 ghost use Rattle.form_commands.specs.Inner.QuestionViews.{words_view};
-ghost use Rattle.form_commands.specs.Inner.RunSteps.{AnswersLines, Checks, GivesDocument, GivesValue, Reports, WritesAnswer};
+ghost use Rattle.form_commands.specs.Inner.RunSteps.{AnswersLines, Checks, GivesDocument, GivesJsonValue, Reports, WritesAnswer};
 ghost use Rattle.form_commands.specs.KeyNotes.{AreFileNotes, IsNote, IsNoted};
 ghost use Rattle.plural_documents.specs.Inputs.{IsInput, IsRead};
 ghost use Rattle.serde_json.specs.View.{view};
@@ -42,7 +42,7 @@ pub fn list_forms<R: Read, W: Write>(
 ) -> Result<Verdict, FormsError>
     // The answer is that of some input: what remained in the reader, if that is known.
     ensures answers { (input : List ℕ) × IsInput (R.remaining rules.old) input
-        × IsAnswered (Answers (IsListAnswer part locale.now) part locale.now) input (W.contents writer.old) (W.contents writer.new) result }
+        × IsAnsweredText (Answers (IsListAnswer part locale.now) part locale.now) input (W.contents writer.old) (W.contents writer.new) result }
     ensures reads { IsRead forms_origin (R.remaining rules.old) (R.remaining rules.new) result }
     ensures writes_nothing { IfErr result (λ e. e ≢ FormsError.Write → writer.new ≡ writer.old) }
 {
@@ -68,7 +68,7 @@ pub fn answer_numbers<R: Read, W: Write, E: Write>(
 ) -> Result<Verdict, FormsError>
     ensures answers { (input : List ℕ) × IsInput (R.remaining rules.old) input
         × IsNoted (λ document note. IsNote document [] part locale.now note)
-        (IsAnswered (Answers (IsNumbersAnswer (words_view numbers.now)) part locale.now) input (W.contents writer.old) (W.contents writer.new))
+        (IsAnsweredText (Answers (IsNumbersAnswer (words_view numbers.now)) part locale.now) input (W.contents writer.old) (W.contents writer.new))
         input (E.contents notes.old) (E.contents notes.new) result }
     ensures reads { IsRead forms_origin (R.remaining rules.old) (R.remaining rules.new) result }
     ensures writes_nothing { IfErr result (λ e. e ≢ FormsError.Write → (writer.new ≡ writer.old) × (notes.new ≡ notes.old)) }
@@ -174,7 +174,7 @@ pub fn write_gettext<R: Read, W: Write, E: Write>(
 ) -> Result<Verdict, FormsError>
     ensures answers { (input : List ℕ) × IsInput (R.remaining rules.old) input
         × IsNoted (λ document note. IsNote document [] part locale.now note)
-        (IsAnswered (Answers IsGettextAnswer part locale.now) input (W.contents writer.old) (W.contents writer.new))
+        (IsAnsweredText (Answers IsGettextAnswer part locale.now) input (W.contents writer.old) (W.contents writer.new))
         input (E.contents notes.old) (E.contents notes.new) result }
     ensures reads { IsRead forms_origin (R.remaining rules.old) (R.remaining rules.new) result }
     ensures writes_nothing { IfErr result (λ e. e ≢ FormsError.Write → (writer.new ≡ writer.old) × (notes.new ≡ notes.old)) }
@@ -349,7 +349,7 @@ fn document_of<R: Read>(alloc: Global, reader: &mut R) -> Result<Value, FormsErr
 
 // Returns the JSON value of bytes.
 fn value_of(alloc: Global, bytes: &[u8]) -> Result<Value, FormsError>
-    ensures { GivesValue bytes.now result }
+    ensures { GivesJsonValue bytes.now result }
 {
     match json_value(alloc, bytes) {
         Ok(value) => Ok(value),

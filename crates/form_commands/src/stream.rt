@@ -3,7 +3,7 @@
 ghost use Rattle.std.specs.Prelude.{◌≡◌, ◌∷◌, [], IfErr, OnOk};
 ghost use Rattle.std.specs.Io.KnownBytes.{Appends};
 ghost use Rattle.form_commands.specs.FormsAnswers.{IsStreamed};
-ghost use Rattle.form_commands.specs.Inner.LineSteps.{EndsLine, Forgets, Takes};
+ghost use Rattle.form_commands.specs.Inner.LineSteps.{EndsLine, Forgets, TakesBytes};
 ghost use Rattle.form_commands.specs.Inner.StreamSteps.{FinishesLines, TakesAndWrites};
 ghost use Rattle.plural_documents.specs.Inputs.{IsPartWritten};
 
@@ -118,7 +118,7 @@ fn take_bytes(
     bytes: &[u8],
     lines: &mut Lines,
 ) -> Result<(), AllocError>
-    ensures { OnOk result (Takes rules.now bytes.now lines.old lines.new) }
+    ensures { OnOk result (TakesBytes rules.now bytes.now lines.old lines.new) }
 {
     for byte in bytes {
         take_byte(alloc, rules, *byte, lines)?;
@@ -133,7 +133,7 @@ fn take_byte(
     byte: u8,
     lines: &mut Lines,
 ) -> Result<(), AllocError>
-    ensures { OnOk result (Takes rules.now (byte ∷ []) lines.old lines.new) }
+    ensures { OnOk result (TakesBytes rules.now (byte ∷ []) lines.old lines.new) }
 {
     if byte == b'\n' {
         return end_line(alloc, rules, lines);

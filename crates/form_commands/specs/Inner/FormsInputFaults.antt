@@ -8,10 +8,10 @@ use Rattle.form_commands.specs.declared.error.FormsError.TheVariants.{Rules, Too
 use Rattle.message_report.specs.declared.error.ReportError.{ReportError}
 use Rattle.message_report.specs.declared.error.ReportError.TheVariants as report
 
-abbrev pub input_fault : InputError → FormsError
-input_fault cause.Read = Rules
-input_fault cause.TooLong = TooLong
-input_fault cause.Memory = Memory
+abbrev pub rules_input_fault : InputError → FormsError
+rules_input_fault cause.Read = Rules
+rules_input_fault cause.TooLong = TooLong
+rules_input_fault cause.Memory = Memory
 
 abbrev pub report_fault : ReportError → FormsError
 report_fault report.Write = Write

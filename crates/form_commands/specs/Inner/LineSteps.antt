@@ -3,7 +3,7 @@ use Rattle.std.specs.Prelude.{◌≡◌, ◌≢◌, ℕ, ◌+◌, List, [], ◌�
 use Rattle.icu_plurals.specs.FiveRules.{FiveRules}
 use Rattle.form_commands.specs.InputLines.{HasNoEnd, lines_of}
 use Rattle.form_commands.specs.NumberAnswers.{AreLineAnswers, IsAnswerAt, most_number_bytes, next_place}
-use Rattle.form_commands.specs.PrintedTexts.{PrintedText, after_text, joined, without_text}
+use Rattle.form_commands.specs.PrintedTexts.{PrintedText, after_text, both_printed, without_text}
 use Rattle.form_commands.specs.declared.printed.Place.TheVariants.{Line}
 use Rattle.form_commands.specs.declared.stream.Lines.{Lines}
 
@@ -28,8 +28,8 @@ pub record IsAfter (rules : FiveRules) (bytes text : List ℕ) (lines : Lines) :
 -- ---- Steps
 
 -- more bytes are taken
-abbrev pub Takes : FiveRules → List ℕ → Lines → Lines → Type 0
-Takes rules more old new = (bytes text : List ℕ) → IsAfter rules bytes text old → IsAfter rules (bytes ++ more) text new
+abbrev pub TakesBytes : FiveRules → List ℕ → Lines → Lines → Type 0
+TakesBytes rules more old new = (bytes text : List ℕ) → IsAfter rules bytes text old → IsAfter rules (bytes ++ more) text new
 
 -- the line is answered, and a new one begins
 pub record EndsLine (rules : FiveRules) (old new : Lines) : Type 0 where
@@ -37,7 +37,7 @@ pub record EndsLine (rules : FiveRules) (old new : Lines) : Type 0 where
   pub answers : IsAnswerAt rules (Line old.place) old.line.items answer
   pub line : new.line.items ≡ []
   pub place : new.place ≡ next_place old.place
-  pub printed : new.printed ≡ joined old.printed answer
+  pub printed : new.printed ≡ both_printed old.printed answer
 
 -- what is printed was written
 abbrev pub Forgets : Lines → Lines → Type 0

@@ -15,7 +15,7 @@ use Rattle.serde_json.specs.View.{view}
 use Rattle.serde_json.specs.declared.Value.{Value}
 use Rattle.form_commands.specs.FormsAnswers.{IsDocumentIn, IsNoJson, IsStreamed, IsUntouched, rules_source, verdict_of_counts}
 use Rattle.form_commands.specs.Inner.FormsInputFaults.{report_fault}
-use Rattle.form_commands.specs.Languages.{IsLanguageOf}
+use Rattle.form_commands.specs.Languages.{IsFoundFor}
 use Rattle.form_commands.specs.PrintedTexts.{PrintedText, verdict_of}
 use Rattle.form_commands.specs.declared.error.FormsError.{FormsError}
 use Rattle.form_commands.specs.declared.error.FormsError.TheVariants.{Rules, TooLong, Json, Refused, Language, Numbers, Write, Memory}
@@ -31,16 +31,16 @@ result_of_report (Err error) = Err (report_fault error)
 -- ---- The document
 
 -- the value of bytes, or that they have none
-abbrev pub GivesValue : List ℕ → Result Value FormsError → Type 0
-GivesValue bytes (Ok value) = json_of bytes ≡ Some (view value)
-GivesValue bytes (Err Rules) = ⊥
-GivesValue bytes (Err TooLong) = ⊥
-GivesValue bytes (Err Json) = json_of bytes ≡ None
-GivesValue bytes (Err (Refused error)) = ⊥
-GivesValue bytes (Err (Language error)) = ⊥
-GivesValue bytes (Err Numbers) = ⊥
-GivesValue bytes (Err Write) = ⊥
-GivesValue bytes (Err Memory) = ⊤
+abbrev pub GivesJsonValue : List ℕ → Result Value FormsError → Type 0
+GivesJsonValue bytes (Ok value) = json_of bytes ≡ Some (view value)
+GivesJsonValue bytes (Err Rules) = ⊥
+GivesJsonValue bytes (Err TooLong) = ⊥
+GivesJsonValue bytes (Err Json) = json_of bytes ≡ None
+GivesJsonValue bytes (Err (Refused error)) = ⊥
+GivesJsonValue bytes (Err (Language error)) = ⊥
+GivesJsonValue bytes (Err Numbers) = ⊥
+GivesJsonValue bytes (Err Write) = ⊥
+GivesJsonValue bytes (Err Memory) = ⊤
 
 -- the document of an input, or why there is none
 abbrev pub GivesDocument : List ℕ → Result Value FormsError → Type 0
@@ -74,8 +74,8 @@ WritesAnswer (Err error) old new result = (result ≡ Err Memory) × Keeps old n
 abbrev pub AnswersLines : Data → Part → List ℕ → Option (List ℕ) → Option (List ℕ) → Option (List ℕ) → Option (List ℕ)
     → Result Verdict FormsError → Type 0
 AnswersLines document part locale before left old new result =
-    ((language : code.Language) × IsLanguageOf document part locale (Ok language) × IsStreamed language.rules before left old new result)
-    ⊎ (((error : LanguageError) × IsLanguageOf document part locale (Err error) × (result ≡ Err (Language error))
+    ((language : code.Language) × IsFoundFor document part locale (Ok language) × IsStreamed language.rules before left old new result)
+    ⊎ (((error : LanguageError) × IsFoundFor document part locale (Err error) × (result ≡ Err (Language error))
     × IsUntouched before left old new)
     ⊎ ((result ≡ Err Memory) × IsUntouched before left old new))
 

@@ -3,4 +3,5 @@
 mod asked;
 mod growth;
 mod inputs;
+mod lines;
 mod writers;

@@ -1,7 +1,7 @@
 use Rattle.std.proofs.Common.{◌≡◌, ℕ, List, length}
 use Rattle.form_commands.specs.Inner.QuestionViews.{words_view}
 use Rattle.form_commands.specs.NumberAnswers.{AreAnswersFrom}
-use Rattle.form_commands.specs.PrintedTexts.{PrintedText, joined}
+use Rattle.form_commands.specs.PrintedTexts.{PrintedText, both_printed}
 use Rattle.form_commands.specs.declared.printed.Place.TheVariants.{Number}
 use Rattle.form_commands.proofs.number.numbers_text.Given as goal
 
@@ -9,7 +9,7 @@ use Rattle.form_commands.proofs.number.numbers_text.Given as goal
 abbrev pub invariant-loop-rest : goal.invariant-loop-rest
 invariant-loop-rest l =
     (left : List (List ℕ)) → words_view l.rest ≡ left → (more : PrintedText) → AreAnswersFrom Number l.rules l.place left more
-    → AreAnswersFrom Number l.rules 1 (words_view l.numbers) (joined l.printed more)
+    → AreAnswersFrom Number l.rules 1 (words_view l.numbers) (both_printed l.printed more)
 
 abbrev pub decreases-loop-rest : goal.decreases-loop-rest
 decreases-loop-rest l = length l.rest

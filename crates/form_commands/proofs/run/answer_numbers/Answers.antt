@@ -1,6 +1,6 @@
 use Rattle.std.proofs.Common.{[]}
 use Rattle.serde_json.specs.View.{view}
-use Rattle.form_commands.specs.FormsAnswers.{Answers, IsAnswered, IsNumbersAnswer}
+use Rattle.form_commands.specs.FormsAnswers.{Answers, IsAnsweredText, IsNumbersAnswer}
 use Rattle.form_commands.specs.Inner.QuestionViews.{words_view}
 use Rattle.form_commands.specs.KeyNotes.{IsNote}
 use Rattle.form_commands.proofs.AnswerLemmas.{no_answer}
@@ -23,7 +23,7 @@ returns-in-Err-clause-answers g c =
       d.0,
       d.1,
       none_noted (λ document note. IsNote document [] c.args.part c.args.locale.now note)
-          (IsAnswered (Answers (IsNumbersAnswer (words_view c.args.numbers.now)) c.args.part c.args.locale.now) d.0
+          (IsAnsweredText (Answers (IsNumbersAnswer (words_view c.args.numbers.now)) c.args.part c.args.locale.now) d.0
           (g.W.Write.contents c.args.writer.now) (g.W.Write.contents c.args.writer.now)) d.0 (g.E.Write.contents c.args.notes.now) c.in-Err.error
           (no_answer (Answers (IsNumbersAnswer (words_view c.args.numbers.now)) c.args.part c.args.locale.now) d.0
           (g.W.Write.contents c.args.writer.now) c.in-Err.error d.2),

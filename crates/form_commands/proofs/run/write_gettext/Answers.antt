@@ -1,6 +1,6 @@
 use Rattle.std.proofs.Common.{[]}
 use Rattle.serde_json.specs.View.{view}
-use Rattle.form_commands.specs.FormsAnswers.{Answers, IsAnswered, IsGettextAnswer}
+use Rattle.form_commands.specs.FormsAnswers.{Answers, IsAnsweredText, IsGettextAnswer}
 use Rattle.form_commands.specs.KeyNotes.{IsNote}
 use Rattle.form_commands.proofs.AnswerLemmas.{no_answer}
 use Rattle.form_commands.proofs.NoteLemmas.{none_noted, printed_noted}
@@ -22,7 +22,7 @@ returns-in-Err-clause-answers g c =
       d.0,
       d.1,
       none_noted (λ document note. IsNote document [] c.args.part c.args.locale.now note)
-          (IsAnswered (Answers IsGettextAnswer c.args.part c.args.locale.now) d.0
+          (IsAnsweredText (Answers IsGettextAnswer c.args.part c.args.locale.now) d.0
           (g.W.Write.contents c.args.writer.now) (g.W.Write.contents c.args.writer.now)) d.0 (g.E.Write.contents c.args.notes.now) c.in-Err.error
           (no_answer (Answers IsGettextAnswer c.args.part c.args.locale.now) d.0
           (g.W.Write.contents c.args.writer.now) c.in-Err.error d.2),

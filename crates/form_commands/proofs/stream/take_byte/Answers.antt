@@ -1,5 +1,5 @@
 use Rattle.std.proofs.Common.{ℕ, List, [], ◌∷◌, ◌++◌, ◌<◌, ◌≤◌, length, arith, refl, sym, ◌∙◌, ap, subst}
-use Rattle.form_commands.specs.Inner.LineSteps.{EndsLine, IsAfter, Takes}
+use Rattle.form_commands.specs.Inner.LineSteps.{EndsLine, IsAfter, TakesBytes}
 use Rattle.form_commands.specs.NumberAnswers.{most_number_bytes}
 use Rattle.form_commands.proofs.AfterLemmas.{after_byte, after_end}
 use Rattle.form_commands.proofs.LineLemmas.{kept_grows, kept_stays}
@@ -11,7 +11,7 @@ returns-then-byte-eq10 c =
     let r = c.args.rules.now in
     let old = c.args.lines.now in
     let new = c.end_line.new.lines in
-    on_ok {P = EndsLine r old new} {Q = Takes r (c.args.byte ∷ []) old new} c.end_line.result
+    on_ok {P = EndsLine r old new} {Q = TakesBytes r (c.args.byte ∷ []) old new} c.end_line.result
     (λ e bytes text a. subst (λ (b : ℕ). IsAfter r (bytes ++ b ∷ []) text new) (sym c.if-byte-eq10.true)
     (after_end r bytes text old new e a)) c.end_line.ensures
 

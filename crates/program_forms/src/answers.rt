@@ -1,0 +1,77 @@
+//! The answers, over any readers and writers.
+
+use crate::failure::Failure;
+use form_commands::{
+    FormsError, Verdict, Wanted, answer_lines, answer_numbers, check_files, list_forms,
+    write_gettext,
+};
+use message_report::MessageFile;
+use plural_documents::write_output;
+use std::alloc::Global;
+use std::io::{Read, Write};
+
+// What is asked of rules.
+#[derive(Clone, Copy)]
+pub(crate) enum Asked<'a> {
+    // Which forms a language has.
+    List(Wanted<'a>),
+    // How gettext's files number the forms of a language.
+    Gettext(Wanted<'a>),
+    // Which categories these numbers have.
+    Numbers(Wanted<'a>, &'a [&'a str]),
+    // Which categories the numbers in the input have.
+    Lines(Wanted<'a>),
+    // What these files of messages lack.
+    Check(&'a [MessageFile<'a>]),
+}
+
+impl<'a> Asked<'a> {
+    // Returns whether the input is read for the numbers.
+    pub(crate) fn has_input(&self) -> bool {
+        matches!(self, Asked::Lines(_))
+    }
+}
+
+// Writes the answer by the rules.
+pub(crate) fn write_answer<R: Read, N: Read, W: Write, E: Write>(
+    alloc: Global,
+    asked: Asked<'_>,
+    rules: &mut R,
+    input: &mut N,
+    output: &mut W,
+    notes: &mut E,
+) -> Result<Verdict, FormsError> {
+    match asked {
+        Asked::List(wanted) => list_forms(alloc, wanted.part, wanted.locale, rules, output),
+        Asked::Gettext(wanted) => {
+            write_gettext(alloc, wanted.part, wanted.locale, rules, output, notes)
+        }
+        Asked::Numbers(wanted, numbers) => answer_numbers(
+            alloc,
+            wanted.part,
+            wanted.locale,
+            numbers,
+            rules,
+            output,
+            notes,
+        ),
+        Asked::Lines(wanted) => answer_lines(
+            alloc,
+            wanted.part,
+            wanted.locale,
+            rules,
+            input,
+            output,
+            notes,
+        ),
+        Asked::Check(files) => check_files(alloc, files, rules, output, notes),
+    }
+}
+
+// Writes a text and a newline.
+pub(crate) fn print<W: Write>(output: &mut W, text: &str) -> Result<Verdict, Failure> {
+    if write_output(output, text.as_bytes()).is_err() || write_output(output, b"\n").is_err() {
+        return Err(Failure::Write);
+    }
+    Ok(Verdict::Complete)
+}
