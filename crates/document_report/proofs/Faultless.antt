@@ -19,7 +19,8 @@ use Rattle.icu_plurals.specs.declared.provider.RawPluralCategory.TheVariants as 
 use Rattle.icu_plurals.specs.declared.provider.PluralRanges.{PluralRanges}
 use Rattle.icu_plurals.specs.Categories.{name_of, place_of}
 use Rattle.icu_plurals.specs.DocumentJson.{Document, Rows, document_of_json, found, map_meant, rows_meant, value_of_locale}
-use Rattle.icu_plurals.specs.FiveRules.{Five, five, FiveRules}
+use Rattle.icu_plurals.specs.declared.Five.{Five}
+use Rattle.icu_plurals.specs.FiveRules.{five, FiveRules}
 use Rattle.icu_plurals.specs.Json.{Stands, ◌>>=◌, all_five, there_or}
 use Rattle.icu_plurals.specs.PackedRelations.{PackedRelation}
 use Rattle.icu_plurals.specs.Ranges.{Range, raw_category_named, no_ranges, range_named, range_text, with_range}

@@ -11,7 +11,8 @@
 use Rattle.std.specs.Prelude.{ℕ, ◌==◌, ◌&&◌, List, [], ◌∷◌, Bool, true, Option, Some, None, is_some, option_map, unwrap_or, if◌then◌else◌, ◌≡◌}
 use Rattle.plural_operands.specs.Operands.{Operands, AreKept, AreExact}
 use Rattle.plural_runtime.specs.PackedTruth.{packed_truth}
-use Rattle.plural_base.specs.FiveRules.{FiveRules, first_category, Five, moduli_of, Paired}
+use Rattle.plural_base.specs.declared.five.Five.{Five}
+use Rattle.plural_base.specs.FiveRules.{FiveRules, first_category, moduli_of, Paired}
 use Rattle.plural_base.specs.declared.category.PluralCategory.{PluralCategory}
 use Rattle.plural_base.specs.declared.category.PluralCategory.TheVariants.{Zero, One, Two, Few, Many, Other}
 use Rattle.fixed_decimal.specs.Written.{CompactNumber}

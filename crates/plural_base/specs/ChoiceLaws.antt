@@ -17,7 +17,8 @@ use Rattle.plural_runtime.specs.PackedTruth.{packed_truth}
 use Rattle.plural_base.specs.declared.category.PluralCategory.{PluralCategory}
 use Rattle.plural_base.specs.declared.category.PluralCategory.TheVariants.{One, Other}
 use Rattle.plural_base.specs.DecimalChoice.{IsExactChoice, IsKeptChoice}
-use Rattle.plural_base.specs.FiveRules.{Five, FiveRules, five, first_category}
+use Rattle.plural_base.specs.declared.five.Five.{Five}
+use Rattle.plural_base.specs.FiveRules.{FiveRules, five, first_category}
 
 -- ---- Within the bound
 

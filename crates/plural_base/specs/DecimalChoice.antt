@@ -3,15 +3,19 @@
 --     IsKeptChoice      within the bound or not: the one that its kept operands choose
 --     HasCategory rules x category      both
 --     IsTextChoice      that of the number that a text writes
-use Rattle.std.specs.Prelude.{◌≡◌, ◌≤◌, ℕ, List, Option}
+--     IsTextAnswer      that, or why the text has none
+use Rattle.std.specs.Prelude.{◌≡◌, ◌≢◌, ◌≤◌, ◌↔◌, ℕ, List, Option, Result, Err, IfOk, Contains, length}
+use Rattle.fixed_decimal.specs.declared.error.DecimalError.{DecimalError}
+use Rattle.fixed_decimal.specs.declared.error.DecimalError.TheVariants as fault
 use Rattle.fixed_decimal.specs.Places.{Places, IsWithinLimit}
-use Rattle.fixed_decimal.specs.Written.{CompactNumber, WritesCompact}
+use Rattle.fixed_decimal.specs.Written.{CompactNumber, WritesCompact, IsCompactOverLimit}
 use Rattle.plural_reference.specs.declared.ast.Condition.{Condition}
 use Rattle.plural_operands.specs.Operands.{AreKept, AreExact, Operands}
 use Rattle.plural_reference.specs.Exactness.{IsWithinBound, exact_truth}
 use Rattle.plural_runtime.specs.PackedTruth.{packed_truth}
 use Rattle.plural_base.specs.declared.category.PluralCategory.{PluralCategory}
-use Rattle.plural_base.specs.FiveRules.{Five, FiveRules, first_category, moduli_of}
+use Rattle.plural_base.specs.declared.five.Five.{Five}
+use Rattle.plural_base.specs.FiveRules.{FiveRules, first_category, categories_of, moduli_of}
 use Rattle.plural_base.specs.RuleTexts.{AreRulesOf, AreReadAs}
 
 -- For any five texts that the rules come from, and any conditions that these are read as: if the
@@ -43,3 +47,13 @@ abbrev pub IsTextChoice : FiveRules → List ℕ → PluralCategory → Type 0
 IsTextChoice rules text category =
     (x : CompactNumber) × WritesCompact text x × IsWithinLimit x.significand.absolute × (x.exponent ≤ 255)
     × HasCategory rules x category
+
+-- A text is answered by its choice, which is a category of the rules; by `Syntax` if and only if it
+-- writes no number, and by `Limit` if and only if it writes one over a limit. Memory runs out only
+-- for a text of more than 16 bytes.
+pub record IsTextAnswer (rules : FiveRules) (text : List ℕ) (answer : Result PluralCategory DecimalError) : Type 0 where
+  pub chosen : IfOk answer (λ category. IsTextChoice rules text category)
+  pub member : IfOk answer (λ category. Contains (categories_of rules) category)
+  pub syntax : (answer ≡ Err fault.Syntax) ↔ ((x : CompactNumber) → ¬ (WritesCompact text x))
+  pub limit : (answer ≡ Err fault.Limit) ↔ ((x : CompactNumber) × WritesCompact text x × IsCompactOverLimit x)
+  pub inline : length text ≤ 16 → answer ≢ Err fault.Memory

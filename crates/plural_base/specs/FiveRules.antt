@@ -1,24 +1,17 @@
 -- Five rules, one for each category but other, and the category that they choose (UTS 35 Part 3,
 -- Language Plural Rules).
---     Five A      a value for each of zero, one, two, few and many
+--     five zero one two few many      a value for each (`Five`, src/five.rt)
 --     first_category test things      the first of zero, one, two, few, many whose value is present
 --         and passes, else other
 --     categories_of things      those whose value is present, in this order, then other
 use Rattle.std.specs.Prelude.{List, [], ◌∷◌, ◌++◌, Bool, false, Option, Some, None, is_some, if◌then◌else◌, ℕ, flat_map}
 use Rattle.plural_base.specs.declared.category.PluralCategory.{PluralCategory}
 use Rattle.plural_base.specs.declared.category.PluralCategory.TheVariants.{Zero, One, Two, Few, Many, Other}
+use Rattle.plural_base.specs.declared.five.Five.{Five}
 use Rattle.plural_runtime.specs.PackedRelations.{PackedRelation}
 use Rattle.plural_base.specs.declared.rules.data.PluralRulesData.{PluralRulesData}
 use Rattle.plural_operands.specs.declared.operand.Operand.{Operand}
 use Rattle.plural_operands.specs.declared.operand.Operand.TheVariants.{N, I, V, W, F, T, C, E}
-
--- a value for each category but other
-pub record Five (A : Type 0) : Type 0 where
-  pub zero : A
-  pub one : A
-  pub two : A
-  pub few : A
-  pub many : A
 
 -- the five by name
 abbrev pub five : {A : Type 0} → A → A → A → A → A → Five A

@@ -7,6 +7,7 @@
 --     HaveEveryReading Read      rules of texts are those of every reading of these texts
 --         (`laws::rules_have_every_reading`)
 --     texts_of zero one two few many      the texts of five references
+--     lent_texts texts      the same by name
 use Rattle.std.specs.Prelude.{◌≡◌, ℕ, List, Option, Some, None, Ok, Err, ◌⊎◌}
 use Rattle.std.specs.Borrow.{Bor}
 use Rattle.std.specs.Option.{option_copied}
@@ -22,7 +23,8 @@ use Rattle.plural_runtime.specs.PackedTree.{packing}
 use Rattle.plural_runtime.specs.RuleOfText.{IsPackedFrom, TextGives}
 use Rattle.plural_base.specs.declared.category.PluralCategory.{PluralCategory}
 use Rattle.plural_base.specs.declared.category.PluralCategory.TheVariants.{Zero, One, Two, Few, Many, Other}
-use Rattle.plural_base.specs.FiveRules.{Five, five, FiveRules, Paired, ArePaired}
+use Rattle.plural_base.specs.declared.five.Five.{Five}
+use Rattle.plural_base.specs.FiveRules.{five, FiveRules, Paired, ArePaired}
 
 -- the text is read as a condition that is packed to the rule, or both are absent
 abbrev pub IsRuleOf : Option (List ℕ) → Option (List PackedRelation) → Type 0
@@ -41,6 +43,10 @@ abbrev pub texts_of : {A : Type 0} → Option (Bor A) → Option (Bor A) → Opt
     → Five (Option A)
 texts_of zero one two few many =
     five (option_copied zero) (option_copied one) (option_copied two) (option_copied few) (option_copied many)
+
+-- the same by name
+abbrev pub lent_texts : {A : Type 0} → Five (Option (Bor A)) → Five (Option A)
+lent_texts texts = texts_of texts.zero texts.one texts.two texts.few texts.many
 
 -- ---- The first text that gives no rule
 

@@ -10,7 +10,8 @@ use Rattle.plural_base.specs.declared.category.PluralCategory.{PluralCategory}
 use Rattle.plural_base.specs.declared.category.PluralCategory.TheVariants.{Zero, One, Two, Few, Many}
 use Rattle.plural_base.specs.Categories.{name_of}
 use Rattle.plural_base.specs.declared.json.error.JsonError.TheVariants.{Shape, Rule}
-use Rattle.plural_base.specs.FiveRules.{Five, five, FiveRules}
+use Rattle.plural_base.specs.declared.five.Five.{Five}
+use Rattle.plural_base.specs.FiveRules.{five, FiveRules}
 use Rattle.plural_base.specs.Json.{Stands, ◌>>=◌, all_five, unless_float}
 use Rattle.serde_json.specs.Data.{Data, null, string, object, no_members, member}
 use Rattle.serde_json.specs.Find.{get, as_null, as_str, as_object}

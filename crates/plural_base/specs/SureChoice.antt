@@ -7,7 +7,8 @@ use Rattle.fixed_decimal.specs.declared.error.DecimalError.{DecimalError}
 use Rattle.fixed_decimal.specs.declared.error.DecimalError.TheVariants as number_fault
 use Rattle.fixed_decimal.specs.Places.{IsWithinLimit}
 use Rattle.fixed_decimal.specs.Written.{CompactNumber, IsCompactOverLimit, WritesCompact}
-use Rattle.plural_base.specs.FiveRules.{ArePaired, Five, FiveRules, first_category, moduli_of}
+use Rattle.plural_base.specs.declared.five.Five.{Five}
+use Rattle.plural_base.specs.FiveRules.{ArePaired, FiveRules, first_category, moduli_of}
 use Rattle.plural_base.specs.RuleTexts.{AreRulesOf, IsFirstRefused}
 use Rattle.plural_base.specs.declared.category.PluralCategory.{PluralCategory}
 use Rattle.plural_base.specs.declared.sure_choice.SureCategoryError.{SureCategoryError}

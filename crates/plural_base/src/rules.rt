@@ -16,6 +16,7 @@ pub(crate) mod prepared_text;
 pub(crate) mod residue_class;
 pub(crate) mod table_bytes;
 pub(crate) mod text;
+pub(crate) mod told;
 
 use crate::category::PluralCategory;
 use crate::rules::categories::Categories;

@@ -1,9 +1,6 @@
 //! The categories of texts.
 
-ghost use Rattle.std.specs.Prelude.{◌≡◌, ◌≢◌, ◌≤◌, ◌↔◌, length, Err, IfOk, Contains};
-ghost use Rattle.fixed_decimal.specs.Written.{CompactNumber, WritesCompact, IsCompactOverLimit};
-ghost use Rattle.plural_base.specs.DecimalChoice.{IsTextChoice};
-ghost use Rattle.plural_base.specs.FiveRules.{categories_of};
+ghost use Rattle.plural_base.specs.DecimalChoice.{IsTextAnswer};
 
 use crate::category::PluralCategory;
 use crate::laws::kept_choice_is_exact;
@@ -26,13 +23,7 @@ impl<'data> PluralRules<'data> {
         alloc: Global,
         number: &str,
     ) -> Result<PluralCategory, DecimalError>
-        ensures chosen { IfOk result (λ category. IsTextChoice self.now number.now category) }
-        ensures member { IfOk result (λ category. Contains (categories_of self.now) category) }
-        ensures syntax { (result ≡ Err DecimalError.Syntax)
-            ↔ ((x : CompactNumber) → ¬ (WritesCompact number.now x)) }
-        ensures limit { (result ≡ Err DecimalError.Limit)
-            ↔ ((x : CompactNumber) × WritesCompact number.now x × IsCompactOverLimit x) }
-        ensures inline { length number.now ≤ 16 → result ≢ Err DecimalError.Memory }
+        ensures { IsTextAnswer self.now number.now result }
     {
         kept_choice_is_exact();
         match PluralOperands::from_compact_text(alloc, number) {

@@ -10,7 +10,8 @@ use Rattle.std.specs.Prelude.{ℕ, Bool, true, not, ◌&&◌, List, length, nat_
 use Rattle.std.specs.Option.{option_copied}
 use Rattle.icu_plurals.specs.declared.PluralCategory.{PluralCategory}
 use Rattle.icu_plurals.specs.declared.PluralCategory.TheVariants.{Zero, One, Two, Few, Many, Other}
-use Rattle.icu_plurals.specs.FiveRules.{Five, FiveRules, passes}
+use Rattle.icu_plurals.specs.declared.Five.{Five}
+use Rattle.icu_plurals.specs.FiveRules.{FiveRules, passes}
 use Rattle.icu_plurals.specs.RuleTexts.{texts_of}
 use Rattle.icu_plurals.specs.Elements.{Elements}
 use Rattle.plural_checker.specs.declared.coverage.CategorySet.{CategorySet}

@@ -16,7 +16,8 @@ use Rattle.icu_plurals.specs.declared.provider.rules.reference.ast.SampleRange.{
 use Rattle.icu_plurals.specs.declared.provider.rules.reference.ast.Samples as samples
 use Rattle.icu_plurals.specs.declared.provider.rules.runtime.ast.RuleError.{RuleError}
 use Rattle.icu_plurals.specs.declared.provider.rules.runtime.ast.RuleError.TheVariants.{Memory}
-use Rattle.icu_plurals.specs.FiveRules.{Five, FiveRules}
+use Rattle.icu_plurals.specs.declared.Five.{Five}
+use Rattle.icu_plurals.specs.FiveRules.{FiveRules}
 use Rattle.icu_plurals.specs.Lexer.{AreTokensOf, TextReads}
 use Rattle.icu_plurals.specs.PackedRelations.{PackedRelation}
 use Rattle.icu_plurals.specs.RuleOfText.{TextGives}

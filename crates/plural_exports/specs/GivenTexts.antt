@@ -7,7 +7,8 @@ use Rattle.std.specs.Prelude.{◌≡◌, ◌↔◌, ℕ, Bool, List, [], ◌∷�
 use Rattle.std.specs.Str.{IsUtf8}
 use Rattle.icu_plurals.specs.declared.PluralCategory.{PluralCategory}
 use Rattle.icu_plurals.specs.declared.provider.rules.runtime.ast.RuleError.TheVariants as rule
-use Rattle.icu_plurals.specs.FiveRules.{Five, FiveRules, five}
+use Rattle.icu_plurals.specs.declared.Five.{Five}
+use Rattle.icu_plurals.specs.FiveRules.{FiveRules, five}
 use Rattle.icu_plurals.specs.ListBytes.{has_high_start}
 use Rattle.icu_plurals.specs.RuleTexts.{AreRulesOf, IsFirstRefused}
 use Rattle.icu_plurals.specs.RulesBytes.{RulesBytes, rule_items}

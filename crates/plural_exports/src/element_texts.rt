@@ -3,6 +3,7 @@
 ghost use Rattle.icu_plurals.specs.Elements.{each_by};
 ghost use Rattle.icu_plurals.specs.PackedElements.{packed_of, plain_value};
 ghost use Rattle.plural_exports.specs.GivenElements.{AreElementsFrom, ArePackedAs, CanBePacked, HasElementsFrom, eight};
+ghost use Rattle.plural_exports.specs.Inner.LentTexts.{lent_eight};
 ghost use Rattle.plural_exports.specs.Inner.GivenResults.{GivesSeen};
 ghost use Rattle.plural_exports.specs.Results.{Written};
 
@@ -11,7 +12,7 @@ use crate::fault::Fault;
 use crate::given::text_in;
 use crate::rules::given;
 use icu_plurals::provider::PluralElementsPackedCow;
-use icu_plurals::{ElementsPackError, JsonError, PluralElements};
+use icu_plurals::{ElementsPackError, Five, JsonError, PluralElements};
 use std::alloc::Global;
 
 /// Writes the packed bytes of the elements of eight texts; of these only that of other is an
@@ -34,70 +35,57 @@ pub fn elements_from_texts(
 ) -> i64
     ensures { Written (AreElementsFrom (eight other.now zero.now one.now two.now few.now many.now explicit_zero.now explicit_one.now)) out.old out.new result }
 {
-    match elements_of_texts(
-        alloc,
-        other,
+    let five = Five {
         zero,
         one,
         two,
         few,
         many,
+    };
+    let texts = EightTexts {
+        other,
+        five,
         explicit_zero,
         explicit_one,
-    ) {
+    };
+    match elements_of_texts(alloc, &texts) {
         Ok(elements) => put(elements.as_packed().as_bytes(), out),
         Err(fault) => i64::from(fault.number()),
     }
 }
 
+// The bytes of eight texts, by key.
+#[derive(Clone, Copy)]
+struct EightTexts<'a> {
+    other: &'a [u8],
+    five: Five<&'a [u8]>,
+    explicit_zero: &'a [u8],
+    explicit_one: &'a [u8],
+}
+
 // The packed elements of eight texts.
 fn elements_of_texts(
     alloc: Global,
-    other: &[u8],
-    zero: &[u8],
-    one: &[u8],
-    two: &[u8],
-    few: &[u8],
-    many: &[u8],
-    explicit_zero: &[u8],
-    explicit_one: &[u8],
+    texts: &EightTexts<'_>,
 ) -> Result<PluralElementsPackedCow<'static>, Fault>
-    ensures { HasElementsFrom (eight other.now zero.now one.now two.now few.now many.now explicit_zero.now explicit_one.now) result }
+    ensures { HasElementsFrom (lent_eight texts.now) result }
 {
-    let texts = texts_in(
-        other,
-        zero,
-        one,
-        two,
-        few,
-        many,
-        explicit_zero,
-        explicit_one,
-    )?;
+    let texts = texts_in(texts)?;
     packed(alloc, &texts)
 }
 
 // The texts by key.
-fn texts_in<'a>(
-    other: &'a [u8],
-    zero: &'a [u8],
-    one: &'a [u8],
-    two: &'a [u8],
-    few: &'a [u8],
-    many: &'a [u8],
-    explicit_zero: &'a [u8],
-    explicit_one: &'a [u8],
-) -> Result<PluralElements<&'a str>, Fault>
-    ensures { GivesSeen (λ texts. packed_of (each_by plain_value texts)) (ArePackedAs (eight other.now zero.now one.now two.now few.now many.now explicit_zero.now explicit_one.now)) result }
+fn texts_in<'a>(texts: &EightTexts<'a>) -> Result<PluralElements<&'a str>, Fault>
+    ensures { GivesSeen (λ texts. packed_of (each_by plain_value texts)) (ArePackedAs (lent_eight texts.now)) result }
 {
-    let other = text_in(other)?;
-    let zero = given(zero)?;
-    let one = given(one)?;
-    let two = given(two)?;
-    let few = given(few)?;
-    let many = given(many)?;
-    let explicit_zero = given(explicit_zero)?;
-    let explicit_one = given(explicit_one)?;
+    let other = text_in(texts.other)?;
+    let zero = given(texts.five.zero)?;
+    let one = given(texts.five.one)?;
+    let two = given(texts.five.two)?;
+    let few = given(texts.five.few)?;
+    let many = given(texts.five.many)?;
+    let explicit_zero = given(texts.explicit_zero)?;
+    let explicit_one = given(texts.explicit_one)?;
     Ok(
         PluralElements::new(other)
             .with_zero_value(zero)

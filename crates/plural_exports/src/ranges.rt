@@ -105,12 +105,5 @@ fn number_of_range(ranges: &PluralRanges, start: PluralCategory, end: PluralCate
 pub(crate) fn number_of(category: PluralCategory) -> u8
     ensures { result ≡ place_of category }
 {
-    match category {
-        PluralCategory::Zero => 0,
-        PluralCategory::One => 1,
-        PluralCategory::Two => 2,
-        PluralCategory::Few => 3,
-        PluralCategory::Many => 4,
-        PluralCategory::Other => 5,
-    }
+    category as u8
 }

@@ -5,15 +5,16 @@ ghost use Rattle.std.specs.Option.{option_copied};
 ghost use Rattle.icu_plurals.specs.FiveRules.{five, rules_of};
 ghost use Rattle.plural_exports.specs.GivenBytes.{ReadsRules};
 ghost use Rattle.plural_exports.specs.GivenDocuments.{AreRulesIn};
-ghost use Rattle.icu_plurals.specs.RuleTexts.{texts_of};
-ghost use Rattle.plural_exports.specs.GivenTexts.{AreRulesFrom, GiveRules, PackRules};
-ghost use Rattle.plural_exports.specs.Inner.GivenResults.{GivesSeen, ReadsGiven};
+ghost use Rattle.icu_plurals.specs.RuleTexts.{lent_texts};
+ghost use Rattle.plural_exports.specs.GivenTexts.{AreRulesFrom, GiveRules, PackRules, ReadsTexts};
+ghost use Rattle.plural_exports.specs.Inner.GivenResults.{GivesSeen, lent_bytes, ReadsGiven};
 ghost use Rattle.plural_exports.specs.Results.{Answered, Written};
 
 use crate::buffer::put;
 use crate::document::{maps_in, rule_type_of, rules_for, value_in};
 use crate::fault::Fault;
 use crate::given::{rules_in, text_in};
+use icu_plurals::Five;
 use icu_plurals::provider::PluralRulesData;
 use std::alloc::Global;
 
@@ -56,7 +57,14 @@ pub fn rules_from_texts(
 ) -> i64
     ensures { Written (AreRulesFrom (five zero.now one.now two.now few.now many.now)) out.old out.new result }
 {
-    match rules_of_texts(alloc, zero, one, two, few, many) {
+    let texts = Five {
+        zero,
+        one,
+        two,
+        few,
+        many,
+    };
+    match rules_of_texts(alloc, &texts) {
         Ok(block) => put(block.as_slice(), out),
         Err(fault) => i64::from(fault.number()),
     }
@@ -90,23 +98,30 @@ fn rules_of_document(
 }
 
 // The block of the rules of five texts.
-fn rules_of_texts(
-    alloc: Global,
-    zero: &[u8],
-    one: &[u8],
-    two: &[u8],
-    few: &[u8],
-    many: &[u8],
-) -> Result<Vec<u8>, Fault>
-    ensures { GivesSeen (λ block. block.items) (AreRulesFrom (five zero.now one.now two.now few.now many.now)) result }
+fn rules_of_texts(alloc: Global, texts: &Five<&[u8]>) -> Result<Vec<u8>, Fault>
+    ensures { GivesSeen (λ block. block.items) (AreRulesFrom (lent_bytes texts.now)) result }
 {
-    let zero = given(zero)?;
-    let one = given(one)?;
-    let two = given(two)?;
-    let few = given(few)?;
-    let many = given(many)?;
-    let rules = read(alloc, zero, one, two, few, many)?;
+    let given = given_texts(texts)?;
+    let rules = read(alloc, &given)?;
     packed(alloc, &rules)
+}
+
+// The texts that have any byte.
+fn given_texts<'a>(texts: &Five<&'a [u8]>) -> Result<Five<Option<&'a str>>, Fault>
+    ensures { GivesSeen lent_texts (ReadsTexts (lent_bytes texts.now)) result }
+{
+    let zero = given(texts.zero)?;
+    let one = given(texts.one)?;
+    let two = given(texts.two)?;
+    let few = given(texts.few)?;
+    let many = given(texts.many)?;
+    Ok(Five {
+        zero,
+        one,
+        two,
+        few,
+        many,
+    })
 }
 
 // The text of a rule, if it has any byte.
@@ -122,15 +137,11 @@ pub(crate) fn given(bytes: &[u8]) -> Result<Option<&str>, Fault>
 // The rules of the texts.
 fn read(
     alloc: Global,
-    zero: Option<&str>,
-    one: Option<&str>,
-    two: Option<&str>,
-    few: Option<&str>,
-    many: Option<&str>,
+    texts: &Five<Option<&str>>,
 ) -> Result<PluralRulesData<'static>, Fault>
-    ensures { GivesSeen rules_of (GiveRules (texts_of zero.entry one.entry two.entry few.entry many.entry)) result }
+    ensures { GivesSeen rules_of (GiveRules (lent_texts texts.now)) result }
 {
-    match PluralRulesData::from_texts(alloc, zero, one, two, few, many) {
+    match PluralRulesData::from_five(alloc, texts) {
         Ok(rules) => Ok(rules),
         Err(refusal) => Err(Fault::from(refusal.error)),
     }

@@ -1,3 +1,4 @@
 pub mod Chosen
+pub mod Given
 pub mod Fillings
 pub mod OneWay

@@ -1,10 +1,13 @@
 -- The text of a message: an element's text with a number's text in the place of each `{}`. There is
 -- no escape for `{}`.
 --     IsFilling number text filled      the text, cut at its `{}`, is joined by the number's text
-use Rattle.std.specs.Prelude.{◌≡◌, ℕ, ◌-◌, ◌^◌, ◌<◌, ◌≤◌, List, ◌++◌, codes, length, drop, min}
+use Rattle.std.specs.Prelude.{◌≡◌, ◌↔◌, ℕ, ◌-◌, ◌^◌, ◌<◌, ◌≤◌, List, ◌++◌, codes, length, drop, min, Result, Err, IfOk, String, string_bytes}
+use Rattle.std.specs.declared.alloc.Global.{Global}
 use Rattle.std.specs.List.{AllByRecursion, join_by}
 use Rattle.std.specs.Str.Iter.{HasSubslice}
-use Rattle.icu_plurals.specs.Written.{CompactNumber, WritesCompact}
+use Rattle.icu_plurals.specs.Elements.{Elements, IsExactElement, IsKeptElement}
+use Rattle.icu_plurals.specs.FiveRules.{FiveRules}
+use Rattle.icu_plurals.specs.Written.{CompactNumber, WritesCompact, IsCompactOverLimit}
 use Rattle.icu_plurals.specs.Places.{Places}
 use Rattle.icu_plurals.specs.PackedElements.{PackedValue}
 use Rattle.fixed_decimal.specs.Written.{error_text}
@@ -42,6 +45,7 @@ OneFilling =
 --         number x has
 --     IsMessageOf IsChosen number message      the filling by the number's own text, which writes
 --         the number
+--     GivesMessage elements rules number answer      that, or why there is no message
 
 -- An element is chosen for the number's digits and its exponent, and the message is the element's
 -- text, filled by the given text.
@@ -52,6 +56,16 @@ IsMessageWith IsChosen x text message =
 -- The text writes a number, and the message is the one of that number with this text.
 abbrev pub IsMessageOf : (Places → ℕ → PackedValue → Type 0) → List ℕ → List ℕ → Type 0
 IsMessageOf IsChosen number message = (x : CompactNumber) × WritesCompact number x × IsMessageWith IsChosen x number message
+
+-- The message is that of the number's element, which is the one that the number itself has within
+-- the exactness bound. The error is `Number Syntax` if and only if the text writes no number, and
+-- `Number Limit` if and only if it writes one over a limit; the number's error is never `Memory`.
+pub record GivesMessage (elements : Elements PackedValue) (rules : FiveRules) (number : List ℕ) (answer : Result (String Global) MessageError) : Type 0 where
+  pub kept : IfOk answer (λ text. IsMessageOf (IsKeptElement elements rules) number (string_bytes text))
+  pub exact : IfOk answer (λ text. IsMessageOf (IsExactElement elements rules) number (string_bytes text))
+  pub syntax : (answer ≡ Err (Number decimal.Syntax)) ↔ ((x : CompactNumber) → ¬ (WritesCompact number x))
+  pub limit : (answer ≡ Err (Number decimal.Limit)) ↔ ((x : CompactNumber) × WritesCompact number x × IsCompactOverLimit x)
+  pub memory : ¬ (answer ≡ Err (Number decimal.Memory))
 
 -- ---- A message in a buffer that the caller has.
 --     IsWrittenTo old new told message      the message is at the front of the buffer, if it fits,

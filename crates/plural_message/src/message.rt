@@ -1,16 +1,15 @@
 //! Messages by the plural category of a number.
 
-ghost use Rattle.std.specs.Prelude.{◌≡◌, ◌↔◌, List, ℕ, IfOk, Err, string_bytes};
-ghost use Rattle.fixed_decimal.specs.Written.{CompactNumber, WritesCompact, IsCompactOverLimit};
+ghost use Rattle.std.specs.Prelude.{◌≡◌, List, ℕ, IfOk, string_bytes};
 ghost use Rattle.icu_plurals.specs.Elements.{IsExactElement, IsKeptElement};
 ghost use Rattle.icu_plurals.specs.Inner.ElementsViews.{lent_elements};
 ghost use Rattle.icu_plurals.specs.PackedElements.{elements_of};
-ghost use Rattle.plural_message.specs.Messages.{IsMessageOf, IsMessageWith, IsWrittenTo};
+ghost use Rattle.plural_message.specs.Messages.{GivesMessage, IsMessageWith, IsWrittenTo};
 
 use crate::error::MessageError;
 use crate::fill::fill;
 use crate::fill_into::fill_into;
-use fixed_decimal::{CompactDecimal, DecimalError};
+use fixed_decimal::CompactDecimal;
 use icu_plurals::laws::kept_element_is_exact;
 use icu_plurals::provider::PluralElementsPackedULE;
 use icu_plurals::{PluralOperands, PluralRules, PreparedRules};
@@ -103,13 +102,7 @@ impl<'a> Message<'a> {
         number: &str,
         rules: &PluralRules<'_>,
     ) -> Result<String, MessageError>
-        ensures kept { IfOk result (λ text. IsMessageOf (IsKeptElement self.now rules.now) number.now (string_bytes text)) }
-        ensures exact { IfOk result (λ text. IsMessageOf (IsExactElement self.now rules.now) number.now (string_bytes text)) }
-        ensures syntax { (result ≡ Err (MessageError.Number DecimalError.Syntax))
-            ↔ ((x : CompactNumber) → ¬ (WritesCompact number.now x)) }
-        ensures limit { (result ≡ Err (MessageError.Number DecimalError.Limit))
-            ↔ ((x : CompactNumber) × WritesCompact number.now x × IsCompactOverLimit x) }
-        ensures memory { ¬ (result ≡ Err (MessageError.Number DecimalError.Memory)) }
+        ensures { GivesMessage self.now rules.now number.now result }
     {
         // Within the exactness bound the element is that of the number itself.
         kept_element_is_exact();
@@ -127,13 +120,7 @@ impl<'a> Message<'a> {
         number: &str,
         rules: &PreparedRules<'_>,
     ) -> Result<String, MessageError>
-        ensures kept { IfOk result (λ text. IsMessageOf (IsKeptElement self.now rules.now) number.now (string_bytes text)) }
-        ensures exact { IfOk result (λ text. IsMessageOf (IsExactElement self.now rules.now) number.now (string_bytes text)) }
-        ensures syntax { (result ≡ Err (MessageError.Number DecimalError.Syntax))
-            ↔ ((x : CompactNumber) → ¬ (WritesCompact number.now x)) }
-        ensures limit { (result ≡ Err (MessageError.Number DecimalError.Limit))
-            ↔ ((x : CompactNumber) × WritesCompact number.now x × IsCompactOverLimit x) }
-        ensures memory { ¬ (result ≡ Err (MessageError.Number DecimalError.Memory)) }
+        ensures { GivesMessage self.now rules.now number.now result }
     {
         // Within the exactness bound the element is that of the number itself.
         kept_element_is_exact();

@@ -16,7 +16,8 @@ use Rattle.plural_runtime.specs.PackedRelations.{PackedRelation}
 use Rattle.plural_runtime.specs.PackedTree.{packed, has_large_value, packing}
 use Rattle.plural_runtime.specs.PackedTruth.{packed_truth}
 use Rattle.plural_runtime.specs.RuleOfText.{IsPackedFrom, TextsGiveOneAnswer}
-use Rattle.plural_base.specs.FiveRules.{Five, FiveRules, Paired, passes, first_category, moduli_of_relation, moduli_of_rule, moduli_of}
+use Rattle.plural_base.specs.declared.five.Five.{Five}
+use Rattle.plural_base.specs.FiveRules.{FiveRules, Paired, passes, first_category, moduli_of_relation, moduli_of_rule, moduli_of}
 use Rattle.plural_base.specs.RuleTexts.{IsRuleOf, AreRulesOf, AreReadAs}
 use Rattle.plural_base.proofs.choice.Choice.{same_choice}
 use Rattle.plural_base.proofs.bound.ConditionsAdmitted.{Covers, condition_admitted}

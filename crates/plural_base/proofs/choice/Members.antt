@@ -4,7 +4,8 @@ use Rattle.std.specs.Prelude.{Contains, is_some}
 use Rattle.std.proofs.lemmas.List.Elements.{Contains-append_left, Contains-append_right, Contains-push}
 use Rattle.plural_base.specs.declared.category.PluralCategory.{PluralCategory}
 use Rattle.plural_base.specs.declared.category.PluralCategory.TheVariants.{Zero, One, Two, Few, Many, Other}
-use Rattle.plural_base.specs.FiveRules.{Five, passes, first_category, listed, categories_of}
+use Rattle.plural_base.specs.declared.five.Five.{Five}
+use Rattle.plural_base.specs.FiveRules.{passes, first_category, listed, categories_of}
 use Rattle.plural_base.proofs.choice.Choice.{chosen}
 
 -- what passes is listed

@@ -6,7 +6,8 @@ use Rattle.fixed_decimal.specs.Places.{IsOverLimit, IsWithinLimit, Places}
 use Rattle.fixed_decimal.specs.Written.{CompactNumber, IsCompactOverLimit, OneCompact, WritesCompact}
 use Rattle.fixed_decimal.specs.declared.error.DecimalError.{DecimalError}
 use Rattle.fixed_decimal.specs.declared.error.DecimalError.TheVariants as number_fault
-use Rattle.plural_base.specs.FiveRules.{Five, FiveRules, five}
+use Rattle.plural_base.specs.declared.five.Five.{Five}
+use Rattle.plural_base.specs.FiveRules.{FiveRules, five}
 use Rattle.plural_base.specs.RuleTexts.{AreRulesOf, IsFirstRefused, IsRefused, IsRuleOf, IsTaken}
 use Rattle.plural_base.specs.SureChoice.{HasSureFault, IsNumberFault, IsOutOfMemory, IsSure, WritesWithin}
 use Rattle.plural_base.specs.declared.category.PluralCategory.{PluralCategory}

@@ -14,7 +14,8 @@ use Rattle.plural_base.specs.declared.json.error.JsonError.{JsonError}
 use Rattle.plural_base.specs.declared.json.error.JsonError.TheVariants.{Shape}
 use Rattle.plural_base.specs.declared.ranges.PluralRanges.{PluralRanges}
 use Rattle.plural_base.specs.DocumentJson.{Rows, all_maps, document_meant, found, map_meant, row_of, rows_meant, with_locale}
-use Rattle.plural_base.specs.FiveRules.{Five, FiveRules, Paired, five}
+use Rattle.plural_base.specs.declared.five.Five.{Five}
+use Rattle.plural_base.specs.FiveRules.{FiveRules, Paired, five}
 use Rattle.plural_base.specs.Inner.JsonSteps.{GivesRule, Passes, row_alone, row_meant}
 use Rattle.plural_base.specs.Json.{GivesMeaning, IsRefusal, Stands, ◌>>=◌, all_five}
 use Rattle.plural_base.specs.RangesJson.{ranges_meant}

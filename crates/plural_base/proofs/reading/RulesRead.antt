@@ -14,7 +14,8 @@ use Rattle.plural_base.specs.declared.json.error.JsonError.TheVariants.{Shape}
 use Rattle.plural_base.specs.DocumentJson.{Rows, Document, found, rows_meant, map_meant, all_maps, document_meant, value_of_locale}
 use Rattle.plural_base.specs.DocumentJson.{AreRulesAt, AreRangesAt}
 use Rattle.plural_base.specs.declared.ranges.PluralRanges.{PluralRanges}
-use Rattle.plural_base.specs.FiveRules.{Five, FiveRules, Paired}
+use Rattle.plural_base.specs.declared.five.Five.{Five}
+use Rattle.plural_base.specs.FiveRules.{FiveRules, Paired}
 use Rattle.plural_base.specs.RangesJson.{ranges_meant}
 use Rattle.plural_base.specs.Json.{Stands, ◌>>=◌, all_five, GivesMeaning}
 use Rattle.plural_base.specs.RulesJson.{naming_category, optional_meant, member_meant, rules_meant, texts_in}

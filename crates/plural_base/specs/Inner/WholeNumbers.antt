@@ -3,7 +3,7 @@
 use Rattle.std.specs.Prelude.{◌≡◌, ℕ, ◌%◌, ◌<◌, ◌≤◌, List, Option, Some, None, slice_index_or, Bool, ◌&&◌, ◌||◌}
 use Rattle.plural_operands.specs.declared.operand.Operand.{Operand}
 use Rattle.plural_operands.specs.declared.operand.Operand.TheVariants.{N, I, V, W, F, T, C, E}
-use Rattle.plural_operands.specs.Operands.{of_whole}
+use Rattle.plural_operands.specs.Operands.{Operands, of_whole}
 use Rattle.plural_runtime.specs.declared.kinds.AndOr.{AndOr}
 use Rattle.plural_runtime.specs.declared.kinds.AndOr.TheVariants.{And, Or}
 use Rattle.plural_runtime.specs.PackedTruth.{packed_truth}
@@ -38,6 +38,10 @@ IsTold value (Some told) = value ≡ told
 pub record IsInClass (class : ResidueClass) (n : ℕ) : Type 0 where
   pub bound : class.bound ≤ n
   pub residue : n % 100 ≡ class.residue
+
+-- the operands are those of such a number
+abbrev pub HasWhole : ResidueClass → Operands → Type 0
+HasWhole class o = (n : ℕ) × (o ≡ of_whole n) × IsInClass class n
 
 -- a value is as is known of it
 abbrev pub Fits : Known → ℕ → Type 0

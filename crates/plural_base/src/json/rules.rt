@@ -7,7 +7,6 @@ ghost use Rattle.plural_base.specs.RuleTexts.{AreRulesOf, IsRuleOf};
 ghost use Rattle.plural_base.specs.FiveRules.{rules_of, five};
 ghost use Rattle.plural_base.specs.Json.{GivesMeaning};
 ghost use Rattle.plural_base.specs.RulesJson.{member_meant, optional_rule_json, optional_meant, rules_meant, text_under, texts_in};
-ghost use Rattle.plural_base.specs.RulesJson as written;
 ghost use Rattle.serde_json.specs.Find.{as_str, as_object};
 ghost use Rattle.serde_json.specs.View.{view};
 ghost use Rattle.serde_json.specs.Written.{has_float};
@@ -23,7 +22,7 @@ use crate::json::rule::{read_rule, rule_to_json};
 use crate::rules::data::PluralRulesData;
 use plural_runtime::{Rule, RuleError};
 use serde_json::{Value, json};
-use std::alloc::{AllocError, Global};
+use std::alloc::Global;
 
 impl PluralRulesData<'static> {
     ghost use Rattle.plural_base.specs.RulesJson.{rules_of_json};
@@ -81,7 +80,7 @@ impl<'data> PluralRulesData<'data> {
         let two = write_optional(alloc, &self.two)?;
         let few = write_optional(alloc, &self.few)?;
         let many = write_optional(alloc, &self.many)?;
-        Ok(object_of(alloc, zero, one, two, few, many)?)
+        Ok(json!(in alloc; {"zero": zero, "one": one, "two": two, "few": few, "many": many})?)
     }
 }
 
@@ -178,18 +177,4 @@ fn write_optional(alloc: Global, rule: &Option<Rule<'_>>) -> Result<Value, JsonE
         Some(rule) => rule_to_json(alloc, rule),
         None => Ok(Value::Null),
     }
-}
-
-// The object with these values under the five names.
-fn object_of(
-    alloc: Global,
-    zero: Value,
-    one: Value,
-    two: Value,
-    few: Value,
-    many: Value,
-) -> Result<Value, AllocError>
-    ensures { IfOk result (λ value. view value ≡ written.object_of (five (view zero) (view one) (view two) (view few) (view many))) }
-{
-    json!(in alloc; {"zero": zero, "one": one, "two": two, "few": few, "many": many})
 }

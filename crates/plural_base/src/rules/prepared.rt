@@ -12,9 +12,10 @@ use crate::category::PluralCategory;
 use crate::rules::PluralRules;
 use crate::rules::as_plural_rules::AsPluralRules;
 use crate::rules::data::PluralRulesData;
-use crate::rules::fractions::{Fractions, fraction_category, fractions_of};
-use crate::rules::residue_class::{CYCLE, ResidueClass, bound_of, told_category};
+use crate::rules::fractions::{Fractions, fractions_of};
+use crate::rules::residue_class::{CYCLE, ResidueClass, bound_of};
 use crate::rules::table_bytes::{LOW, TABLE_LENGTH, table_bytes};
+use crate::rules::told::told_category;
 use plural_reference::PluralOperands;
 use std::marker::Model;
 
@@ -55,8 +56,8 @@ impl<'data> PreparedRules<'data> {
         let bound = bound_of(&rules.data);
         let low = low_categories(&rules);
         let cycle = cycle_categories(&rules.data, bound);
-        let shown = fraction_category(&rules.data, Fractions::Shown);
-        let not_zero = fraction_category(&rules.data, Fractions::NotZero);
+        let shown = told_category(&rules.data, Fractions::Shown);
+        let not_zero = told_category(&rules.data, Fractions::NotZero);
         PreparedRules {
             rules,
             bound,

@@ -1,8 +1,7 @@
 //! The categories of operands and of texts by prepared rules.
 
-ghost use Rattle.std.specs.Prelude.{◌≡◌, ◌≢◌, ◌≤◌, ◌↔◌, length, Err, IfOk, Contains};
-ghost use Rattle.fixed_decimal.specs.Written.{CompactNumber, WritesCompact, IsCompactOverLimit};
-ghost use Rattle.plural_base.specs.DecimalChoice.{IsTextChoice};
+ghost use Rattle.std.specs.Prelude.{◌≡◌, Contains};
+ghost use Rattle.plural_base.specs.DecimalChoice.{IsTextAnswer};
 ghost use Rattle.plural_base.specs.FiveRules.{first_category, categories_of};
 ghost use Rattle.plural_runtime.specs.PackedTruth.{packed_truth};
 
@@ -49,13 +48,7 @@ impl<'data> PreparedRules<'data> {
         alloc: Global,
         number: &str,
     ) -> Result<PluralCategory, DecimalError>
-        ensures chosen { IfOk result (λ category. IsTextChoice self.now number.now category) }
-        ensures member { IfOk result (λ category. Contains (categories_of self.now) category) }
-        ensures syntax { (result ≡ Err DecimalError.Syntax)
-            ↔ ((x : CompactNumber) → ¬ (WritesCompact number.now x)) }
-        ensures limit { (result ≡ Err DecimalError.Limit)
-            ↔ ((x : CompactNumber) × WritesCompact number.now x × IsCompactOverLimit x) }
-        ensures inline { length number.now ≤ 16 → result ≢ Err DecimalError.Memory }
+        ensures { IsTextAnswer self.now number.now result }
     {
         kept_choice_is_exact();
         match PluralOperands::from_compact_text(alloc, number) {

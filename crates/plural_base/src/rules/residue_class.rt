@@ -1,17 +1,14 @@
 //! What rules tell of all whole numbers from a bound on that leave one remainder by 100.
 
-ghost use Rattle.std.specs.Prelude.{◌≡◌, ℕ, ◌%◌, ◌&&◌, ◌||◌, not, Bool, false, IsTrue, slice_index_or};
-ghost use Rattle.plural_operands.specs.Operands.{of_whole};
+ghost use Rattle.std.specs.Prelude.{◌≡◌, ℕ, ◌%◌, not, Bool, false, IsTrue, slice_index_or};
 ghost use Rattle.plural_reference.specs.Truth.{is_in_ranges, range_holds, remainder, under};
 ghost use Rattle.plural_runtime.specs.RuleKinds.{ends, operator_of, tree_operand_of};
 ghost use Rattle.plural_runtime.specs.Inner.RuleViews.{lent_relation};
-ghost use Rattle.plural_runtime.specs.PackedTruth.{is_true_at, packed_truth};
-ghost use Rattle.plural_base.specs.FiveRules.{passes, rules_of};
-ghost use Rattle.plural_base.specs.Inner.WholeNumbers.{earlier_after, Fits, group_after, IsInClass, IsTold, category_of_whole, whole_value};
+ghost use Rattle.plural_base.specs.Inner.WholeNumbers.{Fits, IsInClass, IsTold, whole_value};
 
-use crate::category::PluralCategory;
 use crate::rules::data::PluralRulesData;
-use plural_runtime::{AndOr, Operand, Polarity, RangeOrValue, Relation, Rule};
+use crate::rules::told::{NumberClass, either};
+use plural_runtime::{Operand, Polarity, RangeOrValue, Relation, Rule};
 
 // The number by whose remainders the numbers are classed.
 pub(crate) const CYCLE: u64 = 100;
@@ -36,104 +33,15 @@ pub(crate) enum Known {
     Nothing,
 }
 
-// How far a rule is read: whether a group before the open one is true, and whether the open one is
-// so far, each if it can be told.
-#[derive(Clone, Copy)]
-pub(crate) struct Walk {
-    pub(crate) earlier: Option<bool>,
-    pub(crate) group: Option<bool>,
-}
+impl NumberClass for ResidueClass {
+    ghost use Rattle.plural_base.specs.Inner.WholeNumbers.{HasWhole};
 
-// The category that five rules give all numbers of a class, if it can be told.
-pub(crate) fn told_category(
-    rules: &PluralRulesData<'_>,
-    class: ResidueClass,
-) -> Option<PluralCategory>
-    ensures { (n : ℕ) → IsInClass class n → IsTold (category_of_whole (rules_of rules.now) n) result }
-{
-    if told_rule(&rules.zero, class)? {
-        return Some(PluralCategory::Zero);
-    }
-    if told_rule(&rules.one, class)? {
-        return Some(PluralCategory::One);
-    }
-    if told_rule(&rules.two, class)? {
-        return Some(PluralCategory::Two);
-    }
-    if told_rule(&rules.few, class)? {
-        return Some(PluralCategory::Few);
-    }
-    if told_rule(&rules.many, class)? {
-        return Some(PluralCategory::Many);
-    }
-    Some(PluralCategory::Other)
-}
+    ghost has = { HasWhole };
 
-// Whether a rule is present and true of all numbers of a class, if it can be told.
-fn told_rule(rule: &Option<Rule<'_>>, class: ResidueClass) -> Option<bool>
-    ensures { (n : ℕ) → IsInClass class n → IsTold (passes (packed_truth (of_whole n)) rule.now) result }
-{
-    match rule {
-        Some(rule) => told_relations(rule, class),
-        None => Some(false),
+    fn told_relation(self, relation: &Relation<'_>) -> Option<bool> {
+        let known = known_value(relation.operand(), relation.modulo(), self);
+        under_polarity(told_list(relation, known), relation.polarity())
     }
-}
-
-// The same of a rule that is present.
-fn told_relations(rule: &Rule<'_>, class: ResidueClass) -> Option<bool>
-    ensures { (n : ℕ) → IsInClass class n → IsTold (packed_truth (of_whole n) rule.now) result }
-{
-    let mut walk = Walk {
-        earlier: Some(false),
-        group: Some(true),
-    };
-    for item in rule.iter() {
-        walk = walk_on(walk, &item.as_relation(), class);
-    }
-    either(walk.earlier, walk.group)
-}
-
-// The walk after a further relation.
-fn walk_on(walk: Walk, relation: &Relation<'_>, class: ResidueClass) -> Walk
-    ensures earlier { (b c : Bool) → IsTold b walk.earlier → IsTold c walk.group
-        → IsTold (earlier_after (lent_relation relation.now).and_or b c) result.earlier }
-    ensures group { (n : ℕ) (c : Bool) → IsInClass class n → IsTold c walk.group
-        → IsTold (group_after (lent_relation relation.now).and_or c (is_true_at (of_whole n) (lent_relation relation.now))) result.group }
-{
-    match relation.and_or() {
-        AndOr::And => Walk {
-            earlier: walk.earlier,
-            group: and_relation(walk.group, relation, class),
-        },
-        AndOr::Or => Walk {
-            earlier: either(walk.earlier, walk.group),
-            group: told_relation(relation, class),
-        },
-    }
-}
-
-// Whether a group is true with a further relation. The relation of a false group isn't looked at.
-fn and_relation(group: Option<bool>, relation: &Relation<'_>, class: ResidueClass) -> Option<bool>
-    ensures { (n : ℕ) (b : Bool) → IsInClass class n → IsTold b group
-        → IsTold (b && is_true_at (of_whole n) (lent_relation relation.now)) result }
-{
-    match group {
-        Some(false) => Some(false),
-        Some(true) => told_relation(relation, class),
-        None => match told_relation(relation, class) {
-            Some(false) => Some(false),
-            Some(true) | None => None,
-        },
-    }
-}
-
-// Whether a relation is true of all numbers of a class, if it can be told.
-fn told_relation(relation: &Relation<'_>, class: ResidueClass) -> Option<bool>
-    ensures { (n : ℕ) → IsInClass class n
-        → IsTold (is_true_at (of_whole n) (lent_relation relation.now)) result }
-{
-    let known = known_value(relation.operand(), relation.modulo(), class);
-    under_polarity(told_list(relation, known), relation.polarity())
 }
 
 // Whether a relation is true by a polarity, if it is told whether its list holds the value.
@@ -233,17 +141,6 @@ fn refused_if(is_refused: bool) -> Option<bool>
     ensures { (b : Bool) → (IsTrue is_refused → b ≡ false) → IsTold b result }
 {
     if is_refused { Some(false) } else { None }
-}
-
-// Whether one of two holds.
-pub(crate) fn either(first: Option<bool>, second: Option<bool>) -> Option<bool>
-    ensures { (b c : Bool) → IsTold b first → IsTold c second → IsTold (b || c) result }
-{
-    match (first, second) {
-        (Some(true), _) | (_, Some(true)) => Some(true),
-        (Some(false), Some(false)) => Some(false),
-        (None, _) | (_, None) => None,
-    }
 }
 
 // Whether it doesn't hold.

@@ -9,6 +9,7 @@ ghost use Rattle.plural_base.specs.RuleTexts.{IsRuleOf, IsRefused, IsFirstRefuse
 
 use crate::category::PluralCategory;
 use crate::category::raw::RawPluralCategory;
+use crate::five::Five;
 use crate::rules::data::PluralRulesData;
 use plural_reference::ParseError;
 use plural_runtime::laws::texts_give_one_answer;
@@ -57,7 +58,7 @@ impl Error for RulesTextError {}
 
 impl PluralRulesData<'static> {
     ghost use Rattle.plural_base.specs.FiveRules.{rules_of};
-    ghost use Rattle.plural_base.specs.RuleTexts.{AreRulesOf, texts_of};
+    ghost use Rattle.plural_base.specs.RuleTexts.{AreRulesOf, lent_texts, texts_of};
 
     /// Returns the rules of texts as CLDR writes them (UTS 35 Part 3, Plural Rules Syntax), samples
     /// included, read in the order zero, one, two, few, many. It allocates for each rule.
@@ -91,12 +92,33 @@ impl PluralRulesData<'static> {
         // The values of a text fit: only trees made by hand have this fault.
         ensures fits { IfErr result (λ e. e.error ≢ RuleError.Parse ParseError.ValueTooLarge) }
     {
+        let texts = Five {
+            zero,
+            one,
+            two,
+            few,
+            many,
+        };
+        PluralRulesData::from_five(alloc, &texts)
+    }
+
+    /// Returns the rules of texts that are named, as [`PluralRulesData::from_texts`] does. [`Five`]
+    /// has an example.
+    pub fn from_five(
+        alloc: Global,
+        texts: &Five<Option<&str>>,
+    ) -> Result<PluralRulesData<'static>, RulesTextError>
+        ensures ok { IfOk result (λ rules. AreRulesOf (lent_texts texts.now) (rules_of rules)) }
+        ensures refused { IfErr result (λ e. IsFirstRefused (lent_texts texts.now) e.category e.error) }
+        // The values of a text fit: only trees made by hand have this fault.
+        ensures fits { IfErr result (λ e. e.error ≢ RuleError.Parse ParseError.ValueTooLarge) }
+    {
         Ok(PluralRulesData {
-            zero: rule_of(alloc, zero, PluralCategory::Zero)?,
-            one: rule_of(alloc, one, PluralCategory::One)?,
-            two: rule_of(alloc, two, PluralCategory::Two)?,
-            few: rule_of(alloc, few, PluralCategory::Few)?,
-            many: rule_of(alloc, many, PluralCategory::Many)?,
+            zero: rule_of(alloc, texts.zero, PluralCategory::Zero)?,
+            one: rule_of(alloc, texts.one, PluralCategory::One)?,
+            two: rule_of(alloc, texts.two, PluralCategory::Two)?,
+            few: rule_of(alloc, texts.few, PluralCategory::Few)?,
+            many: rule_of(alloc, texts.many, PluralCategory::Many)?,
         })
     }
 }

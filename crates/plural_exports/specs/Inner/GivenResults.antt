@@ -1,8 +1,10 @@
 -- Not a definition of the subject: what private calls return, and the rules of what chooses the
 -- categories of integers.
 use Rattle.std.specs.Prelude.{◌≡◌, ℕ, ℤ, List, Option, Result, Ok, Err}
+use Rattle.std.specs.Borrow.{Bor}
 use Rattle.std.specs.Str.{IsUtf8}
-use Rattle.icu_plurals.specs.FiveRules.{FiveRules}
+use Rattle.icu_plurals.specs.declared.Five.{Five}
+use Rattle.icu_plurals.specs.FiveRules.{five, FiveRules}
 use Rattle.plural_exports.specs.GivenTexts.{text_given}
 use Rattle.plural_exports.specs.Results.{IsToldWritten}
 use Rattle.plural_exports.specs.declared.fault.Fault.{Fault}
@@ -19,6 +21,10 @@ GivesSeen seen Is (Err fault) = Is (Err fault)
 abbrev pub ReadsGiven : List ℕ → Result (Option (List ℕ)) Fault → Type 0
 ReadsGiven bytes (Ok text) = IsUtf8 bytes × (text ≡ text_given bytes)
 ReadsGiven bytes (Err fault) = (fault ≡ Utf8) × ¬ (IsUtf8 bytes)
+
+-- the bytes of five references
+abbrev pub lent_bytes : Five (Bor (List ℕ)) → Five (List ℕ)
+lent_bytes bytes = five bytes.zero.now bytes.one.now bytes.two.now bytes.few.now bytes.many.now
 
 -- some bytes are right, which were written and whose length is the result; or a fault is, and
 -- nothing was written

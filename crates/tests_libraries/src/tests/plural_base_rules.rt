@@ -110,6 +110,18 @@ fn rules_of_four_forms_choose_as_languages_do(rt: HostRuntime) -> Result<(), Fai
 }
 
 #[test]
+fn five_texts_are_named(rt: HostRuntime) -> Result<(), Fail> {
+    let texts = Five {
+        one: Some("i = 1 and v = 0"),
+        ..Five::none()
+    };
+    let rules = PluralRulesData::from_five(rt.alloc(), &texts)?;
+    holds!(rt; rules.one.is_some());
+    holds!(rt; rules.many.is_none());
+    Ok(())
+}
+
+#[test]
 fn rules_are_read_and_written(rt: HostRuntime) -> Result<(), Fail> {
     let value = Value::from_str(rt.alloc(), "{\"one\":\"i \\u003d 1\"}")?;
     let rules = PluralRulesData::from_json(rt.alloc(), &value)?;

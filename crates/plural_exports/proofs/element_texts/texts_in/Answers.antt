@@ -1,12 +1,11 @@
 use Rattle.std.proofs.Common.{refl}
-use Rattle.plural_exports.specs.GivenElements.{eight}
+use Rattle.plural_exports.specs.Inner.LentTexts.{lent_eight}
 use Rattle.plural_exports.proofs.ElementTexts.{packed_texts}
 use Rattle.plural_exports.proofs.element_texts.texts_in.Goals as goal
 
 pub returns : goal.returns
 returns c =
-    let texts = eight c.args.other.now c.args.zero.now c.args.one.now c.args.two.now c.args.few.now c.args.many.now
-    c.args.explicit_zero.now c.args.explicit_one.now in (
+    let texts = lent_eight c.args.texts.now in (
       record {
         other = c.in_ok-other.ensures.0;
         zero = c.in_ok-zero.ensures.0;

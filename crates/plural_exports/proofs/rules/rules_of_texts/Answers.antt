@@ -1,58 +1,31 @@
 use Rattle.std.proofs.lemmas.Result.{err_from_is_err_and}
-use Rattle.icu_plurals.specs.FiveRules.{five, rules_of}
-use Rattle.plural_exports.proofs.Steps.{passed_on}
-use Rattle.plural_exports.proofs.Texts.{not_texts, packed_texts, refused_texts, texts_read}
+use Rattle.icu_plurals.specs.FiveRules.{rules_of}
+use Rattle.icu_plurals.specs.RuleTexts.{lent_texts}
+use Rattle.plural_documents.specs.Steps.{Then}
+use Rattle.plural_exports.specs.GivenTexts.{GiveRules, PackRules, ReadsTexts}
+use Rattle.plural_exports.specs.Inner.GivenResults.{lent_bytes}
+use Rattle.plural_exports.proofs.Steps.{of_second, passed_on, refused_first}
 use Rattle.plural_exports.proofs.rules.rules_of_texts.Goals as goal
 
-pub returns-in_err-zero : goal.returns-in_err-zero
-returns-in_err-zero c =
-    not_texts (five c.args.zero.now c.args.one.now c.args.two.now c.args.few.now c.args.many.now)
-    c.in_err-zero.field-0.0 c.from_residual.result
-    (passed_on _ _ (err_from_is_err_and c.from_residual.result c.from_residual.ensures.1))
-    c.in_err-zero.ensures.0 (λ all. c.in_err-zero.ensures.1 all.zero)
-
-pub returns-in_err-one : goal.returns-in_err-one
-returns-in_err-one c =
-    not_texts (five c.args.zero.now c.args.one.now c.args.two.now c.args.few.now c.args.many.now)
-    c.in_err-one.field-0.0 c.from_residual-in_err-one.result
-    (passed_on _ _ (err_from_is_err_and c.from_residual-in_err-one.result c.from_residual-in_err-one.ensures.1))
-    c.in_err-one.ensures.0 (λ all. c.in_err-one.ensures.1 all.one)
-
-pub returns-in_err-two : goal.returns-in_err-two
-returns-in_err-two c =
-    not_texts (five c.args.zero.now c.args.one.now c.args.two.now c.args.few.now c.args.many.now)
-    c.in_err-two.field-0.0 c.from_residual-in_err-two.result
-    (passed_on _ _ (err_from_is_err_and c.from_residual-in_err-two.result c.from_residual-in_err-two.ensures.1))
-    c.in_err-two.ensures.0 (λ all. c.in_err-two.ensures.1 all.two)
-
-pub returns-in_err-few : goal.returns-in_err-few
-returns-in_err-few c =
-    not_texts (five c.args.zero.now c.args.one.now c.args.two.now c.args.few.now c.args.many.now)
-    c.in_err-few.field-0.0 c.from_residual-in_err-few.result
-    (passed_on _ _ (err_from_is_err_and c.from_residual-in_err-few.result c.from_residual-in_err-few.ensures.1))
-    c.in_err-few.ensures.0 (λ all. c.in_err-few.ensures.1 all.few)
-
-pub returns-in_err-many : goal.returns-in_err-many
-returns-in_err-many c =
-    not_texts (five c.args.zero.now c.args.one.now c.args.two.now c.args.few.now c.args.many.now)
-    c.in_err-many.field-0.0 c.from_residual-in_err-many.result
-    (passed_on _ _ (err_from_is_err_and c.from_residual-in_err-many.result c.from_residual-in_err-many.ensures.1))
-    c.in_err-many.ensures.0 (λ all. c.in_err-many.ensures.1 all.many)
+pub returns-in_err-given : goal.returns-in_err-given
+returns-in_err-given c =
+    let r = c.from_residual.result in
+    refused_first (λ block. block.items) (ReadsTexts (lent_bytes c.args.texts.now)) (λ given. Then (GiveRules given) PackRules)
+    c.in_err-given.field-0.0 r (passed_on _ _ (err_from_is_err_and r c.from_residual.ensures.1)) c.in_err-given.ensures
 
 pub returns-in_err-rules : goal.returns-in_err-rules
 returns-in_err-rules c =
-    let bytes = five c.args.zero.now c.args.one.now c.args.two.now c.args.few.now c.args.many.now in
     let r = c.from_residual-in_err-rules.result in
-    refused_texts bytes _ c.in_err-rules.field-0.0 r
-    (passed_on _ _ (err_from_is_err_and r c.from_residual-in_err-rules.ensures.1))
-    (texts_read bytes _ _ _ _ _
-    c.in_ok-zero.ensures c.in_ok-one.ensures c.in_ok-two.ensures c.in_ok-few.ensures c.in_ok-many.ensures)
-    c.in_err-rules.ensures
+    let given = lent_texts c.in_ok-given.given in
+    of_second (λ block. block.items) (ReadsTexts (lent_bytes c.args.texts.now)) (λ given. Then (GiveRules given) PackRules) given r
+    c.in_ok-given.ensures
+    (refused_first (λ block. block.items) (GiveRules given) PackRules c.in_err-rules.field-0.0 r
+    (passed_on _ _ (err_from_is_err_and r c.from_residual-in_err-rules.ensures.1)) c.in_err-rules.ensures)
 
 pub returns : goal.returns
 returns c =
-    let bytes = five c.args.zero.now c.args.one.now c.args.two.now c.args.few.now c.args.many.now in
-    packed_texts bytes _ (rules_of c.in_ok-rules.rules) c.packed.result
-    (texts_read bytes _ _ _ _ _
-    c.in_ok-zero.ensures c.in_ok-one.ensures c.in_ok-two.ensures c.in_ok-few.ensures c.in_ok-many.ensures)
-    c.in_ok-rules.ensures c.packed.ensures
+    let given = lent_texts c.in_ok-given.given in
+    of_second (λ block. block.items) (ReadsTexts (lent_bytes c.args.texts.now)) (λ given. Then (GiveRules given) PackRules) given c.packed.result
+    c.in_ok-given.ensures
+    (of_second (λ block. block.items) (GiveRules given) PackRules (rules_of c.in_ok-rules.rules) c.packed.result c.in_ok-rules.ensures
+    c.packed.ensures)

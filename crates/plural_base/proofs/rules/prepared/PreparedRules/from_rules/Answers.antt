@@ -8,9 +8,9 @@ use Rattle.plural_base.proofs.rules.prepared.PreparedRules.from_rules.Goals as g
 pub invariant_of-result : goal.invariant_of-result
 invariant_of-result c =
     let P : FiveRules → Type 0 = λ rules. AreTold rules c.bound_of-bound.result c.cycle_categories-cycle.result in
-    let Q : FiveRules → Type 0 = λ rules. IsFractionCategory rules Shown c.fraction_category-shown.result in
-    let R : FiveRules → Type 0 = λ rules. IsFractionCategory rules NotZero c.fraction_category-not_zero.result in (
+    let Q : FiveRules → Type 0 = λ rules. IsFractionCategory rules Shown c.told_category-shown.result in
+    let R : FiveRules → Type 0 = λ rules. IsFractionCategory rules NotZero c.told_category-not_zero.result in (
       c.low_categories-low.ensures,
       subst P c.rules.view_is c.cycle_categories-cycle.ensures,
-      (subst Q c.rules.view_is c.fraction_category-shown.ensures, subst R c.rules.view_is c.fraction_category-not_zero.ensures),
+      (subst Q c.rules.view_is c.told_category-shown.ensures, subst R c.rules.view_is c.told_category-not_zero.ensures),
     )

@@ -5,7 +5,7 @@ use Rattle.plural_reference.specs.Truth.{holds_value, remainder, under}
 use Rattle.plural_operands.specs.Operands.{operand_value}
 use Rattle.plural_runtime.specs.Inner.RuleViews.{lent_relation}
 use Rattle.plural_base.specs.Inner.WholeNumbers.{IsTold}
-use Rattle.plural_base.proofs.rules.fractions.told_relation.Goals as goal
+use Rattle.plural_base.proofs.rules.fractions.FractionsNumberClass.told_relation.Goals as goal
 
 pub returns : goal.returns
 returns c = λ o h.

@@ -1,18 +1,17 @@
 use Rattle.std.proofs.Common.{subst}
-use Rattle.plural_operands.specs.Operands.{of_whole}
 use Rattle.plural_runtime.specs.declared.kinds.AndOr.{AndOr}
 use Rattle.plural_runtime.specs.PackedTruth.{is_true_at}
 use Rattle.plural_runtime.specs.Inner.RuleViews.{lent_relation}
 use Rattle.plural_base.specs.Inner.WholeNumbers.{earlier_after, group_after, IsTold}
-use Rattle.plural_base.proofs.rules.residue_class.walk_on.Goals as goal
+use Rattle.plural_base.proofs.rules.told.walk_on.Goals as goal
 
 pub returns-in-And-clause-group : goal.returns-in-And-clause-group
-returns-in-And-clause-group c = λ n b h told.
-    let truth = is_true_at (of_whole n) (lent_relation c.args.relation.now) in
+returns-in-And-clause-group g c = λ o b h told.
+    let truth = is_true_at o (lent_relation c.args.relation.now) in
     let P : AndOr → Type 0 = λ mark. IsTold (group_after mark b truth) c.and_relation.result in
-    subst P c.in-And.ensures (c.and_relation.ensures n b h told)
+    subst P c.in-And.ensures (c.and_relation.ensures o b h told)
 
 pub returns-in-Or-clause-earlier : goal.returns-in-Or-clause-earlier
-returns-in-Or-clause-earlier c = λ b d first second.
+returns-in-Or-clause-earlier g c = λ b d first second.
     let P : AndOr → Type 0 = λ mark. IsTold (earlier_after mark b d) c.either.result in
     subst P c.in-Or.ensures (c.either.ensures b d first second)

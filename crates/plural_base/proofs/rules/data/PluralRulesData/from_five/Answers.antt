@@ -1,4 +1,4 @@
-use Rattle.plural_base.proofs.rules.data.PluralRulesData.from_texts.Goals as goal
+use Rattle.plural_base.proofs.rules.data.PluralRulesData.from_five.Goals as goal
 
 pub returns-clause-ok : goal.returns-clause-ok
 returns-clause-ok c =
