@@ -15,7 +15,7 @@ use Rattle.document_report.specs.DocumentReport.{category_place, fault_line, fau
 use Rattle.plural_documents.specs.FirstLines.{most_told, rest_lines}
 use Rattle.plural_documents.specs.Found.{Found, nothing_found, together}
 use Rattle.plural_documents.specs.Found.{faults_alone, lines_alone}
-use Rattle.document_report.specs.Inner.Additions.{told_after}
+use Rattle.document_report.specs.Inner.CheckCalls.{told_after}
 use Rattle.plural_fallback.specs.declared.locales.Part.{Part}
 use Rattle.plural_documents.proofs.FoundLemmas.{together_assoc}
 

@@ -11,7 +11,7 @@ ghost use Rattle.plural_documents.specs.FirstLines.{rest_lines};
 ghost use Rattle.document_report.specs.DocumentReport.{text_order, IsFoundInRules};
 ghost use Rattle.plural_documents.specs.Found.{together};
 ghost use Rattle.plural_documents.specs.Found.{lines_alone};
-ghost use Rattle.document_report.specs.Inner.Additions.{told_after};
+ghost use Rattle.document_report.specs.Inner.CheckCalls.{told_after};
 ghost use Rattle.serde_json.specs.View.{view};
 
 use crate::document::add_members_of;

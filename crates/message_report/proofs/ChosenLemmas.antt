@@ -5,7 +5,7 @@ use Rattle.std.proofs.lemmas.Bool.{ltb-true, ltb-false}
 use Rattle.icu_plurals.specs.declared.PluralCategory.{PluralCategory}
 use Rattle.icu_plurals.specs.FiveRules.{FiveRules}
 use Rattle.plural_checker.specs.WholeNumbers.{AreTwoLeastOf, HasWhole, HoldsNowhere, IsLeast, IsLeastFrom, whole_limit}
-use Rattle.message_report.specs.ChosenNumbers.{Chooses}
+use Rattle.message_report.specs.MessageForms.{Chooses}
 use Rattle.message_report.specs.Inner.KnownNumbers.{AreNumbersOf, AreTwoFrom, chosen_by, chosen_of}
 use Rattle.message_report.specs.declared.category_numbers.CategoryNumbers.{CategoryNumbers}
 

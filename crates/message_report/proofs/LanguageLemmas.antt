@@ -7,7 +7,7 @@ use Rattle.icu_plurals.specs.FiveRules.{FiveRules}
 use Rattle.plural_checker.specs.LanguageTexts.{categories_with_rule}
 use Rattle.plural_checker.specs.declared.coverage.CategorySet.{CategorySet}
 use Rattle.plural_checker.specs.WholeNumbers.{AreTwoLeastOf}
-use Rattle.message_report.specs.ChosenNumbers.{Chooses}
+use Rattle.message_report.specs.MessageForms.{Chooses}
 use Rattle.message_report.specs.FormFaults.{has_category_rule, IsLanguageOf}
 use Rattle.message_report.specs.Inner.KnownNumbers.{AreNumbersOf, chosen_of}
 use Rattle.message_report.specs.Inner.LanguageViews.{is_in_set, language_view, numbers_at}

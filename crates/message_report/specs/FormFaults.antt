@@ -13,8 +13,7 @@ use Rattle.icu_plurals.specs.Categories.{name_of}
 use Rattle.icu_plurals.specs.FiveRules.{FiveRules}
 use Rattle.plural_message.specs.Messages.{placeholder}
 use Rattle.plural_checker.specs.WholeNumbers.{AreTwoLeastOf}
-use Rattle.message_report.specs.ChosenNumbers.{Chooses}
-use Rattle.message_report.specs.MessageForms.{form_under, has_form}
+use Rattle.message_report.specs.MessageForms.{Chooses, form_under, has_form}
 use Rattle.message_report.specs.declared.category_numbers.TwoNumbers.{TwoNumbers}
 use Rattle.message_report.specs.declared.fault.FormFault.{FormFault}
 use Rattle.message_report.specs.declared.fault.FormFault.TheVariants.{NoText, Unused, NoNumber, Missing}

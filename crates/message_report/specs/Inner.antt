@@ -2,6 +2,5 @@
 pub mod ArgumentViews
 pub mod KnownNumbers
 pub mod LanguageViews
-pub mod Reports
 pub mod ToldKeys
 pub mod ToldLines

@@ -2,7 +2,6 @@
 pub mod PrintedKeys
 pub mod MessageForms
 pub mod MessageSets
-pub mod ChosenNumbers
 pub mod WholeNumberLaws
 pub mod FormFaults
 -- patterns

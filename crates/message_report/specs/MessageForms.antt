@@ -1,12 +1,17 @@
 -- The forms of a message, each under its key (docs/TRANSLATORS.md): of exactly 0 and 1, and of the plural categories.
 --     form_under form message      what a message has under the key of a form
-use Rattle.std.specs.Prelude.{ℕ, Bool, ◌||◌, bytes_eq, List, [], ◌∷◌, Option, is_some, codes}
+--     Chooses rules category own_zero own_one n      the whole number chooses the category's form, where 0
+--         and 1 may have forms of their own (UTS 35 Part 3, Explicit 0 and 1 Rules)
+use Rattle.std.specs.Prelude.{ℕ, Bool, ◌||◌, bytes_eq, List, [], ◌∷◌, Option, is_some, codes, ◌≢◌, IsTrue}
 use Rattle.serde_json.specs.Data.{Data}
 use Rattle.serde_json.specs.Find.{get}
 use Rattle.icu_plurals.specs.Categories.{name_of}
 use Rattle.icu_plurals.specs.declared.PluralCategory.TheVariants.{Zero, One, Two, Few, Many, Other}
 use Rattle.message_report.specs.declared.form.Form.{Form}
 use Rattle.message_report.specs.declared.form.Form.TheVariants.{ExplicitZero, ExplicitOne, Category}
+use Rattle.icu_plurals.specs.declared.PluralCategory.{PluralCategory}
+use Rattle.icu_plurals.specs.FiveRules.{FiveRules}
+use Rattle.plural_checker.specs.WholeNumbers.{HasWhole}
 
 abbrev pub form_name : Form → List ℕ
 form_name ExplicitZero = codes "explicit_zero"
@@ -30,3 +35,8 @@ form_under form message = get (form_name form) message
 
 abbrev pub has_form : Form → Data → Bool
 has_form form message = is_some (form_under form message)
+
+-- it has the category, and no form of its own
+abbrev pub Chooses : FiveRules → PluralCategory → Bool → Bool → ℕ → Type 0
+Chooses rules category own_zero own_one n =
+    HasWhole rules category n × (IsTrue own_zero → n ≢ 0) × (IsTrue own_one → n ≢ 1)

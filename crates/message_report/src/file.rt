@@ -63,12 +63,7 @@ fn add_file<S: RulesOfLocales>(
 
 // Adds what was found in a file, each line after the file's name. A count that is too large is
 // reported as out of memory.
-fn add_named(
-    alloc: Global,
-    name: &str,
-    inside: &Found,
-    found: &mut Found,
-) -> Result<(), AllocError>
+fn add_named(alloc: Global, name: &str, inside: &Found, found: &mut Found) -> Result<(), AllocError>
     ensures { OnOk result (found.new ≡ together found.old (named name.now inside.now)) }
 {
     found.add_checked(inside.checked())?;

@@ -1,7 +1,7 @@
 //! Writes the report of files of messages.
 
 ghost use Rattle.std.specs.Prelude.{◌≡◌, ◌≢◌, IfErr, IfOk, string_bytes};
-ghost use Rattle.message_report.specs.Inner.Reports.{IsMade};
+ghost use Rattle.message_report.specs.Inner.ToldLines.{IsMade};
 ghost use Rattle.message_report.specs.MessagesRun.{IsReported};
 
 use crate::counts::Counts;

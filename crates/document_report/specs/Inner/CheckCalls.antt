@@ -1,6 +1,6 @@
--- Not a definition of the subject: the results of private calls, the values of private types, and
--- the start and the end of a range's byte.
-use Rattle.std.specs.Prelude.{◌≡◌, ℕ, ◌==◌, if◌then◌else◌, Result, Ok, Err, ⊤, string_bytes}
+-- Not a definition of the subject: the results of private calls, the values of private types, the
+-- start and the end of a range's byte, and what is told of a fault, by how many come before it.
+use Rattle.std.specs.Prelude.{◌≡◌, ℕ, ◌==◌, if◌then◌else◌, Result, Ok, Err, ⊤, string_bytes, List, [], ◌∷◌, nat_lt}
 use Rattle.icu_plurals.specs.declared.PluralCategory.{PluralCategory}
 use Rattle.icu_plurals.specs.declared.PluralCategory.TheVariants.{Zero, One, Two, Few, Many, Other}
 use Rattle.plural_documents.specs.declared.InputError.{InputError}
@@ -9,6 +9,10 @@ use Rattle.document_report.specs.CheckAnswer.{Answer}
 use Rattle.document_report.specs.declared.error.CheckError.{CheckError}
 use Rattle.document_report.specs.declared.error.CheckError.TheVariants.{Read, TooLong, Write, Memory}
 use Rattle.document_report.specs.declared.run.Answer.{Answer as CodeAnswer}
+use Rattle.plural_checker.specs.declared.Fault.{Fault}
+use Rattle.document_report.specs.DocumentReport.{fault_line}
+use Rattle.plural_documents.specs.FirstLines.{most_told}
+use Rattle.plural_fallback.specs.declared.locales.Part.{Part}
 
 -- ---- Values
 
@@ -51,3 +55,7 @@ GivesOnly seen value = Gives seen (λ answer. value ≡ answer)
 abbrev pub GivesAfterReading : (Result Answer CheckError → Type 0) → Result CodeAnswer CheckError → Type 0
 GivesAfterReading IsAnswer (Err Read) = ⊤
 GivesAfterReading IsAnswer result = Gives answer_view IsAnswer result
+
+-- the line of a fault, if few enough of the same text come before it
+abbrev pub told_after : Part → List ℕ → ℕ → Fault → List (List ℕ)
+told_after part name before fault = if nat_lt before most_told then fault_line part name fault ∷ [] else []

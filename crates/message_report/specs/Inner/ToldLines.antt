@@ -1,9 +1,14 @@
--- Not a definition of the subject: what is told of the lines of a pattern, by how many come before them.
+-- Not a definition of the subject: what is told of the lines of a pattern, by how many come before
+-- them; and a report with its counts, before it is written.
 use Rattle.std.specs.Prelude.{◌≡◌, ℕ, ◌+◌, ◌-◌, nat_lt, List, [], ◌∷◌, ◌++◌, length, take, if◌then◌else◌}
 use Rattle.message_pattern.specs.PatternParts.{Selector}
 use Rattle.plural_documents.specs.Found.{Found, together}
-use Rattle.message_report.specs.MessagesReport.{most_compared}
+use Rattle.message_report.specs.MessagesReport.{most_compared, IsFoundInFiles}
 use Rattle.plural_documents.specs.FirstLines.{most_told}
+use Rattle.message_report.specs.MessagesReportText.{counts_found, messages_report_text}
+use Rattle.message_report.specs.RulesSource.{RulesSource}
+use Rattle.message_report.specs.declared.counts.Counts.{Counts}
+use Rattle.message_report.specs.declared.file.MessageFile.{MessageFile}
 
 -- so many come before these
 abbrev pub told_lines : ℕ → List (List ℕ) → Found
@@ -26,3 +31,7 @@ TellsThose Are before old count new = (lines : List (List ℕ)) × Are lines × 
 -- one selector more, unless there are many
 abbrev pub remembered : List Selector → Selector → List Selector
 remembered seen selector = if nat_lt (length seen) most_compared then seen ++ selector ∷ [] else seen
+
+abbrev pub IsMade : RulesSource → List MessageFile → List ℕ → Counts → Type 0
+IsMade source files text counts =
+    (found : Found) × IsFoundInFiles source files found × (text ≡ messages_report_text found) × (counts ≡ counts_found found)

@@ -11,6 +11,8 @@ use Rattle.plural_exports.specs.declared.fault.Fault.{Fault}
 use Rattle.plural_exports.specs.declared.fault.Fault.TheVariants.{Utf8}
 use Rattle.plural_exports.specs.declared.integers.Chooser.{Chooser}
 use Rattle.plural_exports.specs.declared.integers.Chooser.TheVariants.{Rules, Tables}
+use Rattle.plural_exports.specs.declared.element_texts.EightTexts.{EightTexts as Lent}
+use Rattle.plural_exports.specs.GivenElements.{Eight, eight}
 
 -- the result, with its value seen so
 abbrev pub GivesSeen : {A B : Type 0} → (A → B) → (Result B Fault → Type 0) → Result A Fault → Type 0
@@ -36,3 +38,9 @@ GivesWritten Is old new (Err fault) = Is (Err fault) × (new ≡ old)
 abbrev pub chooser_rules : Chooser → FiveRules
 chooser_rules (Rules rules) = rules
 chooser_rules (Tables tables) = tables
+
+-- the bytes of eight references
+abbrev pub lent_eight : Lent → Eight
+lent_eight texts =
+    eight texts.other.now texts.five.zero.now texts.five.one.now texts.five.two.now texts.five.few.now texts.five.many.now
+    texts.explicit_zero.now texts.explicit_one.now

@@ -1,5 +1,5 @@
 use Rattle.std.proofs.Common.{refl}
-use Rattle.plural_exports.specs.Inner.LentTexts.{lent_eight}
+use Rattle.plural_exports.specs.Inner.GivenResults.{lent_eight}
 use Rattle.plural_exports.proofs.ElementTexts.{packed_texts}
 use Rattle.plural_exports.proofs.element_texts.texts_in.Goals as goal
 
