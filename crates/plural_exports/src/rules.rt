@@ -135,10 +135,7 @@ pub(crate) fn given(bytes: &[u8]) -> Result<Option<&str>, Fault>
 }
 
 // The rules of the texts.
-fn read(
-    alloc: Global,
-    texts: &Five<Option<&str>>,
-) -> Result<PluralRulesData<'static>, Fault>
+fn read(alloc: Global, texts: &Five<Option<&str>>) -> Result<PluralRulesData<'static>, Fault>
     ensures { GivesSeen rules_of (GiveRules (lent_texts texts.now)) result }
 {
     match PluralRulesData::from_five(alloc, texts) {

@@ -1,8 +1,8 @@
 -- Of the reasons why there is no sure category a text has at most one.
 use Rattle.std.proofs.Common.{◌≡◌, inl, inr, ℕ, List, Option, Some, None, Result, Ok, Err, refl, sym, ap, ◌∙◌, subst, arith}
-use Rattle.std.specs.Prelude.{◌⊎◌, ◌↔◌, ◌≤◌, ◌<◌, ◌≢◌, IsSome, length}
+use Rattle.std.specs.Prelude.{◌⊎◌, ◌↔◌, ◌≤◌, ◌≢◌, IsSome, length}
 use Rattle.std.proofs.Math.Nat.{lt_of_not-le}
-use Rattle.fixed_decimal.specs.Places.{IsOverLimit, IsWithinLimit, Places}
+use Rattle.fixed_decimal.specs.Places.{IsWithinLimit}
 use Rattle.fixed_decimal.specs.Written.{CompactNumber, IsCompactOverLimit, OneCompact, WritesCompact}
 use Rattle.fixed_decimal.specs.declared.error.DecimalError.{DecimalError}
 use Rattle.fixed_decimal.specs.declared.error.DecimalError.TheVariants as number_fault

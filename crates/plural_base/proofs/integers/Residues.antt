@@ -1,8 +1,7 @@
 -- Remainders, and tables that are filled one entry after the other.
-use Rattle.std.proofs.Common.{◌≡◌, ◌≢◌, ℕ, ◌+◌, ◌%◌, ◌<◌, ◌≤◌, List, length, Bool, true, false, refl, sym, ◌∙◌, ap, subst, arith, inl, inr, below_more}
+use Rattle.std.proofs.Common.{◌≡◌, ◌≢◌, ℕ, ◌+◌, ◌%◌, ◌<◌, ◌≤◌, List, length, Bool, true, false, refl, sym, ◌∙◌, ap, subst, arith, below_more}
 use Rattle.std.proofs.Common.{get_or-set_other, get_or-set_same, get_or}
-use Rattle.std.specs.Prelude.{◌==◌, if◌then◌else◌, slice_set, ◌&&◌, nat_le, Option, None}
-use Rattle.std.specs.Int.{◌∣◌}
+use Rattle.std.specs.Prelude.{◌==◌, if◌then◌else◌, slice_set, Option, None}
 use Rattle.std.proofs.Math.Nat.{dvd_iff_mod-eq-zero, mod-mod_of_dvd}
 use Rattle.std.proofs.lemmas.Bool.{eqb-true}
 use Rattle.std.proofs.lemmas.Bool.Decides.{nat_tests}

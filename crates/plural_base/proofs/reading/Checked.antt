@@ -1,5 +1,5 @@
 -- What is read for its refusals alone, and the rows of one locale.
-use Rattle.std.proofs.Common.{◌≡◌, ℕ, List, [], ◌∷◌, Option, Some, None, Result, Ok, Err, true, codes, if◌then◌else◌, is_some}
+use Rattle.std.proofs.Common.{◌≡◌, ℕ, List, ◌∷◌, Option, Some, None, Result, Ok, Err, true, codes, if◌then◌else◌, is_some}
 use Rattle.std.proofs.Common.{refl, sym, ap, subst, ◌∙◌}
 use Rattle.std.proofs.lemmas.List.Folds.{Any-from_list_any}
 use Rattle.std.proofs.lemmas.Slice.Eq.{bytes_eq-Decides}
@@ -14,10 +14,9 @@ use Rattle.plural_base.specs.declared.json.error.JsonError.{JsonError}
 use Rattle.plural_base.specs.declared.json.error.JsonError.TheVariants.{Shape}
 use Rattle.plural_base.specs.declared.ranges.PluralRanges.{PluralRanges}
 use Rattle.plural_base.specs.DocumentJson.{Rows, all_maps, document_meant, found, map_meant, row_of, rows_meant, with_locale}
-use Rattle.plural_base.specs.declared.five.Five.{Five}
 use Rattle.plural_base.specs.FiveRules.{FiveRules, Paired, five}
 use Rattle.plural_base.specs.Inner.JsonSteps.{GivesRule, Passes, row_alone, row_meant}
-use Rattle.plural_base.specs.Json.{GivesMeaning, IsRefusal, Stands, ◌>>=◌, all_five}
+use Rattle.plural_base.specs.Json.{IsRefusal, Stands, ◌>>=◌, all_five}
 use Rattle.plural_base.specs.RangesJson.{ranges_meant}
 use Rattle.plural_base.specs.RulesJson.{naming_category, rule_meant, rules_meant}
 use Rattle.plural_base.proofs.reading.DocumentRefusals.{refused_with, third_of_three}

@@ -7,6 +7,7 @@ ghost use Rattle.plural_base.specs.RuleTexts.{AreRulesOf, IsRuleOf};
 ghost use Rattle.plural_base.specs.FiveRules.{rules_of, five};
 ghost use Rattle.plural_base.specs.Json.{GivesMeaning};
 ghost use Rattle.plural_base.specs.RulesJson.{member_meant, optional_rule_json, optional_meant, rules_meant, text_under, texts_in};
+ghost use Rattle.plural_base.specs.RulesJson as written;
 ghost use Rattle.serde_json.specs.Find.{as_str, as_object};
 ghost use Rattle.serde_json.specs.View.{view};
 ghost use Rattle.serde_json.specs.Written.{has_float};
@@ -22,7 +23,7 @@ use crate::json::rule::{read_rule, rule_to_json};
 use crate::rules::data::PluralRulesData;
 use plural_runtime::{Rule, RuleError};
 use serde_json::{Value, json};
-use std::alloc::Global;
+use std::alloc::{AllocError, Global};
 
 impl PluralRulesData<'static> {
     ghost use Rattle.plural_base.specs.RulesJson.{rules_of_json};
@@ -80,7 +81,7 @@ impl<'data> PluralRulesData<'data> {
         let two = write_optional(alloc, &self.two)?;
         let few = write_optional(alloc, &self.few)?;
         let many = write_optional(alloc, &self.many)?;
-        Ok(json!(in alloc; {"zero": zero, "one": one, "two": two, "few": few, "many": many})?)
+        Ok(object_of(alloc, zero, one, two, few, many)?)
     }
 }
 
@@ -177,4 +178,18 @@ fn write_optional(alloc: Global, rule: &Option<Rule<'_>>) -> Result<Value, JsonE
         Some(rule) => rule_to_json(alloc, rule),
         None => Ok(Value::Null),
     }
+}
+
+// The object with these values under the five names.
+fn object_of(
+    alloc: Global,
+    zero: Value,
+    one: Value,
+    two: Value,
+    few: Value,
+    many: Value,
+) -> Result<Value, AllocError>
+    ensures { IfOk result (λ value. view value ≡ written.object_of (five (view zero) (view one) (view two) (view few) (view many))) }
+{
+    json!(in alloc; {"zero": zero, "one": one, "two": two, "few": few, "many": many})
 }

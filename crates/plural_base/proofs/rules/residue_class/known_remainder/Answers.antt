@@ -1,4 +1,4 @@
-use Rattle.std.proofs.Common.{◌≡◌, ◌≢◌, ℕ, ◌%◌, ◌∙◌, sym, ap, subst, arith}
+use Rattle.std.proofs.Common.{◌≡◌, ◌≢◌, ◌%◌, ◌∙◌, sym, ap}
 use Rattle.plural_base.proofs.integers.Residues.{by_divisor, by_multiple}
 use Rattle.plural_base.proofs.rules.residue_class.known_remainder.Goals as goal
 

@@ -1,4 +1,4 @@
-use Rattle.std.proofs.Common.{◌≡◌, ℕ, subst, Bool}
+use Rattle.std.proofs.Common.{ℕ, subst}
 use Rattle.plural_reference.specs.Truth.{range_holds}
 use Rattle.plural_runtime.specs.Inner.RuleViews.{lent_relation}
 use Rattle.plural_base.specs.Inner.WholeNumbers.{IsTold}

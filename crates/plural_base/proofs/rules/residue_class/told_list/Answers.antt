@@ -1,4 +1,4 @@
-use Rattle.std.proofs.Common.{◌≡◌, ◌<◌, ℕ, length, sym, subst, arith, Bool}
+use Rattle.std.proofs.Common.{◌<◌, length, sym, subst, arith, Bool}
 use Rattle.std.proofs.lemmas.List.Folds.{list_any_more}
 use Rattle.plural_reference.specs.Truth.{range_holds}
 use Rattle.plural_runtime.specs.Inner.RuleViews.{lent_relation}

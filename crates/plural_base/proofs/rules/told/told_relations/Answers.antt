@@ -1,4 +1,4 @@
-use Rattle.std.proofs.Common.{◌≡◌, ◌∷◌, ◌∙◌, refl, sym, ap, subst, Bool, true, false}
+use Rattle.std.proofs.Common.{◌∷◌, ◌∙◌, refl, sym, ap, subst, Bool, true, false}
 use Rattle.plural_runtime.specs.PackedTruth.{is_true_at}
 use Rattle.plural_runtime.specs.Inner.RuleViews.{lent_relation}
 use Rattle.plural_base.specs.Inner.WholeNumbers.{earlier_after, group_after, IsTold}

@@ -1,8 +1,12 @@
+<<<<<<< HEAD
 use Rattle.std.proofs.Common.{◌≡◌, ℕ, ◌∙◌, sym, ap, subst, Bool}
 use Rattle.plural_operands.specs.Operands.{of_whole}
+=======
+use Rattle.std.proofs.Common.{ℕ, ◌∙◌, sym, ap, subst, Bool}
+>>>>>>> h48d
 use Rattle.plural_runtime.specs.PackedTruth.{is_true_at}
 use Rattle.plural_reference.specs.Truth.{is_in_ranges, remainder, under}
-use Rattle.plural_runtime.specs.RuleKinds.{operator_of, tree_operand_of}
+use Rattle.plural_runtime.specs.RuleKinds.{tree_operand_of}
 use Rattle.plural_runtime.specs.Inner.RuleViews.{lent_relation}
 use Rattle.plural_base.specs.Inner.WholeNumbers.{Fits, IsTold, whole_value}
 use Rattle.plural_base.proofs.integers.Lists.{relation_truth-whole}
