@@ -1,13 +1,8 @@
 -- The walk over the relations of a rule, of which not all may be told.
 use Rattle.std.proofs.Common.{◌≡◌, List, [], ◌∷◌, refl, sym, ap, ◌∙◌, Bool, true, false}
 use Rattle.std.specs.Prelude.{◌&&◌, ◌||◌}
-<<<<<<< HEAD
-use Rattle.std.specs.List.{list_any, list_all}
-use Rattle.plural_operands.specs.Operands.{Operands}
-=======
 use Rattle.std.specs.List.{list_any}
 use Rattle.plural_operands.specs.Operands.{Operands}
->>>>>>> h48d
 use Rattle.plural_runtime.specs.declared.kinds.AndOr.{AndOr}
 use Rattle.plural_runtime.specs.declared.kinds.AndOr.TheVariants.{And, Or}
 use Rattle.plural_runtime.specs.PackedRelations.{PackedRelation, groups, at_front, cut_before}
