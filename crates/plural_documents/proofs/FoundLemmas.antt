@@ -57,4 +57,3 @@ module _ (Is : List ℕ → Data → Found → Type 0) (all : Members) (first : 
   pub ends : (now : Found) → Completes Is no_members all now first → HasGrownBy (IsFoundInMembers Is all) first now
   ends now so_far =
       let whole = so_far nothing_found refl in (whole.0, whole.1, sym (together-nothing now) ∙ whole.2)
-

@@ -12,12 +12,7 @@ use std::alloc::{AllocError, Global};
 pub const MOST_TOLD: u64 = 10;
 
 /// Adds the line that counts what isn't told of a place, if there are more than [`MOST_TOLD`].
-pub fn add_rest(
-    alloc: Global,
-    place: &str,
-    count: u64,
-    found: &mut Found,
-) -> Result<(), AllocError>
+pub fn add_rest(alloc: Global, place: &str, count: u64, found: &mut Found) -> Result<(), AllocError>
     ensures { OnOk result (found.new ≡ together found.old (lines_alone (rest_lines place.now count))) }
 {
     if count <= MOST_TOLD {
