@@ -71,7 +71,7 @@ fn with_key<'a, R: Drop>(
     key: &'a str,
     value: Result<R, DataError>,
 ) -> Result<Loaded<'a, R>, FallbackError>
-    ensures ok { IfOk result (λ loaded. (loaded.key ≡ key) × (value ≡ Ok loaded.value)) }
+    ensures ok { IfOk result (λ loaded. (loaded.key.now ≡ key.now) × (value ≡ Ok loaded.value)) }
     ensures err { IfErr result (λ error. (error ≡ NotLoaded) × IsErr value) }
 {
     match value {
