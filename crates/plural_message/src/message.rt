@@ -68,8 +68,8 @@ impl<'a> Message<'a> {
     /// exponent or not. Its operands and the rules choose an element (UTS 35 Part 3, Language
     /// Plural Rules), and in the element's text each `{}`, from the left, is replaced by the
     /// number's text as it was given. There is no escape for `{}`. It allocates the message; a number
-    /// of at most 18 digits on each side of the point and without an exponent is read in one walk,
-    /// and takes no memory.
+    /// of at most 18 digits on each side of the point, with no exponent or one of at most two digits
+    /// that leaves at most 18 integer places, is read in one walk, and allocates nothing.
     ///
     /// For example:
     ///
