@@ -45,12 +45,8 @@ fn short_unsigned(text: &[u8]) -> Option<PluralOperands>
             }
             with_exponent(digits, whole.max(1), rest)
         }
-        _ => {
-            if whole == 0 {
-                return None;
-            }
-            with_exponent(PluralOperands::from(i), whole, rest)
-        }
+        _ if whole == 0 => None,
+        _ => with_exponent(PluralOperands::from(i), whole, rest),
     }
 }
 

@@ -23,8 +23,8 @@ with_exponent-requires c =
     (λ e. c.if-digits-eq0.false (ap (λ o. o.v) c.digits.view_is ∙ e)) (omega (arith, c.max.ensures)) in
     (h.x, h.plain)
 
-pub with_exponent-requires-in_default : goal.with_exponent-requires-in_default
-with_exponent-requires-in_default c =
+pub with_exponent-requires-in_default-2 : goal.with_exponent-requires-in_default-2
+with_exponent-requires-in_default-2 c =
     let rest : List ℕ = c.short_front-i.result.1.now in
     let whole : ℕ = length c.args.text.now - length c.short_front-i.result.1.now in
     let h = whole_plain c.args.text.now rest c.short_front-i.result.0 whole c.from.result c.short_front-i.ensures refl (omega arith) c.from.ensures in
@@ -39,9 +39,9 @@ returns-else-digits-eq0 c =
     c.with_fraction-digits.ensures.fraction c.with_fraction-digits.ensures.integer c.with_fraction-digits.ensures.exponent
     (λ e. c.if-digits-eq0.false (ap (λ o. o.v) c.digits.view_is ∙ e)) (omega (arith, c.max.ensures)))
 
-pub returns-else-whole-eq0 : goal.returns-else-whole-eq0
-returns-else-whole-eq0 c =
+pub returns-in_default-2 : goal.returns-in_default-2
+returns-in_default-2 c =
     let rest : List ℕ = c.short_front-i.result.1.now in
     let whole : ℕ = length c.args.text.now - length c.short_front-i.result.1.now in
-    c.with_exponent-in_default.ensures c.args.text.now
+    c.with_exponent-in_default-2.ensures c.args.text.now
     (whole_plain c.args.text.now rest c.short_front-i.result.0 whole c.from.result c.short_front-i.ensures refl (omega arith) c.from.ensures)
