@@ -105,28 +105,30 @@ front_size text front rest e =
     omega arith
 
 -- digits without a point
-pub whole_plain : (text rest : List ℕ) (n whole : ℕ) → HasFront text n rest → whole ≡ length text - length rest → 0 < whole
-    → HasPlain text (of_whole n) whole rest
-whole_plain text rest n whole h e some =
+pub whole_plain : (text rest : List ℕ) (n whole : ℕ) (o : Operands) → HasFront text n rest → whole ≡ length text - length rest → 0 < whole
+    → o ≡ of_whole n → HasPlain text o whole rest
+whole_plain text rest n whole o h e some same =
     let ds : List ℕ = h.digits.ds in
     let size : length ds ≡ length h.front = length_digits h.front n h.digits in
     let all : length text - length rest ≡ length h.front = front_size text h.front rest h.spelled in
     let few : length h.front ≤ 18 = h.few in
     let x : Places = record { whole = ds; fraction = [] } in
     let written : IsWritten x = record { nonempty = omega arith; whole = h.digits.digits; fraction = tt } in
+    let plain : ArePlain x whole (of_whole n)
+    = record {
+      written = written;
+      places = omega arith;
+      few = omega arith;
+      shown = refl;
+      few_shown = omega arith;
+      i = h.digits.value;
+      f = refl;
+      trimmed = no_places;
+      c = refl;
+    } in
     record {
       x = x;
-      plain = record {
-        written = written;
-        places = omega arith;
-        few = omega arith;
-        shown = refl;
-        few_shown = omega arith;
-        i = h.digits.value;
-        f = refl;
-        trimmed = no_places;
-        c = refl;
-      };
+      plain = subst (λ (p : Operands). ArePlain x whole p) (sym same) plain;
       front = h.front;
       written = record { digits = written; form = inl (refl, h.digits.spelled) };
       spelled = h.spelled;

@@ -1,9 +1,10 @@
 //! The operands of texts of at most 18 digits on each side of the point, in one walk.
 
-ghost use Rattle.std.specs.Prelude.{◌≡◌, ◌+◌, ◌<◌, ◌++◌, IfSome};
+ghost use Rattle.std.specs.Prelude.{◌≡◌, ℕ, ◌+◌, ◌<◌, List, ◌++◌, IfSome};
+ghost use Rattle.fixed_decimal.specs.Places.{Places};
 ghost use Rattle.fixed_decimal.specs.Written.{sign_text};
 ghost use Rattle.fixed_decimal.specs.declared.sign.Sign.{Sign};
-ghost use Rattle.plural_operands.specs.Inner.ShortTexts.{HasFront, HasFractionFront, HasPlain, IsShortExponent, WritesShort, WritesShortSigned};
+ghost use Rattle.plural_operands.specs.Inner.ShortTexts.{HasFront, HasFractionFront, ArePlain, HasPlain, IsShortExponent, WritesShort, WritesShortSigned};
 
 use crate::operands::PluralOperands;
 use crate::operands::kept::KEPT_PLACES;
@@ -34,32 +35,32 @@ fn behind_any_sign(text: &[u8]) -> &[u8]
 fn short_unsigned(text: &[u8]) -> Option<PluralOperands>
     ensures { IfSome result (λ o. WritesShort text.now o) }
 {
-    let (digits, whole, rest) = short_digits(text);
-    if whole == 0 {
-        return None;
-    }
-    match rest {
-        [] => Some(digits),
-        [b'c', exponent @ ..] => shifted(digits, whole, short_exponent(exponent)?),
-        _ => None,
-    }
-}
-
-// The operands of the number at the front, how many integer places it has, and the rest. 0 places:
-// no number is there.
-#[inline]
-fn short_digits(text: &[u8]) -> (PluralOperands, usize, &[u8])
-    ensures { 0 < result.1 → HasPlain text.now result.0 result.1 result.2.now }
-{
     let (i, rest) = short_front(text);
     let whole = text.len() - rest.len();
     match rest {
         [b'.', after @ ..] => {
             let (digits, rest) = with_fraction(i, after);
-            let places = if digits.v == 0 { 0 } else { whole.max(1) };
-            (digits, places, rest)
+            if digits.v == 0 {
+                return None;
+            }
+            with_exponent(digits, whole.max(1), rest)
         }
-        _ => (PluralOperands::from(i), whole, rest),
+        _ if whole == 0 => None,
+        _ => with_exponent(PluralOperands::from(i), whole, rest),
+    }
+}
+
+// The operands of digits with so many integer places, and of the exponent behind them, if any.
+#[inline]
+fn with_exponent(digits: PluralOperands, whole: usize, rest: &[u8]) -> Option<PluralOperands>
+    requires { (x : Places) × ArePlain x whole digits }
+    ensures { (text : List ℕ) → HasPlain text digits whole rest.now
+        → IfSome result (λ o. WritesShort text o) }
+{
+    match rest {
+        [] => Some(digits),
+        [b'c', exponent @ ..] => shifted(digits, whole, short_exponent(exponent)?),
+        _ => None,
     }
 }
 
