@@ -97,7 +97,8 @@ explicit_at e op = if is_exactly 0 op then e.explicit_zero else (if is_exactly 1
 abbrev pub element_at : {T : Type 0} → Elements T → Operands → FiveRules → T
 element_at e op rules = unwrap_or (explicit_at e op) (of_category e (first_category (packed_truth op) rules))
 
--- ---- Which value of elements a written number has under five rules (UTS 35 Part 3, Language Plural Rules, Explicit 0 and 1)
+-- ---- Which value of elements a written number has under five rules (UTS 35 Part 3, Language
+-- Plural Rules, Explicit 0 and 1)
 --     IsExactElement      within the bound: the one that the number itself has, whatever its length
 --     IsKeptElement      within the bound or not: the one that its kept operands choose
 --     HasElement e rules x value      both

@@ -51,7 +51,8 @@ pub use Rattle.plural_base.specs.DocumentJson
 -- the texts of errors
 pub use Rattle.plural_reference.specs.PluralReferenceErrors
 pub use Rattle.plural_base.specs.PluralBaseErrors
--- ---- No definitions of the subject: readers of bytes and what contracts see of borrowed values, for laws and views
+-- ---- No definitions of the subject: readers of bytes and what contracts see of borrowed values,
+-- for laws and views
 
 pub use Rattle.packed_list.specs.Inner.ListReading
 pub use Rattle.plural_runtime.specs.Inner.RuleReading

@@ -137,8 +137,8 @@ impl<'a> PluralElementsPackedULE<'a> {
         }
     }
 
-    /// Returns the value for a number as [`PluralElementsPackedULE::get`] does, under prepared rules:
-    /// for an integer's operands no rule is tested, where the tables have its category.
+    /// Returns the value for a number as [`PluralElementsPackedULE::get`] does, under prepared
+    /// rules: for an integer's operands no rule is tested, where the tables have its category.
     pub fn get_prepared(
         &self,
         op: PluralOperands,

@@ -71,8 +71,8 @@ pub record IsCategory (rules : FiveRules) (x : CompactNumber) (category : Plural
   pub kept : IsKeptChoice rules x.significand.absolute x.exponent category
   pub exact : IsExactChoice rules x.significand.absolute x.exponent category
 
--- The branch for a number and the number less the offset: the first of the number's value, else that
--- of the category of the other, else `other`.
+-- The branch for a number and the number less the offset: the first of the number's value, else
+-- that of the category of the other, else `other`.
 abbrev pub IsBranchOfNumber : FiveRules → CompactNumber → CompactNumber → List Branching → List Part → Type 0
 IsBranchOfNumber rules x less bs parts =
     IsBranchOfValue x bs (Some parts)

@@ -16,10 +16,10 @@ pub data PatternOutcome : Type 0 where
   -- the first fault, and the name of its argument
   Faulty : ArgumentFault → List ℕ → PatternOutcome
 
--- Behind the text that was said before, and where `#` is the first text, the message at the front of
--- the parts comes to the outcome. It ends before the next branch, before the end of its argument, or
--- with the parts. The parts are formatted in their order, and of the branches of an argument only
--- the one that is chosen; the first fault is the outcome.
+-- Behind the text that was said before, and where `#` is the first text, the message at the front
+-- of the parts comes to the outcome. It ends before the next branch, before the end of its
+-- argument, or with the parts. The parts are formatted in their order, and of the branches of an
+-- argument only the one that is chosen; the first fault is the outcome.
 pub data Says (arguments : List Argument) (rules : TwoRules) : List ℕ → List ℕ → List Part → PatternOutcome → Type 0 where
   ends : (hash before : List ℕ) → Says arguments rules hash before [] (Said before)
   stops : (hash before : List ℕ) (p : Part) (rest : List Part) → IsStep arguments rules hash p.depth p.piece rest Stops

@@ -37,9 +37,9 @@ shown_value name None = Fails Missing name
 shown_value name (Some (Number number)) = Prints number
 shown_value name (Some (Text text)) = Prints text
 
--- A select compares a text with its keywords. `#` in its branches is text, also in one that stands in
--- a branch of a plural, since the reader of patterns makes no piece `Hash` of it: so the text of `#`
--- that stands around the select is handed on, and isn't said in its branches.
+-- A select compares a text with its keywords. `#` in its branches is text, also in one that stands
+-- in a branch of a plural, since the reader of patterns makes no piece `Hash` of it: so the text of
+-- `#` that stands around the select is handed on, and isn't said in its branches.
 abbrev pub selected : List ℕ → List ℕ → List Branching → Option Value → Step
 selected hash name bs None = Fails Missing name
 selected hash name bs (Some (Number number)) = Fails WrongKind name

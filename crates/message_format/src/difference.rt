@@ -236,7 +236,8 @@ fn text_of_number(
     Ok(text)
 }
 
-// The text of a number less an offset. It allocates the text, and digits of it twice or three times.
+// The text of a number less an offset. It allocates the text, and digits of it twice or three
+// times.
 pub(crate) fn difference(
     alloc: Global,
     number: &Decimal,

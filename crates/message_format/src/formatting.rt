@@ -53,8 +53,8 @@ fn message<'s, 'p: 's>(
 /// A plural takes the first branch whose selector is `=` and a number of the same value, else the
 /// one of the number's category, else `other`; a select the one of the text, else `other`. `{name}`
 /// and `#` are said as the caller writes them. With an offset the category is that of the number
-/// less the offset, and `#` says this difference with the fraction digits of the number: `1.50` less
-/// `1` is `0.50`. Its text and digits are allocated, too.
+/// less the offset, and `#` says this difference with the fraction digits of the number: `1.50`
+/// less `1` is `0.50`. Its text and digits are allocated, too.
 ///
 /// The errors: [`FormatError::Argument`] with the first fault, in the order of the parts that are
 /// formatted, and the name of its argument: `Missing`, `WrongKind`, `NotANumber`, `OverLimit`, and

@@ -1,6 +1,6 @@
--- The grammar of patterns, line by line as ICU's pages on MessageFormat, PluralFormat and SelectFormat
--- state it, with the parts. Each line says what is read from the front of a text, and the rest that
--- follows it.
+-- The grammar of patterns, line by line as ICU's pages on MessageFormat, PluralFormat and
+-- SelectFormat state it, with the parts. Each line says what is read from the front of a text, and
+-- the rest that follows it.
 use Rattle.std.specs.Prelude.{◌≡◌, ◌≢◌, ℕ, ◌+◌, ◌<◌, List, [], ◌∷◌, ◌++◌, Bool, true, false, ◌||◌, Option, Some, None, length, drop, codes}
 use Rattle.message_pattern.specs.declared.bytes.Class.{Class}
 use Rattle.message_pattern.specs.declared.bytes.Class.TheVariants.{Name, Number, Digit, Letter}
@@ -68,8 +68,8 @@ pub data IsReadAt : PatternPlace → List ℕ → List Part → List ℕ → Typ
   -- noneArg = '{' argNameOrNumber '}'
   none_arg : (d : ℕ) (s name t rest : List ℕ) → IsNameOrNumber (after_white s) name t → after_white t ≡ closing ∷ rest
       → IsReadAt (InArgument d) s (one d (Argument name)) rest
-  -- pluralArg = '{' argNameOrNumber ',' "plural" ',' pluralStyle '}', and likewise selectordinal and
-  -- select; pluralStyle = [offsetValue] (selector '{' message '}')+
+  -- pluralArg = '{' argNameOrNumber ',' "plural" ',' pluralStyle '}', and likewise selectordinal
+  -- and select; pluralStyle = [offsetValue] (selector '{' message '}')+
   complex_arg : (d : ℕ) (kind : ArgumentKind) (offset : Option (List ℕ)) (s name t u v w x rest : List ℕ) (more : List Part)
       → IsNameOrNumber (after_white s) name t → after_white t ≡ comma ∷ u → IsArgumentType (after_white u) kind v → after_white v ≡ comma ∷ w
       → IsOffset kind w offset x → IsReadAt (InBranches kind d false) x more rest

@@ -1,5 +1,5 @@
--- The heads of arguments and branches, or their first fault. The head of an argument is what follows
--- its brace up to its end or its branches, and that of a branch what stands before it.
+-- The heads of arguments and branches, or their first fault. The head of an argument is what
+-- follows its brace up to its end or its branches, and that of a branch what stands before it.
 use Rattle.std.specs.Prelude.{ℕ, ◌==◌, List, [], ◌∷◌, Bool, true, false, ◌&&◌, ◌||◌, not, Option, Some, None, Result, Ok, Err, length, codes, if◌then◌else◌}
 use Rattle.std.specs.Str.{str_eq_ignore_ascii_case}
 use Rattle.message_pattern.specs.declared.bytes.Class.TheVariants.{Name, Number, Digit, Letter}

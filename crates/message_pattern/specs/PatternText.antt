@@ -1,5 +1,5 @@
--- What stands at the front of a message's text: text, an apostrophe that quotes or doesn't, `#`, or a
--- brace. It is ICU's page on MessageFormat, Quoting and Escaping, in the mode DOUBLE_OPTIONAL.
+-- What stands at the front of a message's text: text, an apostrophe that quotes or doesn't, `#`, or
+-- a brace. It is ICU's page on MessageFormat, Quoting and Escaping, in the mode DOUBLE_OPTIONAL.
 use Rattle.std.specs.Prelude.{ℕ, ◌==◌, List, [], ◌∷◌, Bool, true, false, ◌&&◌, ◌||◌, Option, Some, None, if◌then◌else◌}
 use Rattle.message_pattern.specs.declared.bytes.Class.TheVariants.{Plain, Unquoted}
 use Rattle.message_pattern.specs.declared.text.Context.{Context}

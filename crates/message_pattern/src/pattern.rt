@@ -34,8 +34,8 @@ impl<'p> Model for Pattern<'p> {
 }
 
 impl<'p> Pattern<'p> {
-    /// Reads a pattern (ICU MessageFormat, in the apostrophe mode DOUBLE_OPTIONAL). It allocates the
-    /// list of parts. The error is the text's first fault, with the byte where it is, or out of
+    /// Reads a pattern (ICU MessageFormat, in the apostrophe mode DOUBLE_OPTIONAL). It allocates
+    /// the list of parts. The error is the text's first fault, with the byte where it is, or out of
     /// memory.
     pub fn parse(alloc: Global, text: &'p [u8]) -> Result<Pattern<'p>, PatternError>
         ensures { ParsesExactly text.now result }
@@ -60,8 +60,8 @@ impl<'p> Pattern<'p> {
     /// Returns the pattern's text in one form, as bytes: `{name}`, `{n, plural, offset:1 one {..}
     /// other {..}}`, and texts with each apostrophe doubled, quoted from the first byte on that has
     /// to be. It is read as a pattern that says the same: only where texts are cut into pieces may
-    /// differ. It allocates the text, and the contexts that stand in each other; the error is out of
-    /// memory.
+    /// differ. It allocates the text, and the contexts that stand in each other; the error is out
+    /// of memory.
     pub fn to_text(&self, alloc: Global) -> Result<Vec<u8>, AllocError>
         ensures { IfOk result (λ text. PrintsExactly self.now text.items) }
     {

@@ -1,5 +1,5 @@
--- A table of the categories of integers, as 236 bytes (docs/FORMATS.md): eight of the bound, low byte
--- first, an entry for each number below 128, and one for each remainder by 100.
+-- A table of the categories of integers, as 236 bytes (docs/FORMATS.md): eight of the bound, low
+-- byte first, an entry for each number below 128, and one for each remainder by 100.
 --     TableTells bytes n told      what such bytes tell of a number
 --     IsTableOf rules bytes      the bytes are a table of rules
 use Rattle.std.specs.Prelude.{◌≡◌, ℕ, ◌+◌, ◌%◌, ◌<◌, ◌≤◌, ◌⊎◌, List, length, slice_index, Option, Some, None}
@@ -30,8 +30,8 @@ pub record TableTells (bytes : List ℕ) (n : ℕ) (told : Option PluralCategory
 abbrev pub integer_entry : FiveRules → ℕ → ℕ
 integer_entry rules n = place_of (first_category (packed_truth (of_whole n)) rules)
 
--- The entry of a number below 128 is its category's number; that of a remainder is the number of the
--- category of all numbers from the bound on that leave it, or 6: then the rules are asked.
+-- The entry of a number below 128 is its category's number; that of a remainder is the number of
+-- the category of all numbers from the bound on that leave it, or 6: then the rules are asked.
 pub record IsTableOf (rules : FiveRules) (bytes : List ℕ) : Type 0 where
   pub size : length bytes ≡ 236
   pub low : (n : ℕ) → n < 128 → slice_index bytes (8 + n) ≡ integer_entry rules n

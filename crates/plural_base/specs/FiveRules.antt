@@ -64,7 +64,8 @@ categories_of things =
 abbrev pub rules_of : PluralRulesData → FiveRules
 rules_of d = record { zero = d.zero; one = d.one; two = d.two; few = d.few; many = d.many }
 
--- ---- The moduli that the bound of exactness depends on: those on n and i in all five rules. A modulus 0, no modulus, is listed.
+-- ---- The moduli that the bound of exactness depends on: those on n and i in all five rules. A
+-- modulus 0, no modulus, is listed.
 
 -- the modulus, if the operand is n or i
 abbrev pub modulus_on : Operand → ℕ → List ℕ

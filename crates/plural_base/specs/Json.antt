@@ -3,8 +3,8 @@
 -- show of them.
 --     Stands A      what a value means, or its refusal
 --     unless_float meant      floats are refused before all else
---     GivesMeaning seen result stands      the call returns what the value means, or its refusal, or
---         runs out of memory
+--     GivesMeaning seen result stands      the call returns what the value means, or its refusal,
+--         or runs out of memory
 use Rattle.std.specs.Prelude.{◌≡◌, ⊤, Option, Some, None, Result, Ok, Err, if◌then◌else◌}
 use Rattle.plural_base.specs.declared.json.error.JsonError.{JsonError}
 use Rattle.plural_base.specs.declared.json.error.JsonError.TheVariants.{Float, Memory}

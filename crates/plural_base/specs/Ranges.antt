@@ -29,12 +29,13 @@ at things Many = things.many
 abbrev pub put_at : {A : Type 0} → ByCategory A → RawPluralCategory → A → ByCategory A
 put_at things category thing = each (λ c. if raw_number c == raw_number category then thing else at things c)
 
--- ---- A range of numbers by the categories of its start and its end (UTS 35 Part 3, Plural Ranges; docs/RANGES.md).
+-- ---- A range of numbers by the categories of its start and its end (UTS 35 Part 3, Plural Ranges;
+-- docs/RANGES.md).
 --     range_key start end      the byte: 16 times the start's number, plus the end's number
 --     range_text start end      the text: the start's name, two hyphens, the end's name
 --     IsKeyOfText text key      the text and the byte are those of one range
---     range_named text, raw_category_named text      the range, or the category, whose text this is, if
---         there is one
+--     range_named text, raw_category_named text      the range, or the category, whose text this
+--         is, if there is one
 
 -- a start and an end
 abbrev pub Range : Type 0
@@ -75,7 +76,8 @@ range_named text = find (λ range. bytes_eq text (range_text range.0 range.1)) a
 unfoldable pub raw_category_named : List ℕ → Option RawPluralCategory
 raw_category_named text = find (λ category. bytes_eq text (raw_name_of category)) all_raw_categories
 
--- ---- Categories of ranges (UTS 35 Part 3, Plural Ranges): a finite map from pairs of categories, start and end, to categories.
+-- ---- Categories of ranges (UTS 35 Part 3, Plural Ranges): a finite map from pairs of categories,
+-- start and end, to categories.
 --     category_at ranges start end      the category of a pair, if it has one
 --     no_ranges      no pair has a category
 --     with_range ranges start end category      the same ranges, but this pair has this category

@@ -1,6 +1,8 @@
 -- The category of a number's text under the texts of five rules, where it is sure.
---     IsSureCategory texts number category      by any conditions that the texts are read as, of the number itself, whatever its length
---     IsSure texts number      each text gives its rule, and the number's text a number within their exactness bound
+--     IsSureCategory texts number category      by any conditions that the texts are read as, of
+--         the number itself, whatever its length
+--     IsSure texts number      each text gives its rule, and the number's text a number within
+--         their exactness bound
 --     HasSureFault texts number error      the first reason why there is no sure category
 use Rattle.std.specs.Prelude.{◌≡◌, ◌≤◌, ◌<◌, ℕ, List, Option, length}
 use Rattle.fixed_decimal.specs.declared.error.DecimalError.{DecimalError}
@@ -20,8 +22,9 @@ use Rattle.plural_reference.specs.Parser.{Reads}
 use Rattle.plural_reference.specs.declared.ast.Condition.{Condition}
 use Rattle.plural_runtime.specs.declared.error.RuleError.TheVariants as rule_fault
 
--- The text writes a number; and for all conditions that the five texts are read as, and the exact operands of the number, the
--- category is the first whose condition is present and true of them, else other.
+-- The text writes a number; and for all conditions that the five texts are read as, and the exact
+-- operands of the number, the category is the first whose condition is present and true of them,
+-- else other.
 abbrev pub IsSureCategory : Five (Option (List ℕ)) → List ℕ → PluralCategory → Type 0
 IsSureCategory texts number category =
     (x : CompactNumber) × WritesCompact number x × ((conditions : Five (Option Condition)) (exact : Operands)
@@ -55,7 +58,8 @@ WritesNone text = (x : CompactNumber) → ¬ (WritesCompact text x)
 abbrev pub WritesOver : List ℕ → Type 0
 WritesOver text = (x : CompactNumber) × WritesCompact text x × IsCompactOverLimit x
 
--- why the text gives no number: out of memory hides no other fault, and a text of at most 16 bytes allocates nothing
+-- why the text gives no number: out of memory hides no other fault, and a text of at most 16 bytes
+-- allocates nothing
 abbrev pub IsNumberFault : List ℕ → DecimalError → Type 0
 IsNumberFault text number_fault.Syntax = WritesNone text
 IsNumberFault text number_fault.Limit = WritesOver text

@@ -14,8 +14,8 @@ impl<'data> PluralRules<'data> {
     /// [`PluralRules::category_for_compact`] does for the number that
     /// [`CompactDecimal::from_str`](fixed_decimal::CompactDecimal::from_str) reads, whose errors
     /// these are: `Syntax` if the text isn't of this form, `Limit` if it has more than 32767 places
-    /// on a side or an exponent above 255, and `Memory` if the digits can't be allocated, never of a
-    /// text of at most 16 bytes. A text of at most 18 digits on each side of the point, with no
+    /// on a side or an exponent above 255, and `Memory` if the digits can't be allocated, never of
+    /// a text of at most 16 bytes. A text of at most 18 digits on each side of the point, with no
     /// exponent or one of at most two digits that leaves at most 18 integer places, is read in one
     /// walk, and allocates nothing.
     #[inline]

@@ -1,6 +1,7 @@
 -- What a check finds: faults in their order, and how many numbers were checked.
 --     no_findings      no fault and no number
---     FindsBoth First Second found      what two checks find, the first's findings before the second's
+--     FindsBoth First Second found      what two checks find, the first's findings before the
+--         second's
 --     EachFinds Finds things found      what a check finds in each thing of a list, in the order of
 --         the list
 --     AddsFindings Finds old new      the report has grown by what a check finds

@@ -1,6 +1,6 @@
 -- What is wrong with the texts of a language's rules.
---     AreRulesIfRead texts rules      the rules of the five texts, if none is too long and each gives
---         its rule
+--     AreRulesIfRead texts rules      the rules of the five texts, if none is too long and each
+--         gives its rule
 --     IsFoundInCategoryText rules category text found      the faults of one text
 --     AreFindingsOf texts report      the faults of all six, in the order zero, one, two, few,
 --         many, other
@@ -40,8 +40,8 @@ use Rattle.plural_checker.specs.declared.report.Report.{Report}
 abbrev pub IsOneRefused : Five (Option (List ℕ)) → Type 0
 IsOneRefused texts = (category : PluralCategory) × (error : RuleError) × IsFirstRefused texts category error × (error ≢ Memory)
 
--- no text is long, and each that is present gives its rule; or there are no rules, since one text is
--- long or gives none
+-- no text is long, and each that is present gives its rule; or there are no rules, since one text
+-- is long or gives none
 abbrev pub AreRulesIfRead : Five (Option (List ℕ)) → Option FiveRules → Type 0
 AreRulesIfRead texts (Some rules) = IsFalse (has_long texts) × AreRulesOf texts rules
 AreRulesIfRead texts None = IsTrue (has_long texts) ⊎ IsOneRefused texts
@@ -115,7 +115,8 @@ HasOrder text ordered = (tokens : List Token) × AreTokensOf text tokens × (ord
 abbrev pub IsOutOfOrder : List ℕ → Type 0
 IsOutOfOrder text = TextIsRule text × HasOrder text false
 
--- the text has the tokens of the printed rule; if not, its lists are out of order, or part of the text isn't read
+-- the text has the tokens of the printed rule; if not, its lists are out of order, or part of the
+-- text isn't read
 abbrev pub IsFoundInReading : PluralCategory → List ℕ → Rule → Findings → Type 0
 IsFoundInReading category text rule found =
     (HaveSameTokens text (rule_text rule) × (found ≡ no_findings))

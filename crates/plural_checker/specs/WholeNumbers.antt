@@ -1,6 +1,7 @@
 -- The whole numbers below a limit that have a category.
 --     HasWhole rules category n      the rules choose the category for the whole number n
---     IsLeast Holds start found      the least number from a start, and below the limit, of which something holds, if there is one
+--     IsLeast Holds start found      the least number from a start, and below the limit, of which
+--         something holds, if there is one
 --     AreTwoLeastOf Holds first second      the two least ones, as far as there are two
 --     IsLeastFrom rules category start found      the least one from a start that has the category
 --     AreTwoLeast rules category first second      the two least ones that have it

@@ -58,7 +58,8 @@ beyond fault value input h = first_arm _ _ _ (lt-ltb most_bytes (length input) h
 pub long_by_one : (n m : ℕ) → m ≡ n + 1 → n < m
 long_by_one n m h = omega arith
 
--- what was read to the end within the limit is the input; what is too long is the beginning of an input that is too long
+-- what was read to the end within the limit is the input; what is too long is the beginning of an
+-- input that is too long
 pub input_given : (old new : Option (List ℕ)) (r : Result (Vec ℕ Global) InputError)
     → IfOk r (λ bytes. Consumes old new bytes.items) → IfOk r (λ _. IsAtEnd new) → IfOk r (λ bytes. length bytes.items ≤ most_bytes)
     → (r ≡ Err TooLong → (bytes : List ℕ) × Consumes old new bytes × (length bytes ≡ most_bytes + 1)) → GivesInput old r

@@ -1,4 +1,5 @@
--- The first ten lines of a place are told, and the others are counted in one: `ru files: and 5 more`.
+-- The first ten lines of a place are told, and the others are counted in one: `ru files: and 5
+-- more`.
 --     most_told      the most lines that are told
 --     rest_lines place count      the line that counts the others, if there are any
 --     ended_line text      a text and a newline

@@ -62,8 +62,9 @@ kept_limit = 10 ^ kept_places
 abbrev pub of_wide : ℕ → Operands
 of_wide n = of_whole (if nat_lt n kept_limit then n else n % kept_limit + kept_limit)
 
--- ---- Which operands a written number has (UTS 35 Part 3, Plural Operand Meanings). The number is given by its digits x and its
--- compact exponent e: the point goes e places to the right before the digits count.
+-- ---- Which operands a written number has (UTS 35 Part 3, Plural Operand Meanings). The number is
+-- given by its digits x and its compact exponent e: the point goes e places to the right before the
+-- digits count.
 --     AreExact x e o      the exact operands, whatever the number's length
 --     AreKept x e o      the kept operands: the last 18 integer digits and the first 18 fraction
 --         digits count

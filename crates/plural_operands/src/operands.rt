@@ -72,8 +72,8 @@ impl PluralOperands {
         self == PluralOperands::from(1u64)
     }
 
-    /// Returns the whole number whose operands they are: no fraction digit is shown, and there is no
-    /// exponent; and `None` if they aren't those of a whole number.
+    /// Returns the whole number whose operands they are: no fraction digit is shown, and there is
+    /// no exponent; and `None` if they aren't those of a whole number.
     #[inline]
     pub fn as_integer(self) -> Option<u64>
         ensures whole { IfSome result (λ n. self ≡ of_whole n) }

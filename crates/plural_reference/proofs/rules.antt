@@ -1,5 +1,5 @@
--- What is read of a whole rule: of every list of tokens one thing is read or it has one fault, and so
--- it is with every text.
+-- What is read of a whole rule: of every list of tokens one thing is read or it has one fault, and
+-- so it is with every text.
 pub mod RuleReadings
 pub mod RuleTexts
 pub mod Answered

@@ -18,9 +18,9 @@ group_truth number group = list_all (is_true_at number) group
 unfoldable pub packed_truth : Operands → List PackedRelation → Bool
 packed_truth number relations = some_group (is_true_at number) (groups relations)
 
--- ---- How many ranges of a packed rule are needed to tell whether it is true. A range is needed if no earlier group is true, all
--- earlier relations of its group are true, its operand has a value, and no earlier range of its
--- list holds that value.
+-- ---- How many ranges of a packed rule are needed to tell whether it is true. A range is needed if
+-- no earlier group is true, all earlier relations of its group are true, its operand has a value,
+-- and no earlier range of its list holds that value.
 
 -- each member of a list, with those before it
 abbrev pub with_earlier_from : {A : Type 0} → List A → List A → List (List A × A)

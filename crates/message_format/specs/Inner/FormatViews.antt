@@ -68,8 +68,8 @@ pub record IsZeroOutside (x : CompactNumber) (low high : ℤ) : Type 0 where
   pub below : (k : ℤ) → k <ℤ low → digit_of x k ≡ 0
   pub above : (k : ℤ) → high <ℤ k → digit_of x k ≡ 0
 
--- the digits other than 0 are from the one power of ten to the other, and if there is one, the other's
--- digit is
+-- the digits other than 0 are from the one power of ten to the other, and if there is one, the
+-- other's digit is
 pub record IsSpanOf (x : CompactNumber) (low high : ℤ) : Type 0 where
   pub outside : IsZeroOutside x low high
   pub least : neg_ℤ (pos 32767) ≤ℤ low

@@ -31,7 +31,8 @@ by_multiple cycle m n r above divides residue =
 pub ends_below : (start end least value : ℕ) → least ≤ value → end < least → range_holds value (start, end) ≡ false
 ends_below start end least value from below = grind (arith, nat_tests)
 
--- a table that has what is wanted below a place has it below the next one, once the place is written
+-- a table that has what is wanted below a place has it below the next one, once the place is
+-- written
 pub entries_more : {A : Type 0} (xs : List A) (k : ℕ) (x d : A) (want : ℕ → A) → k < length xs
     → ((n : ℕ) → n < k → get_or xs n d ≡ want n) → x ≡ want k
     → (n : ℕ) → n < k + 1 → get_or (slice_set xs k x) n d ≡ want n

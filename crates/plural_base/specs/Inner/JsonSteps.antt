@@ -26,7 +26,8 @@ refusal_of category (fault.Parse kind) = Rule category (fault.Parse kind)
 refusal_of category fault.StartLimit = Rule category fault.StartLimit
 refusal_of category fault.Memory = Memory
 
--- ---- Not a definition of the subject: the members that the code puts for ranges, one after the other.
+-- ---- Not a definition of the subject: the members that the code puts for ranges, one after the
+-- other.
 
 -- a range that has a category is put
 abbrev pub put_range : RawPluralCategory → RawPluralCategory → Members → Option RawPluralCategory → Members

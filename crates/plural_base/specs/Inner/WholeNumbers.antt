@@ -68,7 +68,7 @@ group_after Or group truth = truth
 abbrev pub AreLowEntries : FiveRules → List PluralCategory → Type 0
 AreLowEntries rules low = (n : ℕ) → n < 128 → slice_index_or low n Zero ≡ category_of_whole rules n
 
--- each entry, if it is a category, is that of all numbers from the bound on that leave the number of
--- its place by 100
+-- each entry, if it is a category, is that of all numbers from the bound on that leave the number
+-- of its place by 100
 abbrev pub AreTold : FiveRules → ℕ → List (Option PluralCategory) → Type 0
 AreTold rules bound cycle = (n : ℕ) → bound ≤ n → IsTold (category_of_whole rules n) (slice_index_or cycle (n % 100) None)

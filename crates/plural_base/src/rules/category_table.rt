@@ -45,9 +45,9 @@ impl<'a> CategoryTable<'a> {
         }
     }
 
-    /// Returns the category that the table has for an integer; `None` if the rules have to be asked.
-    /// If it is a table of rules, the category is the one that they choose, and each number below
-    /// 128 has one.
+    /// Returns the category that the table has for an integer; `None` if the rules have to be
+    /// asked. If it is a table of rules, the category is the one that they choose, and each number
+    /// below 128 has one.
     #[inline]
     pub fn category_for_integer(&self, number: u64) -> Option<PluralCategory>
         ensures told { TableTells self.now number result }

@@ -75,8 +75,8 @@ impl<'data> PreparedRules<'data> {
         &self.rules
     }
 
-    /// Returns the category of an integer, as [`PluralRules::category_for`] does by its operands. It
-    /// allocates nothing.
+    /// Returns the category of an integer, as [`PluralRules::category_for`] does by its operands.
+    /// It allocates nothing.
     #[inline]
     pub fn category_for_integer(&self, number: u64) -> PluralCategory
         ensures first { result ≡ first_category (packed_truth (of_whole number)) self.now }

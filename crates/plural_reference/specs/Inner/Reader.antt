@@ -141,8 +141,8 @@ run s (t ∷ ts) = proceed (step s t) (t ∷ ts) (λ next. run next ts)
 abbrev pub begin : State
 begin = before_operand (record { groups = []; relations = [] })
 
--- ---- Not a definition of the subject: what the parts of the parser do, as steps of the reader of conditions. Their private
--- contracts cite it, and no public clause does.
+-- ---- Not a definition of the subject: what the parts of the parser do, as steps of the reader of
+-- conditions. Their private contracts cite it, and no public clause does.
 
 -- no dots follow a single value
 abbrev pub NoDots : RangeListItem → List Token → Type 0

@@ -9,8 +9,8 @@ use super::samples::sink::LeftOut;
 use crate::error::ReadError;
 use std::alloc::{AllocError, Global};
 
-/// Returns whether the text is a rule as a whole: a condition or none, samples or none after it, and
-/// spaces (UTS 35 Part 3, Plural Rules Syntax and Samples).
+/// Returns whether the text is a rule as a whole: a condition or none, samples or none after it,
+/// and spaces (UTS 35 Part 3, Plural Rules Syntax and Samples).
 ///
 /// [`parse`](crate::parse) and all that read rules leave what stands after the longest beginning
 /// that is a rule: of `n = 1 x` the condition `n = 1` is read, and this returns `false`. So it does

@@ -143,8 +143,8 @@ unfoldable pub run_samples : SampleState → List Token → SampleOutcome
 run_samples s [] = sample_proceed (samples_at_end s) [] (λ _. Err ExpectedValue)
 run_samples s (t ∷ ts) = sample_proceed (sample_step s t) (t ∷ ts) (λ next. run_samples next ts)
 
--- ---- Not a definition of the subject: what the parts of the parser do that read samples, as steps of the reader of samples.
--- Their private contracts cite it, and no public clause does.
+-- ---- Not a definition of the subject: what the parts of the parser do that read samples, as steps
+-- of the reader of samples. Their private contracts cite it, and no public clause does.
 
 -- what is stored is what is read, if samples are stored
 abbrev pub IsStored : {A : Type 0} → Bool → A → A → Type 0
