@@ -1,15 +1,15 @@
 -- A document without a fault means maps: its texts give rules, and its entries ranges.
-use Rattle.std.proofs.Common.{◌≡◌, ◌⊎◌, ℕ, suc, ◌+◌, ◌==◌, List, [], ◌∷◌, ◌++◌, length, Bool, true, false, cond, Option, Some, None, is_some, bytes_eq}
-use Rattle.std.proofs.Common.{Result, Ok, Err, codes, if◌then◌else◌, inl, inr, refl, sym, ap, subst, ◌∙◌, arith}
+use Rattle.std.proofs.Common.{◌≡◌, ℕ, suc, ◌+◌, ◌==◌, List, [], ◌∷◌, ◌++◌, length, Bool, true, false, cond, Option, Some, None, is_some, bytes_eq}
+use Rattle.std.proofs.Common.{Ok, Err, if◌then◌else◌, inl, inr, refl, sym, ap, subst, ◌∙◌, arith}
 use Rattle.std.proofs.Common.{Ordering, Less, Equal, Greater, is_eq, nat_cmp}
 use Rattle.std.proofs.lemmas.Map.Text.{is_eq-slice_cmp}
 use Rattle.std.proofs.lemmas.Slice.Eq.{bytes_eq-Decides}
-use Rattle.std.specs.Prelude.{IsTrue, ⊤}
+use Rattle.std.specs.Prelude.{IsTrue}
 use Rattle.std.specs.Cmp.Lexicographic.{slice_cmp}
 use Rattle.std.specs.Option.{option_and_then}
 use Rattle.std.specs.Ordering.{match_ordering}
 use Rattle.serde_json.specs.Data.{Data, null, boolean, number, string, array, object, Members, no_members, member}
-use Rattle.serde_json.specs.Find.{get, get_member, as_null, as_object, as_str}
+use Rattle.serde_json.specs.Find.{get, get_member, as_object, as_str}
 use Rattle.serde_json.specs.Written.{has_float}
 use Rattle.icu_plurals.specs.declared.PluralCategory.{PluralCategory}
 use Rattle.icu_plurals.specs.declared.PluralCategory.TheVariants.{Zero, One, Two, Few, Many, Other}
@@ -19,7 +19,6 @@ use Rattle.icu_plurals.specs.declared.provider.RawPluralCategory.TheVariants as 
 use Rattle.icu_plurals.specs.declared.provider.PluralRanges.{PluralRanges}
 use Rattle.icu_plurals.specs.Categories.{name_of, place_of}
 use Rattle.icu_plurals.specs.DocumentJson.{Document, Rows, document_of_json, found, map_meant, rows_meant, value_of_locale}
-use Rattle.icu_plurals.specs.declared.Five.{Five}
 use Rattle.icu_plurals.specs.FiveRules.{five, FiveRules}
 use Rattle.icu_plurals.specs.Json.{Stands, ◌>>=◌, all_five, there_or}
 use Rattle.icu_plurals.specs.PackedRelations.{PackedRelation}
@@ -34,7 +33,7 @@ use Rattle.plural_checker.specs.TextChecks as text
 use Rattle.plural_checker.specs.declared.Fault.{Fault}
 use Rattle.document_report.specs.CheckedDocument.{document_formed, has_part_form, locales_formed, members_at, members_or_none, part_formed}
 use Rattle.document_report.specs.CheckedDocument.{parts_formed, table_in}
-use Rattle.document_report.specs.DocumentReport.{IsFoundInDocument, IsFoundInEntry, IsFoundInRanges, IsFoundInRules, IsReportOf, all_texts_in}
+use Rattle.document_report.specs.DocumentReport.{IsFoundInDocument, IsFoundInEntry, IsFoundInRanges, IsFoundInRules, all_texts_in}
 use Rattle.document_report.specs.DocumentReport.{faults_of, found_by_check, found_of_count, found_of_key, found_of_other, found_of_rules, found_under}
 use Rattle.document_report.specs.DocumentReport.{found_under_all, has_locale, text_order, texts_at}
 use Rattle.document_report.specs.FaultlessDocuments.{FaultlessDocumentsAreTaken, HasAll}
@@ -44,7 +43,6 @@ use Rattle.plural_fallback.specs.LocalesJson.{part_name}
 use Rattle.document_report.specs.declared.error.CheckError.{CheckError}
 use Rattle.plural_fallback.specs.declared.locales.Part.{Part}
 use Rattle.plural_fallback.specs.declared.locales.Part.TheVariants.{Cardinal, Ordinal, Ranges}
-use Rattle.document_report.specs.declared.report.Report.{Report}
 use Rattle.document_report.proofs.FormedParts.{three_formed}
 
 -- ---- Nothing is found in a whole if nothing is found in its parts

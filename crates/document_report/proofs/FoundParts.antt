@@ -1,13 +1,10 @@
 -- What is found, put together.
-use Rattle.std.proofs.Common.{◌≡◌, ℕ, suc, ◌+◌, ◌<◌, List, [], ◌∷◌, ◌++◌, length, get_or, drop, map, refl, sym, ap, subst, ◌∙◌}
-use Rattle.std.proofs.Common.{String, Global, string_bytes, false, Some, Result, Ok, Err}
+use Rattle.std.proofs.Common.{◌≡◌, ℕ, suc, ◌+◌, ◌<◌, List, length, get_or, drop, refl, ap, ◌∙◌}
+use Rattle.std.proofs.Common.{false, Some, Result, Ok, Err}
 use Rattle.std.specs.Prelude.{OnOk, if◌then◌else◌, is_ok, is_some}
-use Rattle.std.proofs.Common.{append_assoc, add-one}
+use Rattle.std.proofs.Common.{add-one}
 use Rattle.std.proofs.Math.Seq.{drop-cons}
-use Rattle.std.proofs.Math.Nat.{add_assoc, add-zero, zero-add}
-use Rattle.std.proofs.lemmas.List.{append-nil, map-append}
-use Rattle.std.specs.List.{flat_map}
-use Rattle.serde_json.specs.Data.{Data, Members, no_members, member}
+use Rattle.serde_json.specs.Data.{Data}
 use Rattle.serde_json.specs.Find.{as_null, as_str, get}
 use Rattle.icu_plurals.specs.declared.PluralCategory.{PluralCategory}
 use Rattle.icu_plurals.specs.Categories.{name_of}
@@ -15,7 +12,6 @@ use Rattle.plural_checker.specs.declared.Fault.{Fault}
 use Rattle.document_report.specs.DocumentReport.{faults_of, found_told, found_under, found_under_all, no_text_line}
 use Rattle.plural_documents.specs.Found.{Found, nothing_found, one_fault, together}
 use Rattle.plural_documents.proofs.FoundLemmas.{nothing-together, together_assoc, two_added}
-use Rattle.plural_documents.specs.FirstLines.{ended_line}
 use Rattle.plural_fallback.specs.declared.locales.Part.{Part}
 
 -- three additions to something

@@ -13,7 +13,7 @@ use Rattle.icu_plurals.specs.Categories.{place_of}
 use Rattle.plural_checker.specs.declared.Fault.{Fault}
 use Rattle.document_report.specs.DocumentReport.{category_place, fault_line, faults_of, found_told}
 use Rattle.plural_documents.specs.FirstLines.{most_told, rest_lines}
-use Rattle.plural_documents.specs.Found.{Found, nothing_found, together}
+use Rattle.plural_documents.specs.Found.{Found, together}
 use Rattle.plural_documents.specs.Found.{faults_alone, lines_alone}
 use Rattle.document_report.specs.Inner.CheckCalls.{told_after}
 use Rattle.plural_fallback.specs.declared.locales.Part.{Part}
