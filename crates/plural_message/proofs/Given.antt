@@ -7,8 +7,7 @@ use Rattle.icu_plurals.specs.Elements.{Elements, IsExactElement, IsKeptElement}
 use Rattle.icu_plurals.specs.FiveRules.{FiveRules}
 use Rattle.icu_plurals.specs.PackedElements.{PackedValue}
 use Rattle.icu_plurals.specs.Written.{CompactNumber, WritesCompact, IsCompactOverLimit}
-use Rattle.plural_message.specs.declared.error.MessageError.{MessageError}
-use Rattle.plural_message.specs.declared.error.MessageError.TheVariants.{Number, Memory}
+use Rattle.plural_message.specs.declared.error.MessageError.TheVariants.{Memory}
 use Rattle.plural_message.specs.Messages.{GivesMessage, IsMessageOf, number_error}
 
 -- how a number is read from a text: by a fault of syntax if and only if it writes none, and by one
