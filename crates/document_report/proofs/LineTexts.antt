@@ -1,4 +1,5 @@
--- The pieces of a line, grouped from the right as they are printed, or from the left as they are written.
+-- The pieces of a line, grouped from the right as they are printed, or from the left as they are
+-- written.
 use Rattle.std.proofs.Common.{◌≡◌, ℕ, List, ◌++◌, append_assoc}
 
 -- five pieces

@@ -212,8 +212,8 @@ abbrev pub found_of_rules : List ℕ → Option Data → Found
 found_of_rules name None = one_fault (locale_line Ranges name (codes "no cardinal rules"))
 found_of_rules name (Some rules) = nothing_found
 
--- what is found in the ranges of a locale: first in its key, then that it has no cardinal rules, then
--- the faults of its entries
+-- what is found in the ranges of a locale: first in its key, then that it has no cardinal rules,
+-- then the faults of its entries
 abbrev pub IsFoundInRanges : Data → List ℕ → Data → Found → Type 0
 IsFoundInRanges document locale value found =
     let rules = value_of_locale (part_name Cardinal) locale document in

@@ -1,7 +1,8 @@
 -- What is wrong with a form of a message, under the rules of its language.
---     IsLanguageOf rules language      what the rules say of categories and of the numbers that choose their forms
---     HasFormFault language form message fault      the fault of a form in a message, if it has one; without a language only
---         that it has no text
+--     IsLanguageOf rules language      what the rules say of categories and of the numbers that
+--         choose their forms
+--     HasFormFault language form message fault      the fault of a form in a message, if it has
+--         one; without a language only that it has no text
 use Rattle.std.specs.Prelude.{◌≡◌, ◌⊎◌, ℕ, Bool, true, IsTrue, IsFalse, List, ◌++◌, codes, Option, Some, None, is_some, if◌then◌else◌}
 use Rattle.std.specs.Fmt.{decimal}
 use Rattle.std.specs.Str.Iter.{HasSubslice}
@@ -31,8 +32,8 @@ has_category_rule rules Few = is_some rules.few
 has_category_rule rules Many = is_some rules.many
 has_category_rule rules Other = true
 
--- the categories that it has; and the two least whole numbers that choose the form of one of these, where 0 and 1 may have forms of
--- their own
+-- the categories that it has; and the two least whole numbers that choose the form of one of these,
+-- where 0 and 1 may have forms of their own
 pub record Language : Type 0 where
   pub has : PluralCategory → Bool
   pub numbers : PluralCategory → Bool → Bool → TwoNumbers

@@ -1,7 +1,8 @@
--- The forms of a message, each under its key (docs/TRANSLATORS.md): of exactly 0 and 1, and of the plural categories.
+-- The forms of a message, each under its key (docs/TRANSLATORS.md): of exactly 0 and 1, and of the
+-- plural categories.
 --     form_under form message      what a message has under the key of a form
---     Chooses rules category own_zero own_one n      the whole number chooses the category's form, where 0
---         and 1 may have forms of their own (UTS 35 Part 3, Explicit 0 and 1 Rules)
+--     Chooses rules category own_zero own_one n      the whole number chooses the category's form,
+--         where 0 and 1 may have forms of their own (UTS 35 Part 3, Explicit 0 and 1 Rules)
 use Rattle.std.specs.Prelude.{ℕ, Bool, ◌||◌, bytes_eq, List, [], ◌∷◌, Option, is_some, codes, ◌≢◌, IsTrue}
 use Rattle.serde_json.specs.Data.{Data}
 use Rattle.serde_json.specs.Find.{get}

@@ -1,8 +1,11 @@
--- The report of files of messages (docs/TRANSLATORS.md): what is found in each locale, in the order of their bytes. In a locale
--- first in its keys, then in its messages for cardinal numbers, in those for ordinal numbers, and in its patterns; in a message form
--- by form, and then in its other keys; in a pattern argument by argument, first the missing branches, then branch by branch.
---     IsFoundInMessagesDocument source document found      what is found in a document under the rules of a source
---     IsFoundInFiles source files found      what is found in files, each line after the name of its file
+-- The report of files of messages (docs/TRANSLATORS.md): what is found in each locale, in the order
+-- of their bytes. In a locale first in its keys, then in its messages for cardinal numbers, in
+-- those for ordinal numbers, and in its patterns; in a message form by form, and then in its other
+-- keys; in a pattern argument by argument, first the missing branches, then branch by branch.
+--     IsFoundInMessagesDocument source document found      what is found in a document under the
+--         rules of a source
+--     IsFoundInFiles source files found      what is found in files, each line after the name of
+--         its file
 use Rattle.std.specs.Prelude.{◌≡◌, ℕ, ◌||◌, bytes_eq, Bool, List, [], ◌∷◌, ◌++◌, codes, length, map, take}
 use Rattle.std.specs.Prelude.{Option, Some, None, is_some, ◌⊎◌, if◌then◌else◌}
 use Rattle.serde_json.specs.Data.{Data, Members, no_members, member}

@@ -1,4 +1,5 @@
--- The text of a report of messages: its lines, and one with the counts and the numbers that were tried.
+-- The text of a report of messages: its lines, and one with the counts and the numbers that were
+-- tried.
 use Rattle.std.specs.Prelude.{ℕ, List, ◌++◌, codes}
 use Rattle.std.specs.Fmt.{decimal}
 use Rattle.std.specs.List.{flat_map}

@@ -1,5 +1,6 @@
 -- What is written for files of messages.
---     IsReported source files old new result      the report of the files was written, and nothing else
+--     IsReported source files old new result      the report of the files was written, and nothing
+--         else
 use Rattle.std.specs.Prelude.{◌≡◌, ℕ, ◌==◌, List, Option, Result, Ok, Err, if◌then◌else◌}
 use Rattle.std.specs.Io.KnownBytes.{Appends, Keeps}
 use Rattle.plural_documents.specs.Inputs.{IsPartWritten}
@@ -12,7 +13,8 @@ use Rattle.message_report.specs.declared.error.ReportError.{ReportError}
 use Rattle.message_report.specs.declared.error.ReportError.TheVariants.{Write, Memory}
 use Rattle.message_report.specs.declared.file.MessageFile.{MessageFile}
 
--- The report and its counts; or the writer failed, and took a beginning of the report, or memory ran out, and it took nothing.
+-- The report and its counts; or the writer failed, and took a beginning of the report, or memory
+-- ran out, and it took nothing.
 abbrev pub IsReported : RulesSource → List MessageFile → Option (List ℕ) → Option (List ℕ) → Result Counts ReportError → Type 0
 IsReported source files old new (Ok counts) =
     (found : Found) × IsFoundInFiles source files found × (counts ≡ counts_found found) × Appends old new (messages_report_text found)

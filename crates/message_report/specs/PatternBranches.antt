@@ -1,5 +1,7 @@
--- Which branches of a plural argument in a pattern are for exactly 0 and 1, and which say the number (docs/PATTERNS.md).
---     inside_of depth parts      of these parts, those in the branch at the front, of an argument at a depth
+-- Which branches of a plural argument in a pattern are for exactly 0 and 1, and which say the
+-- number (docs/PATTERNS.md).
+--     inside_of depth parts      of these parts, those in the branch at the front, of an argument
+--         at a depth
 --     IsOwn number has_offset branches own      whether exactly this number has a branch of its own
 use Rattle.std.specs.Prelude.{◌≡◌, ◌↔◌, ℕ, ◌+◌, ◌==◌, nat_lt, Bool, true, false, IsTrue, ◌||◌, bytes_eq, List, [], ◌∷◌, is_some, if◌then◌else◌}
 use Rattle.fixed_decimal.specs.Written.{CompactNumber, WritesCompact}
@@ -15,8 +17,9 @@ inside_of depth (p ∷ ps) = if nat_lt depth p.depth then p ∷ inside_of depth 
 
 -- ---- What a branch is for
 
--- Whether exactly the number that a text writes has a branch of its own: one that `message_format` chooses for the number by its
--- value. Behind an offset none counts, where `=0` is for another number than that which has the category.
+-- Whether exactly the number that a text writes has a branch of its own: one that `message_format`
+-- chooses for the number by its value. Behind an offset none counts, where `=0` is for another
+-- number than that which has the category.
 abbrev pub IsOwn : List ℕ → Bool → List Branching → Bool → Type 0
 IsOwn text true branches own = own ≡ false
 IsOwn text false branches own = (x : CompactNumber) × WritesCompact text x × (IsTrue own ↔ HasBranchOfValue x branches)

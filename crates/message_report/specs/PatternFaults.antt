@@ -1,7 +1,11 @@
--- What is wrong with the branches of a plural argument in a pattern, under the rules of its language.
---     IsArgumentAt name has_offset depth parts argument      the argument at a depth, of which these parts follow its beginning
---     missing_fault language argument category      that a category which whole numbers have has no branch
---     branch_fault language argument before branch      the fault of a branch behind these selectors, if it has one
+-- What is wrong with the branches of a plural argument in a pattern, under the rules of its
+-- language.
+--     IsArgumentAt name has_offset depth parts argument      the argument at a depth, of which
+--         these parts follow its beginning
+--     missing_fault language argument category      that a category which whole numbers have has no
+--         branch
+--     branch_fault language argument before branch      the fault of a branch behind these
+--         selectors, if it has one
 use Rattle.std.specs.Prelude.{◌≡◌, ℕ, Bool, ◌||◌, bytes_eq, List, ◌++◌, codes, Option, Some, None, if◌then◌else◌}
 use Rattle.icu_plurals.specs.declared.PluralCategory.{PluralCategory}
 use Rattle.icu_plurals.specs.declared.PluralCategory.TheVariants.{Zero, One, Two, Few, Many, Other}
@@ -19,8 +23,8 @@ use Rattle.message_report.specs.declared.category_numbers.TwoNumbers.{TwoNumbers
 
 -- ---- An argument
 
--- a plural or an ordinal: its name, whether it has an offset, its depth, its branches, and whether exactly 0 and exactly 1 have
--- branches of their own
+-- a plural or an ordinal: its name, whether it has an offset, its depth, its branches, and whether
+-- exactly 0 and exactly 1 have branches of their own
 pub record PluralArgument : Type 0 where
   pub name : List ℕ
   pub has_offset : Bool
@@ -85,7 +89,8 @@ no_hash category None second = None
 no_hash category (Some first) None = None
 no_hash category (Some first) (Some second) = Some (NoHash category first second)
 
--- it isn't told behind an offset, where the branch says another number than the one that has the category
+-- it isn't told behind an offset, where the branch says another number than the one that has the
+-- category
 abbrev pub category_fault : Language → PluralArgument → List Part → PluralCategory → Option BranchFault
 category_fault language a inside category =
     if language.has category

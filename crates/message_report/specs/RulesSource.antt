@@ -1,5 +1,6 @@
 -- Where the rules of a locale come from: a provider over keys, and the parents of locales.
---     HasRules source type locale rules      the rules of the first key of the locale's chain, if there are some
+--     HasRules source type locale rules      the rules of the first key of the locale's chain, if
+--         there are some
 use Rattle.std.specs.Prelude.{◌≡◌, ℕ, List, Option, Some, None}
 use Rattle.icu_plurals.specs.FiveRules.{FiveRules}
 use Rattle.icu_plurals.specs.declared.PluralRuleType.{PluralRuleType}
@@ -40,7 +41,8 @@ source_of cardinal ordinal keys parent = record {
 abbrev pub chain_key : RulesSource → PluralRuleType → List ℕ → ℕ → Option (List ℕ)
 chain_key source type locale = key_at (source.keys type) (next_of source.parent) locale
 
--- the rules under the first key of the chain; or there is no key among the first locales, or no rules under it
+-- the rules under the first key of the chain; or there is no key among the first locales, or no
+-- rules under it
 abbrev pub HasRules : RulesSource → PluralRuleType → List ℕ → Option FiveRules → Type 0
 HasRules source type locale (Some rules) =
     (key : List ℕ) × IsFirstKey MOST_LOCALES (chain_key source type locale) key × (source.under type key ≡ Some rules)

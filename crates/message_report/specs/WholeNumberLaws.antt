@@ -1,6 +1,8 @@
 -- When the whole numbers below the limit tell of all whole numbers.
---     ArePeriodic rules      each modulus on n or i divides 100, and without a modulus n and i are compared with numbers below 9800 alone
---     WholeNumbersTellAll      under such rules, no further whole number has a category of which less than two are named
+--     ArePeriodic rules      each modulus on n or i divides 100, and without a modulus n and i are
+--         compared with numbers below 9800 alone
+--     WholeNumbersTellAll      under such rules, no further whole number has a category of which
+--         less than two are named
 use Rattle.std.specs.Prelude.{◌≡◌, ◌≢◌, ◌⊎◌, ◌<◌, ◌%◌, ℕ, List, [], ◌∷◌, Option, Some, None}
 use Rattle.icu_plurals.specs.FiveRules.{FiveRules}
 use Rattle.icu_plurals.specs.PackedRelations.{PackedRelation}
@@ -46,7 +48,8 @@ pub record ArePeriodic (rules : FiveRules) : Type 0 where
   pub few : IsPeriodicIf rules.few
   pub many : IsPeriodicIf rules.many
 
--- where a second number isn't named, any whole number that has the category, however large, is the first one
+-- where a second number isn't named, any whole number that has the category, however large, is the
+-- first one
 abbrev pub WholeNumbersTellAll : Type 0
 WholeNumbersTellAll =
     (rules : FiveRules) (category : PluralCategory) (first : Option ℕ) → ArePeriodic rules → AreTwoLeast rules category first None

@@ -25,7 +25,8 @@ pub(crate) struct CategoryNumbers {
 }
 
 impl CategoryNumbers {
-    // Returns what is known of a category's numbers under these rules, if the language has it; else they aren't sought.
+    // Returns what is known of a category's numbers under these rules, if the language has it; else
+    // they aren't sought.
     pub(crate) fn if_there(
         rules: &PluralRules<'_>,
         category: PluralCategory,

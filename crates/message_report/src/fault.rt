@@ -61,7 +61,8 @@ impl fmt::Display for FormFault {
     }
 }
 
-// Returns the fault of a form in a message, if it has one; without a language only that it has no text.
+// Returns the fault of a form in a message, if it has one; without a language only that it has no
+// text.
 pub(crate) fn form_fault(
     language: Option<Language>,
     form: Form,

@@ -11,7 +11,8 @@ use plural_documents::{Found, MOST_TOLD, add_rest, name_text, sum};
 use serde_json::{Map, Value};
 use std::alloc::{AllocError, Global};
 
-// Adds what is found in the keys that name no form: the first ones have a line each, and the others one.
+// Adds what is found in the keys that name no form: the first ones have a line each, and the others
+// one.
 pub(crate) fn add_keys(
     alloc: Global,
     place: &str,

@@ -1,4 +1,5 @@
-//! The report of files of messages under plural rules: which forms are missing, unused or without the number.
+//! The report of files of messages under plural rules: which forms are missing, unused or without
+//! the number.
 #![tactic(auto)]
 
 mod argument;

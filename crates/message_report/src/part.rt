@@ -116,7 +116,8 @@ pub(crate) fn language_at<S: RulesOfLocales>(
     }
 }
 
-// Adds what is found in messages of a language, if it is known, given the printed name of the locale.
+// Adds what is found in messages of a language, if it is known, given the printed name of the
+// locale.
 fn add_under(
     alloc: Global,
     language: Option<Language>,

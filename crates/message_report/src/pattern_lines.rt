@@ -56,7 +56,8 @@ impl Languages {
     }
 }
 
-// Tells what is wrong with each argument of a pattern, the first ones by a line, and returns how many faults there are.
+// Tells what is wrong with each argument of a pattern, the first ones by a line, and returns how
+// many faults there are.
 pub(crate) fn tell_pattern(
     alloc: Global,
     languages: &Languages,
@@ -76,7 +77,8 @@ pub(crate) fn tell_pattern(
     Ok(count)
 }
 
-// Tells what is wrong with an argument, if this part begins one, and returns how many faults there are so far.
+// Tells what is wrong with an argument, if this part begins one, and returns how many faults there
+// are so far.
 fn tell_part(
     alloc: Global,
     languages: &Languages,

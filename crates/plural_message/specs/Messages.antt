@@ -40,7 +40,8 @@ OneFilling =
     (number text : List ℕ) → (filled : List ℕ) × IsFilling number text filled
     × ((other : List ℕ) → IsFilling number text other → other ≡ filled)
 
--- ---- The message of a number: the text of the element that the number has, filled by a text for the number.
+-- ---- The message of a number: the text of the element that the number has, filled by a text for
+-- the number.
 --     IsMessageWith IsChosen x text message      the filling by this text of the element that the
 --         number x has
 --     IsMessageOf IsChosen number message      the filling by the number's own text, which writes

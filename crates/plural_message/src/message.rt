@@ -67,9 +67,10 @@ impl<'a> Message<'a> {
     /// Returns the message for a number, which is given as a text: a decimal, with a compact
     /// exponent or not. Its operands and the rules choose an element (UTS 35 Part 3, Language
     /// Plural Rules), and in the element's text each `{}`, from the left, is replaced by the
-    /// number's text as it was given. There is no escape for `{}`. It allocates the message; a number
-    /// of at most 18 digits on each side of the point, with no exponent or one of at most two digits
-    /// that leaves at most 18 integer places, is read in one walk, and allocates nothing.
+    /// number's text as it was given. There is no escape for `{}`. It allocates the message; a
+    /// number of at most 18 digits on each side of the point, with no exponent or one of at most
+    /// two digits that leaves at most 18 integer places, is read in one walk, and allocates
+    /// nothing.
     ///
     /// For example:
     ///

@@ -1,4 +1,5 @@
--- Not a definition of the subject: arguments and languages of the code, in the words of the definitions.
+-- Not a definition of the subject: arguments and languages of the code, in the words of the
+-- definitions.
 use Rattle.std.specs.Prelude.{List, option_map}
 use Rattle.message_pattern.specs.declared.part.Part as parts
 use Rattle.message_pattern.specs.declared.part.Selector as selectors

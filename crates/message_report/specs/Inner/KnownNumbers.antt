@@ -1,4 +1,5 @@
--- Not a definition of the subject: what is known of the numbers of a category, and the two that choose its form.
+-- Not a definition of the subject: what is known of the numbers of a category, and the two that
+-- choose its form.
 use Rattle.std.specs.Prelude.{◌≡◌, ◌↔◌, ◌+◌, ◌&&◌, not, ℕ, Bool, true, false, IsTrue, Option, Some, None}
 use Rattle.icu_plurals.specs.declared.PluralCategory.{PluralCategory}
 use Rattle.icu_plurals.specs.FiveRules.{FiveRules}

@@ -1,4 +1,5 @@
--- Not a definition of the subject: what is told of a key, by how many that name no form come before it.
+-- Not a definition of the subject: what is told of a key, by how many that name no form come before
+-- it.
 use Rattle.std.specs.Prelude.{ℕ, ◌+◌, nat_lt, List, [], ◌∷◌, if◌then◌else◌}
 use Rattle.plural_documents.specs.Found.{Found, nothing_found}
 use Rattle.message_report.specs.MessageForms.{is_form_name}

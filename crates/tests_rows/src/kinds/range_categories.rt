@@ -94,7 +94,8 @@ fn range_category(call: &mut Call) {
     }
 }
 
-// Prints the category of a range of integers, if the rules of the type and of the options choose it.
+// Prints the category of a range of integers, if the rules of the type and of the options choose
+// it.
 fn print_by_locale(call: &mut Call, provider: &JsonProvider, locale: &str) {
     let rule_type = next_type(call);
     let start = PluralOperands::from(call.number());

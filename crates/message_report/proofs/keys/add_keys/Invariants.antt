@@ -5,7 +5,8 @@ use Rattle.message_report.specs.MessagesReport.{other_keys}
 use Rattle.message_report.proofs.ToldLemmas.{told_from}
 use Rattle.message_report.proofs.keys.add_keys.Given as goal
 
--- what is told of the remaining keys completes what was found so far, and their count the count so far
+-- what is told of the remaining keys completes what was found so far, and their count the count so
+-- far
 abbrev pub invariant-loop-key : goal.invariant-loop-key
 invariant-loop-key l =
     let left = other_keys (members_view l.key-iterator) in
