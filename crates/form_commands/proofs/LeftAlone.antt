@@ -10,7 +10,6 @@ use Rattle.form_commands.specs.Inner.FormsInputFaults.{report_fault}
 use Rattle.form_commands.specs.Inner.NoteSteps.{Notes}
 use Rattle.form_commands.specs.declared.error.FormsError.{FormsError}
 use Rattle.form_commands.specs.declared.error.FormsError.TheVariants.{Rules, TooLong, Json, Refused, Language, Numbers, Write, Memory}
-use Rattle.form_commands.specs.declared.error.LanguageError.{LanguageError}
 use Rattle.form_commands.specs.declared.error.Verdict.{Verdict}
 
 -- what an answer leaves alone, its notes do, if a failed write needs not

@@ -1,5 +1,5 @@
 -- Not a definition of the subject: the state after some bytes of an input, and one step of it.
-use Rattle.std.specs.Prelude.{◌≡◌, ◌≢◌, ℕ, ◌+◌, List, [], ◌∷◌, ◌++◌, take, ⊤}
+use Rattle.std.specs.Prelude.{◌≡◌, ℕ, ◌+◌, List, [], ◌∷◌, ◌++◌, take}
 use Rattle.icu_plurals.specs.FiveRules.{FiveRules}
 use Rattle.form_commands.specs.InputLines.{HasNoEnd, lines_of}
 use Rattle.form_commands.specs.NumberAnswers.{AreLineAnswers, IsAnswerAt, most_number_bytes, next_place}
