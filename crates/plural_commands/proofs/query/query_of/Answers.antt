@@ -1,4 +1,3 @@
-use Rattle.std.proofs.Common.{Some, sym, ◌∙◌, ap}
 use Rattle.plural_commands.specs.Inner.PrivateViews.{command_view}
 use Rattle.plural_commands.proofs.Questions.{command_not_usage}
 use Rattle.plural_commands.proofs.query.query_of.Goals as goal
