@@ -1,9 +1,12 @@
--- Expressions of C over an unsigned integer n: what there is of them in the line for gettext, how they are written, and what they mean.
--- A remainder binds more than a comparison, that more than `&&`, that more than `||`, and that more than `? :`.
---     c_condition_text condition      what a condition is written as: conjunctions of atoms, with `||` between them
+-- Expressions of C over an unsigned integer n: what there is of them in the line for gettext, how
+-- they are written, and what they mean. A remainder binds more than a comparison, that more than
+-- `&&`, that more than `||`, and that more than `? :`.
+--     c_condition_text condition      what a condition is written as: conjunctions of atoms, with
+--         `||` between them
 --     condition_value n condition      whether it isn't 0
 --     choice_text place conditions      conditions, each with `?` and its place, and the last place
---     choice_value place n conditions      the place of the first condition that isn't 0, else the last one
+--     choice_value place n conditions      the place of the first condition that isn't 0, else the
+--         last one
 use Rattle.std.specs.Prelude.{ℕ, ◌+◌, ◌==◌, List, [], ◌∷◌, ◌++◌, map, flat_map, codes, Bool, not, nat_lt, nat_le, if◌then◌else◌}
 use Rattle.std.specs.Fmt.{decimal}
 use Rattle.icu_plurals.specs.Truth.{remainder, some_group}

@@ -1,5 +1,5 @@
--- The lines that are printed of a language's forms: one before them, and then one for each category that has a rule, and for other
--- (UTS 35 Part 3, Language Plural Rules and Samples).
+-- The lines that are printed of a language's forms: one before them, and then one for each category
+-- that has a rule, and for other (UTS 35 Part 3, Language Plural Rules and Samples).
 --     IsFormList part locale language text      all lines
 use Rattle.std.specs.Prelude.{◌≡◌, ◌⊎◌, ℕ, ◌==◌, List, [], ◌∷◌, ◌++◌, length, codes, Bool, Option, Some, None, if◌then◌else◌}
 use Rattle.std.specs.Fmt.{decimal}
@@ -33,7 +33,8 @@ IsWholesText rules category text =
 
 -- ---- Samples
 
--- a semicolon and the samples of the rule that the text is read as, if it has any; nothing of a text that can't be read
+-- a semicolon and the samples of the rule that the text is read as, if it has any; nothing of a
+-- text that can't be read
 abbrev pub IsSamplesText : List ℕ → List ℕ → Type 0
 IsSamplesText rule text =
     ((read : Rule) × TextReads ReadsRule rule read × (text ≡ prefixed (codes ";") samples_text read.samples))

@@ -1,8 +1,10 @@
 -- The answers to questions of a document, and what is read and written of them.
 --     IsListAnswer part locale language printed      the forms of a language
---     Answers Prints part locale document answer      what is printed by the rules of a locale, or why there are none
+--     Answers Prints part locale document answer      what is printed by the rules of a locale, or
+--         why there are none
 --     IsAnsweredText IsAnswer input old new result      what a writer took, and the result
---     IsAnsweredLines part locale input before left old new result      the same for the lines of another input
+--     IsAnsweredLines part locale input before left old new result      the same for the lines of
+--         another input
 --     IsChecked files input old new result      the same for files of messages
 --     forms_origin fault      where a fault comes from: what was read of the rules by then
 use Rattle.std.specs.Prelude.{◌≡◌, ◌⊎◌, ℕ, ◌<◌, ◌≤◌, ◌==◌, List, ◌++◌, length, Option, Some, None, Result, Ok, Err, if◌then◌else◌}
@@ -83,7 +85,8 @@ IsAnsweredText IsAnswer input old new (Err Memory) = Keeps old new
 
 -- ---- The lines of another input
 
--- Some of it was taken, and what was written is the answers to its first lines, or a beginning of them.
+-- Some of it was taken, and what was written is the answers to its first lines, or a beginning of
+-- them.
 abbrev pub IsAnsweredInPart : FiveRules → Option (List ℕ) → Option (List ℕ) → Option (List ℕ) → Option (List ℕ) → Type 0
 IsAnsweredInPart rules before left old new =
     (numbers : List ℕ) × (done rest : List (List ℕ)) × (printed : PrintedText) × Consumes before left numbers

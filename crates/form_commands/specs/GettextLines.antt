@@ -1,7 +1,8 @@
--- The line by which gettext's files number the forms of a language: how many forms whole numbers have, and an expression of C for the
--- place of a number's form among them.
+-- The line by which gettext's files number the forms of a language: how many forms whole numbers
+-- have, and an expression of C for the place of a number's form among them.
 --     IsGettextLine rules text      the line of a language
---     FormsAreChosen      of a whole number whose category has a form, the place is that of this form
+--     FormsAreChosen      of a whole number whose category has a form, the place is that of this
+--         form
 use Rattle.std.specs.Prelude.{◌≡◌, ◌⊎◌, ◌<◌, ℕ, List, [], ◌∷◌, ◌++◌, length, codes, Option, Some, None, slice_get}
 use Rattle.std.specs.Fmt.{decimal}
 use Rattle.icu_plurals.specs.FiveRules.{FiveRules, categories_of, first_category}

@@ -1,5 +1,6 @@
 -- The lines of an input.
---     lines_of input      each as it stands before its newline, and what follows the last newline, if that isn't empty
+--     lines_of input      each as it stands before its newline, and what follows the last newline,
+--         if that isn't empty
 --     AreEndedIn input lines      those that stand before a newline
 use Rattle.std.specs.Prelude.{◌≡◌, ◌≢◌, ℕ, ◌==◌, List, [], ◌∷◌, ◌++◌, ⊤, if◌then◌else◌}
 
@@ -17,7 +18,8 @@ abbrev pub HasNoEnd : List ℕ → Type 0
 HasNoEnd [] = ⊤
 HasNoEnd (byte ∷ bytes) = (byte ≢ 10) × HasNoEnd bytes
 
--- whatever follows the input, these are its first lines, and then comes that of its last bytes, which hasn't ended
+-- whatever follows the input, these are its first lines, and then comes that of its last bytes,
+-- which hasn't ended
 abbrev pub AreEndedIn : List ℕ → List (List ℕ) → Type 0
 AreEndedIn input lines =
     (last : List ℕ) × HasNoEnd last × ((rest : List ℕ) → lines_of (input ++ rest) ≡ lines ++ lines_of (last ++ rest))

@@ -1,8 +1,10 @@
--- The notes of the keys under which rules are found, where these aren't the locales that are asked for.
+-- The notes of the keys under which rules are found, where these aren't the locales that are asked
+-- for.
 --     note_text place part locale key      the note of a key
 --     IsNote document place part locale note      that of a locale, if it has a key
 --     AreFileNotes document files notes      those of the locales of files of messages
---     IsNoted AreNotes IsResult input old new result      a result, and what was written of its notes
+--     IsNoted AreNotes IsResult input old new result      a result, and what was written of its
+--         notes
 use Rattle.std.specs.Prelude.{◌≡◌, ◌⊎◌, ℕ, List, [], ◌∷◌, ◌++◌, codes, Bool, true, false, ◌||◌, bytes_eq, Option, Some, None, Result, Ok, Err, if◌then◌else◌}
 use Rattle.std.specs.Io.KnownBytes.{Appends, Keeps}
 use Rattle.std.specs.Option.{option_and_then}
@@ -22,7 +24,8 @@ use Rattle.form_commands.specs.declared.error.Verdict.{Verdict}
 
 -- ---- One locale
 
--- `plural_forms: pt-AO: cardinal rules of pt-PT`; of a key that is the locale, nothing. Before the locale is the place, if there is one.
+-- `plural_forms: pt-AO: cardinal rules of pt-PT`; of a key that is the locale, nothing. Before the
+-- locale is the place, if there is one.
 abbrev pub note_text : List ℕ → Part → List ℕ → List ℕ → List ℕ
 note_text place part locale key =
     if bytes_eq key locale then []

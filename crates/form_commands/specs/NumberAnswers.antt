@@ -18,12 +18,13 @@ use Rattle.form_commands.specs.declared.printed.Place.TheVariants.{Line, Number}
 
 -- ---- One number
 
--- the most bytes of a number within the limits: a sign, 32767 digits, a point, 32767 digits, and `c255`
+-- the most bytes of a number within the limits: a sign, 32767 digits, a point, 32767 digits, and
+-- `c255`
 abbrev pub most_number_bytes : ℕ
 most_number_bytes = 65540
 
--- the category that the rules choose for the number that the word writes: for what is kept of it, and within the exactness bound
--- for the number itself
+-- the category that the rules choose for the number that the word writes: for what is kept of it,
+-- and within the exactness bound for the number itself
 abbrev pub IsChosenFor : FiveRules → List ℕ → PluralCategory → Type 0
 IsChosenFor rules word category =
     (x : CompactNumber) × WritesCompact word x × IsWithinLimit x.significand.absolute × (x.exponent ≤ 255) × HasCategory rules x category

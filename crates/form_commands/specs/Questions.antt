@@ -11,7 +11,8 @@ pub record Wanted : Type 0 where
   pub locale : List ℕ
   pub file : Option (List ℕ)
 
--- --help, --version, list LOCALE, gettext LOCALE, category LOCALE NUMBER.., check FILE.. with the file after `--rules`
+-- --help, --version, list LOCALE, gettext LOCALE, category LOCALE NUMBER.., check FILE.. with the
+-- file after `--rules`
 pub data Question : Type 0 where
   help : Question
   version : Question
@@ -56,7 +57,8 @@ pub record Options : Type 0 where
 abbrev pub options_with : Option (List ℕ) → PartAndRest → Options
 options_with file found = record { part = found.part; file = file; rest = found.rest }
 
--- `--ordinal`, and then `--rules FILE`; or, if `--ordinal` isn't first, these in the other order; each may be absent
+-- `--ordinal`, and then `--rules FILE`; or, if `--ordinal` isn't first, these in the other order;
+-- each may be absent
 abbrev pub options_after : Part → FileAndRest → Options
 options_after Ordinal found = options_with found.file (in_part Ordinal found.rest)
 options_after part found = options_with found.file (part_of_words found.rest)

@@ -1,5 +1,6 @@
--- The condition of a rule at whole numbers, as an expression of C. Of a whole number n and i are the number, and the other operands are
--- 0: so a relation of these is left out if it is true of 0, and else its group is.
+-- The condition of a rule at whole numbers, as an expression of C. Of a whole number n and i are
+-- the number, and the other operands are 0: so a relation of these is left out if it is true of 0,
+-- and else its group is.
 --     condition_of relations      the condition of the relations of a rule
 use Rattle.std.specs.Prelude.{◌≡◌, ℕ, ◌==◌, List, [], ◌∷◌, map, flat_map, filter, Bool, true, false, ◌||◌, if◌then◌else◌}
 use Rattle.std.specs.List.{list_all}

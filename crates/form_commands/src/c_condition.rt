@@ -23,8 +23,8 @@ pub(crate) struct Group {
     is_possible: bool,
 }
 
-// Returns the condition of a rule. Relations that are true of all whole numbers are left out, and so are groups that have one that
-// is false of all.
+// Returns the condition of a rule. Relations that are true of all whole numbers are left out, and
+// so are groups that have one that is false of all.
 pub(crate) fn condition_text(alloc: Global, rule: &Rule<'_>) -> Result<String, AllocError>
     ensures { IfOk result (λ text. string_bytes text ≡ c_condition_text (condition_of rule.now)) }
 {

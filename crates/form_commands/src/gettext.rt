@@ -18,7 +18,8 @@ use plural_checker::least_from;
 use serde_json::Value;
 use std::alloc::{AllocError, Global};
 
-// Returns the line for the rules that a JSON value has: how many forms there are, and an expression of C for the one that `n` takes.
+// Returns the line for the rules that a JSON value has: how many forms there are, and an expression
+// of C for the one that `n` takes.
 pub(crate) fn gettext_line(alloc: Global, value: &Value) -> Result<String, AllocError>
     ensures { IfOk result (λ text. (rules : FiveRules) × (rules_of_json (view value.now) ≡ Ok rules) × IsGettextLine rules (string_bytes text)) }
 {
@@ -109,7 +110,8 @@ fn has_whole(rules: &PluralRules<'_>, category: PluralCategory, number: u32) -> 
     rules.category_for(PluralOperands::from(number)) == category
 }
 
-// Returns the expression of the place of a number's category among these, in their order. The last has all numbers that are left.
+// Returns the expression of the place of a number's category among these, in their order. The last
+// has all numbers that are left.
 fn choice_text(
     alloc: Global,
     five: &PluralRulesData<'_>,

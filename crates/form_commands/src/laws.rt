@@ -3,7 +3,8 @@
 ghost use Rattle.form_commands.specs.GettextLines.{FormsAreChosen};
 ghost use Rattle.form_commands.specs.RuleConditions.{ConditionsAreRules};
 
-/// The condition of a rule, as an expression of C, is true of the whole numbers of which the rule is.
+/// The condition of a rule, as an expression of C, is true of the whole numbers of which the rule
+/// is.
 pub fn conditions_are_rules()
     ensures { ConditionsAreRules }
 {}

@@ -31,7 +31,8 @@ pub enum Question<'w> {
     Gettext(Wanted<'w>),
     /// Which category each of these numbers has. Without any, they are in the input.
     Category(Wanted<'w>, &'w [&'w str]),
-    /// What these files of messages lack, by the rules in the file after `--rules`, if there is one.
+    /// What these files of messages lack, by the rules in the file after `--rules`, if there is
+    /// one.
     Check(Option<&'w str>, &'w [&'w str]),
 }
 
@@ -44,9 +45,9 @@ struct Options<'w> {
 }
 
 /// Returns the question of the words after the program's name: `--help`, `--version`,
-/// `list LOCALE [OPTION..]`, `gettext LOCALE [OPTION..]`, `category LOCALE [OPTION..] [NUMBER..]` or
-/// `check [--rules FILE] FILE..`, where an option is `--ordinal` or `--rules FILE`, each at most once.
-/// `None` for other words. It allocates nothing.
+/// `list LOCALE [OPTION..]`, `gettext LOCALE [OPTION..]`, `category LOCALE [OPTION..] [NUMBER..]`
+/// or `check [--rules FILE] FILE..`, where an option is `--ordinal` or `--rules FILE`, each at most
+/// once. `None` for other words. It allocates nothing.
 pub fn question_of<'w>(words: &'w [&'w str]) -> Option<Question<'w>>
     ensures { option_map question_view result ≡ of_words (words_view words.now) }
 {

@@ -133,7 +133,8 @@ pub fn answer_lines<R: Read, N: Read, W: Write, E: Write>(
     }
 }
 
-// Writes the answers to the lines of the numbers by the rules of a document, and the note of the key.
+// Writes the answers to the lines of the numbers by the rules of a document, and the note of the
+// key.
 fn noted_lines<N: Read, W: Write, E: Write>(
     alloc: Global,
     document: &Value,
@@ -158,8 +159,8 @@ fn noted_lines<N: Read, W: Write, E: Write>(
 }
 
 /// Writes how gettext's files number the forms that whole numbers of a language have: a line of the
-/// kind of `Plural-Forms`; and then, in the notes, the key of the rules, if that isn't the locale. The
-/// line's expression has the place of a number's form as its value
+/// kind of `Plural-Forms`; and then, in the notes, the key of the rules, if that isn't the locale.
+/// The line's expression has the place of a number's form as its value
 /// ([`crate::laws::forms_are_chosen`]).
 ///
 /// After an error nothing was written, except by a failed write, as by [`answer_numbers`]. It
@@ -208,8 +209,8 @@ fn gettext_by<W: Write, E: Write>(
     }
 }
 
-/// Writes the report of files of messages: a line for each fault, and one with the counts; and then,
-/// in the notes, the key of the rules of each locale, if that isn't the locale.
+/// Writes the report of files of messages: a line for each fault, and one with the counts; and
+/// then, in the notes, the key of the rules of each locale, if that isn't the locale.
 ///
 /// After an error nothing was written, except by a failed write, as by [`answer_numbers`]. It
 /// allocates.

@@ -15,7 +15,8 @@ use plural_documents::write_output;
 use std::alloc::{AllocError, Global};
 use std::io::{ErrorKind, Read, Write};
 
-// The bytes of the present line, as far as they are kept, its place, and what is printed and not yet written.
+// The bytes of the present line, as far as they are kept, its place, and what is printed and not
+// yet written.
 #[derive(Drop)]
 pub(crate) struct Lines {
     line: Vec<u8>,
@@ -126,7 +127,8 @@ fn take_bytes(
     Ok(())
 }
 
-// Takes a byte: a newline ends the line. Of a line that is too long no more than one byte above the limit is kept.
+// Takes a byte: a newline ends the line. Of a line that is too long no more than one byte above the
+// limit is kept.
 fn take_byte(
     alloc: Global,
     rules: &PluralRules<'_>,

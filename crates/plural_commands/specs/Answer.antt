@@ -1,4 +1,5 @@
--- The program's answer to the words of its command line and its input, and what it reads and writes.
+-- The program's answer to the words of its command line and its input, and what it reads and
+-- writes.
 --     AnswersQuery query input answer      the answer to a query
 --     AnswersWords words input answer      the answer to the words and the input
 use Rattle.std.specs.Prelude.{◌≡◌, ℕ, List, [], ◌∷◌, ◌++◌, Bool, Option, Result, Ok, Err, ⊤, codes, if◌then◌else◌}
@@ -34,7 +35,8 @@ AnswersLookup (printed_rules locale type) document = AnswersFrom AreRuleLines (r
 AnswersLookup (number_element locale type x) document = AnswersFrom (IsElementLine x) (elements_for type locale document)
 AnswersLookup (number_message locale type x word) document = AnswersFrom (IsMessageLine x word) (elements_for type locale document)
 
--- The answer to a query: a truth value needs no input, and a fault of the input comes before those of the lookup.
+-- The answer to a query: a truth value needs no input, and a fault of the input comes before those
+-- of the lookup.
 abbrev pub AnswersQuery : Query → List ℕ → Result (List ℕ) RunError → Type 0
 AnswersQuery (truth condition n) input answer = answer ≡ Ok (truth_line (tree_truth (of_whole n) condition))
 AnswersQuery (of_document lookup) input answer = After (AnswersLookup lookup) (document_in input) answer
@@ -53,8 +55,9 @@ run_origin Write = from_writer
 run_origin Memory = from_memory
 run_origin fault = from_answer
 
--- The result, and what the writer took: the answer's text and nothing else, or the answer's fault and nothing at all. Out of
--- memory, a failed read and a failed write come from outside; a failed write took a beginning of the text, and nothing else.
+-- The result, and what the writer took: the answer's text and nothing else, or the answer's fault
+-- and nothing at all. Out of memory, a failed read and a failed write come from outside; a failed
+-- write took a beginning of the text, and nothing else.
 abbrev pub IsAnswered : (Result (List ℕ) RunError → Type 0) → Option (List ℕ) → Option (List ℕ) → Result ⊤ RunError → Type 0
 IsAnswered IsAnswer old new (Ok _) = (text : List ℕ) × IsAnswer (Ok text) × Appends old new text
 IsAnswered IsAnswer old new (Err Memory) = Keeps old new

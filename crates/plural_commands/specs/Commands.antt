@@ -3,8 +3,8 @@ use Rattle.std.specs.Prelude.{ℕ, List, [], ◌∷◌, codes, Option, Some, Non
 use Rattle.icu_plurals.specs.declared.PluralRuleType.{PluralRuleType}
 use Rattle.icu_plurals.specs.declared.PluralRuleType.TheVariants.{Cardinal, Ordinal}
 
--- test CONDITION INTEGER, category LOCALE TYPE NUMBER, range LOCALE TYPE START END, print LOCALE TYPE, select LOCALE TYPE NUMBER,
--- message LOCALE TYPE NUMBER
+-- test CONDITION INTEGER, category LOCALE TYPE NUMBER, range LOCALE TYPE START END, print LOCALE
+-- TYPE, select LOCALE TYPE NUMBER, message LOCALE TYPE NUMBER
 pub data Command : Type 0 where
   test : List ℕ → List ℕ → Command
   category : List ℕ → PluralRuleType → List ℕ → Command

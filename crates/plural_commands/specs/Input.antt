@@ -74,6 +74,7 @@ ruled_with type locale document elements = do
   rules ← rules_for type locale document
   Ok (record { elements = elements; rules = rules })
 
--- the elements of the document, and the rules of a locale; the elements' fault comes before the locale's
+-- the elements of the document, and the rules of a locale; the elements' fault comes before the
+-- locale's
 abbrev pub elements_for : PluralRuleType → List ℕ → WholeDocument → Result RuledElements RunError
 elements_for type locale document = or_bad (elements_at_key (get (codes "elements") document.value)) >>= ruled_with type locale document

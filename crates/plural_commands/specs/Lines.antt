@@ -23,8 +23,8 @@ line text = text ++ 10 ∷ []
 abbrev pub IsCategoryLine : CompactNumber → FiveRules → List ℕ → Type 0
 IsCategoryLine x rules text = (category : PluralCategory) × (text ≡ line (name_of category)) × HasCategory rules x category
 
--- The line with the name of the category of a range: the one that the ranges have for the categories of its start and its end,
--- else the end's.
+-- The line with the name of the category of a range: the one that the ranges have for the
+-- categories of its start and its end, else the end's.
 abbrev pub IsRangeLine : CompactNumber → CompactNumber → RangedRules → List ℕ → Type 0
 IsRangeLine x y ranged text =
     (start : PluralCategory) × (end : PluralCategory) × (text ≡ line (name_of (resolved ranged.ranges start end)))
@@ -50,8 +50,9 @@ abbrev pub IsElementLine : CompactNumber → RuledElements → List ℕ → Type
 IsElementLine x given text =
     (element : PackedValue) × (text ≡ line element.text) × HasElement (elements_of given.elements) given.rules x element
 
--- The line with the message of a number: the text of the element that the number chooses, filled by the number's word
--- (docs/MESSAGES.md); within the exactness bound the element is that of the number itself.
+-- The line with the message of a number: the text of the element that the number chooses, filled by
+-- the number's word (docs/MESSAGES.md); within the exactness bound the element is that of the
+-- number itself.
 abbrev pub IsMessageLine : CompactNumber → List ℕ → RuledElements → List ℕ → Type 0
 IsMessageLine x word given text =
     (message : List ℕ) × (text ≡ line message)

@@ -1,5 +1,5 @@
--- The words CONDITION, INTEGER and NUMBER of a command: a condition (UTS 35 Part 3, Plural Rules Syntax), one or more digits, and a
--- compact decimal (docs/NUMBERS.md).
+-- The words CONDITION, INTEGER and NUMBER of a command: a condition (UTS 35 Part 3, Plural Rules
+-- Syntax), one or more digits, and a compact decimal (docs/NUMBERS.md).
 --     ReadsConditionWord word answer      the condition that a word writes, or its fault
 --     integer_of word      the integer, or the word's fault
 --     ReadsNumberWord word answer      the number that a word writes, or its fault

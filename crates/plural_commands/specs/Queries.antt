@@ -1,4 +1,5 @@
--- What the words of a command line ask for: a query, which is a command with its condition and its numbers read.
+-- What the words of a command line ask for: a query, which is a command with its condition and its
+-- numbers read.
 --     Query, Lookup      a query, and a query of a document
 --     Asks words asked      the words ask for this query, or have this as their first fault
 --     NeedsInput words      the words have no fault, and ask for a query of a document
@@ -13,8 +14,8 @@ use Rattle.plural_documents.specs.Steps.{After, HasNoFault, Then}
 use Rattle.plural_commands.specs.declared.error.RunError.{RunError}
 use Rattle.plural_commands.specs.declared.error.RunError.TheVariants.{Usage}
 
--- A query of a document, for a locale and a type: the category of a number or of the range of two, the rules, the element
--- of a number, or the message of a number with its word.
+-- A query of a document, for a locale and a type: the category of a number or of the range of two,
+-- the rules, the element of a number, or the message of a number with its word.
 pub data Lookup : Type 0 where
   number_category : List ℕ → PluralRuleType → CompactNumber → Lookup
   range_category : List ℕ → PluralRuleType → CompactNumber → CompactNumber → Lookup
@@ -31,8 +32,8 @@ pub data Query : Type 0 where
 abbrev pub IsAsked : Query → Result Query RunError → Type 0
 IsAsked query asked = asked ≡ Ok query
 
--- What a command asks for, or the first fault of its words: a condition's comes before an integer's, a start's before an end's.
--- Words that are no command have a fault of their own.
+-- What a command asks for, or the first fault of its words: a condition's comes before an
+-- integer's, a start's before an end's. Words that are no command have a fault of their own.
 abbrev pub CommandAsks : Option Command → Result Query RunError → Type 0
 CommandAsks None = λ asked. asked ≡ Err Usage
 CommandAsks (Some (test condition integer)) =
@@ -67,7 +68,8 @@ NeedsInput words = AsksDocument (command_of words) × HasNoFault (Asks words)
 abbrev pub TakesMemory : List ℕ → Type 0
 TakesMemory word = HasNoFault (ReadsNumberWord word) × (16 < length word)
 
--- Memory may run out while the words of a command are read: a condition takes some, and so does a long number.
+-- Memory may run out while the words of a command are read: a condition takes some, and so does a
+-- long number.
 abbrev pub ReadingTakesMemory : Option Command → Type 0
 ReadingTakesMemory None = ⊥
 ReadingTakesMemory (Some (test condition integer)) = ⊤

@@ -35,8 +35,8 @@ impl<'a, E: Env> Env for AfterName<'a, E> {
 
 /// Returns the words after the program's name. The name isn't read: a path may be any bytes.
 ///
-/// It allocates. The error is [`RunError::Usage`] if a word isn't UTF-8, since no command has such a
-/// word, and [`RunError::Memory`] if memory ran out.
+/// It allocates. The error is [`RunError::Usage`] if a word isn't UTF-8, since no command has such
+/// a word, and [`RunError::Memory`] if memory ran out.
 pub fn arguments<E: Env>(alloc: Global, all: &E) -> Result<Vec<String>, RunError>
     ensures errors { IfErr result (λ fault. (fault ≡ Usage) ⊎ (fault ≡ Memory)) }
 {

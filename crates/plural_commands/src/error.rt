@@ -36,7 +36,8 @@ pub enum RunError {
     /// The input is no document, or lacks the elements that the command needs.
     #[error("bad document: {0}")]
     Document(JsonError),
-    /// The document lacks the rules of the type for the locale, or the ranges that the command needs.
+    /// The document lacks the rules of the type for the locale, or the ranges that the command
+    /// needs.
     #[error("locale not found")]
     Locale,
     /// The writer failed; it took a beginning of the answer.

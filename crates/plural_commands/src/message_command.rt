@@ -15,7 +15,8 @@ use plural_message::Message;
 use std::alloc::Global;
 use std::borrow::CowStr;
 
-// The line for a number and its word: the number's message, by the document's elements and its rules of a locale.
+// The line for a number and its word: the number's message, by the document's elements and its
+// rules of a locale.
 pub(crate) fn message_line(
     alloc: Global,
     document: &Document,

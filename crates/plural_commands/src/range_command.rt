@@ -12,7 +12,8 @@ use crate::error::RunError;
 use icu_plurals::{CompactDecimal, PluralRuleType};
 use std::borrow::CowStr;
 
-// The line for the range of two numbers under the rules and the ranges that a document has for a locale.
+// The line for the range of two numbers under the rules and the ranges that a document has for a
+// locale.
 pub(crate) fn range_line(
     document: &Document,
     locale: &str,

@@ -29,21 +29,22 @@ use std::io::{Read, Write};
 /// | `message LOCALE TYPE NUMBER` | this text with the word of the number in place of each `{}` |
 ///
 /// `test` reads nothing. The others take the rules and ranges of the locale and the type, and the
-/// elements, from the input, a JSON document; they read it to its end, or to one byte past the limit.
-/// All take memory.
+/// elements, from the input, a JSON document; they read it to its end, or to one byte past the
+/// limit. All take memory.
 ///
 /// The errors, in the order in which they are checked: [`RunError::Usage`] if the words are no
-/// command; [`RunError::Condition`] if the condition can't be read; [`RunError::Number`] if the integer
-/// or the number is out of form, or above its limit; of the input [`RunError::Read`] if the reader
-/// failed, [`RunError::TooLong`] above 4194304 bytes, [`RunError::Json`] if it is no JSON text,
+/// command; [`RunError::Condition`] if the condition can't be read; [`RunError::Number`] if the
+/// integer or the number is out of form, or above its limit; of the input [`RunError::Read`] if the
+/// reader failed, [`RunError::TooLong`] above 4194304 bytes, [`RunError::Json`] if it is no JSON
+/// text,
 /// [`RunError::Document`] if it is no document, or lacks the elements that are needed, and
 /// [`RunError::Locale`] if the locale lacks the rules of the type, or the ranges that are needed;
 /// [`RunError::Write`] if the writer failed. After an error nothing was written, except by a failed
 /// write, which took a beginning of the answer.
 ///
 /// [`RunError::Memory`] if memory ran out: while a condition or a number of more than 16 bytes is
-/// read, or after the words, if they have no fault. So it doesn't come in place of [`RunError::Usage`],
-/// nor of the fault of a number, unless a long START comes before.
+/// read, or after the words, if they have no fault. So it doesn't come in place of
+/// [`RunError::Usage`], nor of the fault of a number, unless a long START comes before.
 pub fn run<R: Read, W: Write>(
     alloc: Global,
     words: &[&str],

@@ -15,7 +15,8 @@ use icu_plurals::{CompactDecimal, PluralOperands, PluralRuleType};
 use std::alloc::Global;
 use std::borrow::CowStr;
 
-// The line for a number: the text of the element that it chooses, by the document's elements and its rules of a locale.
+// The line for a number: the text of the element that it chooses, by the document's elements and
+// its rules of a locale.
 pub(crate) fn element_line(
     alloc: Global,
     document: &Document,

@@ -1,6 +1,6 @@
--- The block of the rules of five texts, and whether a text is a rule from its first byte to its last.
--- An empty text isn't a rule. Faults are looked for in this order: a text that isn't UTF-8, the first
--- text that gives no rule, rules too long for a block.
+-- The block of the rules of five texts, and whether a text is a rule from its first byte to its
+-- last. An empty text isn't a rule. Faults are looked for in this order: a text that isn't UTF-8,
+-- the first text that gives no rule, rules too long for a block.
 --     AreRulesFrom texts answer      the bytes of the block, or the fault
 --     IsWholeness text answer      whether the text is a rule as a whole
 use Rattle.std.specs.Prelude.{◌≡◌, ◌↔◌, ℕ, Bool, List, [], ◌∷◌, Option, Some, None, Result, Ok, Err, IsTrue}

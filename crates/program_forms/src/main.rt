@@ -1,4 +1,5 @@
-//! The program `plural_forms`: which forms a language has, which of them a number takes, and which a translation lacks.
+//! The program `plural_forms`: which forms a language has, which of them a number takes, and which
+//! a translation lacks.
 #![tactic(auto)]
 
 mod answers;

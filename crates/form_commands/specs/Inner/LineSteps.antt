@@ -14,8 +14,8 @@ abbrev pub place_after : ℕ → List (List ℕ) → ℕ
 place_after place [] = place
 place_after place (line ∷ lines) = place_after (next_place place) lines
 
--- After these bytes some lines have ended, and are answered by a text that was written and what is printed since; the last one hasn't,
--- and of it not more than one byte above the limit is kept.
+-- After these bytes some lines have ended, and are answered by a text that was written and what is
+-- printed since; the last one hasn't, and of it not more than one byte above the limit is kept.
 pub record IsAfter (rules : FiveRules) (bytes text : List ℕ) (lines : Lines) : Type 0 where
   pub done : List (List ℕ)
   pub last : List ℕ

@@ -16,13 +16,15 @@ use Rattle.form_commands.specs.declared.stream.Lines.{Lines}
 abbrev pub IsWrittenAfter : FiveRules → List ℕ → List ℕ → Lines → Type 0
 IsWrittenAfter rules bytes text lines = IsAfter rules bytes text lines × (lines.printed.text ≡ [])
 
--- some text is the answer to the first lines of the bytes, and what the writer took after `text` is a beginning of the rest of it
+-- some text is the answer to the first lines of the bytes, and what the writer took after `text` is
+-- a beginning of the rest of it
 abbrev pub IsBegunAfter : FiveRules → List ℕ → List ℕ → Option (List ℕ) → Option (List ℕ) → Type 0
 IsBegunAfter rules bytes text old new =
     (done rest : List (List ℕ)) × (printed : PrintedText) × (more : List ℕ) × (lines_of bytes ≡ done ++ rest)
     × AreLineAnswers rules done printed × (printed.text ≡ text ++ more) × IsPartWritten old new more
 
--- bytes are taken, and the answers to the lines that end in them are written, or a beginning of them
+-- bytes are taken, and the answers to the lines that end in them are written, or a beginning of
+-- them
 abbrev pub TakesAndWrites : FiveRules → List ℕ → Lines → Lines → Option (List ℕ) → Option (List ℕ) → Result ⊤ FormsError → Type 0
 TakesAndWrites rules more lines new_lines old new (Ok done) =
     (bytes text : List ℕ) → IsWrittenAfter rules bytes text lines

@@ -59,7 +59,8 @@ abbrev pub IsOfDocument : Query → Type 0
 IsOfDocument (truth condition n) = ⊥
 IsOfDocument (of_document lookup) = ⊤
 
--- a query of a document comes from a command that asks a document and has no fault; another query from one that asks none
+-- a query of a document comes from a command that asks a document and has no fault; another query
+-- from one that asks none
 abbrev pub IsOfKind : Option Command → Query → Type 0
 IsOfKind command (truth condition n) = ¬ (AsksDocument command)
 IsOfKind command (of_document lookup) = AsksDocument command × HasNoFault (CommandAsks command)

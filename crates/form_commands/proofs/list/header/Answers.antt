@@ -4,7 +4,8 @@ use Rattle.plural_fallback.specs.LocalesJson.{part_name}
 use Rattle.form_commands.specs.FormLines.{alone_text, header_line, is_alone}
 use Rattle.form_commands.proofs.list.header.Goals as goal
 
--- the pieces of the line, grouped from the left as they are written, or from the right as they are printed
+-- the pieces of the line, grouped from the left as they are written, or from the right as they are
+-- printed
 seven : (a b c d e f g : List ℕ) → (((((a ++ b) ++ c) ++ d) ++ e) ++ f) ++ g ≡ a ++ (b ++ (c ++ (d ++ (e ++ (f ++ g)))))
 seven a b c d e f g = simp append_assoc
 
