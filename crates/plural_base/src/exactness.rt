@@ -9,6 +9,7 @@ ghost use Rattle.plural_runtime.specs.Inner.RuleViews.{lent_relation};
 ghost use Rattle.plural_base.specs.Inner.RulesSteps.{divides_ten_to_18};
 ghost use Rattle.plural_base.specs.FiveRules.{moduli_of, moduli_of_rule, moduli_of_relation};
 
+use crate::for_five;
 use crate::rules::PluralRules;
 use fixed_decimal::{CompactDecimal, Decimal, UnsignedDecimal};
 use plural_reference::laws::exactness::bound_before_the_shift;
@@ -113,11 +114,12 @@ impl<'data> PluralRules<'data> {
     fn all_moduli_divide(&self) -> bool
         ensures { result ≡ list_all divides_ten_to_18 (moduli_of self.now) }
     {
-        moduli_of_rule_divide(&self.data.zero)
-            && moduli_of_rule_divide(&self.data.one)
-            && moduli_of_rule_divide(&self.data.two)
-            && moduli_of_rule_divide(&self.data.few)
-            && moduli_of_rule_divide(&self.data.many)
+        for_five!(self.data, |rule| {
+            if !moduli_of_rule_divide(rule) {
+                return false;
+            }
+        });
+        true
     }
 }
 

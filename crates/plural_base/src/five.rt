@@ -31,17 +31,137 @@ pub struct Five<T> {
     pub many: T,
 }
 
+/// Makes a struct with the fields `zero` to `many`: each is what the expression gives for its
+/// category or, where a struct with such fields is named, for a reference to its field there, and
+/// its category if that is named too. They are made in this order.
+#[macro_export]
+macro_rules! make_five {
+    ($Made:ident, |$category:ident| $value:expr) => {
+        $Made {
+            zero: {
+                let $category = $crate::PluralCategory::Zero;
+                $value
+            },
+            one: {
+                let $category = $crate::PluralCategory::One;
+                $value
+            },
+            two: {
+                let $category = $crate::PluralCategory::Two;
+                $value
+            },
+            few: {
+                let $category = $crate::PluralCategory::Few;
+                $value
+            },
+            many: {
+                let $category = $crate::PluralCategory::Many;
+                $value
+            },
+        }
+    };
+    ($Made:ident, $from:expr, |$field:ident $(, $category:ident)?| $value:expr) => {
+        $Made {
+            zero: {
+                let $field = &$from.zero;
+                $(let $category = $crate::PluralCategory::Zero;)?
+                $value
+            },
+            one: {
+                let $field = &$from.one;
+                $(let $category = $crate::PluralCategory::One;)?
+                $value
+            },
+            two: {
+                let $field = &$from.two;
+                $(let $category = $crate::PluralCategory::Two;)?
+                $value
+            },
+            few: {
+                let $field = &$from.few;
+                $(let $category = $crate::PluralCategory::Few;)?
+                $value
+            },
+            many: {
+                let $field = &$from.many;
+                $(let $category = $crate::PluralCategory::Many;)?
+                $value
+            },
+        }
+    };
+}
+
+/// Does something for each category from zero to many, in this order, or, where a struct with such
+/// fields is named, for a reference to each field, and its category if that is named too.
+#[macro_export]
+macro_rules! for_five {
+    (|$category:ident| $step:expr) => {
+        let $category = $crate::PluralCategory::Zero;
+        $step;
+        let $category = $crate::PluralCategory::One;
+        $step;
+        let $category = $crate::PluralCategory::Two;
+        $step;
+        let $category = $crate::PluralCategory::Few;
+        $step;
+        let $category = $crate::PluralCategory::Many;
+        $step;
+    };
+    ($from:expr, |$field:ident $(, $category:ident)?| $step:expr) => {
+        let $field = &$from.zero;
+        $(let $category = $crate::PluralCategory::Zero;)?
+        $step;
+        let $field = &$from.one;
+        $(let $category = $crate::PluralCategory::One;)?
+        $step;
+        let $field = &$from.two;
+        $(let $category = $crate::PluralCategory::Two;)?
+        $step;
+        let $field = &$from.few;
+        $(let $category = $crate::PluralCategory::Few;)?
+        $step;
+        let $field = &$from.many;
+        $(let $category = $crate::PluralCategory::Many;)?
+        $step;
+    };
+}
+
+/// Gives what the expression gives for a reference to the field of a category, of a struct with the
+/// fields `zero` to `many`, or the last expression for other.
+#[macro_export]
+macro_rules! at_category {
+    ($from:expr, $category:expr, |$field:ident| $value:expr, $other:expr) => {
+        match $category {
+            $crate::PluralCategory::Zero => {
+                let $field = &$from.zero;
+                $value
+            }
+            $crate::PluralCategory::One => {
+                let $field = &$from.one;
+                $value
+            }
+            $crate::PluralCategory::Two => {
+                let $field = &$from.two;
+                $value
+            }
+            $crate::PluralCategory::Few => {
+                let $field = &$from.few;
+                $value
+            }
+            $crate::PluralCategory::Many => {
+                let $field = &$from.many;
+                $value
+            }
+            $crate::PluralCategory::Other => $other,
+        }
+    };
+}
+
 impl<T> Five<Option<T>> {
     /// Returns five absent values.
     pub fn none() -> Five<Option<T>>
         ensures { result ≡ five None None None None None }
     {
-        Five {
-            zero: None,
-            one: None,
-            two: None,
-            few: None,
-            many: None,
-        }
+        make_five!(Five, |_category| None)
     }
 }

@@ -19,6 +19,7 @@ pub(crate) mod text;
 pub(crate) mod told;
 
 use crate::category::PluralCategory;
+use crate::for_five;
 use crate::rules::categories::Categories;
 use crate::rules::data::PluralRulesData;
 use plural_reference::PluralOperands;
@@ -130,19 +131,12 @@ impl<'data> PluralRules<'data> {
     fn first_true(&self, operands: &PluralOperands) -> PluralCategory
         ensures { result ≡ first_category (packed_truth operands.now) self.now }
     {
-        if is_true_of(&self.data.zero, operands) {
-            PluralCategory::Zero
-        } else if is_true_of(&self.data.one, operands) {
-            PluralCategory::One
-        } else if is_true_of(&self.data.two, operands) {
-            PluralCategory::Two
-        } else if is_true_of(&self.data.few, operands) {
-            PluralCategory::Few
-        } else if is_true_of(&self.data.many, operands) {
-            PluralCategory::Many
-        } else {
-            PluralCategory::Other
-        }
+        for_five!(self.data, |rule, category| {
+            if is_true_of(rule, operands) {
+                return category;
+            }
+        });
+        PluralCategory::Other
     }
 
     /// Returns the categories that a number may have: those whose rule is present, from zero to

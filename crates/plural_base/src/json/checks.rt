@@ -8,6 +8,7 @@ ghost use Rattle.serde_json.specs.View.{view};
 
 use crate::category::PluralCategory;
 use crate::category::raw::RawPluralCategory;
+use crate::for_five;
 use crate::json::error::JsonError;
 use crate::json::known::KnownTexts;
 use crate::json::rule::read_rule;
@@ -28,11 +29,8 @@ pub(crate) fn check_rules<'v>(
     if !value.is_object() {
         return Err(JsonError::Shape);
     }
-    check_member(alloc, value, PluralCategory::Zero, known)?;
-    check_member(alloc, value, PluralCategory::One, known)?;
-    check_member(alloc, value, PluralCategory::Two, known)?;
-    check_member(alloc, value, PluralCategory::Few, known)?;
-    check_member(alloc, value, PluralCategory::Many, known)
+    for_five!(|category| check_member(alloc, value, category, known)?);
+    Ok(())
 }
 
 // Returns the refusal of the rule under the name of a category.

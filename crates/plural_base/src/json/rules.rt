@@ -14,12 +14,14 @@ ghost use Rattle.serde_json.specs.Written.{has_float};
 
 use crate::category::PluralCategory;
 use crate::category::raw::RawPluralCategory;
+use crate::five::Five;
 use crate::json::checks::check_rules;
 use crate::json::error::JsonError;
 use crate::json::float::holds_float;
 use crate::json::known::KnownTexts;
 use crate::json::rows::FromJson;
 use crate::json::rule::{read_rule, rule_to_json};
+use crate::make_five;
 use crate::rules::data::PluralRulesData;
 use plural_runtime::{Rule, RuleError};
 use serde_json::{Value, json};
@@ -76,12 +78,8 @@ impl<'data> PluralRulesData<'data> {
         ensures written { IfOk result (λ value. view value ≡ rules_json (rules_of self.now)) }
         ensures memory { IfErr result (λ error. error ≡ JsonError.Memory) }
     {
-        let zero = write_optional(alloc, &self.zero)?;
-        let one = write_optional(alloc, &self.one)?;
-        let two = write_optional(alloc, &self.two)?;
-        let few = write_optional(alloc, &self.few)?;
-        let many = write_optional(alloc, &self.many)?;
-        Ok(object_of(alloc, zero, one, two, few, many)?)
+        let values = make_five!(Five, self, |rule| write_optional(alloc, rule)?);
+        Ok(object_of(alloc, values)?)
     }
 }
 
@@ -120,13 +118,10 @@ fn read_rules(alloc: Global, value: &Value) -> Result<PluralRulesData<'static>, 
     if !value.is_object() {
         return Err(JsonError::Shape);
     }
-    Ok(PluralRulesData {
-        zero: read_member(alloc, value, PluralCategory::Zero)?,
-        one: read_member(alloc, value, PluralCategory::One)?,
-        two: read_member(alloc, value, PluralCategory::Two)?,
-        few: read_member(alloc, value, PluralCategory::Few)?,
-        many: read_member(alloc, value, PluralCategory::Many)?,
-    })
+    Ok(make_five!(
+        PluralRulesData,
+        |category| read_member(alloc, value, category)?
+    ))
 }
 
 // The rule under the name of a category, if present.
@@ -181,15 +176,8 @@ fn write_optional(alloc: Global, rule: &Option<Rule<'_>>) -> Result<Value, JsonE
 }
 
 // The object with these values under the five names.
-fn object_of(
-    alloc: Global,
-    zero: Value,
-    one: Value,
-    two: Value,
-    few: Value,
-    many: Value,
-) -> Result<Value, AllocError>
-    ensures { IfOk result (λ value. view value ≡ written.object_of (five (view zero) (view one) (view two) (view few) (view many))) }
+fn object_of(alloc: Global, values: Five<Value>) -> Result<Value, AllocError>
+    ensures { IfOk result (λ value. view value ≡ written.object_of (five (view values.zero) (view values.one) (view values.two) (view values.few) (view values.many))) }
 {
-    json!(in alloc; {"zero": zero, "one": one, "two": two, "few": few, "many": many})
+    json!(in alloc; {"zero": values.zero, "one": values.one, "two": values.two, "few": values.few, "many": values.many})
 }

@@ -9,7 +9,6 @@ ghost use Rattle.plural_base.specs.Inner.KeyedItems.{lent_items};
 pub(crate) mod error;
 mod items;
 mod keyed;
-mod keys;
 
 use crate::laws::rules_have_one_encoding;
 use crate::rules::bytes::error::{RulesBytesError, RulesPackError};

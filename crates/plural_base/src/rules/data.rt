@@ -2,6 +2,7 @@
 
 ghost use Rattle.std.specs.Prelude.{◌≡◌, IfOk};
 
+use crate::make_five;
 use plural_runtime::Rule;
 use std::alloc::AllocError;
 
@@ -40,13 +41,7 @@ impl<'data> PluralRulesData<'data> {
     pub fn as_borrowed(&self) -> PluralRulesData<'_>
         ensures { result ≡ self.now }
     {
-        PluralRulesData {
-            zero: borrowed(&self.zero),
-            one: borrowed(&self.one),
-            two: borrowed(&self.two),
-            few: borrowed(&self.few),
-            many: borrowed(&self.many),
-        }
+        make_five!(PluralRulesData, self, |rule| borrowed(rule))
     }
 
     /// Returns a copy of the rules. It allocates if a rule owns its bytes; the only error is out of
@@ -54,13 +49,7 @@ impl<'data> PluralRulesData<'data> {
     pub fn try_clone(&self) -> Result<PluralRulesData<'data>, AllocError>
         ensures { IfOk result (λ copy. copy ≡ self.now) }
     {
-        Ok(PluralRulesData {
-            zero: cloned(&self.zero)?,
-            one: cloned(&self.one)?,
-            two: cloned(&self.two)?,
-            few: cloned(&self.few)?,
-            many: cloned(&self.many)?,
-        })
+        Ok(make_five!(PluralRulesData, self, |rule| cloned(rule)?))
     }
 }
 

@@ -6,6 +6,7 @@ ghost use Rattle.plural_runtime.specs.RuleKinds.{ends, operator_of, tree_operand
 ghost use Rattle.plural_runtime.specs.Inner.RuleViews.{lent_relation};
 ghost use Rattle.plural_base.specs.Inner.WholeNumbers.{Fits, IsInClass, IsTold, whole_value};
 
+use crate::for_five;
 use crate::rules::data::PluralRulesData;
 use crate::rules::told::{NumberClass, either};
 use plural_runtime::{Operand, Polarity, RangeOrValue, Relation, Rule};
@@ -157,11 +158,9 @@ fn negated(told: Option<bool>) -> Option<bool>
 // modulus: from there on no such relation is left group. Any other bound would be right too; from a
 // lower one on less is told.
 pub(crate) fn bound_of(rules: &PluralRulesData<'_>) -> u64 {
-    bound_of_rule(&rules.zero)
-        .max(bound_of_rule(&rules.one))
-        .max(bound_of_rule(&rules.two))
-        .max(bound_of_rule(&rules.few))
-        .max(bound_of_rule(&rules.many))
+    let mut bound = 0;
+    for_five!(rules, |rule| bound = bound.max(bound_of_rule(rule)));
+    bound
 }
 
 // The same of one rule, if present.

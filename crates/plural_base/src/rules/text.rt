@@ -10,6 +10,7 @@ ghost use Rattle.plural_base.specs.RuleTexts.{IsRuleOf, IsRefused, IsFirstRefuse
 use crate::category::PluralCategory;
 use crate::category::raw::RawPluralCategory;
 use crate::five::Five;
+use crate::make_five;
 use crate::rules::data::PluralRulesData;
 use plural_reference::ParseError;
 use plural_runtime::laws::texts_give_one_answer;
@@ -113,13 +114,11 @@ impl PluralRulesData<'static> {
         // The values of a text fit: only trees made by hand have this fault.
         ensures fits { IfErr result (λ e. e.error ≢ RuleError.Parse ParseError.ValueTooLarge) }
     {
-        Ok(PluralRulesData {
-            zero: rule_of(alloc, texts.zero, PluralCategory::Zero)?,
-            one: rule_of(alloc, texts.one, PluralCategory::One)?,
-            two: rule_of(alloc, texts.two, PluralCategory::Two)?,
-            few: rule_of(alloc, texts.few, PluralCategory::Few)?,
-            many: rule_of(alloc, texts.many, PluralCategory::Many)?,
-        })
+        Ok(make_five!(
+            PluralRulesData,
+            texts,
+            |text, category| rule_of(alloc, *text, category)?
+        ))
     }
 }
 

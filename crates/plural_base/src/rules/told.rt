@@ -8,6 +8,7 @@ ghost use Rattle.plural_base.specs.FiveRules.{first_category, passes, rules_of};
 ghost use Rattle.plural_base.specs.Inner.WholeNumbers.{earlier_after, group_after, IsTold};
 
 use crate::category::PluralCategory;
+use crate::for_five;
 use crate::rules::data::PluralRulesData;
 use plural_runtime::{AndOr, Relation, Rule};
 
@@ -39,21 +40,11 @@ pub(crate) fn told_category<C: NumberClass>(
     ensures { (o : Operands) → C.has class o
         → IsTold (first_category (packed_truth o) (rules_of rules.now)) result }
 {
-    if told_rule(&rules.zero, class)? {
-        return Some(PluralCategory::Zero);
-    }
-    if told_rule(&rules.one, class)? {
-        return Some(PluralCategory::One);
-    }
-    if told_rule(&rules.two, class)? {
-        return Some(PluralCategory::Two);
-    }
-    if told_rule(&rules.few, class)? {
-        return Some(PluralCategory::Few);
-    }
-    if told_rule(&rules.many, class)? {
-        return Some(PluralCategory::Many);
-    }
+    for_five!(rules, |rule, category| {
+        if told_rule(rule, class)? {
+            return Some(category);
+        }
+    });
     Some(PluralCategory::Other)
 }
 

@@ -18,7 +18,7 @@ impl PluralOperands {
     /// above 255, and `Memory` if the digits can't be allocated, never of a text of at most 16
     /// bytes. A text of at most 18 digits on each side of the point allocates nothing if it has no
     /// exponent, or one of at most two digits that leaves at most 18 integer places.
-    #[inline]
+    #[inline(always)]
     pub fn from_compact_text(alloc: Global, text: &str) -> Result<PluralOperands, DecimalError>
         ensures kept { IfOk result (λ o. (x : CompactNumber) × WritesCompact text.now x
             × IsWithinLimit x.significand.absolute × (x.exponent ≤ 255)

@@ -11,7 +11,7 @@ use crate::operands::kept::KEPT_PLACES;
 use crate::operands::shifted::shifted;
 
 // The operands of a short text. `None` says nothing.
-#[inline]
+#[inline(always)]
 pub(crate) fn short_operands(text: &[u8]) -> Option<PluralOperands>
     ensures { IfSome result (λ o. WritesShortSigned text.now o) }
 {
@@ -19,7 +19,7 @@ pub(crate) fn short_operands(text: &[u8]) -> Option<PluralOperands>
 }
 
 // The text after its sign, if it has one.
-#[inline]
+#[inline(always)]
 fn behind_any_sign(text: &[u8]) -> &[u8]
     ensures { (sign : Sign) × (text.now ≡ sign_text sign ++ result.now) }
 {
@@ -31,7 +31,7 @@ fn behind_any_sign(text: &[u8]) -> &[u8]
 }
 
 // The operands of a short text without a sign.
-#[inline]
+#[inline(always)]
 fn short_unsigned(text: &[u8]) -> Option<PluralOperands>
     ensures { IfSome result (λ o. WritesShort text.now o) }
 {
@@ -51,7 +51,7 @@ fn short_unsigned(text: &[u8]) -> Option<PluralOperands>
 }
 
 // The operands of digits with so many integer places, and of the exponent behind them, if any.
-#[inline]
+#[inline(always)]
 fn with_exponent(digits: PluralOperands, whole: usize, rest: &[u8]) -> Option<PluralOperands>
     requires { (x : Places) × ArePlain x whole digits }
     ensures { (text : List ℕ) → HasPlain text digits whole rest.now
@@ -65,7 +65,7 @@ fn with_exponent(digits: PluralOperands, whole: usize, rest: &[u8]) -> Option<Pl
 }
 
 // The number that at most 18 digits at the front write, and the rest.
-#[inline]
+#[inline(always)]
 fn short_front(text: &[u8]) -> (u64, &[u8])
     ensures { HasFront text.now result.0 result.1.now }
 {
@@ -79,7 +79,7 @@ fn short_front(text: &[u8]) -> (u64, &[u8])
 }
 
 // The operands of an integer part and of at most 18 digits after its point, and the rest.
-#[inline]
+#[inline(always)]
 fn with_fraction(i: u64, text: &[u8]) -> (PluralOperands, &[u8])
     ensures integer { result.0.i ≡ i }
     ensures fraction { HasFractionFront text.now result.0 result.1.now }
@@ -110,7 +110,7 @@ fn with_fraction(i: u64, text: &[u8]) -> (PluralOperands, &[u8])
 }
 
 // The exponent that one or two digits write.
-#[inline]
+#[inline(always)]
 fn short_exponent(text: &[u8]) -> Option<usize>
     ensures { IfSome result (λ e. IsShortExponent text.now e) }
 {
@@ -122,7 +122,7 @@ fn short_exponent(text: &[u8]) -> Option<usize>
 }
 
 // The number of a digit.
-#[inline]
+#[inline(always)]
 fn digit(byte: u8) -> Option<usize>
     ensures { IfSome result (λ d. (byte ≡ 48 + d) × (d < 10)) }
 {

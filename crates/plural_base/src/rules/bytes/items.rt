@@ -6,7 +6,7 @@ ghost use Rattle.plural_base.specs.FiveRules.{rules_of};
 ghost use Rattle.plural_base.specs.RulesBytes.{CanPackRule, CanPackRules, keyed, rule_items};
 ghost use Rattle.plural_base.specs.Inner.KeyedItems.{lent_item, lent_items};
 
-use crate::rules::bytes::keys;
+use crate::for_five;
 use crate::rules::data::PluralRulesData;
 use arrayvec::ArrayVec;
 use packed_list::ByteItem;
@@ -41,11 +41,9 @@ pub(crate) fn items_of<'a>(rules: &'a PluralRulesData<'_>) -> ArrayVec<RuleItem<
     ensures can_pack { CanPackRules (rules_of rules.now) }
 {
     let mut items = ArrayVec::new();
-    push_rule(&mut items, keys::ZERO, &rules.zero);
-    push_rule(&mut items, keys::ONE, &rules.one);
-    push_rule(&mut items, keys::TWO, &rules.two);
-    push_rule(&mut items, keys::FEW, &rules.few);
-    push_rule(&mut items, keys::MANY, &rules.many);
+    for_five!(rules, |rule, category| {
+        push_rule(&mut items, category as u8, rule);
+    });
     items
 }
 

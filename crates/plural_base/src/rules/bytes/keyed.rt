@@ -5,8 +5,8 @@ ghost use Rattle.plural_base.specs.FiveRules.{rules_of};
 ghost use Rattle.plural_base.specs.RulesBytes.{CanPackRule, CanPackRules, FirstRuleFault, keyed, rule_items};
 ghost use Rattle.plural_base.specs.Inner.KeyedItems.{HasOtherKey, items_left};
 
+use crate::make_five;
 use crate::rules::bytes::error::RulesBytesError;
-use crate::rules::bytes::keys;
 use crate::rules::data::PluralRulesData;
 use packed_list::PackedList;
 use plural_runtime::Rule;
@@ -21,19 +21,9 @@ pub(crate) fn rules_in(list: PackedList<'_>) -> Result<PluralRulesData<'_>, Rule
         ↔ MatchResult result (λ _. fault ≡ None) (λ found. fault ≡ Some found) }
 {
     let mut items = KeyedRules { list, place: 0 };
-    let zero = items.take(keys::ZERO)?;
-    let one = items.take(keys::ONE)?;
-    let two = items.take(keys::TWO)?;
-    let few = items.take(keys::FEW)?;
-    let many = items.take(keys::MANY)?;
+    let rules = make_five!(PluralRulesData, |category| items.take(category as u8)?);
     match items.fault() {
-        None => Ok(PluralRulesData {
-            zero,
-            one,
-            two,
-            few,
-            many,
-        }),
+        None => Ok(rules),
         Some(fault) => Err(fault),
     }
 }
