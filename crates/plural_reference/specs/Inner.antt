@@ -2,5 +2,6 @@
 pub mod Scan
 pub mod Front
 pub mod Reader
+pub mod TreeSink
 pub mod SampleReading
 pub mod RuleReader

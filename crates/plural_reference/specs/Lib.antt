@@ -4,6 +4,7 @@ pub mod Parser
 pub mod Samples
 pub mod Serializer
 pub mod Reading
+pub mod RelationSinks
 pub mod Truth
 pub mod Exactness
 pub mod ReadingLaws

@@ -13,7 +13,8 @@ mod token;
 
 pub use error::{LexerError, ParseError, ReadError};
 pub use lexer::Lexer;
-pub use parser::{is_read_whole, parse, parse_condition, parse_without_samples};
+pub use parser::sink::RelationSink;
+pub use parser::{is_read_whole, parse, parse_condition, parse_without_samples, read_relations};
 pub use plural_operands::{
     KEPT_LIMIT, KEPT_PLACES, OperandsError, PluralOperands, RawPluralOperands,
 };

@@ -2,17 +2,20 @@
 
 mod front;
 mod samples;
+pub(crate) mod sink;
+mod tree;
 mod whole;
 
 ghost use Rattle.std.specs.Prelude.{◌≡◌, ◌≢◌, ◌∷◌, [], Some, None, Ok, Err, length, ◌≤◌, IfOk, MatchBool, MatchOption, MatchResult};
 ghost use Rattle.plural_reference.specs.declared.token.Token.TheVariants as token;
-ghost use Rattle.plural_reference.specs.declared.token.Token.TheVariants.{Comma};
+ghost use Rattle.plural_reference.specs.declared.token.Token.TheVariants.{And, Comma, Or};
 ghost use Rattle.plural_reference.specs.Lexer.{AreTokensOf, first};
 ghost use Rattle.plural_reference.specs.Parser.{Reads, Faulty, operand_of, value_fault};
 ghost use Rattle.plural_reference.specs.declared.error.ParseError.TheVariants.{ExpectedValue};
 ghost use Rattle.plural_reference.specs.Samples.{ReadsRule, ReadsCondition, FaultyRule};
 ghost use Rattle.plural_reference.specs.Reading.{AnswersExactly, IsAnswer};
-ghost use Rattle.plural_reference.specs.Inner.Reader.{run, begin, TakesValue, NoValue, TakesOperand, NoOperand, NoOperator, ReadsItem, ReadsItems, ReadsExpression, ReadsRelation, ReadsWholeGroup, ReadsOption, FailsAtItem, FailsAtItems, FailsAtOperand, FailsAtGroup};
+ghost use Rattle.plural_reference.specs.Inner.Reader.{run, begin, joint, expected_behind, TakesValue, NoValue, TakesOperand, NoOperand, NoOperator, ReadsItem, ReadsItems, ReadsExpression, ReadsRelation, ReadsOption, FailsAtItem, FailsAtItems, FailsAtOperand};
+ghost use Rattle.plural_reference.specs.RelationSinks.{Before, nothing, condition_of, IsReadBy};
 
 use crate::ast::{
     AndCondition, Condition, Expression, Operand, Operator, RangeList, RangeListItem, Relation,
@@ -22,6 +25,8 @@ use crate::error::{ParseError, ReadError};
 use crate::lexer::first_token;
 use crate::parser::front::{behind, behind_spaces, number_at, operator_at};
 use crate::parser::samples::sink::Kept;
+use crate::parser::sink::RelationSink;
+use crate::parser::tree::Tree;
 use crate::sequence::Sequence;
 use crate::token::Token;
 use std::alloc::{AllocError, Global};
@@ -73,6 +78,24 @@ pub fn parse(alloc: Global, text: &[u8]) -> Result<Rule, ReadError>
     let condition = parser.condition(alloc)?;
     let samples = parser.samples::<Kept>(alloc)?;
     Ok(Rule { condition, samples })
+}
+
+/// Reads the condition of a rule relation by relation, as by [`parse`]: the samples after it are
+/// checked and left out, and no tree is made.
+///
+/// The error is that of [`parse`], or out of memory; what the sink took before it is to be dropped.
+pub fn read_relations<S: RelationSink>(
+    alloc: Global,
+    text: &[u8],
+    sink: &mut S,
+) -> Result<(), ReadError>
+    requires { S.holds sink.old nothing }
+    ensures { IsReadBy S.holds text.now sink.new result }
+{
+    let mut parser = Parser::new(text);
+    parser.relations(alloc, sink)?;
+    parser.leave_samples_out(alloc)?;
+    Ok(())
 }
 
 /// Reads the condition of a rule, as by [`parse`]: the samples after it are checked and left out.
@@ -176,15 +199,17 @@ impl<'p> Parser<'p> {
         }
     }
 
-    // range_list = item (Comma item)*
-    fn range_list(&mut self, alloc: Global) -> Result<RangeList, ReadError>
+    // range_list = item (Comma item)*, put into an empty list
+    fn range_list(&mut self, items: Vec<RangeListItem>) -> Result<RangeList, ReadError>
+        requires { items.items ≡ [] }
         ensures shorter { length self.new ≤ length self.old }
         ensures list { IsAnswer
             (λ list. ReadsItems self.old list.0 self.new × (first self.new ≢ Some Comma))
             (FailsAtItems self.old)
             result }
     {
-        let mut items = begun(alloc, self.item()?)?;
+        let mut items = items;
+        items.push(self.item()?)?;
         while self.take_if(Token::Comma) {
             items.push(self.item()?)?;
         }
@@ -240,15 +265,21 @@ impl<'p> Parser<'p> {
     }
 
     // relation = expr Operator range_list
-    fn relation(&mut self, alloc: Global) -> Result<Option<Relation>, ReadError>
+    fn relation<S: RelationSink>(
+        &mut self,
+        alloc: Global,
+        sink: &mut S,
+    ) -> Result<Option<Relation>, ReadError>
         ensures shorter { length self.new ≤ length self.old }
         ensures relation { IsAnswer (λ r. ReadsOption ReadsRelation self.old r self.new) (FailsAtOperand self.old) result }
+        ensures kept { (before : Before) → S.holds sink.old before → S.holds sink.new before }
     {
         let Some(expression) = self.expression()? else {
             return Ok(None);
         };
         let operator = self.operator()?;
-        let range_list = self.range_list(alloc)?;
+        let items = sink.ranges(alloc)?;
+        let range_list = self.range_list(items)?;
         Ok(Some(Relation {
             expression,
             operator,
@@ -256,54 +287,62 @@ impl<'p> Parser<'p> {
         }))
     }
 
-    // and_condition = relation (And relation)*
-    fn and_condition(&mut self, alloc: Global) -> Result<Option<AndCondition>, ReadError>
-        ensures shorter { length self.new ≤ length self.old }
-        ensures group { IsAnswer (λ c. ReadsOption ReadsWholeGroup self.old c self.new) (FailsAtGroup self.old) result }
+    // Takes `and` or `or` if one comes next: whether it is `or`.
+    #[inline(always)]
+    fn joint(&mut self) -> Option<bool>
+        ensures { MatchOption result
+            ((first self.old ≢ Some And) × (first self.old ≢ Some Or) × (self.new ≡ self.old))
+            (λ is_or. self.old ≡ joint is_or ∷ self.new) }
     {
-        let Some(relation) = self.relation(alloc)? else {
-            return Ok(None);
-        };
-        let mut relations = begun(alloc, relation)?;
-        'relations: while self.take_if(Token::And) {
-            let Some(next) = self.relation(alloc)? else {
-                return Err(ReadError::Parse(ParseError::ExpectedRelation));
-            };
-            relations.push(next)?;
+        if self.take_if(Token::And) {
+            return Some(false);
         }
-        Ok(Some(AndCondition(Sequence(relations))))
+        if self.take_if(Token::Or) {
+            return Some(true);
+        }
+        None
     }
 
-    // condition = and_condition (Or and_condition)*
+    // condition = relation ((And | Or) relation)*, or nothing
+    fn relations<S: RelationSink>(&mut self, alloc: Global, sink: &mut S) -> Result<(), ReadError>
+        requires { S.holds sink.old nothing }
+        ensures { IsAnswer
+            (λ _. (before : Before) × S.holds sink.new before × (run begin self.old ≡ Ok (condition_of before, self.new)))
+            (λ e. run begin self.old ≡ Err e)
+            result }
+    {
+        let Some(relation) = self.relation(alloc, sink)? else {
+            return Ok(());
+        };
+        sink.take(alloc, relation, false)?;
+        'joints: while let Some(is_after_or) = self.joint() {
+            let Some(next) = self.relation(alloc, sink)? else {
+                return Err(ReadError::Parse(expected_behind(is_after_or)));
+            };
+            sink.take(alloc, next, is_after_or)?;
+        }
+        Ok(())
+    }
+
+    // The tree of a condition.
     fn condition(&mut self, alloc: Global) -> Result<Condition, ReadError>
         ensures { IsAnswer (λ c. run begin self.old ≡ Ok (c, self.new)) (λ e. run begin self.old ≡ Err e) result }
     {
-        let Some(group) = self.and_condition(alloc)? else {
-            return Ok(Condition(Sequence(Vec::new(alloc))));
-        };
-        let mut groups = begun(alloc, group)?;
-        'groups: while self.take_if(Token::Or) {
-            let Some(next) = self.and_condition(alloc)? else {
-                return Err(ReadError::Parse(ParseError::ExpectedAndCondition));
-            };
-            groups.push(next)?;
-        }
-        Ok(Condition(Sequence(groups)))
+        let mut tree = Tree::new(alloc);
+        self.relations(alloc, &mut tree)?;
+        Ok(tree.condition()?)
     }
 }
 
-// How many items a list has room for at first: all that most lists have.
-const ROOM: usize = 4;
-
-// A list that begins with an item. Room is made once, by less work than for a list that grows from
-// none.
-#[inline]
-fn begun<T: Drop>(alloc: Global, first: T) -> Result<Vec<T>, AllocError>
-    ensures { IfOk result (λ list. list.items ≡ first ∷ []) }
+// What is expected behind `and`, or behind `or`.
+fn expected_behind(is_after_or: bool) -> ParseError
+    ensures { result ≡ expected_behind is_after_or }
 {
-    let mut items = Vec::with_capacity(alloc, ROOM)?;
-    items.push_reserved(first);
-    Ok(items)
+    if is_after_or {
+        ParseError::ExpectedAndCondition
+    } else {
+        ParseError::ExpectedRelation
+    }
 }
 
 // The operand that a token is.

@@ -1,5 +1,5 @@
 -- The steps of the parser.
-use Rattle.std.proofs.Common.{◌≡◌, ◌≢◌, List, [], ◌∷◌, ◌++◌, Some, None, Ok, Err, refl, sym, ap, ◌∙◌, subst}
+use Rattle.std.proofs.Common.{◌≡◌, ◌≢◌, Bool, true, false, List, [], ◌∷◌, ◌++◌, Some, None, Ok, Err, refl, sym, ap, ◌∙◌, subst}
 use Rattle.plural_reference.specs.declared.ast.AndCondition.{AndCondition}
 use Rattle.plural_reference.specs.declared.ast.Relation.{Relation}
 use Rattle.plural_reference.specs.declared.ast.Expression.{Expression}
@@ -18,9 +18,11 @@ use Rattle.plural_reference.specs.declared.token.Token.{Token}
 use Rattle.plural_reference.specs.declared.token.Token.TheVariants.{Operator, DotDot, Comma, Modulo, And, Or, At}
 use Rattle.plural_reference.specs.Lexer.{first}
 use Rattle.plural_reference.specs.Parser.{token_value, operand_of, value_fault, operator_fault, IsUnconditional}
-use Rattle.plural_reference.specs.Inner.Reader.{Before, Opened, State, before_operand, after_operand, before_item, after_item}
-use Rattle.plural_reference.specs.Inner.Reader.{relation_of, with_relation, with_group, ended_condition, no_operand, refuse, run, begin}
-use Rattle.plural_reference.specs.Inner.Reader.{ReadsItem, ReadsItems, ReadsExpression, NoDots, NoOperand, Completes, ReadsGroups}
+use Rattle.plural_reference.specs.RelationSinks.{Before, nothing, with_relation, with_group, joined, closed, condition_of}
+use Rattle.plural_reference.specs.Inner.Reader.{Opened, State, before_operand, after_operand, before_item, after_item}
+use Rattle.plural_reference.specs.Inner.Reader.{relation_of, ended_condition, no_operand, refuse, run, begin}
+use Rattle.plural_reference.specs.Inner.Reader.{ReadsItem, ReadsItems, ReadsExpression, NoDots, NoOperand, Completes, ReadsRelation, FailsAtOperand}
+use Rattle.plural_reference.specs.Inner.Reader.{joint, expected_behind}
 use Rattle.plural_reference.proofs.reading.ReaderComplete.{before_item_stop, before_end_stop, after_modulo_stop, operator_stop}
 use Rattle.plural_reference.proofs.reading.ReaderComplete.{after_operand_stop, operand_stop}
 
@@ -146,21 +148,21 @@ relation_items_fault old middle after e op kind h f k b = h.goes_on b op after f
 -- ---- groups
 
 -- Comma, dots and then And or Or follow a complete relation
-pub goes_on_and : (from : State) (old middle after : List Token) (b : Before)
+goes_on_and : (from : State) (old middle after : List Token) (b : Before)
     → Completes from old b middle → middle ≡ And ∷ after → run from old ≡ run (before_operand b) after
 unfolding run
 goes_on_and from old middle after b h e =
     h.run_is ∙ ap (run (after_item h.opened h.front h.item)) e ∙ ap (λ (c : Before). run (before_operand c) after) h.complete
 
 -- after Or an operand is expected, and the group is complete
-pub goes_on_or : (from : State) (old middle after : List Token) (b : Before)
+goes_on_or : (from : State) (old middle after : List Token) (b : Before)
     → Completes from old b middle → middle ≡ Or ∷ after → run from old ≡ run (before_operand (with_group b)) after
 unfolding run
 goes_on_or from old middle after b h e =
     h.run_is ∙ ap (run (after_item h.opened h.front h.item)) e ∙ ap (λ (c : Before). run (before_operand (with_group c)) after) h.complete
 
 -- after other tokens, the same
-pub completes_from : (from middle_state : State) (old middle new : List Token) (b : Before)
+completes_from : (from middle_state : State) (old middle new : List Token) (b : Before)
     → run from old ≡ run middle_state middle → Completes middle_state middle b new → Completes from old b new
 completes_from from middle_state old middle new b e h = record {
   opened = h.opened;
@@ -173,17 +175,11 @@ completes_from from middle_state old middle new b e h = record {
 }
 
 -- a relation after And joins the group
-pub more_relations : (from : State) (old middle after new : List Token) (b : Before) (r : Relation)
+more_relations : (from : State) (old middle after new : List Token) (b : Before) (r : Relation)
     → Completes from old b middle → middle ≡ And ∷ after → ((b : Before) → Completes (before_operand b) after (with_relation b r) new)
     → Completes from old (with_relation b r) new
 more_relations from old middle after new b r h e k =
     completes_from from (before_operand b) old after new (with_relation b r) (goes_on_and from old middle after b h e) (k b)
-
--- a fault of a relation after And is a fault of the group
-pub and_fault : (from : State) (old middle after : List Token) (b : Before) (kind : ParseError)
-    → Completes from old b middle → middle ≡ And ∷ after → ((b : Before) → run (before_operand b) after ≡ Err kind)
-    → run from old ≡ Err kind
-and_fault from old middle after b kind h e k = goes_on_and from old middle after b h e ∙ k b
 
 -- nothing after And
 some_relations : (groups : List AndCondition) (relations : List Relation) (r : Relation)
@@ -202,7 +198,7 @@ unconditional_fault b (At ∷ ts) kind u h = rw h refl
 unconditional_fault b (_ ∷ ts) kind u h = absurd u
 
 -- if no relation follows And, a relation is expected
-pub no_relation : (from : State) (old middle after : List Token) (b : Before)
+no_relation : (from : State) (old middle after : List Token) (b : Before)
     → Completes from old b middle → middle ≡ And ∷ after → IsUnconditional after → run from old ≡ Err ExpectedRelation
 no_relation from old middle after b h e u =
     goes_on_and from old middle after b h e
@@ -217,43 +213,36 @@ some_groups : (groups : List AndCondition) (g : AndCondition) → no_operand (gr
 some_groups [] g = refl
 some_groups (k ∷ ks) g = refl
 
--- a group is a condition of one
-pub one_group : (old new : List Token) (c : AndCondition)
-    → ((groups : List AndCondition)
-    → Completes (before_operand (record { groups = groups; relations = [] })) old (record { groups = groups; relations = c.0 }) new)
-    → ReadsGroups old (c ∷ []) new
-one_group old new c h = record { before = record { groups = []; relations = c.0 }; completes = h []; groups_are = refl }
+-- a relation behind Or begins a group
+next_group : (old middle after new : List Token) (b : Before) (r : Relation)
+    → Completes begin old b middle → middle ≡ Or ∷ after → ReadsRelation after r new
+    → Completes begin old (with_relation (with_group b) r) new
+next_group old middle after new b r h e k =
+    completes_from begin (before_operand (with_group b)) old after new (with_relation (with_group b) r)
+    (goes_on_or begin old middle after b h e) (k (with_group b))
 
--- a group after Or joins the condition
-pub more_groups : (old middle after new : List Token) (gs : List AndCondition) (c : AndCondition)
-    → ReadsGroups old gs middle → middle ≡ Or ∷ after
-    → ((groups : List AndCondition)
-    → Completes (before_operand (record { groups = groups; relations = [] })) after (record { groups = groups; relations = c.0 }) new)
-    → ReadsGroups old (gs ++ c ∷ []) new
-more_groups old middle after new gs c h e k = record {
-  before = record { groups = gs; relations = c.0 };
-  completes = completes_from begin (before_operand (with_group h.before)) old after new (record { groups = gs; relations = c.0 })
-      (goes_on_or begin old middle after h.before h.completes e)
-      (subst
-      (λ (xs : List AndCondition).
-      Completes (before_operand (record { groups = xs; relations = [] })) after (record { groups = gs; relations = c.0 }) new)
-      h.groups_are (k gs));
-  groups_are = refl;
-}
+-- a relation behind either is read too
+pub joins : (is_after_or : Bool) (old middle after new : List Token) (b : Before) (r : Relation)
+    → Completes begin old b middle → middle ≡ joint is_after_or ∷ after → ReadsRelation after r new
+    → Completes begin old (joined is_after_or b r) new
+joins false old middle after new b r h e k = more_relations begin old middle after new b r h e k
+joins true old middle after new b r h e k = next_group old middle after new b r h e k
 
--- a fault of a group after Or is a fault of the condition
-pub or_fault : (old middle after : List Token) (gs : List AndCondition) (kind : ParseError)
-    → ReadsGroups old gs middle → middle ≡ Or ∷ after
-    → ((groups : List AndCondition) → run (before_operand (record { groups = groups; relations = [] })) after ≡ Err kind)
+-- a fault of a relation behind either is one of the condition
+pub joint_fault : (is_after_or : Bool) (old middle after : List Token) (b : Before) (kind : ParseError)
+    → Completes begin old b middle → middle ≡ joint is_after_or ∷ after → FailsAtOperand after kind
     → run begin old ≡ Err kind
-or_fault old middle after gs kind h e k = goes_on_or begin old middle after h.before h.completes e ∙ k (with_group h.before).groups
+joint_fault false old middle after b kind h e k = goes_on_and begin old middle after b h e ∙ k b
+joint_fault true old middle after b kind h e k = goes_on_or begin old middle after b h e ∙ k (with_group b)
 
--- if no group follows Or, an and-condition is expected
-pub no_group : (old middle after : List Token) (gs : List AndCondition)
-    → ReadsGroups old gs middle → middle ≡ Or ∷ after → IsUnconditional after → run begin old ≡ Err ExpectedAndCondition
-no_group old middle after gs h e u =
-    goes_on_or begin old middle after h.before h.completes e
-    ∙ unconditional_fault (with_group h.before) after ExpectedAndCondition u (some_groups h.before.groups _)
+-- if no relation is behind either, one is expected there
+pub nothing_joins : (is_after_or : Bool) (old middle after : List Token) (b : Before)
+    → Completes begin old b middle → middle ≡ joint is_after_or ∷ after → IsUnconditional after
+    → run begin old ≡ Err (expected_behind is_after_or)
+nothing_joins false old middle after b h e u = no_relation begin old middle after b h e u
+nothing_joins true old middle after b h e u =
+    goes_on_or begin old middle after b h e
+    ∙ unconditional_fault (with_group b) after ExpectedAndCondition u (some_groups b.groups _)
 
 -- nothing goes on
 ends : (o : Opened) (front : List RangeListItem) (item : RangeListItem) (rest : List Token)
@@ -268,14 +257,21 @@ ends o front (items.Value v) (DotDot ∷ ts) d c a r = absurd (d refl)
 ends o front (items.Range x y) (DotDot ∷ ts) d c a r = refl
 ends o front item (_ ∷ ts) d c a r = refl
 
--- groups that neither And nor Or follows are the condition
-pub condition_is : (old new : List Token) (gs : List AndCondition)
-    → ReadsGroups old gs new → first new ≢ Some And → first new ≢ Some Or → run begin old ≡ Ok (record { 0 = gs }, new)
-condition_is old new gs h a r =
-    h.completes.run_is
-    ∙ ends h.completes.opened h.completes.front h.completes.item new h.completes.no_dots h.completes.no_comma a r
-    ∙ ap (λ (c : Before). Ok (ended_condition c, new)) h.completes.complete
-    ∙ ap (λ (xs : List AndCondition). Ok (record { 0 = xs }, new)) (sym h.groups_are)
+-- an and-condition with a relation is part of the condition
+closed_is : (groups : List AndCondition) (relations : List Relation) (r : Relation)
+    → closed groups (relations ++ r ∷ []) ≡ groups ++ (record { 0 = relations ++ r ∷ [] }) ∷ []
+closed_is groups [] r = refl
+closed_is groups (x ∷ xs) r = refl
+
+-- relations that neither And nor Or follows are the condition
+pub condition_is : (old new : List Token) (b : Before)
+    → Completes begin old b new → first new ≢ Some And → first new ≢ Some Or → run begin old ≡ Ok (condition_of b, new)
+condition_is old new b h a r =
+    h.run_is
+    ∙ ends h.opened h.front h.item new h.no_dots h.no_comma a r
+    ∙ ap (λ (xs : List AndCondition). Ok (record { 0 = xs }, new))
+    (sym (closed_is h.opened.before.groups h.opened.before.relations (relation_of h.opened (h.front ++ h.item ∷ []))))
+    ∙ ap (λ (c : Before). Ok (condition_of c, new)) h.complete
 
 -- no token, or At as the first, is the empty condition
 pub no_condition : (old new : List Token) → IsUnconditional old → new ≡ old → run begin old ≡ Ok (record { 0 = [] }, new)

@@ -23,8 +23,9 @@ use Rattle.plural_reference.specs.Parser.{token_value, operand_of, IsItem, IsExp
 use Rattle.plural_reference.specs.Parser.{IsCondition, Separated, Continues, EndsInValue, IsUnconditional, ReadsUpTo, Faulty}
 use Rattle.plural_reference.specs.Parser.{last_item, ConditionThen, IsBeforeOperand, IsAfterOperand, IsAfterModulo, IsAfterModulus}
 use Rattle.plural_reference.specs.Parser.{IsBeforeValue, Waits, fault, operand_fault, operator_fault, value_fault}
-use Rattle.plural_reference.specs.Inner.Reader.{Before, Opened, State, before_operand, after_operand, after_modulo, after_modulus}
-use Rattle.plural_reference.specs.Inner.Reader.{before_item, after_item, before_end, relation_of, with_relation, with_group}
+use Rattle.plural_reference.specs.RelationSinks.{Before, with_relation, with_group}
+use Rattle.plural_reference.specs.Inner.Reader.{Opened, State, before_operand, after_operand, after_modulo, after_modulus}
+use Rattle.plural_reference.specs.Inner.Reader.{before_item, after_item, before_end, relation_of}
 use Rattle.plural_reference.specs.Inner.Reader.{ended_condition, refuse, value_move, proceed, run, begin, Outcome, no_operand}
 
 -- if an item is expected, the tokens of an item lead to the state after it

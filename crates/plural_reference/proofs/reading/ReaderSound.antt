@@ -21,8 +21,9 @@ use Rattle.plural_reference.specs.Parser.{token_value, operand_of, IsItem, IsExp
 use Rattle.plural_reference.specs.Parser.{IsCondition, Separated, Continues, EndsInValue, IsUnconditional, ReadsUpTo, Faulty}
 use Rattle.plural_reference.specs.Parser.{last_item, ConditionThen, IsBeforeOperand, IsAfterOperand, IsAfterModulo, IsAfterModulus}
 use Rattle.plural_reference.specs.Parser.{IsBeforeValue, Waits, fault, operand_fault, operator_fault, value_fault}
-use Rattle.plural_reference.specs.Inner.Reader.{Before, Opened, State, before_operand, after_operand, after_modulo, after_modulus}
-use Rattle.plural_reference.specs.Inner.Reader.{before_item, after_item, before_end, relation_of, with_relation, with_group}
+use Rattle.plural_reference.specs.RelationSinks.{Before, with_relation, with_group}
+use Rattle.plural_reference.specs.Inner.Reader.{Opened, State, before_operand, after_operand, after_modulo, after_modulus}
+use Rattle.plural_reference.specs.Inner.Reader.{before_item, after_item, before_end, relation_of}
 use Rattle.plural_reference.specs.Inner.Reader.{ended_condition, Move, go, finish, refuse, operand_move, item_move, dots_move}
 use Rattle.plural_reference.specs.Inner.Reader.{operator_move, operand_next, step, at_end, proceed, run, begin, Outcome, no_operand}
 use Rattle.plural_reference.proofs.reading.ReaderComplete.{last_item-complete}

@@ -1,6 +1,6 @@
 -- Not a definition of the subject: a reader of conditions, token by token, for the parser's private
 -- contracts. That it returns what the grammar says is proved.
-use Rattle.std.specs.Prelude.{List, [], ◌∷◌, ◌++◌, Option, Some, None, Result, Ok, Err, ◌≡◌, ◌≢◌}
+use Rattle.std.specs.Prelude.{List, [], ◌∷◌, ◌++◌, Bool, true, false, Option, Some, None, Result, Ok, Err, ◌≡◌, ◌≢◌}
 use Rattle.plural_reference.specs.declared.ast.AndCondition.{AndCondition}
 use Rattle.plural_reference.specs.declared.ast.Condition.{Condition}
 use Rattle.plural_reference.specs.declared.ast.Expression.{Expression}
@@ -18,11 +18,7 @@ use Rattle.plural_reference.specs.declared.token.Token.TheVariants.{Operator, Do
 use Rattle.plural_reference.specs.Parser.{token_value, operand_of, value_fault, operand_fault, operator_fault, IsUnconditional}
 use Rattle.plural_reference.specs.declared.token.Token.TheVariants as token
 use Rattle.plural_reference.specs.Lexer.{first}
-
--- what is complete before the relation that is being read
-pub record Before : Type 0 where
-  pub groups : List AndCondition
-  pub relations : List Relation
+use Rattle.plural_reference.specs.RelationSinks.{Before, nothing, with_relation, with_group}
 
 -- what is complete of the relation that is being read
 pub record Opened : Type 0 where
@@ -43,14 +39,6 @@ pub data State : Type 0 where
 -- the relation with these items
 abbrev pub relation_of : Opened → List RangeListItem → Relation
 relation_of o xs = record { expression = o.expression; operator = o.operator; range_list = record { 0 = xs } }
-
--- the relation joins the group
-abbrev pub with_relation : Before → Relation → Before
-with_relation b r = record { groups = b.groups; relations = b.relations ++ r ∷ [] }
-
--- the group ends
-abbrev pub with_group : Before → Before
-with_group b = record { groups = b.groups ++ (record { 0 = b.relations }) ∷ []; relations = [] }
 
 -- the condition that ends here
 abbrev pub ended_condition : Before → Condition
@@ -139,7 +127,7 @@ run s (t ∷ ts) = proceed (step s t) (t ∷ ts) (λ next. run next ts)
 
 -- where the reader begins
 abbrev pub begin : State
-begin = before_operand (record { groups = []; relations = [] })
+begin = before_operand nothing
 
 -- ---- Not a definition of the subject: what the parts of the parser do, as steps of the reader of
 -- conditions. Their private contracts cite it, and no public clause does.
@@ -204,23 +192,15 @@ TakesOperand old o new = (t : Token) × (old ≡ t ∷ new) × (operand_of t ≡
 abbrev pub NoOperand : List Token → ParseError → Type 0
 NoOperand old e = (e ≡ ExpectedOperand) × ((at_end : Option ParseError) → operand_fault at_end (first old) ≡ Some ExpectedOperand)
 
--- groups that are read from the beginning; Or may follow
-pub record ReadsGroups (old : List Token) (groups : List AndCondition) (new : List Token) : Type 0 where
-  pub before : Before
-  pub completes : Completes begin old before new
-  pub groups_are : groups ≡ before.groups ++ (record { 0 = before.relations }) ∷ []
+-- what comes between relations: And, or Or before an and-condition
+abbrev pub joint : Bool → Token
+joint false = And
+joint true = Or
 
--- after these groups
-abbrev pub before_group : List AndCondition → State
-before_group groups = before_operand (record { groups = groups; relations = [] })
-
--- a group is read after any others
-abbrev pub ReadsGroup : List Token → AndCondition → List Token → Type 0
-ReadsGroup old c new = (groups : List AndCondition) → Completes (before_group groups) old (record { groups = groups; relations = c.0 }) new
-
--- a group is read after any others, and no relation follows it
-abbrev pub ReadsWholeGroup : List Token → AndCondition → List Token → Type 0
-ReadsWholeGroup old c new = ReadsGroup old c new × (first new ≢ Some And)
+-- what is expected behind it
+abbrev pub expected_behind : Bool → ParseError
+expected_behind false = ExpectedRelation
+expected_behind true = ExpectedAndCondition
 
 -- a relation is read wherever one is expected
 abbrev pub ReadsRelation : List Token → Relation → List Token → Type 0
@@ -237,7 +217,3 @@ FailsAtItems old e = (o : Opened) → run (before_item o []) old ≡ Err e
 -- the reader stops with this fault wherever an operand is expected
 abbrev pub FailsAtOperand : List Token → ParseError → Type 0
 FailsAtOperand old e = (b : Before) → run (before_operand b) old ≡ Err e
-
--- the reader stops with this fault wherever a group is expected
-abbrev pub FailsAtGroup : List Token → ParseError → Type 0
-FailsAtGroup old e = (groups : List AndCondition) → run (before_group groups) old ≡ Err e

@@ -1,0 +1,67 @@
+//! The tree of a condition while it is read.
+
+ghost use Rattle.std.specs.Prelude.{◌≡◌, [], IfOk};
+ghost use Rattle.plural_reference.specs.RelationSinks.{nothing, condition_of, Before};
+ghost use Rattle.plural_reference.specs.Inner.TreeSink.{HoldsTree};
+
+use crate::ast::{AndCondition, Condition, RangeListItem, Relation};
+use crate::parser::sink::RelationSink;
+use crate::sequence::Sequence;
+use std::alloc::{AllocError, Global};
+use std::mem;
+
+// How many items a list has room for at first: all that most lists have.
+const ROOM: usize = 4;
+
+// The and-conditions that are complete, and the relations of the open one.
+#[derive(Drop)]
+pub(crate) struct Tree {
+    groups: Vec<AndCondition>,
+    relations: Vec<Relation>,
+}
+
+impl Tree {
+    // Nothing yet.
+    pub(crate) fn new(alloc: Global) -> Tree
+        ensures { HoldsTree result nothing }
+    {
+        Tree {
+            groups: Vec::new(alloc),
+            relations: Vec::new(alloc),
+        }
+    }
+
+    // The condition that ends here.
+    pub(crate) fn condition(self) -> Result<Condition, AllocError>
+        ensures { IfOk result (λ c. (before : Before) → HoldsTree self before → c ≡ condition_of before) }
+    {
+        let mut groups = self.groups;
+        if !self.relations.is_empty() {
+            groups.push(AndCondition(Sequence(self.relations)))?;
+        }
+        Ok(Condition(Sequence(groups)))
+    }
+}
+
+impl RelationSink for Tree {
+    ghost use Rattle.plural_reference.specs.Inner.TreeSink.{HoldsTree};
+
+    ghost holds = { HoldsTree };
+
+    fn ranges(&mut self, alloc: Global) -> Result<Vec<RangeListItem>, AllocError> {
+        Vec::with_capacity(alloc, ROOM)
+    }
+
+    fn take(
+        &mut self,
+        alloc: Global,
+        relation: Relation,
+        is_after_or: bool,
+    ) -> Result<(), AllocError> {
+        if is_after_or {
+            let group = mem::replace(&mut self.relations, Vec::with_capacity(alloc, ROOM)?);
+            self.groups.push(AndCondition(Sequence(group)))?;
+        }
+        Ok(self.relations.push(relation)?)
+    }
+}
