@@ -5,3 +5,4 @@ pub mod SpellableTrees
 pub mod PrintedAgain
 pub mod FaultKinds
 pub mod TextAnswers
+pub mod TextItems

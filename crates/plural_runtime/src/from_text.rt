@@ -5,9 +5,10 @@ ghost use Rattle.plural_runtime.specs.RuleOfText.{TextGives};
 
 use crate::error::RuleError;
 use crate::rule::Rule;
+use crate::text_bytes::TextRelations;
 use plural_reference::laws::printing::conditions_of_texts_are_spellable;
 use plural_reference::laws::reading::one_list_of_tokens;
-use plural_reference::{ParseError, ReadError, parse_without_samples};
+use plural_reference::{ParseError, ReadError, read_relations};
 use std::alloc::Global;
 
 impl Rule<'static> {
@@ -30,8 +31,11 @@ impl Rule<'static> {
     {
         one_list_of_tokens();
         conditions_of_texts_are_spellable();
-        match parse_without_samples(alloc, text.as_bytes()) {
-            Ok(condition) => Rule::of_condition(alloc, &condition),
+        let Ok(mut relations) = TextRelations::new(alloc) else {
+            return Err(RuleError::Memory);
+        };
+        match read_relations(alloc, text.as_bytes(), &mut relations) {
+            Ok(()) => Rule::of_items(alloc, relations.items()),
             Err(ReadError::Parse(fault)) => Err(RuleError::Parse(fault)),
             Err(ReadError::Memory) => Err(RuleError::Memory),
         }

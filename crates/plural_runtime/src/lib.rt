@@ -18,6 +18,7 @@ mod relations;
 mod resolver;
 mod rule;
 mod steps;
+mod text_bytes;
 mod tree_bytes;
 mod unpack;
 

@@ -1,16 +1,17 @@
 //! Packs trees.
 
-ghost use Rattle.std.specs.Prelude.{◌≡◌, ◌↔◌, map, Err, IfSome, IfNone, IsTrue, IsFalse};
+ghost use Rattle.std.specs.Prelude.{◌≡◌, ◌≢◌, ◌↔◌, List, map, Err, IfSome, IfNone, IsTrue, IsFalse};
 ghost use Rattle.std.specs.List.{list_any};
 ghost use Rattle.packed_list.specs.ListBytes.{has_high_start};
-ghost use Rattle.plural_runtime.specs.PackedRelations.{relation_bytes};
+ghost use Rattle.plural_reference.specs.declared.ast.Condition.{Condition};
+ghost use Rattle.plural_runtime.specs.PackedRelations.{PackedRelation, relation_bytes};
 ghost use Rattle.plural_runtime.specs.PackedTree.{packed, has_large_value, is_large, is_large_item, is_large_modulus, is_large_relation, Packs};
 
 use crate::error::RuleError;
 use crate::laws::relations_read_again;
 use crate::rule::Rule;
 use crate::tree_bytes::TreeRelations;
-use packed_list::{ListWriter, PackError};
+use packed_list::{ByteItems, ListWriter, PackError};
 use plural_reference::{ParseError, ast};
 use std::alloc::Global;
 
@@ -41,21 +42,21 @@ impl Rule<'static> {
         if has_large_value(&rule.condition) {
             return Err(RuleError::Parse(ParseError::ValueTooLarge));
         }
-        Rule::of_condition(alloc, &rule.condition)
+        Rule::of_items(alloc, TreeRelations::of(&rule.condition))
     }
 
-    // Packs a condition whose values fit, as a tree without samples.
-    pub(crate) fn of_condition(
+    // Packs items that are the relations of a condition whose values fit.
+    pub(crate) fn of_items<I: ByteItems>(
         alloc: Global,
-        condition: &ast::Condition,
+        items: I,
     ) -> Result<Rule<'static>, RuleError>
-        requires { IsFalse (has_large_value condition.now) }
-        ensures packs { Packs condition.now result }
-        ensures value_too_large { (result ≡ Err (RuleError.Parse ParseError.ValueTooLarge)) ↔ IsTrue (has_large_value condition.now) }
-        ensures start_limit { (result ≡ Err RuleError.StartLimit)
-            ↔ (IsFalse (has_large_value condition.now) × IsTrue (has_high_start (map relation_bytes (packed condition.now)))) }
+        requires { (condition : Condition) × IsFalse (has_large_value condition) × (I.items items ≡ map relation_bytes (packed condition)) }
+        ensures packs { (condition : Condition) → IsFalse (has_large_value condition)
+            → I.items items ≡ map relation_bytes (packed condition) → Packs condition result }
+        ensures value_too_large { result ≢ Err (RuleError.Parse ParseError.ValueTooLarge) }
+        ensures start_limit { (result ≡ Err RuleError.StartLimit) ↔ IsTrue (has_high_start (I.items items)) }
     {
-        let Some(list) = list_of(condition) else {
+        let Some(list) = list_of(items) else {
             return Err(RuleError::StartLimit);
         };
         relations_read_again();
@@ -130,14 +131,15 @@ fn is_large(value: &ast::Value) -> bool
     value.0 > 4294967295
 }
 
-// The relations of a tree as a list that can be packed, if none of them starts after place 65535.
+// Items that are relations as a list that can be packed, if none of them starts after place 65535.
 // If they are more than 65535, one does.
-fn list_of(condition: &ast::Condition) -> Option<ListWriter<TreeRelations<'_>>>
-    ensures ok { IfSome result (λ list. list ≡ map relation_bytes (packed condition.now)) }
-    ensures low { IfSome result (λ _. IsFalse (has_high_start (map relation_bytes (packed condition.now)))) }
-    ensures high { IfNone result (IsTrue (has_high_start (map relation_bytes (packed condition.now)))) }
+fn list_of<I: ByteItems>(items: I) -> Option<ListWriter<I>>
+    requires { (relations : List PackedRelation) × (I.items items ≡ map relation_bytes relations) }
+    ensures ok { IfSome result (λ list. list ≡ I.items items) }
+    ensures low { IfSome result (λ _. IsFalse (has_high_start (I.items items))) }
+    ensures high { IfNone result (IsTrue (has_high_start (I.items items))) }
 {
-    match ListWriter::new(TreeRelations::of(condition)) {
+    match ListWriter::new(items) {
         Ok(list) => Some(list),
         Err(PackError::CountLimit) => None,
         Err(PackError::StartLimit) => None,

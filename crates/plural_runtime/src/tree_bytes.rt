@@ -17,8 +17,8 @@ use std::alloc::AllocError;
 // A relation of a tree, with its mark.
 #[derive(Clone, Copy)]
 pub(crate) struct TreeRelation<'a> {
-    and_or: AndOr,
-    relation: &'a ast::Relation,
+    pub(crate) and_or: AndOr,
+    pub(crate) relation: &'a ast::Relation,
 }
 
 // The relations of a tree that are left: those of an and-condition, the first one of which has the

@@ -1,0 +1,114 @@
+//! The relations of a text, packed as they are read.
+
+ghost use Rattle.std.specs.Prelude.{◌≡◌, [], IfOk};
+ghost use Rattle.plural_reference.specs.RelationSinks.{Before, nothing};
+ghost use Rattle.plural_runtime.specs.Inner.TextItems.{HoldsPacked, cut, mark};
+
+use crate::kinds::AndOr;
+use crate::tree_bytes::TreeRelation;
+use packed_list::{ByteItem, ByteItems};
+use plural_reference::RelationSink;
+use plural_reference::ast::{RangeListItem, Relation};
+use std::alloc::{AllocError, Global};
+use std::mem;
+
+// How much there is room for at first: all that most texts take.
+const BYTE_ROOM: usize = 128;
+
+const ITEM_ROOM: usize = 8;
+
+const RANGE_ROOM: usize = 4;
+
+// The bytes of the relations, and how many each has.
+#[derive(Drop)]
+pub(crate) struct TextRelations {
+    bytes: Vec<u8>,
+    lengths: Vec<usize>,
+    // A list for the ranges of the next relation, whose memory is used again.
+    ranges: Vec<RangeListItem>,
+}
+
+impl TextRelations {
+    // None yet.
+    pub(crate) fn new(alloc: Global) -> Result<TextRelations, AllocError>
+        ensures { IfOk result (λ relations. HoldsPacked relations nothing) }
+    {
+        Ok(TextRelations {
+            bytes: Vec::with_capacity(alloc, BYTE_ROOM)?,
+            lengths: Vec::with_capacity(alloc, ITEM_ROOM)?,
+            ranges: Vec::with_capacity(alloc, RANGE_ROOM)?,
+        })
+    }
+
+    // The items, one for each relation.
+    pub(crate) fn items(&self) -> CutItems<'_>
+        ensures { cut result.lengths.now result.bytes.now ≡ cut self.now.lengths.items self.now.bytes.items }
+    {
+        CutItems {
+            lengths: self.lengths.as_slice(),
+            bytes: self.bytes.as_slice(),
+        }
+    }
+}
+
+impl RelationSink for TextRelations {
+    ghost use Rattle.plural_runtime.specs.Inner.TextItems.{HoldsPacked};
+
+    ghost holds = { HoldsPacked };
+
+    #[inline]
+    fn ranges(&mut self, alloc: Global) -> Result<Vec<RangeListItem>, AllocError> {
+        let mut ranges = mem::replace(&mut self.ranges, Vec::new(alloc));
+        ranges.clear();
+        Ok(ranges)
+    }
+
+    #[inline]
+    fn take(
+        &mut self,
+        _alloc: Global,
+        relation: Relation,
+        is_after_or: bool,
+    ) -> Result<(), AllocError> {
+        let item = TreeRelation {
+            and_or: mark(is_after_or),
+            relation: &relation,
+        };
+        self.lengths.push(item.byte_count())?;
+        item.write_to(&mut self.bytes)?;
+        self.ranges = relation.range_list.0.into();
+        Ok(())
+    }
+}
+
+// The mark of a relation: after `or` it begins an and-condition.
+#[inline]
+fn mark(is_after_or: bool) -> AndOr
+    ensures { result ≡ mark is_after_or }
+{
+    if is_after_or { AndOr::Or } else { AndOr::And }
+}
+
+// The remaining items: how many bytes each has, and the bytes.
+#[derive(Clone, Copy)]
+pub(crate) struct CutItems<'a> {
+    lengths: &'a [usize],
+    bytes: &'a [u8],
+}
+
+impl<'a> ByteItems for CutItems<'a> {
+    ghost use Rattle.plural_runtime.specs.Inner.TextItems.{cut};
+
+    type Item = &'a [u8];
+
+    ghost items = { λ walk. cut walk.lengths.now walk.bytes.now };
+
+    #[inline]
+    fn next_item(&mut self) -> Option<&'a [u8]> {
+        let (length, lengths) = self.lengths.split_first()?;
+        let (item, bytes) = self.bytes.split_at(self.bytes.len().min(*length));
+        self.lengths = lengths;
+        self.bytes = bytes;
+        Some(item)
+    }
+}
