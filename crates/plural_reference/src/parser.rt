@@ -104,10 +104,9 @@ pub fn read_relations<S: RelationSink>(
 pub fn parse_without_samples(alloc: Global, text: &[u8]) -> Result<Condition, ReadError>
     ensures { AnswersExactly ReadsCondition FaultyRule text.now result }
 {
-    let mut parser = Parser::new(text);
-    let condition = parser.condition(alloc)?;
-    parser.leave_samples_out(alloc)?;
-    Ok(condition)
+    let mut tree = Tree::new(alloc);
+    read_relations(alloc, text, &mut tree)?;
+    Ok(tree.condition()?)
 }
 
 // The bytes whose tokens remain, from the first token on.

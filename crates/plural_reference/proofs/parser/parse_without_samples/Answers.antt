@@ -1,25 +1,28 @@
+use Rattle.std.proofs.Common.{◌≡◌, ℕ, List, Err, Ok, ap, refl, sym, subst, inr}
 use Rattle.std.proofs.lemmas.Result.{err_from_is_err_and}
-use Rattle.plural_reference.proofs.reading.ParserSteps.{passes_on}
-use Rattle.plural_reference.proofs.rules.Answered.{condition_fault, samples_fault, without_samples_answers, without_samples_refuses}
+use Rattle.plural_reference.specs.declared.error.ReadError.TheVariants.{Memory}
+use Rattle.plural_reference.specs.RelationSinks.{GivesCondition, condition_of}
 use Rattle.plural_reference.proofs.parser.parse_without_samples.Goals as goal
+
+-- out of memory may always be the answer
+out_of_memory : (text : List ℕ) → GivesCondition text (Err Memory)
+out_of_memory text = record {
+  only = λ tokens cut. tt;
+  read = λ tokens x cut read. inr refl;
+  fault = λ tokens kind cut fault. inr refl;
+}
+
+pub returns-in_err-read_relations : goal.returns-in_err-read_relations
+returns-in_err-read_relations c =
+    let p = err_from_is_err_and c.from_residual.result c.from_residual.ensures.1 in
+    rw (p.1, p.2) c.in_err-read_relations.ensures
 
 pub returns-in_err-condition : goal.returns-in_err-condition
 returns-in_err-condition c =
-    let p = err_from_is_err_and c.from_residual.result c.from_residual.ensures.1 in
-    rw (p.1, p.2)
-    (without_samples_refuses _ _ _ c.new-parser.ensures
-    (passes_on _ _ c.in_err-condition.field-0.0 c.in_err-condition.ensures
-    (λ kind q. condition_fault _ kind q)))
-
-pub returns-in_err-leave_samples_out : goal.returns-in_err-leave_samples_out
-returns-in_err-leave_samples_out c =
-    let p = err_from_is_err_and c.from_residual-in_err-leave_samples_out.result c.from_residual-in_err-leave_samples_out.ensures.1 in
-    rw (p.1, p.2)
-    (without_samples_refuses _ _ _ c.new-parser.ensures
-    (passes_on _ _ c.in_err-leave_samples_out.field-0.0 c.in_err-leave_samples_out.ensures
-    (λ kind q. samples_fault _ _ _ kind c.in_ok-condition.ensures q)))
+    let p = err_from_is_err_and c.from_residual-in_err-condition.result c.from_residual-in_err-condition.ensures.1 in
+    rw (p.1, p.2) (out_of_memory _)
 
 pub returns : goal.returns
 returns c =
-    let s = c.in_ok-leave_samples_out.ensures in
-    without_samples_answers _ _ _ s.1 (record { condition = _; samples = s.0 }) c.new-parser.ensures c.in_ok-condition.ensures s.2
+    let read = c.in_ok-read_relations.ensures in
+    subst (λ x. GivesCondition c.args.text.now (Ok x)) (sym (c.in_ok-condition.ensures read.0 read.1)) read.2

@@ -28,9 +28,11 @@ returns-in_default-2 g c =
 
 pub joints-preserved : goal.joints-preserved
 joints-preserved g c =
-    let r = rw c.in-Some-2.is at c.in_ok-next.ensures.relation in
-    (_, c.in_ok-take-2.ensures _ (c.in_ok-next.ensures.kept _ c.joints.invariant.1),
-        joins _ _ _ _ _ _ _ c.joints.invariant.2 c.in-Some-joint.ensures r)
+    let r = rw c.in-Some-2.is at c.in_ok-next.ensures.relation in (
+      _,
+      c.in_ok-take-2.ensures _ (c.in_ok-next.ensures.kept _ c.joints.invariant.1),
+      joins _ _ _ _ _ _ _ c.joints.invariant.2 c.in-Some-joint.ensures r,
+    )
 
 pub returns : goal.returns
 returns g c =

@@ -27,9 +27,11 @@ of_items-requires c =
     let read = c.in-Ok-read_relations.ensures in
     let text = c.as_bytes.result.now in
     let law = c.one_list_of_tokens.ensures text in
-    let condition = condition_of read.0 in
-    (condition, small text law.0 condition c.conditions_of_texts_are_spellable.ensures law.1 (read.2.only law.0 law.1),
-        c.items.ensures ∙ cut_is _ read.0 read.1)
+    let condition = condition_of read.0 in (
+      condition,
+      small text law.0 condition c.conditions_of_texts_are_spellable.ensures law.1 (read.2.only law.0 law.1),
+      c.items.ensures ∙ cut_is _ read.0 read.1,
+    )
 
 pub returns-in-Ok-read_relations-clause-gives : goal.returns-in-Ok-read_relations-clause-gives
 returns-in-Ok-read_relations-clause-gives c =
