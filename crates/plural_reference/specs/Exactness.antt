@@ -1,6 +1,6 @@
 -- When a condition is true of an exact number (UTS 35 Part 3, Plural Rules Syntax: relations),
 -- whatever its length.
-use Rattle.std.specs.Prelude.{ℕ, ◌+◌, ◌*◌, ◌/◌, ◌%◌, ◌^◌, ◌==◌, Bool, if◌then◌else◌, Option, Some, None, ◌<◌, ◌≤◌, ◌⊎◌, List}
+use Rattle.std.specs.Prelude.{ℕ, ◌*◌, ◌/◌, ◌%◌, ◌^◌, ◌==◌, Bool, if◌then◌else◌, Option, Some, None, ◌<◌, ◌≤◌, ◌⊎◌, List}
 use Rattle.std.specs.Prelude.{length, Contains}
 use Rattle.plural_reference.specs.declared.ast.Condition.{Condition}
 use Rattle.plural_operands.specs.declared.operand.Operand.{Operand}

@@ -31,9 +31,7 @@ impl Rule<'static> {
     {
         one_list_of_tokens();
         conditions_of_texts_are_spellable();
-        let Ok(mut relations) = TextRelations::new(alloc) else {
-            return Err(RuleError::Memory);
-        };
+        let mut relations = TextRelations::new(alloc);
         match read_relations(alloc, text.as_bytes(), &mut relations) {
             Ok(()) => Rule::of_items(alloc, relations.items()),
             Err(ReadError::Parse(fault)) => Err(RuleError::Parse(fault)),

@@ -1,7 +1,7 @@
 //! The relations of a text, packed as they are read.
 
-ghost use Rattle.std.specs.Prelude.{◌≡◌, [], IfOk};
-ghost use Rattle.plural_reference.specs.RelationSinks.{Before, nothing};
+ghost use Rattle.std.specs.Prelude.{◌≡◌};
+ghost use Rattle.plural_reference.specs.RelationSinks.{nothing};
 ghost use Rattle.plural_runtime.specs.Inner.TextItems.{HoldsPacked, cut, mark};
 
 use crate::kinds::AndOr;
@@ -12,12 +12,11 @@ use plural_reference::ast::{RangeListItem, Relation};
 use std::alloc::{AllocError, Global};
 use std::mem;
 
-// How much there is room for at first: all that most texts take.
+// For how many bytes there is room at first: all that most texts take.
 const BYTE_ROOM: usize = 128;
 
+// The same for relations.
 const ITEM_ROOM: usize = 8;
-
-const RANGE_ROOM: usize = 4;
 
 // The bytes of the relations, and how many each has.
 #[derive(Drop)]
@@ -30,19 +29,20 @@ pub(crate) struct TextRelations {
 
 impl TextRelations {
     // None yet.
-    pub(crate) fn new(alloc: Global) -> Result<TextRelations, AllocError>
-        ensures { IfOk result (λ relations. HoldsPacked relations nothing) }
+    pub(crate) fn new(alloc: Global) -> TextRelations
+        ensures { HoldsPacked result nothing }
     {
-        Ok(TextRelations {
-            bytes: Vec::with_capacity(alloc, BYTE_ROOM)?,
-            lengths: Vec::with_capacity(alloc, ITEM_ROOM)?,
-            ranges: Vec::with_capacity(alloc, RANGE_ROOM)?,
-        })
+        TextRelations {
+            bytes: Vec::new(alloc),
+            lengths: Vec::new(alloc),
+            ranges: Vec::new(alloc),
+        }
     }
 
     // The items, one for each relation.
     pub(crate) fn items(&self) -> CutItems<'_>
-        ensures { cut result.lengths.now result.bytes.now ≡ cut self.now.lengths.items self.now.bytes.items }
+        ensures { cut result.lengths.now result.bytes.now
+            ≡ cut self.now.lengths.items self.now.bytes.items }
     {
         CutItems {
             lengths: self.lengths.as_slice(),
@@ -58,6 +58,10 @@ impl RelationSink for TextRelations {
 
     #[inline]
     fn ranges(&mut self, alloc: Global) -> Result<Vec<RangeListItem>, AllocError> {
+        if self.lengths.is_empty() {
+            self.bytes.reserve(BYTE_ROOM)?;
+            self.lengths.reserve(ITEM_ROOM)?;
+        }
         let mut ranges = mem::replace(&mut self.ranges, Vec::new(alloc));
         ranges.clear();
         Ok(ranges)

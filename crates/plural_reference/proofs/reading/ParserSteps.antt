@@ -1,5 +1,5 @@
 -- The steps of the parser.
-use Rattle.std.proofs.Common.{◌≡◌, ◌≢◌, Bool, true, false, List, [], ◌∷◌, ◌++◌, Some, None, Ok, Err, refl, sym, ap, ◌∙◌, subst}
+use Rattle.std.proofs.Common.{◌≡◌, ◌≢◌, Bool, true, false, List, [], ◌∷◌, ◌++◌, Some, None, Ok, Err, refl, sym, ap, ◌∙◌}
 use Rattle.plural_reference.specs.declared.ast.AndCondition.{AndCondition}
 use Rattle.plural_reference.specs.declared.ast.Relation.{Relation}
 use Rattle.plural_reference.specs.declared.ast.Expression.{Expression}
@@ -18,7 +18,7 @@ use Rattle.plural_reference.specs.declared.token.Token.{Token}
 use Rattle.plural_reference.specs.declared.token.Token.TheVariants.{Operator, DotDot, Comma, Modulo, And, Or, At}
 use Rattle.plural_reference.specs.Lexer.{first}
 use Rattle.plural_reference.specs.Parser.{token_value, operand_of, value_fault, operator_fault, IsUnconditional}
-use Rattle.plural_reference.specs.RelationSinks.{Before, nothing, with_relation, with_group, joined, closed, condition_of}
+use Rattle.plural_reference.specs.RelationSinks.{Before, with_relation, with_group, joined, closed, condition_of}
 use Rattle.plural_reference.specs.Inner.Reader.{Opened, State, before_operand, after_operand, before_item, after_item}
 use Rattle.plural_reference.specs.Inner.Reader.{relation_of, ended_condition, no_operand, refuse, run, begin}
 use Rattle.plural_reference.specs.Inner.Reader.{ReadsItem, ReadsItems, ReadsExpression, NoDots, NoOperand, Completes, ReadsRelation, FailsAtOperand}

@@ -25,5 +25,6 @@ pub trait RelationSink {
         relation: Relation,
         is_after_or: bool,
     ) -> Result<(), AllocError>
-        ensures { OnOk result ((before : Before) → holds self.old before → holds self.new (joined is_after_or before relation)) };
+        ensures { OnOk result ((before : Before) → holds self.old before
+            → holds self.new (joined is_after_or before relation)) };
 }

@@ -33,7 +33,8 @@ impl Tree {
 
     // The condition that ends here.
     pub(crate) fn condition(self) -> Result<Condition, AllocError>
-        ensures { IfOk result (λ c. (before : Before) → HoldsTree self before → c ≡ condition_of before) }
+        ensures { IfOk result (λ c. (before : Before) → HoldsTree self before
+            → c ≡ condition_of before) }
     {
         let mut groups = self.groups;
         if !self.relations.is_empty() {

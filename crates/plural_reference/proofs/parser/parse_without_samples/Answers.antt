@@ -1,7 +1,7 @@
-use Rattle.std.proofs.Common.{◌≡◌, ℕ, List, Err, Ok, ap, refl, sym, subst, inr}
+use Rattle.std.proofs.Common.{ℕ, List, Err, Ok, refl, sym, subst, inr}
 use Rattle.std.proofs.lemmas.Result.{err_from_is_err_and}
 use Rattle.plural_reference.specs.declared.error.ReadError.TheVariants.{Memory}
-use Rattle.plural_reference.specs.RelationSinks.{GivesCondition, condition_of}
+use Rattle.plural_reference.specs.RelationSinks.{GivesCondition}
 use Rattle.plural_reference.proofs.parser.parse_without_samples.Goals as goal
 
 -- out of memory may always be the answer

@@ -24,7 +24,7 @@ small text tokens condition law cut reads =
 
 pub of_items-requires : goal.of_items-requires
 of_items-requires c =
-    let read = c.in-Ok-read_relations.ensures in
+    let read = c.in-Ok.ensures in
     let text = c.as_bytes.result.now in
     let law = c.one_list_of_tokens.ensures text in
     let condition = condition_of read.0 in (
@@ -33,9 +33,9 @@ of_items-requires c =
       c.items.ensures ∙ cut_is _ read.0 read.1,
     )
 
-pub returns-in-Ok-read_relations-clause-gives : goal.returns-in-Ok-read_relations-clause-gives
-returns-in-Ok-read_relations-clause-gives c =
-    let read = c.in-Ok-read_relations.ensures in
+pub returns-in-Ok-clause-gives : goal.returns-in-Ok-clause-gives
+returns-in-Ok-clause-gives c =
+    let read = c.in-Ok.ensures in
     let text = c.as_bytes.result.now in
     let law = c.one_list_of_tokens.ensures text in
     let condition = condition_of read.0 in
