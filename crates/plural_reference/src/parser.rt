@@ -106,7 +106,7 @@ pub fn parse_without_samples(alloc: Global, text: &[u8]) -> Result<Condition, Re
 {
     let mut tree = Tree::new(alloc);
     read_relations(alloc, text, &mut tree)?;
-    Ok(tree.condition()?)
+    Ok(tree.condition(alloc)?)
 }
 
 // The bytes whose tokens remain, from the first token on.
@@ -329,7 +329,7 @@ impl<'p> Parser<'p> {
     {
         let mut tree = Tree::new(alloc);
         self.relations(alloc, &mut tree)?;
-        Ok(tree.condition()?)
+        Ok(tree.condition(alloc)?)
     }
 }
 

@@ -9,20 +9,24 @@ use crate::tree_bytes::TreeRelation;
 use packed_list::{ByteItem, ByteItems};
 use plural_reference::RelationSink;
 use plural_reference::ast::{RangeListItem, Relation};
+use smallvec::SmallVec;
 use std::alloc::{AllocError, Global};
 use std::mem;
 
 // For how many bytes there is room at first: all that most texts take.
 const BYTE_ROOM: usize = 128;
 
-// The same for relations.
-const ITEM_ROOM: usize = 8;
+// For how many ranges of a relation.
+const RANGE_ROOM: usize = 4;
+
+// How many lengths take no memory.
+const INLINE_LENGTHS: usize = 8;
 
 // The bytes of the relations, and how many each has.
 #[derive(Drop)]
 pub(crate) struct TextRelations {
     bytes: Vec<u8>,
-    lengths: Vec<usize>,
+    lengths: SmallVec<usize, INLINE_LENGTHS>,
     // A list for the ranges of the next relation, whose memory is used again.
     ranges: Vec<RangeListItem>,
 }
@@ -34,7 +38,7 @@ impl TextRelations {
     {
         TextRelations {
             bytes: Vec::new(alloc),
-            lengths: Vec::new(alloc),
+            lengths: SmallVec::new(alloc),
             ranges: Vec::new(alloc),
         }
     }
@@ -60,7 +64,7 @@ impl RelationSink for TextRelations {
     fn ranges(&mut self, alloc: Global) -> Result<Vec<RangeListItem>, AllocError> {
         if self.lengths.is_empty() {
             self.bytes.reserve(BYTE_ROOM)?;
-            self.lengths.reserve(ITEM_ROOM)?;
+            self.ranges.reserve(RANGE_ROOM)?;
         }
         let mut ranges = mem::replace(&mut self.ranges, Vec::new(alloc));
         ranges.clear();

@@ -1,6 +1,6 @@
 //! The tree of a condition while it is read.
 
-ghost use Rattle.std.specs.Prelude.{◌≡◌, [], IfOk};
+ghost use Rattle.std.specs.Prelude.{◌≡◌, ◌∷◌, [], IfOk};
 ghost use Rattle.plural_reference.specs.RelationSinks.{nothing, condition_of, Before};
 ghost use Rattle.plural_reference.specs.Inner.TreeSink.{HoldsTree};
 
@@ -32,14 +32,19 @@ impl Tree {
     }
 
     // The condition that ends here.
-    pub(crate) fn condition(self) -> Result<Condition, AllocError>
+    pub(crate) fn condition(self, alloc: Global) -> Result<Condition, AllocError>
         ensures { IfOk result (λ c. (before : Before) → HoldsTree self before
             → c ≡ condition_of before) }
     {
-        let mut groups = self.groups;
-        if !self.relations.is_empty() {
-            groups.push(AndCondition(Sequence(self.relations)))?;
+        if self.relations.is_empty() {
+            return Ok(Condition(Sequence(self.groups)));
         }
+        let last = AndCondition(Sequence(self.relations));
+        if self.groups.is_empty() {
+            return Ok(Condition(Sequence(begun(alloc, last)?)));
+        }
+        let mut groups = self.groups;
+        groups.push(last)?;
         Ok(Condition(Sequence(groups)))
     }
 }
@@ -59,10 +64,24 @@ impl RelationSink for Tree {
         relation: Relation,
         is_after_or: bool,
     ) -> Result<(), AllocError> {
+        if self.relations.is_empty() {
+            self.relations = Vec::with_capacity(alloc, ROOM)?;
+        }
         if is_after_or {
             let group = mem::replace(&mut self.relations, Vec::with_capacity(alloc, ROOM)?);
             self.groups.push(AndCondition(Sequence(group)))?;
         }
         Ok(self.relations.push(relation)?)
     }
+}
+
+// A list that begins with an item. Room is made once, by less work than for a list that grows from
+// none.
+#[inline]
+fn begun<T: Drop>(alloc: Global, first: T) -> Result<Vec<T>, AllocError>
+    ensures { IfOk result (λ list. list.items ≡ first ∷ []) }
+{
+    let mut items = Vec::with_capacity(alloc, ROOM)?;
+    items.push_reserved(first);
+    Ok(items)
 }

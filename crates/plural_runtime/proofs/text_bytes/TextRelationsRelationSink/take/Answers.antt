@@ -11,7 +11,7 @@ returns c before h =
     let relation = c.args.relation in
     let bytes = c.in_ok-write_to.ensures.written
     ∙ ap (λ (m : AndOr). old.bytes.items ++ relation_bytes (packed_relation m relation)) c.mark.ensures in
-    let lengths = c.in_ok-push.ensures.items
+    let lengths = c.in_ok-push.ensures.ok
     ∙ ap (λ n. old.lengths.items ++ n ∷ []) c.byte_count.ensures.count
     ∙ ap (λ (m : AndOr). old.lengths.items ++ length (relation_bytes (packed_relation m relation)) ∷ []) c.mark.ensures in
     holds_joined old _ c.args.is_after_or before relation bytes lengths h
