@@ -24,11 +24,7 @@ pub(crate) fn key_of(category: PluralCategory) -> Option<u8>
     ensures { result ≡ category_key category }
 {
     match category {
-        PluralCategory::Zero => Some(ZERO),
-        PluralCategory::One => Some(ONE),
-        PluralCategory::Two => Some(TWO),
-        PluralCategory::Few => Some(FEW),
-        PluralCategory::Many => Some(MANY),
         PluralCategory::Other => None,
+        _ => Some(category as u8),
     }
 }
