@@ -229,11 +229,12 @@ impl<T> PluralElements<T> {
     fn of_category(&self, category: PluralCategory) -> &T
         ensures { result.now ≡ of_category self.now category }
     {
+        let other = &self.other;
         at_category!(
             self,
             category,
-            |value| value.as_ref().unwrap_or(&self.other),
-            &self.other
+            |value| value.as_ref().unwrap_or(other),
+            other
         )
     }
 }
