@@ -1,7 +1,7 @@
-//! The eight places of elements, spelled once: other, zero, one, two, few, many, explicit zero,
-//! explicit one. What the macros do is done in this order.
+//! The eight places of elements, spelled once. The macros take them in this order: other, zero,
+//! one, two, few, many, explicit zero, explicit one.
 
-/// Elements with a value of other and no further one, as a value or as a pattern.
+/// Elements with a value of other alone: a value, or a pattern.
 macro_rules! only_other {
     ($other:ident) => {
         $crate::PluralElements {
@@ -17,9 +17,9 @@ macro_rules! only_other {
     };
 }
 
-/// Makes elements: the value of other is what the first expression gives, and each further place
-/// what the second one gives. An expression has a name for what stands in its place of the elements
-/// that are named, moved or, behind a `&`, a reference to it; where none are, for the place's key.
+/// Makes elements: the first expression gives the value of other, and the second one each further
+/// place. Where other elements are given, each names what stands there: itself, which is moved, or,
+/// behind a `&`, a reference to it. Else each names the key of its place in JSON.
 macro_rules! make_elements {
     (@each |$value:ident| $first:expr, |$place:ident| $next:expr,
         $other:expr, $zero:expr, $one:expr, $two:expr, $few:expr, $many:expr,
@@ -75,8 +75,8 @@ macro_rules! make_elements {
     };
 }
 
-/// Does something with a reference to the value of other, and something with one to each further
-/// place. Behind a `&mut` the references may change what they refer to.
+/// Does the first step for a reference to the value of other, and the second one for a reference to
+/// each further place. Behind a `&mut` a step may change what it gets.
 macro_rules! for_places {
     (@each |$value:ident| $first:expr, |$place:ident| $next:expr,
         $other:expr, $zero:expr, $one:expr, $two:expr, $few:expr, $many:expr,
