@@ -6,10 +6,12 @@ ghost use Rattle.icu_plurals.specs.Elements.{only_other, each_by, of_category, e
 mod for_each;
 mod for_each_mut;
 mod map;
+pub(crate) mod places;
 mod try_clone;
 mod with_values;
 
-use plural_base::{PluralCategory, PluralRules};
+use crate::elements::places::{make_elements, only_other};
+use plural_base::{PluralCategory, PluralRules, at_category};
 use plural_reference::PluralOperands;
 use std::marker::Model;
 
@@ -84,16 +86,7 @@ impl<T> PluralElements<T> {
     pub fn new(other: T) -> PluralElements<T>
         ensures { result ≡ only_other other }
     {
-        PluralElements {
-            other,
-            zero: None,
-            one: None,
-            two: None,
-            few: None,
-            many: None,
-            explicit_zero: None,
-            explicit_one: None,
-        }
+        only_other!(other)
     }
 
     /// Returns the value of [`PluralCategory::Zero`], or that of other.
@@ -142,14 +135,7 @@ impl<T> PluralElements<T> {
     pub fn has_value_of(&self, category: PluralCategory) -> bool
         ensures { result ≡ has_value_of self.now category }
     {
-        match category {
-            PluralCategory::Zero => self.zero.is_some(),
-            PluralCategory::One => self.one.is_some(),
-            PluralCategory::Two => self.two.is_some(),
-            PluralCategory::Few => self.few.is_some(),
-            PluralCategory::Many => self.many.is_some(),
-            PluralCategory::Other => true,
-        }
+        at_category!(self, category, |value| value.is_some(), true)
     }
 
     /// Returns the value of other, if no other value is present.
@@ -168,16 +154,7 @@ impl<T> PluralElements<T> {
         ensures only { (x : T) → self ≡ only_other x → result ≡ Some x }
     {
         match self {
-            PluralElements {
-                other,
-                zero: None,
-                one: None,
-                two: None,
-                few: None,
-                many: None,
-                explicit_zero: None,
-                explicit_one: None,
-            } => Some(other),
+            only_other!(other) => Some(other),
             _ => None,
         }
     }
@@ -200,16 +177,7 @@ impl<T> PluralElements<T> {
     pub fn as_ref(&self) -> PluralElements<&T>
         ensures { each_by (λ x. x.now) result ≡ self.now }
     {
-        PluralElements {
-            other: &self.other,
-            zero: self.zero.as_ref(),
-            one: self.one.as_ref(),
-            two: self.two.as_ref(),
-            few: self.few.as_ref(),
-            many: self.many.as_ref(),
-            explicit_zero: self.explicit_zero.as_ref(),
-            explicit_one: self.explicit_one.as_ref(),
-        }
+        make_elements!(&self, |value| value, |value| value.as_ref())
     }
 
     /// Returns the value for a number: the explicit one if the operands are exactly 0 or 1 and it
@@ -261,13 +229,12 @@ impl<T> PluralElements<T> {
     fn of_category(&self, category: PluralCategory) -> &T
         ensures { result.now ≡ of_category self.now category }
     {
-        match category {
-            PluralCategory::Zero => self.zero(),
-            PluralCategory::One => self.one(),
-            PluralCategory::Two => self.two(),
-            PluralCategory::Few => self.few(),
-            PluralCategory::Many => self.many(),
-            PluralCategory::Other => &self.other,
-        }
+        let other = &self.other;
+        at_category!(
+            self,
+            category,
+            |value| value.as_ref().unwrap_or(other),
+            other
+        )
     }
 }

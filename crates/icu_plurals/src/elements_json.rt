@@ -13,10 +13,11 @@ ghost use Rattle.icu_plurals.specs.PackedElements.{PackedElements, elements_of};
 
 use crate::cow::PluralElementsPackedCow;
 use crate::elements::PluralElements;
+use crate::elements::places::make_elements;
 use crate::packed::PluralElementsPackedULE;
 use crate::packed::metadata::FourBitMetadata;
 use packed_list::laws::read_again;
-use plural_base::{ElementsPackError, JsonError, holds_float};
+use plural_base::{ElementsPackError, JsonError, for_five, holds_float};
 use serde_json::{Map, Value, json};
 use std::alloc::{AllocError, Global};
 
@@ -124,45 +125,10 @@ fn packed(
 fn read_elements(value: &Value) -> Option<PluralElements<(FourBitMetadata, &str)>>
     ensures { option_map (each_by lent_value) result ≡ elements_in_json (view value.now) }
 {
-    let other = read_value(value.get("other")?);
-    let zero = read_optional(value.get("zero"));
-    let one = read_optional(value.get("one"));
-    let two = read_optional(value.get("two"));
-    let few = read_optional(value.get("few"));
-    let many = read_optional(value.get("many"));
-    let explicit_zero = read_optional(value.get("explicit_zero"));
-    let explicit_one = read_optional(value.get("explicit_one"));
-    match (
-        other,
-        zero,
-        one,
-        two,
-        few,
-        many,
-        explicit_zero,
-        explicit_one,
-    ) {
-        (
-            Some(other),
-            Some(zero),
-            Some(one),
-            Some(two),
-            Some(few),
-            Some(many),
-            Some(explicit_zero),
-            Some(explicit_one),
-        ) => Some(PluralElements {
-            other,
-            zero,
-            one,
-            two,
-            few,
-            many,
-            explicit_zero,
-            explicit_one,
-        }),
-        _ => None,
-    }
+    Some(make_elements!(
+        |key| read_value(value.get(key)?)?,
+        |key| read_optional(value.get(key))?
+    ))
 }
 
 // A value that may be absent or null.
@@ -246,11 +212,10 @@ fn put_categories(
         ≡ with_value (codes "many") values.many (with_value (codes "few") values.few (with_value (codes "two") values.two
         (with_value (codes "one") values.one (with_value (codes "zero") values.zero (members_view members.old.entries)))))) }
 {
-    put_value(alloc, members, "zero", &elements.zero)?;
-    put_value(alloc, members, "one", &elements.one)?;
-    put_value(alloc, members, "two", &elements.two)?;
-    put_value(alloc, members, "few", &elements.few)?;
-    put_value(alloc, members, "many", &elements.many)
+    for_five!(elements, |value, category| {
+        put_value(alloc, members, category.as_str(), value)?
+    });
+    Ok(())
 }
 
 // Puts a value that is present under its key.

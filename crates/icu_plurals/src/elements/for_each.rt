@@ -6,6 +6,7 @@ ghost use Rattle.icu_plurals.specs.Elements.{values_in_order};
 ghost use Rattle.icu_plurals.specs.ElementCalls.{VisitsAt, VisitsEach, RefusesAt, StopsAt};
 
 use super::PluralElements;
+use super::places::for_places;
 
 impl<T> PluralElements<T> {
     /// Calls the closure for other, zero, one, two, few, many, explicit zero and explicit one, in
@@ -59,14 +60,12 @@ impl<T> PluralElements<T> {
         ensures ok { OnOk result ((last : F) × VisitsEach (λ p x y q. CalledAt F.FnMut p x (Ok y) q) f (values_in_order self.now) last) }
         ensures err { IfErr result (λ e. (last : F) × StopsAt (CalledAt F.FnMut) f (values_in_order self.now) e last) }
     {
-        f(&self.other)?;
-        try_visit_place(&self.zero, &mut f)?;
-        try_visit_place(&self.one, &mut f)?;
-        try_visit_place(&self.two, &mut f)?;
-        try_visit_place(&self.few, &mut f)?;
-        try_visit_place(&self.many, &mut f)?;
-        try_visit_place(&self.explicit_zero, &mut f)?;
-        try_visit_place(&self.explicit_one, &mut f)
+        for_places!(
+            &self,
+            |value| f(value)?,
+            |place| try_visit_place(place, &mut f)?
+        );
+        Ok(())
     }
 
     // Calls with the values that are present, and no others.
@@ -74,14 +73,7 @@ impl<T> PluralElements<T> {
         requires { F.IsAlwaysCallable f.old }
         ensures { VisitsEach (CalledAt F.FnMut) f.old (values_in_order self.now) f.new }
     {
-        f(&self.other);
-        visit_place(&self.zero, f);
-        visit_place(&self.one, f);
-        visit_place(&self.two, f);
-        visit_place(&self.few, f);
-        visit_place(&self.many, f);
-        visit_place(&self.explicit_zero, f);
-        visit_place(&self.explicit_one, f);
+        for_places!(&self, |value| f(value), |place| visit_place(place, f));
     }
 }
 

@@ -6,6 +6,7 @@ ghost use Rattle.icu_plurals.specs.Elements.{values_in_order};
 ghost use Rattle.icu_plurals.specs.ElementCalls.{CallsAt, CallsEach, Changes, ChangesTo, RefusesChanging, StopsAtChanging};
 
 use super::PluralElements;
+use super::places::for_places;
 
 impl<T> PluralElements<T> {
     /// Calls the closure, which may change the value that it gets, for other, zero, one, two, few,
@@ -28,14 +29,11 @@ impl<T> PluralElements<T> {
         requires { F.IsAlwaysCallable f }
         ensures { (last : F) × CallsEach (Changes (CalledAtMut F.FnMut)) f (values_in_order self.old) (values_in_order self.new) last }
     {
-        f(&mut self.other);
-        change_place(&mut self.zero, &mut f);
-        change_place(&mut self.one, &mut f);
-        change_place(&mut self.two, &mut f);
-        change_place(&mut self.few, &mut f);
-        change_place(&mut self.many, &mut f);
-        change_place(&mut self.explicit_zero, &mut f);
-        change_place(&mut self.explicit_one, &mut f);
+        for_places!(
+            &mut self,
+            |value| f(value),
+            |place| change_place(place, &mut f)
+        );
     }
 
     /// As [`PluralElements::for_each_mut`] up to the first `Err` of the closure, which is then the
@@ -72,14 +70,12 @@ impl<T> PluralElements<T> {
         ensures ok { OnOk result ((last : F) × CallsEach (ChangesTo (CalledAtMut F.FnMut)) f (values_in_order self.old) (values_in_order self.new) last) }
         ensures err { IfErr result (λ e. (last : F) × StopsAtChanging (CalledAtMut F.FnMut) f (values_in_order self.old) (values_in_order self.new) e last) }
     {
-        f(&mut self.other)?;
-        try_change_place(&mut self.zero, &mut f)?;
-        try_change_place(&mut self.one, &mut f)?;
-        try_change_place(&mut self.two, &mut f)?;
-        try_change_place(&mut self.few, &mut f)?;
-        try_change_place(&mut self.many, &mut f)?;
-        try_change_place(&mut self.explicit_zero, &mut f)?;
-        try_change_place(&mut self.explicit_one, &mut f)
+        for_places!(
+            &mut self,
+            |value| f(value)?,
+            |place| try_change_place(place, &mut f)?
+        );
+        Ok(())
     }
 }
 

@@ -5,6 +5,7 @@ ghost use Rattle.icu_plurals.specs.Elements.{values_in_order};
 ghost use Rattle.icu_plurals.specs.ElementCalls.{CallsAt, CallsEach, RefusesAt, StopsAt};
 
 use super::PluralElements;
+use super::places::make_elements;
 
 impl<T> PluralElements<T> {
     /// Returns the closure's results for the values, at the same keys. It is called for other,
@@ -28,16 +29,7 @@ impl<T> PluralElements<T> {
         requires { F.IsAlwaysCallable f }
         ensures { (last : F) × CallsEach (λ p x y q. F.step p x y q) f (values_in_order self) (values_in_order result) last }
     {
-        PluralElements {
-            other: f(self.other),
-            zero: map_place(self.zero, &mut f),
-            one: map_place(self.one, &mut f),
-            two: map_place(self.two, &mut f),
-            few: map_place(self.few, &mut f),
-            many: map_place(self.many, &mut f),
-            explicit_zero: map_place(self.explicit_zero, &mut f),
-            explicit_one: map_place(self.explicit_one, &mut f),
-        }
+        make_elements!(self, |value| f(value), |place| map_place(place, &mut f))
     }
 
     /// As [`PluralElements::map`] up to the first `Err` of the closure, which is then the result;
@@ -67,16 +59,11 @@ impl<T> PluralElements<T> {
         ensures ok { IfOk result (λ made. (last : F) × CallsEach (λ p x y q. F.step p x (Ok y) q) f (values_in_order self) (values_in_order made) last) }
         ensures err { IfErr result (λ e. (last : F) × StopsAt (λ p x y q. F.step p x y q) f (values_in_order self) e last) }
     {
-        Ok(PluralElements {
-            other: f(self.other)?,
-            zero: try_map_place(self.zero, &mut f)?,
-            one: try_map_place(self.one, &mut f)?,
-            two: try_map_place(self.two, &mut f)?,
-            few: try_map_place(self.few, &mut f)?,
-            many: try_map_place(self.many, &mut f)?,
-            explicit_zero: try_map_place(self.explicit_zero, &mut f)?,
-            explicit_one: try_map_place(self.explicit_one, &mut f)?,
-        })
+        Ok(make_elements!(
+            self,
+            |value| f(value)?,
+            |place| try_map_place(place, &mut f)?
+        ))
     }
 }
 

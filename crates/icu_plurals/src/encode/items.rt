@@ -12,6 +12,7 @@ use crate::packed::keys;
 use crate::packed::metadata::FourBitMetadata;
 use arrayvec::ArrayVec;
 use packed_list::ByteItem;
+use plural_base::for_five;
 use std::alloc::AllocError;
 
 // An item of packed elements: the byte of its key and its metadata, and its text.
@@ -45,11 +46,9 @@ pub(crate) fn items_of<'a>(
 {
     let other = elements.other();
     let mut items = ArrayVec::new();
-    push_category(&mut items, keys::ZERO, &elements.zero, other);
-    push_category(&mut items, keys::ONE, &elements.one, other);
-    push_category(&mut items, keys::TWO, &elements.two, other);
-    push_category(&mut items, keys::FEW, &elements.few, other);
-    push_category(&mut items, keys::MANY, &elements.many, other);
+    for_five!(elements, |value, category| {
+        push_category(&mut items, category as u8, value, other);
+    });
     push_explicit(&mut items, keys::EXPLICIT_ZERO, &elements.explicit_zero);
     push_explicit(&mut items, keys::EXPLICIT_ONE, &elements.explicit_one);
     items

@@ -19,16 +19,13 @@ pub(crate) const EXPLICIT_ZERO: u8 = 5;
 
 pub(crate) const EXPLICIT_ONE: u8 = 6;
 
-// The key of a category's value; the value of other is the default.
+// The key of a category's value, which is the category's number. The value of other is the default
+// and has none.
 pub(crate) fn key_of(category: PluralCategory) -> Option<u8>
     ensures { result ≡ category_key category }
 {
     match category {
-        PluralCategory::Zero => Some(ZERO),
-        PluralCategory::One => Some(ONE),
-        PluralCategory::Two => Some(TWO),
-        PluralCategory::Few => Some(FEW),
-        PluralCategory::Many => Some(MANY),
         PluralCategory::Other => None,
+        _ => Some(category as u8),
     }
 }

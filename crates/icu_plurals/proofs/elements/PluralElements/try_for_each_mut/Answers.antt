@@ -1,5 +1,5 @@
 use Rattle.std.proofs.Common.{refl}
-use Rattle.std.proofs.lemmas.Result.{err_from_is_err_and, on_ok_weaker, IfOk-at_ok, IfErr-at_err, IfErr-weaker}
+use Rattle.std.proofs.lemmas.Result.{err_from_is_err_and, IfOk-at_ok, IfErr-at_err}
 use Rattle.icu_plurals.proofs.ReferenceCalls.{lent_ok, lent_err}
 use Rattle.icu_plurals.proofs.Stops.{stops_here_changing, stops_later_changing}
 use Rattle.icu_plurals.proofs.elements.PluralElements.try_for_each_mut.Goals as goal
@@ -79,8 +79,23 @@ returns-in_err-try_change_place-6-clause-err g c =
           (stops_here_changing _ _ _ _ _ _ _ c.in_err-try_change_place-6.ensures.err)))))),
     )
 
+pub returns-in_err-try_change_place-7-clause-err : goal.returns-in_err-try_change_place-7-clause-err
+returns-in_err-try_change_place-7-clause-err g c =
+    let p = err_from_is_err_and c.from_residual-in_err-try_change_place-7.result c.from_residual-in_err-try_change_place-7.ensures.1 in
+    rw (p.1, p.2, ← c.self.view_is) (
+      c.try_change_place-7.new.f,
+      stops_later_changing _ _ _ _ _ _ _ _ _ (IfOk-at_ok _ c.in_ok-f.was (lent_ok _ _ _ _ _ _ c.f.ensures))
+          (stops_later_changing _ _ _ _ _ _ _ _ _ c.in_ok-try_change_place.ensures.ok
+          (stops_later_changing _ _ _ _ _ _ _ _ _ c.in_ok-try_change_place-2.ensures.ok
+          (stops_later_changing _ _ _ _ _ _ _ _ _ c.in_ok-try_change_place-3.ensures.ok
+          (stops_later_changing _ _ _ _ _ _ _ _ _ c.in_ok-try_change_place-4.ensures.ok
+          (stops_later_changing _ _ _ _ _ _ _ _ _ c.in_ok-try_change_place-5.ensures.ok
+          (stops_later_changing _ _ _ _ _ _ _ _ _ c.in_ok-try_change_place-6.ensures.ok
+          (stops_here_changing _ _ _ _ _ _ _ c.in_err-try_change_place-7.ensures.err))))))),
+    )
+
 pub returns-clause-ok : goal.returns-clause-ok
-returns-clause-ok g c = rw (← c.self.view_is) (on_ok_weaker c.try_change_place-7.result (λ called. (
+returns-clause-ok g c = rw (← c.self.view_is) (
   c.try_change_place-7.new.f,
   (
     c.f.new.self,
@@ -103,7 +118,7 @@ returns-clause-ok g c = rw (← c.self.view_is) (on_ok_weaker c.try_change_place
               (
                 c.try_change_place-6.new.f,
                 c.in_ok-try_change_place-6.ensures.ok,
-                (c.try_change_place-7.new.f, called, refl),
+                (c.try_change_place-7.new.f, c.in_ok-try_change_place-7.ensures.ok, refl),
               ),
             ),
           ),
@@ -111,17 +126,4 @@ returns-clause-ok g c = rw (← c.self.view_is) (on_ok_weaker c.try_change_place
       ),
     ),
   ),
-)) c.try_change_place-7.ensures.ok)
-
-pub returns-clause-err : goal.returns-clause-err
-returns-clause-err g c = rw (← c.self.view_is) (IfErr-weaker c.try_change_place-7.result _ _ (λ e refused. (
-  c.try_change_place-7.new.f,
-  stops_later_changing _ _ _ _ _ _ _ _ _ (IfOk-at_ok _ c.in_ok-f.was (lent_ok _ _ _ _ _ _ c.f.ensures))
-      (stops_later_changing _ _ _ _ _ _ _ _ _ c.in_ok-try_change_place.ensures.ok
-      (stops_later_changing _ _ _ _ _ _ _ _ _ c.in_ok-try_change_place-2.ensures.ok
-      (stops_later_changing _ _ _ _ _ _ _ _ _ c.in_ok-try_change_place-3.ensures.ok
-      (stops_later_changing _ _ _ _ _ _ _ _ _ c.in_ok-try_change_place-4.ensures.ok
-      (stops_later_changing _ _ _ _ _ _ _ _ _ c.in_ok-try_change_place-5.ensures.ok
-      (stops_later_changing _ _ _ _ _ _ _ _ _ c.in_ok-try_change_place-6.ensures.ok
-      (stops_here_changing _ _ _ _ _ _ _ refused))))))),
-)) c.try_change_place-7.ensures.err)
+)
