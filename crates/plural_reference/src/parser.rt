@@ -199,6 +199,7 @@ impl<'p> Parser<'p> {
     }
 
     // range_list = item (Comma item)*, put into an empty list
+    #[inline(always)]
     fn range_list(&mut self, items: Vec<RangeListItem>) -> Result<RangeList, ReadError>
         requires { items.items ≡ [] }
         ensures shorter { length self.new ≤ length self.old }
@@ -264,6 +265,7 @@ impl<'p> Parser<'p> {
     }
 
     // relation = expr Operator range_list
+    #[inline(always)]
     fn relation<S: RelationSink>(
         &mut self,
         alloc: Global,

@@ -133,6 +133,7 @@ fn is_large(value: &ast::Value) -> bool
 
 // Items that are relations as a list that can be packed, if none of them starts after place 65535.
 // If they are more than 65535, one does.
+#[inline(always)]
 fn list_of<I: ByteItems>(items: I) -> Option<ListWriter<I>>
     requires { (relations : List PackedRelation) × (I.items items ≡ map relation_bytes relations) }
     ensures ok { IfSome result (λ list. list ≡ I.items items) }

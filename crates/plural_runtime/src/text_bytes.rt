@@ -60,7 +60,7 @@ impl RelationSink for TextRelations {
 
     ghost holds = { HoldsPacked };
 
-    #[inline]
+    #[inline(always)]
     fn ranges(&mut self, alloc: Global) -> Result<Vec<RangeListItem>, AllocError> {
         if self.lengths.is_empty() {
             self.bytes.reserve(BYTE_ROOM)?;
@@ -71,7 +71,7 @@ impl RelationSink for TextRelations {
         Ok(ranges)
     }
 
-    #[inline]
+    #[inline(always)]
     fn take(
         &mut self,
         _alloc: Global,

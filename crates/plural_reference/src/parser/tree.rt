@@ -54,10 +54,12 @@ impl RelationSink for Tree {
 
     ghost holds = { HoldsTree };
 
+    #[inline(always)]
     fn ranges(&mut self, alloc: Global) -> Result<Vec<RangeListItem>, AllocError> {
         Vec::with_capacity(alloc, ROOM)
     }
 
+    #[inline(always)]
     fn take(
         &mut self,
         alloc: Global,
