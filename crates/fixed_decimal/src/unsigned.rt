@@ -371,11 +371,11 @@ impl UnsignedDecimal {
         }
     }
 
-    /// Rounds to a multiple of `10^position`: `1.257` at -2 is `1.26`, and at -4 `1.2570`; `1257` at
-    /// 2 is `1300`. It is written without leading zeros, 0 as one digit, and with a fraction down to
-    /// `10^position`, none from position 0 on. Without a sign, `Ceil` is `Expand` and `Floor` is
-    /// `Trunc`. `Limit` if a side would have more than 32767 places, as the fraction at -32768; the
-    /// number is then unchanged. It allocates nothing.
+    /// Rounds to a multiple of `10^position`: `1.257` at -2 is `1.26`, and at -4 `1.2570`; `1257`
+    /// at 2 is `1300`. It is written without leading zeros, 0 as one digit, and with a fraction
+    /// down to `10^position`, none from position 0 on. Without a sign, `Ceil` is `Expand` and
+    /// `Floor` is `Trunc`. `Limit` if a side would have more than 32767 places, as the fraction at
+    /// -32768; the number is then unchanged. It allocates nothing.
     pub fn round_with_mode(&mut self, position: i16, mode: RoundingMode) -> Result<(), DecimalError>
         ensures rounded { OnOk result (IsRounded mode position self.old self.new) }
         ensures limit { (result ≡ Err DecimalError.Limit)

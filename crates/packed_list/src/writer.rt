@@ -70,8 +70,8 @@ impl<I: ByteItems> ListWriter<I> {
         2 * self.count + self.total
     }
 
-    /// Appends the list to the bytes. If memory runs out, what stood there stays, and some bytes may
-    /// follow.
+    /// Appends the list to the bytes. If memory runs out, what stood there stays, and some bytes
+    /// may follow.
     pub fn write_to(&self, bytes: &mut Vec<u8>) -> Result<(), AllocError>
         ensures written { OnOk result (bytes.new.items ≡ bytes.old.items ++ list_bytes self.now) }
         ensures kept { OnErr result (StaysInFront bytes.old.items bytes.new.items) }

@@ -1,10 +1,11 @@
 -- Not a definition of the subject: how the stored digits of a number are rounded, for private
 -- contracts. The digits end with one that isn't 0; so many of them, from the first on, are at the
--- place or above, which is `kept`, or all are below it, and so many zeros are between, which is `gap`.
+-- place or above, which is `kept`, or all are below it, and so many zeros are between, which is
+-- `gap`.
 --     IsRest rest r unit      what is cut is r, of a unit of the place
 --     goes_up mode rest odd      whether the mode takes the multiple above
---     IsRoundedEnd mode ds kept gap end up      the first `end` digits stay, and the last of them is
---         one more if it goes up, or 1 is before them if none stays
+--     IsRoundedEnd mode ds kept gap end up      the first `end` digits stay, and the last of them
+--         is one more if it goes up, or 1 is before them if none stays
 use Rattle.std.specs.Prelude.{◌≡◌, ◌≢◌, ℕ, zero, suc, ◌+◌, ◌-◌, ◌*◌, ◌%◌, ◌^◌, ◌<◌, ◌≤◌, Bool, true, false, if◌then◌else◌, List, [], ◌∷◌}
 use Rattle.std.specs.Prelude.{◌++◌, eqb, length, take, drop, slice_index}
 use Rattle.fixed_decimal.specs.Digits.{value_of}
