@@ -8,6 +8,9 @@
 use Rattle.std.specs.Prelude.{ℕ, List, [], ◌∷◌, ◌++◌, Bool, if◌then◌else◌, Result, Ok, Err, MatchResult}
 use Rattle.plural_reference.specs.declared.ast.AndCondition.{AndCondition}
 use Rattle.plural_reference.specs.declared.ast.Condition.{Condition}
+use Rattle.plural_reference.specs.declared.ast.Expression.{Expression}
+use Rattle.plural_reference.specs.declared.ast.Operator.{Operator}
+use Rattle.plural_reference.specs.declared.ast.RangeListItem.{RangeListItem}
 use Rattle.plural_reference.specs.declared.ast.Relation.{Relation}
 use Rattle.plural_reference.specs.declared.error.ReadError.{ReadError}
 use Rattle.plural_reference.specs.Reading.{AnswersExactly}
@@ -28,6 +31,9 @@ with_relation b r = record { groups = b.groups; relations = b.relations ++ r ∷
 -- the open and-condition is complete
 abbrev pub with_group : Before → Before
 with_group b = record { groups = b.groups ++ (record { 0 = b.relations }) ∷ []; relations = [] }
+
+abbrev pub relation_of_parts : Expression → Operator → List RangeListItem → Relation
+relation_of_parts e op ranges = record { expression = e; operator = op; range_list = record { 0 = ranges } }
 
 abbrev pub joined : Bool → Before → Relation → Before
 joined is_after_or b r = with_relation (if is_after_or then with_group b else b) r

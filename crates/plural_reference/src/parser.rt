@@ -6,7 +6,7 @@ pub(crate) mod sink;
 mod tree;
 mod whole;
 
-ghost use Rattle.std.specs.Prelude.{◌≡◌, ◌≢◌, ◌∷◌, [], Some, None, Ok, Err, length, ◌≤◌, IfOk, MatchBool, MatchOption, MatchResult};
+ghost use Rattle.std.specs.Prelude.{◌≡◌, ◌≢◌, ◌∷◌, [], List, Some, None, Ok, Err, length, ◌≤◌, IfOk, MatchBool, MatchOption, MatchResult};
 ghost use Rattle.plural_reference.specs.declared.token.Token.TheVariants as token;
 ghost use Rattle.plural_reference.specs.declared.token.Token.TheVariants.{And, Comma, Or};
 ghost use Rattle.plural_reference.specs.Lexer.{AreTokensOf, first};
@@ -14,13 +14,11 @@ ghost use Rattle.plural_reference.specs.Parser.{Reads, Faulty, operand_of, value
 ghost use Rattle.plural_reference.specs.declared.error.ParseError.TheVariants.{ExpectedValue};
 ghost use Rattle.plural_reference.specs.Samples.{ReadsRule, ReadsCondition, FaultyRule};
 ghost use Rattle.plural_reference.specs.Reading.{AnswersExactly, IsAnswer};
-ghost use Rattle.plural_reference.specs.Inner.Reader.{run, begin, joint, expected_behind, TakesValue, NoValue, TakesOperand, NoOperand, NoOperator, ReadsItem, ReadsItems, ReadsExpression, ReadsRelation, ReadsOption, FailsAtItem, FailsAtItems, FailsAtOperand};
+ghost use Rattle.plural_reference.specs.Inner.Reader.{run, begin, joint, expected_behind, TakesValue, NoValue, TakesOperand, NoOperand, NoOperator, ReadsItem, ReadsItems, ReadsExpression, ReadsParts, ReadsOption, FailsAtItem, FailsAtItems, FailsAtOperand};
+ghost use Rattle.plural_reference.specs.declared.ast.RangeListItem.{RangeListItem as Item};
 ghost use Rattle.plural_reference.specs.RelationSinks.{Before, nothing, condition_of, IsReadBy};
 
-use crate::ast::{
-    AndCondition, Condition, Expression, Operand, Operator, RangeList, RangeListItem, Relation,
-    Rule, Value,
-};
+use crate::ast::{Condition, Expression, Operand, Operator, RangeListItem, Rule, Value};
 use crate::error::{ParseError, ReadError};
 use crate::lexer::first_token;
 use crate::parser::front::{behind, behind_spaces, number_at, operator_at};
@@ -89,8 +87,8 @@ pub fn read_relations<S: RelationSink>(
     text: &[u8],
     sink: &mut S,
 ) -> Result<(), ReadError>
-    requires { S.holds sink.old nothing }
-    ensures { IsReadBy S.holds text.now sink.new result }
+    requires { S.holds sink.old nothing [] }
+    ensures { IsReadBy (λ s before. S.holds s before []) text.now sink.new result }
 {
     let mut parser = Parser::new(text);
     parser.relations(alloc, sink)?;
@@ -198,22 +196,23 @@ impl<'p> Parser<'p> {
         }
     }
 
-    // range_list = item (Comma item)*, put into an empty list
+    // range_list = item (Comma item)*
     #[inline(always)]
-    fn range_list(&mut self, items: Vec<RangeListItem>) -> Result<RangeList, ReadError>
-        requires { items.items ≡ [] }
+    fn range_list<S: RelationSink>(&mut self, alloc: Global, sink: &mut S) -> Result<(), ReadError>
         ensures shorter { length self.new ≤ length self.old }
         ensures list { IsAnswer
-            (λ list. ReadsItems self.old list.0 self.new × (first self.new ≢ Some Comma))
+            (λ _. (items : List Item) × ReadsItems self.old items self.new × (first self.new ≢ Some Comma)
+            × ((before : Before) → S.holds sink.old before [] → S.holds sink.new before items))
             (FailsAtItems self.old)
             result }
     {
-        let mut items = items;
-        items.push(self.item()?)?;
-        while self.take_if(Token::Comma) {
-            items.push(self.item()?)?;
+        let first = self.item()?;
+        sink.push(alloc, first)?;
+        'items: while self.take_if(Token::Comma) {
+            let next = self.item()?;
+            sink.push(alloc, next)?;
         }
-        Ok(RangeList(Sequence(items)))
+        Ok(())
     }
 
     // Takes the operand that begins a relation, unless the tokens end or At comes.
@@ -270,22 +269,20 @@ impl<'p> Parser<'p> {
         &mut self,
         alloc: Global,
         sink: &mut S,
-    ) -> Result<Option<Relation>, ReadError>
+    ) -> Result<Option<(Expression, Operator)>, ReadError>
         ensures shorter { length self.new ≤ length self.old }
-        ensures relation { IsAnswer (λ r. ReadsOption ReadsRelation self.old r self.new) (FailsAtOperand self.old) result }
-        ensures kept { (before : Before) → S.holds sink.old before → S.holds sink.new before }
+        ensures relation { IsAnswer
+            (λ r. (items : List Item) × ReadsParts self.old r items self.new
+            × ((before : Before) → S.holds sink.old before [] → S.holds sink.new before items))
+            (FailsAtOperand self.old)
+            result }
     {
         let Some(expression) = self.expression()? else {
             return Ok(None);
         };
         let operator = self.operator()?;
-        let items = sink.ranges(alloc)?;
-        let range_list = self.range_list(items)?;
-        Ok(Some(Relation {
-            expression,
-            operator,
-            range_list,
-        }))
+        self.range_list(alloc, sink)?;
+        Ok(Some((expression, operator)))
     }
 
     // Takes `and` or `or` if one comes next: whether it is `or`.
@@ -306,21 +303,21 @@ impl<'p> Parser<'p> {
 
     // condition = relation ((And | Or) relation)*, or nothing
     fn relations<S: RelationSink>(&mut self, alloc: Global, sink: &mut S) -> Result<(), ReadError>
-        requires { S.holds sink.old nothing }
+        requires { S.holds sink.old nothing [] }
         ensures { IsAnswer
-            (λ _. (before : Before) × S.holds sink.new before × (run begin self.old ≡ Ok (condition_of before, self.new)))
+            (λ _. (before : Before) × S.holds sink.new before [] × (run begin self.old ≡ Ok (condition_of before, self.new)))
             (λ e. run begin self.old ≡ Err e)
             result }
     {
-        let Some(relation) = self.relation(alloc, sink)? else {
+        let Some((expression, operator)) = self.relation(alloc, sink)? else {
             return Ok(());
         };
-        sink.take(alloc, relation, false)?;
+        sink.take(alloc, expression, operator, false)?;
         'joints: while let Some(is_after_or) = self.joint() {
-            let Some(next) = self.relation(alloc, sink)? else {
+            let Some((expression, operator)) = self.relation(alloc, sink)? else {
                 return Err(ReadError::Parse(expected_behind(is_after_or)));
             };
-            sink.take(alloc, next, is_after_or)?;
+            sink.take(alloc, expression, operator, is_after_or)?;
         }
         Ok(())
     }

@@ -18,7 +18,7 @@ use Rattle.plural_reference.specs.declared.token.Token.TheVariants.{Operator, Do
 use Rattle.plural_reference.specs.Parser.{token_value, operand_of, value_fault, operand_fault, operator_fault, IsUnconditional}
 use Rattle.plural_reference.specs.declared.token.Token.TheVariants as token
 use Rattle.plural_reference.specs.Lexer.{first}
-use Rattle.plural_reference.specs.RelationSinks.{Before, nothing, with_relation, with_group}
+use Rattle.plural_reference.specs.RelationSinks.{Before, nothing, with_relation, with_group, relation_of_parts}
 
 -- what is complete of the relation that is being read
 pub record Opened : Type 0 where
@@ -205,6 +205,11 @@ expected_behind true = ExpectedAndCondition
 -- a relation is read wherever one is expected
 abbrev pub ReadsRelation : List Token → Relation → List Token → Type 0
 ReadsRelation old r new = (b : Before) → Completes (before_operand b) old (with_relation b r) new
+
+-- a relation with these parts and items is read, or no operand begins one and nothing is taken
+abbrev pub ReadsParts : List Token → Option (Expression × operator.Operator) → List RangeListItem → List Token → Type 0
+ReadsParts old None items new = IsUnconditional old × (new ≡ old) × (items ≡ [])
+ReadsParts old (Some (e, op)) items new = ReadsRelation old (relation_of_parts e op items) new
 
 -- the reader stops with this fault wherever an item is expected
 abbrev pub FailsAtItem : List Token → ParseError → Type 0

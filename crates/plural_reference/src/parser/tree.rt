@@ -4,7 +4,9 @@ ghost use Rattle.std.specs.Prelude.{◌≡◌, ◌∷◌, [], IfOk};
 ghost use Rattle.plural_reference.specs.RelationSinks.{nothing, condition_of, Before};
 ghost use Rattle.plural_reference.specs.Inner.TreeSink.{HoldsTree};
 
-use crate::ast::{AndCondition, Condition, RangeListItem, Relation};
+use crate::ast::{
+    AndCondition, Condition, Expression, Operator, RangeList, RangeListItem, Relation,
+};
 use crate::parser::sink::RelationSink;
 use crate::sequence::Sequence;
 use std::alloc::{AllocError, Global};
@@ -13,27 +15,30 @@ use std::mem;
 // How many items a list has room for at first: all that most lists have.
 const ROOM: usize = 4;
 
-// The and-conditions that are complete, and the relations of the open one.
+// The and-conditions that are complete, the relations of the open one, and the ranges of the next
+// relation.
 #[derive(Drop)]
 pub(crate) struct Tree {
     groups: Vec<AndCondition>,
     relations: Vec<Relation>,
+    ranges: Vec<RangeListItem>,
 }
 
 impl Tree {
     // Nothing yet.
     pub(crate) fn new(alloc: Global) -> Tree
-        ensures { HoldsTree result nothing }
+        ensures { HoldsTree result nothing [] }
     {
         Tree {
             groups: Vec::new(alloc),
             relations: Vec::new(alloc),
+            ranges: Vec::new(alloc),
         }
     }
 
     // The condition that ends here.
     pub(crate) fn condition(self, alloc: Global) -> Result<Condition, AllocError>
-        ensures { IfOk result (λ c. (before : Before) → HoldsTree self before
+        ensures { IfOk result (λ c. (before : Before) → HoldsTree self before []
             → c ≡ condition_of before) }
     {
         if self.relations.is_empty() {
@@ -55,15 +60,19 @@ impl RelationSink for Tree {
     ghost holds = { HoldsTree };
 
     #[inline(always)]
-    fn ranges(&mut self, alloc: Global) -> Result<Vec<RangeListItem>, AllocError> {
-        Vec::with_capacity(alloc, ROOM)
+    fn push(&mut self, alloc: Global, range: RangeListItem) -> Result<(), AllocError> {
+        if self.ranges.is_empty() {
+            self.ranges = Vec::with_capacity(alloc, ROOM)?;
+        }
+        Ok(self.ranges.push(range)?)
     }
 
     #[inline(always)]
     fn take(
         &mut self,
         alloc: Global,
-        relation: Relation,
+        expression: Expression,
+        operator: Operator,
         is_after_or: bool,
     ) -> Result<(), AllocError> {
         if self.relations.is_empty() {
@@ -73,7 +82,14 @@ impl RelationSink for Tree {
             let group = mem::replace(&mut self.relations, Vec::with_capacity(alloc, ROOM)?);
             self.groups.push(AndCondition(Sequence(group)))?;
         }
-        Ok(self.relations.push(relation)?)
+        let ranges = mem::replace(&mut self.ranges, Vec::new(alloc));
+        Ok(
+            self.relations.push(Relation {
+                expression,
+                operator,
+                range_list: RangeList(Sequence(ranges)),
+            })?,
+        )
     }
 }
 
