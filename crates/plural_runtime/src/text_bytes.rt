@@ -1,45 +1,44 @@
 //! The relations of a text, packed as they are read.
 
-ghost use Rattle.std.specs.Prelude.{◌≡◌};
+ghost use Rattle.std.specs.Prelude.{◌≡◌, [], OnOk};
 ghost use Rattle.plural_reference.specs.RelationSinks.{nothing};
 ghost use Rattle.plural_runtime.specs.Inner.TextItems.{HoldsPacked, cut, mark};
 
+use crate::item::HEAD_LENGTH;
 use crate::kinds::AndOr;
-use crate::tree_bytes::TreeRelation;
-use packed_list::{ByteItem, ByteItems};
+use crate::tree_bytes::{head_of, range_of};
+use packed_list::ByteItems;
 use plural_reference::RelationSink;
-use plural_reference::ast::{RangeListItem, Relation};
+use plural_reference::ast::{Expression, Operator, RangeListItem};
 use smallvec::SmallVec;
 use std::alloc::{AllocError, Global};
-use std::mem;
 
 // For how many bytes there is room at first: all that most texts take.
 const BYTE_ROOM: usize = 128;
 
-// For how many ranges of a relation.
-const RANGE_ROOM: usize = 4;
-
 // How many lengths take no memory.
 const INLINE_LENGTHS: usize = 8;
 
-// The bytes of the relations, and how many each has.
+// How many bytes of ranges.
+const INLINE_BYTES: usize = 32;
+
+// The bytes of the relations, how many each has, and the bytes of the next one's ranges.
 #[derive(Drop)]
 pub(crate) struct TextRelations {
     bytes: Vec<u8>,
     lengths: SmallVec<usize, INLINE_LENGTHS>,
-    // A list for the ranges of the next relation, whose memory is used again.
-    ranges: Vec<RangeListItem>,
+    ranges: SmallVec<u8, INLINE_BYTES>,
 }
 
 impl TextRelations {
     // None yet.
     pub(crate) fn new(alloc: Global) -> TextRelations
-        ensures { HoldsPacked result nothing }
+        ensures { HoldsPacked result nothing [] }
     {
         TextRelations {
             bytes: Vec::new(alloc),
             lengths: SmallVec::new(alloc),
-            ranges: Vec::new(alloc),
+            ranges: SmallVec::new(alloc),
         }
     }
 
@@ -61,32 +60,39 @@ impl RelationSink for TextRelations {
     ghost holds = { HoldsPacked };
 
     #[inline(always)]
-    fn ranges(&mut self, alloc: Global) -> Result<Vec<RangeListItem>, AllocError> {
-        if self.lengths.is_empty() {
-            self.bytes.reserve(BYTE_ROOM)?;
-            self.ranges.reserve(RANGE_ROOM)?;
-        }
-        let mut ranges = mem::replace(&mut self.ranges, Vec::new(alloc));
-        ranges.clear();
-        Ok(ranges)
+    fn push(&mut self, _alloc: Global, range: RangeListItem) -> Result<(), AllocError> {
+        self.ranges.extend_from_slice(&range_of(&range))?;
+        Ok(())
     }
 
     #[inline(always)]
     fn take(
         &mut self,
         _alloc: Global,
-        relation: Relation,
+        expression: Expression,
+        operator: Operator,
         is_after_or: bool,
     ) -> Result<(), AllocError> {
-        let item = TreeRelation {
-            and_or: mark(is_after_or),
-            relation: &relation,
-        };
-        self.lengths.push(item.byte_count())?;
-        item.write_to(&mut self.bytes)?;
-        self.ranges = relation.range_list.0.into();
+        make_room(&mut self.bytes)?;
+        let start = self.bytes.as_slice().len();
+        let head = head_of(mark(is_after_or), operator, &expression);
+        self.bytes.extend_from_slice(&head)?;
+        self.bytes.extend_from_slice(self.ranges.as_slice())?;
+        self.lengths.push(self.bytes.as_slice().len() - start)?;
+        self.ranges.clear();
         Ok(())
     }
+}
+
+// Makes room for all that most texts take, unless there are bytes.
+#[inline(always)]
+fn make_room(bytes: &mut Vec<u8>) -> Result<(), AllocError>
+    ensures { OnOk result (bytes.new.items ≡ bytes.old.items) }
+{
+    if bytes.is_empty() {
+        bytes.reserve(BYTE_ROOM)?;
+    }
+    Ok(())
 }
 
 // The mark of a relation: after `or` it begins an and-condition.

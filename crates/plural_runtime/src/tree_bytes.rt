@@ -17,8 +17,8 @@ use std::alloc::AllocError;
 // A relation of a tree, with its mark.
 #[derive(Clone, Copy)]
 pub(crate) struct TreeRelation<'a> {
-    pub(crate) and_or: AndOr,
-    pub(crate) relation: &'a ast::Relation,
+    and_or: AndOr,
+    relation: &'a ast::Relation,
 }
 
 // The relations of a tree that are left: those of an and-condition, the first one of which has the
@@ -89,7 +89,11 @@ impl<'a> ByteItem for TreeRelation<'a> {
 
     #[tactic(auto, unfolding(crate::specs::PackedRelations::relation_bytes))]
     fn write_to(&self, bytes: &mut Vec<u8>) -> Result<(), AllocError> {
-        bytes.extend_from_slice(&head_of(self.and_or, self.relation))?;
+        bytes.extend_from_slice(&head_of(
+            self.and_or,
+            self.relation.operator,
+            &self.relation.expression,
+        ))?;
         for item in self.relation.range_list.0.as_slice() {
             bytes.extend_from_slice(&range_of(item))?;
         }
@@ -98,22 +102,32 @@ impl<'a> ByteItem for TreeRelation<'a> {
 }
 
 // The bytes before the ranges of a relation: its first byte and its modulus.
-fn head_of(and_or: AndOr, relation: &ast::Relation) -> [u8; HEAD_LENGTH]
-    ensures { result ≡ first_byte and_or relation.now.operator relation.now.expression.operand ∷ to_le_bytes w32 (modulus_of relation.now.expression.modulus) }
+pub(crate) fn head_of(
+    and_or: AndOr,
+    operator: ast::Operator,
+    expression: &ast::Expression,
+) -> [u8; HEAD_LENGTH]
+    ensures { result ≡ first_byte and_or operator expression.now.operand ∷ to_le_bytes w32 (modulus_of expression.now.modulus) }
 {
-    let [a, b, c, d, _, _, _, _] = modulus_of(&relation.expression).to_le_bytes();
-    [first_byte_of(and_or, relation), a, b, c, d]
+    let [a, b, c, d, _, _, _, _] = modulus_of(expression).to_le_bytes();
+    [
+        first_byte_of(and_or, operator, expression.operand),
+        a,
+        b,
+        c,
+        d,
+    ]
 }
 
 // The first byte of a relation.
 #[tactic(auto, using(crate::proofs::bytes::KindsAgain::byte_again))]
-fn first_byte_of(and_or: AndOr, relation: &ast::Relation) -> u8
-    ensures { result ≡ first_byte and_or relation.now.operator relation.now.expression.operand }
+fn first_byte_of(and_or: AndOr, operator: ast::Operator, operand: ast::Operand) -> u8
+    ensures { result ≡ first_byte and_or operator operand }
 {
     let parts = AndOrPolarityOperand {
         and_or,
-        polarity: Polarity::from(relation.operator),
-        operand: Operand::from(relation.expression.operand),
+        polarity: Polarity::from(operator),
+        operand: Operand::from(operand),
     };
     parts.to_unaligned()
 }
@@ -129,7 +143,7 @@ fn modulus_of(expression: &ast::Expression) -> u64
 }
 
 // Both ends of a range.
-fn range_of(item: &ast::RangeListItem) -> [u8; RANGE_LENGTH]
+pub(crate) fn range_of(item: &ast::RangeListItem) -> [u8; RANGE_LENGTH]
     ensures { result ≡ range_bytes (ends_of item.now) }
 {
     let (start, end) = match item {

@@ -1,18 +1,23 @@
 -- The relations of a text that are packed as they are read are those of its condition.
-use Rattle.std.proofs.Common.{◌≡◌, ◌∙◌, ℕ, Bool, true, false, List, [], ◌∷◌, ◌++◌, length, map, refl, sym, ap}
+use Rattle.std.proofs.Common.{◌≡◌, ◌∙◌, ◌-◌, ℕ, arith, Bool, true, false, List, [], ◌∷◌, ◌++◌, length, map, refl, sym, ap}
 use Rattle.std.specs.Prelude.{flat_map}
+use Rattle.std.specs.Int.{w32, to_le_bytes}
 use Rattle.std.specs.List.{concat}
 use Rattle.std.proofs.Math.Seq.{take-append_seam, drop-append_seam}
 use Rattle.std.proofs.lemmas.Grind.{flat_map-append}
-use Rattle.std.proofs.lemmas.List.{append-nil, append_assoc, map-append}
+use Rattle.std.proofs.lemmas.List.{append-nil, append_assoc, length-append, map-append}
 use Rattle.std.proofs.lemmas.List.Folds.{concat-append}
 use Rattle.plural_reference.specs.declared.ast.AndCondition.{AndCondition}
+use Rattle.plural_reference.specs.declared.ast.RangeListItem.{RangeListItem}
 use Rattle.plural_reference.specs.declared.ast.Relation.{Relation}
-use Rattle.plural_reference.specs.RelationSinks.{Before, nothing, joined, condition_of}
+use Rattle.plural_reference.specs.declared.ast.Expression.{Expression}
+use Rattle.plural_reference.specs.declared.ast.Operator.{Operator}
+use Rattle.plural_reference.specs.RelationSinks.{Before, nothing, joined, condition_of, relation_of_parts}
+use Rattle.plural_reference.specs.Truth.{ends_of, modulus_of}
 use Rattle.plural_runtime.specs.declared.kinds.AndOr.{AndOr}
 use Rattle.plural_runtime.specs.declared.kinds.AndOr.TheVariants.{And, Or}
 use Rattle.plural_runtime.specs.declared.text_bytes.TextRelations.{TextRelations}
-use Rattle.plural_runtime.specs.PackedRelations.{PackedRelation, relation_bytes}
+use Rattle.plural_runtime.specs.PackedRelations.{PackedRelation, first_byte, range_bytes, relation_bytes}
 use Rattle.plural_runtime.specs.PackedTree.{packed, packed_groups, packed_and_condition, packed_relation}
 use Rattle.plural_runtime.specs.Inner.TextItems.{cut, mark, HoldsPacked, IsOpenLast}
 
@@ -90,9 +95,10 @@ packed_joined is_after_or b r open_last = joined_at is_after_or b.groups b.relat
 -- ---- what is held
 
 -- nothing at first
-pub holds_nothing : (relations : TextRelations) → relations.bytes.items ≡ [] → relations.lengths.items ≡ [] → HoldsPacked relations nothing
+pub holds_nothing : (relations : TextRelations) → relations.bytes.items ≡ [] → relations.lengths.items ≡ []
+    → relations.ranges.items ≡ [] → HoldsPacked relations nothing []
 unfolding packed
-holds_nothing relations b l = record { bytes = b; lengths = l; open_last = λ h. refl }
+holds_nothing relations b l r = record { bytes = b; lengths = l; open_last = λ h. refl; next = r }
 
 -- a list with an element at its end isn't empty
 not_empty : (xs : List Relation) (r : Relation) → xs ++ r ∷ [] ≡ [] → ⊥
@@ -100,11 +106,11 @@ not_empty [] r e = cc
 not_empty (x ∷ xs) r e = cc
 
 -- one relation more
-pub holds_joined : (old new : TextRelations) (is_after_or : Bool) (before : Before) (r : Relation)
+pub holds_joined : (old new : TextRelations) (is_after_or : Bool) (before : Before) (ranges : List RangeListItem) (r : Relation)
     → new.bytes.items ≡ old.bytes.items ++ relation_bytes (packed_relation (mark is_after_or) r)
     → new.lengths.items ≡ old.lengths.items ++ length (relation_bytes (packed_relation (mark is_after_or) r)) ∷ []
-    → HoldsPacked old before → HoldsPacked new (joined is_after_or before r)
-holds_joined old new is_after_or before r b l h =
+    → new.ranges.items ≡ [] → HoldsPacked old before ranges → HoldsPacked new (joined is_after_or before r) []
+holds_joined old new is_after_or before ranges r b l no_ranges h =
     let relation = packed_relation (mark is_after_or) r in
     let item = relation_bytes relation in
     let items = map relation_bytes (packed (condition_of before)) in
@@ -119,12 +125,51 @@ holds_joined old new is_after_or before r b l h =
           ∙ sym (map-append (λ xs. length xs) items (item ∷ []))
           ∙ ap (map (λ xs. length xs)) (sym m);
       open_last = λ e. absurd (not_empty _ r e);
+      next = no_ranges;
     }
 
 -- the items are those of the condition
-pub cut_is : (relations : TextRelations) (before : Before) → HoldsPacked relations before
+pub cut_is : (relations : TextRelations) (before : Before) → HoldsPacked relations before []
     → cut relations.lengths.items relations.bytes.items ≡ map relation_bytes (packed (condition_of before))
 cut_is relations before h =
     ap (λ ns. cut ns relations.bytes.items) h.lengths
     ∙ ap (cut (map (λ item. length item) (map relation_bytes (packed (condition_of before))))) h.bytes
     ∙ cut_all (map relation_bytes (packed (condition_of before)))
+
+-- one range more
+pub holds_range : (old new : TextRelations) (before : Before) (ranges : List RangeListItem) (range : RangeListItem)
+    → new.bytes.items ≡ old.bytes.items → new.lengths.items ≡ old.lengths.items
+    → new.ranges.items ≡ old.ranges.items ++ range_bytes (ends_of range)
+    → HoldsPacked old before ranges → HoldsPacked new before (ranges ++ range ∷ [])
+holds_range old new before ranges range b l r h = record {
+  bytes = b ∙ h.bytes;
+  lengths = l ∙ h.lengths;
+  open_last = h.open_last;
+  next = r ∙ ap (λ xs. xs ++ range_bytes (ends_of range)) h.next
+      ∙ sym (ap (flat_map range_bytes) (map-append ends_of ranges (range ∷ []))
+      ∙ flat_map-append range_bytes (map ends_of ranges) (ends_of range ∷ [])
+      ∙ ap (λ xs. flat_map range_bytes (map ends_of ranges) ++ xs) (append-nil (range_bytes (ends_of range))));
+}
+
+-- the bytes of a relation are its head and its ranges
+pub relation_bytes_of : (m : AndOr) (e : Expression) (op : Operator) (ranges : List RangeListItem)
+    → relation_bytes (packed_relation m (relation_of_parts e op ranges))
+    ≡ (first_byte m op e.operand ∷ to_le_bytes w32 (modulus_of e.modulus)) ++ flat_map range_bytes (map ends_of ranges)
+unfolding relation_bytes
+relation_bytes_of m e op ranges = refl
+
+-- what is written behind some bytes is the relation
+pub written_is : (old head next middle new : List ℕ) (m : AndOr) (e : Expression) (op : Operator) (ranges : List RangeListItem)
+    → middle ≡ old ++ head → new ≡ middle ++ next
+    → head ≡ first_byte m op e.operand ∷ to_le_bytes w32 (modulus_of e.modulus)
+    → next ≡ flat_map range_bytes (map ends_of ranges)
+    → new ≡ old ++ relation_bytes (packed_relation m (relation_of_parts e op ranges))
+written_is old head next middle new m e op ranges a b h n =
+    b ∙ ap (λ xs. xs ++ next) a ∙ append_assoc old head next
+    ∙ ap (λ xs. old ++ xs) (ap (λ xs. xs ++ next) h
+    ∙ ap (λ xs. (first_byte m op e.operand ∷ to_le_bytes w32 (modulus_of e.modulus)) ++ xs) n
+    ∙ sym (relation_bytes_of m e op ranges))
+
+-- so many bytes
+pub written_length : (old new item : List ℕ) → new ≡ old ++ item → length new - length old ≡ length item
+written_length old new item h = let l = length-append old item in omega (arith, ap length h, l)

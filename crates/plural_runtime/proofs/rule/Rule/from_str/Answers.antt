@@ -1,4 +1,4 @@
-use Rattle.std.proofs.Common.{◌≡◌, ◌∙◌, ℕ, List, false, ap, subst, sym, inl, inr, Err}
+use Rattle.std.proofs.Common.{◌≡◌, ◌∙◌, ℕ, List, [], false, ap, subst, sym, inl, inr, Err}
 use Rattle.plural_reference.specs.declared.ast.Condition.{Condition}
 use Rattle.plural_reference.specs.declared.token.Token.{Token}
 use Rattle.plural_reference.specs.PrintingLaws.{ConditionsOfTextsAreSpellable}
@@ -53,7 +53,7 @@ returns-in-Err-Parse-clause-gives c =
     let law = c.one_list_of_tokens.ensures text in
     let found = c.in-Err-Parse.is ∙ ap Err c.in-Err-Parse.field-0-is in
     let answer : GivesCondition text (Err (Parse fault)) =
-    subst (λ r. IsReadBy HoldsPacked text c.read_relations.new.sink r) found c.read_relations.ensures in
+    subst (λ r. IsReadBy (λ relations before. HoldsPacked relations before []) text c.read_relations.new.sink r) found c.read_relations.ensures in
     let here : TextFaulty FaultyRule text fault = (law.0, law.1, answer.only law.0 law.1) in
     let said = subst (λ t. TextFaulty FaultyRule t fault) c.as_bytes.ensures.value here in
     inl (inr (fault, said, cc))
@@ -65,6 +65,6 @@ returns-in-Err-Parse-clause-fits c = λ h.
     let law = c.one_list_of_tokens.ensures text in
     let found = c.in-Err-Parse.is ∙ ap Err c.in-Err-Parse.field-0-is in
     let answer : GivesCondition text (Err (Parse fault)) =
-    subst (λ r. IsReadBy HoldsPacked text c.read_relations.new.sink r) found c.read_relations.ensures in
+    subst (λ r. IsReadBy (λ relations before. HoldsPacked relations before []) text c.read_relations.new.sink r) found c.read_relations.ensures in
     let same : fault ≡ ValueTooLarge = cc in
     never_too_large law.0 (subst (λ kind. FaultyRule law.0 kind) same (answer.only law.0 law.1))
