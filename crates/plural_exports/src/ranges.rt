@@ -88,7 +88,8 @@ fn push_row(
     ensures { OnOk result (table.new.items ≡ table.old.items ++ table_row ranges.now start) }
 {
     for_five!(|end| table.push(number_of_range(ranges, start, end))?);
-    table.push(number_of_range(ranges, start, PluralCategory::Other))
+    table.push(number_of_range(ranges, start, PluralCategory::Other))?;
+    Ok(())
 }
 
 // The number of a range's category: the pair's, if it has one, else the end's.
