@@ -3,6 +3,8 @@
 ghost use Rattle.std.specs.Prelude.{◌≡◌};
 ghost use Rattle.plural_base.specs.Ranges.{at, each, put_at};
 
+use crate::at_category;
+use crate::category::PluralCategory;
 use crate::category::raw::RawPluralCategory;
 
 // A value for each of the six categories.
@@ -36,14 +38,8 @@ impl<T: Copy> ByCategory<T> {
     pub(crate) fn get(&self, category: RawPluralCategory) -> T
         ensures { result ≡ at self.now category }
     {
-        match category {
-            RawPluralCategory::Other => self.other,
-            RawPluralCategory::Zero => self.zero,
-            RawPluralCategory::One => self.one,
-            RawPluralCategory::Two => self.two,
-            RawPluralCategory::Few => self.few,
-            RawPluralCategory::Many => self.many,
-        }
+        let category = PluralCategory::from(category);
+        at_category!(self, category, |thing| *thing, self.other)
     }
 
     // Sets the value of a category.

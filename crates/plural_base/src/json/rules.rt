@@ -118,10 +118,10 @@ fn read_rules(alloc: Global, value: &Value) -> Result<PluralRulesData<'static>, 
     if !value.is_object() {
         return Err(JsonError::Shape);
     }
-    Ok(make_five!(
-        PluralRulesData,
-        |category| read_member(alloc, value, category)?
-    ))
+    let rules = make_five!(PluralRulesData, |category| {
+        read_member(alloc, value, category)?
+    });
+    Ok(rules)
 }
 
 // The rule under the name of a category, if present.

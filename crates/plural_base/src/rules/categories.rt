@@ -7,6 +7,7 @@ ghost use Rattle.plural_base.specs.declared.category.PluralCategory.{PluralCateg
 ghost use Rattle.plural_base.specs.FiveRules.{categories_of, listed};
 
 use crate::category::PluralCategory;
+use crate::for_five;
 use crate::rules::data::PluralRulesData;
 use std::marker::Model;
 use std::mem;
@@ -93,12 +94,9 @@ impl ExactSizeIterator for Categories {
     fn len(&self) -> usize
         ensures { result ≡ length self.now }
     {
-        count_of(self.zero)
-            + count_of(self.one)
-            + count_of(self.two)
-            + count_of(self.few)
-            + count_of(self.many)
-            + count_of(self.other)
+        let mut count = count_of(self.other);
+        for_five!(self, |is_there| count += count_of(*is_there));
+        count
     }
 }
 

@@ -114,11 +114,10 @@ impl PluralRulesData<'static> {
         // The values of a text fit: only trees made by hand have this fault.
         ensures fits { IfErr result (λ e. e.error ≢ RuleError.Parse ParseError.ValueTooLarge) }
     {
-        Ok(make_five!(
-            PluralRulesData,
-            texts,
-            |text, category| rule_of(alloc, *text, category)?
-        ))
+        let rules = make_five!(PluralRulesData, texts, |text, category| {
+            rule_of(alloc, *text, category)?
+        });
+        Ok(rules)
     }
 }
 
