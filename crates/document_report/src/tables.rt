@@ -85,7 +85,14 @@ fn texts_at(rules: Option<&Value>) -> LanguageTexts<'_>
 {
     match rules {
         Some(rules) => texts_of(rules),
-        None => LanguageTexts::default(),
+        None => LanguageTexts {
+            zero: None,
+            one: None,
+            two: None,
+            few: None,
+            many: None,
+            other: None,
+        },
     }
 }
 

@@ -14,7 +14,6 @@ use crate::c_condition::condition_text;
 use icu_plurals::provider::PluralRulesData;
 use icu_plurals::provider::rules::runtime::ast::Rule;
 use icu_plurals::{PluralCategory, PluralOperands, PluralRules};
-use plural_base::at_category;
 use plural_checker::least_from;
 use serde_json::Value;
 use std::alloc::{AllocError, Global};
@@ -170,5 +169,12 @@ fn rule_for<'a, 'data>(
 ) -> Option<&'a Rule<'data>>
     ensures { option_copied result ≡ rule_for (rules_of five.now) category }
 {
-    at_category!(five, category, |rule| rule.as_ref(), None)
+    match category {
+        PluralCategory::Zero => five.zero.as_ref(),
+        PluralCategory::One => five.one.as_ref(),
+        PluralCategory::Two => five.two.as_ref(),
+        PluralCategory::Few => five.few.as_ref(),
+        PluralCategory::Many => five.many.as_ref(),
+        PluralCategory::Other => None,
+    }
 }
