@@ -13,7 +13,6 @@ use crate::error::RunError;
 use icu_plurals::provider::rules::runtime::ast::Rule;
 use icu_plurals::provider::{PluralRulesData, RawPluralCategory};
 use icu_plurals::{PluralCategory, PluralRuleType};
-use plural_base::for_five;
 use std::alloc::{AllocError, Global};
 use std::borrow::CowStr;
 
@@ -39,9 +38,11 @@ fn lines_of(alloc: Global, rules: &PluralRulesData<'_>) -> Result<String, AllocE
     ensures { IfOk result (λ lines. string_bytes lines ≡ rule_lines (data_of rules.now)) }
 {
     let mut lines = String::new(alloc);
-    for_five!(rules, |rule, category| {
-        push_rule(alloc, &mut lines, category, rule)?;
-    });
+    push_rule(alloc, &mut lines, PluralCategory::Zero, &rules.zero)?;
+    push_rule(alloc, &mut lines, PluralCategory::One, &rules.one)?;
+    push_rule(alloc, &mut lines, PluralCategory::Two, &rules.two)?;
+    push_rule(alloc, &mut lines, PluralCategory::Few, &rules.few)?;
+    push_rule(alloc, &mut lines, PluralCategory::Many, &rules.many)?;
     Ok(lines)
 }
 
