@@ -16,11 +16,11 @@ use Rattle.message_report.proofs.ChosenLemmas.{are_two_least}
 
 -- its categories are those of the rules, and its numbers are known by the rules
 pub language_is : (rules : FiveRules) (language : Language) → language.categories ≡ categories_with_rule rules
-    → (IsTrue language.categories.zero → AreNumbersOf rules Zero language.zero)
-    → (IsTrue language.categories.one → AreNumbersOf rules One language.one)
-    → (IsTrue language.categories.two → AreNumbersOf rules Two language.two)
-    → (IsTrue language.categories.few → AreNumbersOf rules Few language.few)
-    → (IsTrue language.categories.many → AreNumbersOf rules Many language.many)
+    → (IsTrue language.categories.zero → AreNumbersOf rules Zero language.numbers.zero)
+    → (IsTrue language.categories.one → AreNumbersOf rules One language.numbers.one)
+    → (IsTrue language.categories.two → AreNumbersOf rules Two language.numbers.two)
+    → (IsTrue language.categories.few → AreNumbersOf rules Few language.numbers.few)
+    → (IsTrue language.categories.many → AreNumbersOf rules Many language.numbers.many)
     → (IsTrue true → AreNumbersOf rules Other language.other)
     → IsLanguageOf rules (language_view language)
 language_is rules language categories zero one two few many other = record {

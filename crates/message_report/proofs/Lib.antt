@@ -1,5 +1,6 @@
 pub mod ChosenLemmas
 pub mod EachFound
+pub mod KeywordLemmas
 pub mod LanguageLemmas
 pub mod PartLemmas
 -- rules that choose alike for whole numbers that leave the same by 100

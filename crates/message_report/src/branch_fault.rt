@@ -129,25 +129,7 @@ fn category_fault(
 fn category_named(word: &[u8]) -> Option<PluralCategory>
     ensures { result ≡ category_named word.now }
 {
-    if word == name_of(PluralCategory::Zero).as_bytes() {
-        return Some(PluralCategory::Zero);
-    }
-    if word == name_of(PluralCategory::One).as_bytes() {
-        return Some(PluralCategory::One);
-    }
-    if word == name_of(PluralCategory::Two).as_bytes() {
-        return Some(PluralCategory::Two);
-    }
-    if word == name_of(PluralCategory::Few).as_bytes() {
-        return Some(PluralCategory::Few);
-    }
-    if word == name_of(PluralCategory::Many).as_bytes() {
-        return Some(PluralCategory::Many);
-    }
-    if word == name_of(PluralCategory::Other).as_bytes() {
-        return Some(PluralCategory::Other);
-    }
-    None
+    PluralCategory::get_for_cldr_bytes(word)
 }
 
 // Returns the fault of the branch of a category, or that its keyword is none.

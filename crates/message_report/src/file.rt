@@ -1,7 +1,7 @@
 //! What is found in files of messages.
 
 ghost use Rattle.std.specs.Prelude.{◌≡◌, IfOk, OnOk, map, string_bytes};
-ghost use Rattle.plural_documents.specs.Found.{nothing_found, together};
+ghost use Rattle.plural_documents.specs.Found.{together};
 ghost use Rattle.plural_documents.specs.Found.{HasGrownBy, lines_alone};
 ghost use Rattle.message_report.specs.MessagesReport.{file_line, named, IsFoundInFile, IsFoundInFiles};
 

@@ -7,18 +7,15 @@ ghost use Rattle.message_report.specs.Inner.LanguageViews.{language_view, number
 
 use crate::category_numbers::{CategoryNumbers, TwoNumbers};
 use icu_plurals::provider::PluralRulesData;
-use icu_plurals::{PluralCategory, PluralRules};
+use icu_plurals::{Five, PluralCategory, PluralRules};
+use plural_base::{at_category, make_five};
 use plural_checker::CategorySet;
 
 // The categories that a language has, and what is known of the numbers of each.
 #[derive(Clone, Copy, Debug)]
 pub(crate) struct Language {
     categories: CategorySet,
-    zero: CategoryNumbers,
-    one: CategoryNumbers,
-    two: CategoryNumbers,
-    few: CategoryNumbers,
-    many: CategoryNumbers,
+    numbers: Five<CategoryNumbers>,
     other: CategoryNumbers,
 }
 
@@ -31,11 +28,9 @@ impl Language {
         let categories = CategorySet::of_rules(given);
         Language {
             categories,
-            zero: CategoryNumbers::if_there(rules, PluralCategory::Zero, categories.zero),
-            one: CategoryNumbers::if_there(rules, PluralCategory::One, categories.one),
-            two: CategoryNumbers::if_there(rules, PluralCategory::Two, categories.two),
-            few: CategoryNumbers::if_there(rules, PluralCategory::Few, categories.few),
-            many: CategoryNumbers::if_there(rules, PluralCategory::Many, categories.many),
+            numbers: make_five!(Five, categories, |is_there, category| {
+                CategoryNumbers::if_there(rules, category, *is_there)
+            }),
             other: CategoryNumbers::if_there(rules, PluralCategory::Other, true),
         }
     }
@@ -44,14 +39,7 @@ impl Language {
     pub(crate) fn has(&self, category: PluralCategory) -> bool
         ensures { result ≡ (language_view self.now).has category }
     {
-        match category {
-            PluralCategory::Zero => self.categories.zero,
-            PluralCategory::One => self.categories.one,
-            PluralCategory::Two => self.categories.two,
-            PluralCategory::Few => self.categories.few,
-            PluralCategory::Many => self.categories.many,
-            PluralCategory::Other => true,
-        }
+        at_category!(self.categories, category, |is_there| *is_there, true)
     }
 
     // Returns the two least numbers that choose a category's form.
@@ -70,13 +58,6 @@ impl Language {
     fn numbers_at(&self, category: PluralCategory) -> CategoryNumbers
         ensures { result ≡ numbers_at self.now category }
     {
-        match category {
-            PluralCategory::Zero => self.zero,
-            PluralCategory::One => self.one,
-            PluralCategory::Two => self.two,
-            PluralCategory::Few => self.few,
-            PluralCategory::Many => self.many,
-            PluralCategory::Other => self.other,
-        }
+        at_category!(self.numbers, category, |numbers| *numbers, self.other)
     }
 }

@@ -6,6 +6,7 @@ ghost use Rattle.serde_json.specs.View.{view};
 
 use crate::form::Form;
 use icu_plurals::PluralCategory;
+use plural_base::make_five;
 use plural_checker::CategorySet;
 use serde_json::Value;
 
@@ -17,13 +18,7 @@ use serde_json::Value;
 pub fn category_set(message: &Value) -> CategorySet
     ensures { result ≡ categories_in (view message.now) }
 {
-    CategorySet {
-        zero: has_form(message, PluralCategory::Zero),
-        one: has_form(message, PluralCategory::One),
-        two: has_form(message, PluralCategory::Two),
-        few: has_form(message, PluralCategory::Few),
-        many: has_form(message, PluralCategory::Many),
-    }
+    make_five!(CategorySet, |category| has_form(message, category))
 }
 
 // Returns whether a message has the form of a category.

@@ -3,7 +3,7 @@
 ghost use Rattle.std.specs.Prelude.{◌≡◌, ◌∷◌, ◌++◌, [], codes, IfOk, OnOk, map, option_map, string_bytes};
 ghost use Rattle.icu_plurals.specs.Categories.{name_of};
 ghost use Rattle.message_pattern.specs.PatternParts.{parts_view, piece_view, selector_view};
-ghost use Rattle.message_report.specs.Inner.ArgumentViews.{argument_view, branching, languages_view};
+ghost use Rattle.message_report.specs.Inner.ArgumentViews.{argument_view, languages_view};
 ghost use Rattle.message_report.specs.Inner.LanguageViews.{language_view};
 ghost use Rattle.message_report.specs.Inner.ToldLines.{Tells, TellsThose, remembered};
 ghost use Rattle.message_report.specs.MessagesReport.{argument_lines, argument_place, branch_lines, category_order, fault_lines};

@@ -10,7 +10,8 @@ use crate::text_check::check_if_there;
 use crate::texts::LanguageTexts;
 use icu_plurals::provider::PluralRulesData;
 use icu_plurals::provider::rules::runtime::ast::RuleError;
-use icu_plurals::{PluralCategory, PluralRules};
+use icu_plurals::{Five, PluralCategory, PluralRules};
+use plural_base::{for_five, make_five};
 use std::alloc::{AllocError, Global};
 
 /// Returns the faults of the texts of a language's rules of one type, and how many numbers their
@@ -54,11 +55,9 @@ fn check_all(
     ensures { IfOk result (λ report. AreFindingsUnder (option_copied rules.entry) (six_texts texts.now) report) }
 {
     let mut report = Report::new(alloc);
-    check_if_there(alloc, rules, PluralCategory::Zero, texts.zero, &mut report)?;
-    check_if_there(alloc, rules, PluralCategory::One, texts.one, &mut report)?;
-    check_if_there(alloc, rules, PluralCategory::Two, texts.two, &mut report)?;
-    check_if_there(alloc, rules, PluralCategory::Few, texts.few, &mut report)?;
-    check_if_there(alloc, rules, PluralCategory::Many, texts.many, &mut report)?;
+    for_five!(texts, |text, category| {
+        check_if_there(alloc, rules, category, *text, &mut report)?;
+    });
     check_if_there(
         alloc,
         rules,
@@ -79,9 +78,8 @@ fn rules_of(
     if texts.has_long() {
         return Ok(None);
     }
-    match PluralRulesData::from_texts(
-        alloc, texts.zero, texts.one, texts.two, texts.few, texts.many,
-    ) {
+    let five = make_five!(Five, texts, |text| *text);
+    match PluralRulesData::from_five(alloc, &five) {
         Ok(data) => Ok(Some(PluralRules::from_data(data))),
         Err(refused) => match refused.error {
             RuleError::Parse(_) | RuleError::StartLimit => Ok(None),

@@ -4,8 +4,9 @@ ghost use Rattle.std.specs.Prelude.{◌≡◌};
 ghost use Rattle.icu_plurals.specs.FiveRules.{rules_of};
 ghost use Rattle.plural_checker.specs.LanguageTexts.{categories_with_rule, categories_with_value, without};
 
+use icu_plurals::PluralElements;
 use icu_plurals::provider::PluralRulesData;
-use icu_plurals::{PluralCategory, PluralElements};
+use plural_base::{at_category, make_five};
 
 /// A set of categories, without other.
 #[derive(Clone, Copy, Debug, Default, PartialEq, Eq)]
@@ -27,13 +28,7 @@ impl CategorySet {
     pub fn of_rules(rules: &PluralRulesData<'_>) -> CategorySet
         ensures { result ≡ categories_with_rule (rules_of rules.now) }
     {
-        CategorySet {
-            zero: rules.zero.is_some(),
-            one: rules.one.is_some(),
-            two: rules.two.is_some(),
-            few: rules.few.is_some(),
-            many: rules.many.is_some(),
-        }
+        make_five!(CategorySet, rules, |rule| rule.is_some())
     }
 
     /// Returns the categories whose value is present in elements: those for which
@@ -42,26 +37,16 @@ impl CategorySet {
     pub fn of_elements<T>(elements: &PluralElements<T>) -> CategorySet
         ensures { result ≡ categories_with_value elements.now }
     {
-        CategorySet {
-            zero: elements.has_value_of(PluralCategory::Zero),
-            one: elements.has_value_of(PluralCategory::One),
-            two: elements.has_value_of(PluralCategory::Two),
-            few: elements.has_value_of(PluralCategory::Few),
-            many: elements.has_value_of(PluralCategory::Many),
-        }
+        make_five!(CategorySet, |category| elements.has_value_of(category))
     }
 
     /// Returns the categories of this set that are not in another.
     pub fn without(self, others: CategorySet) -> CategorySet
         ensures { result ≡ without self others }
     {
-        CategorySet {
-            zero: self.zero && !others.zero,
-            one: self.one && !others.one,
-            two: self.two && !others.two,
-            few: self.few && !others.few,
-            many: self.many && !others.many,
-        }
+        make_five!(CategorySet, self, |is_own, category| {
+            *is_own && !at_category!(others, category, |is_other| *is_other, false)
+        })
     }
 }
 

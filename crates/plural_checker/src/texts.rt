@@ -6,6 +6,7 @@ ghost use Rattle.std.specs.Option.{option_copied};
 ghost use Rattle.plural_checker.specs.LanguageTexts.{has_long, has_rule, is_long, six_texts};
 
 use icu_plurals::PluralCategory;
+use plural_base::{at_category, for_five};
 
 /// The most bytes that a text may have. The longest of CLDR 41 has 289.
 pub const MOST_TEXT_BYTES: usize = 1024;
@@ -34,25 +35,19 @@ impl<'a> LanguageTexts<'a> {
     pub fn has_rule(&self, category: PluralCategory) -> bool
         ensures { result ≡ has_rule (six_texts self.now) category }
     {
-        match category {
-            PluralCategory::Zero => self.zero.is_some(),
-            PluralCategory::One => self.one.is_some(),
-            PluralCategory::Two => self.two.is_some(),
-            PluralCategory::Few => self.few.is_some(),
-            PluralCategory::Many => self.many.is_some(),
-            PluralCategory::Other => true,
-        }
+        at_category!(self, category, |text| text.is_some(), true)
     }
 
     // Returns whether one of the five texts has more than the most bytes.
     pub(crate) fn has_long(&self) -> bool
         ensures { result ≡ has_long (six_texts self.now).five }
     {
-        is_long_if_there(self.zero)
-            || is_long_if_there(self.one)
-            || is_long_if_there(self.two)
-            || is_long_if_there(self.few)
-            || is_long_if_there(self.many)
+        for_five!(self, |text| {
+            if is_long_if_there(*text) {
+                return true;
+            }
+        });
+        false
     }
 }
 

@@ -89,8 +89,7 @@ impl Found {
         ensures { OnOk result (self.new ≡ together self.old (one_fault (string_bytes line))) }
     {
         self.faults = sum(self.faults, 1)?;
-        self.lines.push(line)?;
-        Ok(())
+        self.add_line(line)
     }
 
     /// Counts faults. A count that is too large is reported as out of memory.

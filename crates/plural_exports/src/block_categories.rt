@@ -10,6 +10,7 @@ ghost use Rattle.plural_exports.specs.RulesCategories.{AreCategoriesOf, bits_num
 use crate::fault::Fault;
 use icu_plurals::PluralCategory;
 use icu_plurals::provider::PluralRulesData;
+use plural_base::for_five;
 
 /// Returns the categories that a number may have, one bit each: 1 zero, 2 one, 4 two, 8 few, 16
 /// many, 32 other. They are those that have a rule, and other. It allocates nothing.
@@ -35,12 +36,11 @@ fn data_in(bytes: &[u8]) -> Result<PluralRulesData<'_>, Fault>
 fn bits_of(rules: &PluralRulesData<'_>) -> u8
     ensures { result ≡ sum_by category_bit (categories_of (rules_of rules.now)) }
 {
-    bit_of(PluralCategory::Zero, rules.zero.is_some())
-        + bit_of(PluralCategory::One, rules.one.is_some())
-        + bit_of(PluralCategory::Two, rules.two.is_some())
-        + bit_of(PluralCategory::Few, rules.few.is_some())
-        + bit_of(PluralCategory::Many, rules.many.is_some())
-        + bit_of(PluralCategory::Other, true)
+    let mut bits = 0;
+    for_five!(rules, |rule, category| {
+        bits += bit_of(category, rule.is_some());
+    });
+    bits + bit_of(PluralCategory::Other, true)
 }
 
 // The bit of a category, if it is there.

@@ -1,8 +1,8 @@
 //! The categories of ranges: a table of bytes.
 
-ghost use Rattle.std.specs.Prelude.{◌≡◌};
+ghost use Rattle.std.specs.Prelude.{◌≡◌, ◌++◌, IfOk, OnOk};
 ghost use Rattle.icu_plurals.specs.Categories.{place_of};
-ghost use Rattle.plural_exports.specs.GivenRanges.{AreRangesIn, HasRangesAt, HasRangesFor, IsRangeTable, range_number, table_row};
+ghost use Rattle.plural_exports.specs.GivenRanges.{AreRangesIn, HasRangesAt, HasRangesFor, IsRangeTable, range_number, table_bytes, table_row};
 ghost use Rattle.plural_exports.specs.Inner.GivenResults.{GivesSeen};
 ghost use Rattle.plural_exports.specs.Results.{Written};
 
@@ -12,7 +12,8 @@ use crate::fault::Fault;
 use crate::given::text_in;
 use icu_plurals::provider::{PluralRanges, RawPluralCategory};
 use icu_plurals::{JsonProvider, PluralCategory, PluralsProvider};
-use std::alloc::Global;
+use plural_base::for_five;
+use std::alloc::{AllocError, Global};
 
 /// Writes the categories of ranges that a JSON document has for a locale (UTS 35 Part 3, Plural
 /// Ranges), as 36 bytes: at 6 times the number of the start's category plus that of the end's is
@@ -58,36 +59,37 @@ fn ranges_for(maps: &JsonProvider, locale: &str) -> Result<PluralRanges, Fault>
     }
 }
 
-// The rows of all starts, one after another.
+// The table of ranges.
 fn table_of(alloc: Global, ranges: &PluralRanges) -> Result<Vec<u8>, Fault>
     ensures { GivesSeen (λ table. table.items) (IsRangeTable ranges.now) result }
 {
-    let rows = [
-        row_of(ranges, PluralCategory::Zero),
-        row_of(ranges, PluralCategory::One),
-        row_of(ranges, PluralCategory::Two),
-        row_of(ranges, PluralCategory::Few),
-        row_of(ranges, PluralCategory::Many),
-        row_of(ranges, PluralCategory::Other),
-    ];
-    match rows.concat(alloc) {
+    match rows_of(alloc, ranges) {
         Ok(table) => Ok(table),
         Err(_) => Err(Fault::Memory),
     }
 }
 
-// The numbers of the categories of a start's ranges.
-fn row_of(ranges: &PluralRanges, start: PluralCategory) -> [u8; 6]
-    ensures { result ≡ table_row ranges.now start }
+// The rows of all starts, one after another.
+fn rows_of(alloc: Global, ranges: &PluralRanges) -> Result<Vec<u8>, AllocError>
+    ensures { IfOk result (λ table. table.items ≡ table_bytes ranges.now) }
 {
-    [
-        number_of_range(ranges, start, PluralCategory::Zero),
-        number_of_range(ranges, start, PluralCategory::One),
-        number_of_range(ranges, start, PluralCategory::Two),
-        number_of_range(ranges, start, PluralCategory::Few),
-        number_of_range(ranges, start, PluralCategory::Many),
-        number_of_range(ranges, start, PluralCategory::Other),
-    ]
+    let mut table = Vec::new(alloc);
+    for_five!(|start| push_row(ranges, start, &mut table)?);
+    push_row(ranges, PluralCategory::Other, &mut table)?;
+    Ok(table)
+}
+
+// Appends the numbers of the categories of a start's ranges.
+fn push_row(
+    ranges: &PluralRanges,
+    start: PluralCategory,
+    table: &mut Vec<u8>,
+) -> Result<(), AllocError>
+    ensures { OnOk result (table.new.items ≡ table.old.items ++ table_row ranges.now start) }
+{
+    for_five!(|end| table.push(number_of_range(ranges, start, end))?);
+    table.push(number_of_range(ranges, start, PluralCategory::Other))?;
+    Ok(())
 }
 
 // The number of a range's category: the pair's, if it has one, else the end's.

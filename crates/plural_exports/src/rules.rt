@@ -16,6 +16,7 @@ use crate::fault::Fault;
 use crate::given::{rules_in, text_in};
 use icu_plurals::Five;
 use icu_plurals::provider::PluralRulesData;
+use plural_base::make_five;
 use std::alloc::Global;
 
 /// Writes the block of the rules that a JSON document has for a locale: of cardinal rules if the
@@ -110,18 +111,7 @@ fn rules_of_texts(alloc: Global, texts: &Five<&[u8]>) -> Result<Vec<u8>, Fault>
 fn given_texts<'a>(texts: &Five<&'a [u8]>) -> Result<Five<Option<&'a str>>, Fault>
     ensures { GivesSeen lent_texts (ReadsTexts (lent_bytes texts.now)) result }
 {
-    let zero = given(texts.zero)?;
-    let one = given(texts.one)?;
-    let two = given(texts.two)?;
-    let few = given(texts.few)?;
-    let many = given(texts.many)?;
-    Ok(Five {
-        zero,
-        one,
-        two,
-        few,
-        many,
-    })
+    Ok(make_five!(Five, texts, |text| given(*text)?))
 }
 
 // The text of a rule, if it has any byte.

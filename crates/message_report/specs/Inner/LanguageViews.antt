@@ -9,11 +9,11 @@ use Rattle.message_report.specs.declared.category_numbers.CategoryNumbers.{Categ
 use Rattle.message_report.specs.declared.language.Language.{Language as CodeLanguage}
 
 abbrev pub numbers_at : CodeLanguage → PluralCategory → CategoryNumbers
-numbers_at language Zero = language.zero
-numbers_at language One = language.one
-numbers_at language Two = language.two
-numbers_at language Few = language.few
-numbers_at language Many = language.many
+numbers_at language Zero = language.numbers.zero
+numbers_at language One = language.numbers.one
+numbers_at language Two = language.numbers.two
+numbers_at language Few = language.numbers.few
+numbers_at language Many = language.numbers.many
 numbers_at language Other = language.other
 
 abbrev pub is_in_set : CategorySet → PluralCategory → Bool

@@ -1,4 +1,4 @@
-use Rattle.std.proofs.Common.{◌≡◌, ℕ, List, ◌∷◌, [], drop, get_or, map, string_bytes, ap, sym, ◌∙◌, String, Global}
+use Rattle.std.proofs.Common.{ℕ, List, ◌∷◌, [], map, string_bytes, ap, sym, ◌∙◌, String, Global}
 use Rattle.std.proofs.lemmas.List.{drop_all}
 use Rattle.plural_documents.specs.Found.{lines_alone, together}
 use Rattle.plural_documents.proofs.FoundLemmas.{together-nothing}

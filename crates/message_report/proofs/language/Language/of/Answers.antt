@@ -11,11 +11,13 @@ pub returns : goal.returns
 returns c =
     let language : Language = record {
       categories = c.of_rules-categories.result;
-      zero = c.if_there.result;
-      one = c.if_there-2.result;
-      two = c.if_there-3.result;
-      few = c.if_there-4.result;
-      many = c.if_there-5.result;
+      numbers = record {
+        zero = c.if_there.result;
+        one = c.if_there-2.result;
+        two = c.if_there-3.result;
+        few = c.if_there-4.result;
+        many = c.if_there-5.result;
+      };
       other = c.if_there-6.result;
     } in
     let same : c.from_data.result ≡ rules_of c.args.given.now = c.from_data.ensures ∙ ap rules_of c.as_borrowed.ensures in
