@@ -6,9 +6,11 @@ use Rattle.plural_reference.proofs.parser.Parser.relations.Goals as goal
 
 pub returns-in_default : goal.returns-in_default
 returns-in_default g c =
-    let r = rw c.in_default.is at c.in_ok-expression.ensures.relation in
-    (nothing, subst (λ items. g.S.RelationSink.holds c.relation.new.sink nothing items) r.1.2 (r.2 nothing c.requires),
-        no_condition _ _ r.1.0 r.1.1)
+    let r = rw c.in_default.is at c.in_ok-expression.ensures.relation in (
+      nothing,
+      subst (λ items. g.S.RelationSink.holds c.relation.new.sink nothing items) r.1.2 (r.2 nothing c.requires),
+      no_condition _ _ r.1.0 r.1.1,
+    )
 
 pub joints-init : goal.joints-init
 joints-init g c =
@@ -29,9 +31,11 @@ returns-in_default-2 g c =
 
 pub joints-preserved : goal.joints-preserved
 joints-preserved g c =
-    let r = rw c.in-Some-2.is at c.in_ok-expression-2.ensures.relation in
-    (_, c.in_ok-take-2.ensures _ _ (r.2 _ c.joints.invariant.1),
-        joins _ _ _ _ _ _ _ c.joints.invariant.2 c.in-Some-joint.ensures r.1)
+    let r = rw c.in-Some-2.is at c.in_ok-expression-2.ensures.relation in (
+      _,
+      c.in_ok-take-2.ensures _ _ (r.2 _ c.joints.invariant.1),
+      joins _ _ _ _ _ _ _ c.joints.invariant.2 c.in-Some-joint.ensures r.1,
+    )
 
 pub returns : goal.returns
 returns g c =
