@@ -22,6 +22,7 @@ returns-clause-answers c =
     let two = c.in_ok-check_member-3.ensures.answers in
     let few = c.in_ok-check_member-4.ensures.answers in
     let many = c.in_ok-check_member-5.ensures.answers in
-    let is_object : is_some (as_object (view c.args.value.now)) ≡ true = cc in
-    (five zero.0 one.0 two.0 few.0 many.0,
-        all_given (view c.args.value.now) zero.0 one.0 two.0 few.0 many.0 is_object zero.1 one.1 two.1 few.1 many.1)
+    let is_object : is_some (as_object (view c.args.value.now)) ≡ true = cc in (
+      five zero.0 one.0 two.0 few.0 many.0,
+      all_given (view c.args.value.now) zero.0 one.0 two.0 few.0 many.0 is_object zero.1 one.1 two.1 few.1 many.1,
+    )
