@@ -2,5 +2,6 @@
 pub mod RulesSteps
 pub mod JsonSteps
 pub mod KeyedItems
+pub mod Masks
 pub mod WholeNumbers
 pub mod FractionClasses

@@ -11,12 +11,16 @@ pub(crate) mod categories;
 pub(crate) mod category_table;
 pub(crate) mod data;
 pub(crate) mod fractions;
+pub(crate) mod known;
+pub(crate) mod low_numbers;
+pub(crate) mod masks;
 pub(crate) mod prepared;
 pub(crate) mod prepared_text;
 pub(crate) mod residue_class;
 pub(crate) mod table_bytes;
 pub(crate) mod text;
 pub(crate) mod told;
+pub(crate) mod told_masks;
 
 use crate::category::PluralCategory;
 use crate::for_five;

@@ -9,7 +9,7 @@ use Rattle.plural_reference.specs.Truth.{remainder, range_holds}
 use Rattle.plural_base.specs.Inner.WholeNumbers.{IsTold}
 
 -- by a modulus above 0 a remainder is what the division leaves
-remainder-is : (m n : ℕ) (none : Bool) → (m == 0) ≡ none → m ≢ 0 → (if none then n else (n % m)) ≡ n % m
+pub remainder-is : (m n : ℕ) (none : Bool) → (m == 0) ≡ none → m ≢ 0 → (if none then n else (n % m)) ≡ n % m
 remainder-is m n true e above = absurd (above (eqb-true m 0 e))
 remainder-is m n false e above = refl
 
@@ -58,3 +58,15 @@ told_more {A} cycle k bound m told value within so_far here = λ n from below.
     let Q : Option A → Type 0 = λ found. IsTold (value j) found in
     subst Q (sym (get_or-set_same cycle k told None within)) (here j above e) in
     below_more P k earlier last (n % m) below n from refl
+
+-- a range holds 0 if it starts there
+pub holds_zero : (start end : ℕ) → range_holds 0 (start, end) ≡ (start == 0)
+holds_zero start end = grind (arith, nat_tests)
+
+-- one value is in no range of another remainder
+pub leaves_another : (one m value : ℕ) → one % m ≢ value % m → range_holds value (one, one) ≡ false
+leaves_another one m value other = by (range_holds value (one, one)) refl
+  where
+    by : (held : Bool) → range_holds value (one, one) ≡ held → held ≡ false
+    by false e = refl
+    by true e = absurd (other (ap (λ n. n % m) (let same : one ≡ value = grind (arith, nat_tests) in same)))

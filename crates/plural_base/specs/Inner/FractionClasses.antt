@@ -1,6 +1,6 @@
 -- Not a definition of the subject: what rules tell of all numbers that show a fraction, for private
 -- contracts.
-use Rattle.std.specs.Prelude.{◌≡◌, ◌<◌, Option}
+use Rattle.std.specs.Prelude.{◌≡◌, ◌<◌, ℕ, Option}
 use Rattle.plural_operands.specs.Operands.{Operands}
 use Rattle.plural_runtime.specs.PackedTruth.{packed_truth}
 use Rattle.plural_base.specs.declared.category.PluralCategory.{PluralCategory}
@@ -13,6 +13,11 @@ use Rattle.plural_base.specs.Inner.WholeNumbers.{IsTold}
 pub record IsOfFractions (fractions : Fractions) (o : Operands) : Type 0 where
   pub shown : 0 < o.v
   pub not_zero : fractions ≡ NotZero → 0 < o.w
+
+-- a fraction digit is shown, and in class 1 the fraction isn't 0
+pub record HasFraction (class : ℕ) (o : Operands) : Type 0 where
+  pub places : 0 < o.v
+  pub above : class ≡ 1 → 0 < o.w
 
 -- what is told is the category of each number of the class
 abbrev pub IsFractionCategory : FiveRules → Fractions → Option PluralCategory → Type 0

@@ -8,10 +8,10 @@ use Rattle.plural_runtime.specs.declared.kinds.AndOr.{AndOr}
 use Rattle.plural_runtime.specs.declared.kinds.AndOr.TheVariants.{And, Or}
 use Rattle.plural_runtime.specs.PackedTruth.{packed_truth}
 use Rattle.plural_base.specs.declared.category.PluralCategory.{PluralCategory}
-use Rattle.plural_base.specs.declared.category.PluralCategory.TheVariants.{Zero}
-use Rattle.plural_base.specs.declared.rules.residue_class.ResidueClass.{ResidueClass}
-use Rattle.plural_base.specs.declared.rules.residue_class.Known.{Known}
-use Rattle.plural_base.specs.declared.rules.residue_class.Known.TheVariants.{Is, From, Leaves, Nothing}
+use Rattle.plural_base.specs.declared.category.PluralCategory.TheVariants as category
+use Rattle.plural_base.specs.declared.rules.known.Known.{Known}
+use Rattle.plural_base.specs.declared.rules.known.Known.TheVariants.{Zero, RemainderBy, From, Leaves, Nothing}
+use Rattle.plural_reference.specs.Truth.{remainder}
 use Rattle.plural_base.specs.FiveRules.{FiveRules, first_category}
 
 -- the category of a whole number
@@ -35,20 +35,21 @@ IsTold value None = Unit {0}
 IsTold value (Some told) = value ≡ told
 
 -- a number is at least the bound, and leaves the residue
-pub record IsInClass (class : ResidueClass) (n : ℕ) : Type 0 where
-  pub bound : class.bound ≤ n
-  pub residue : n % 100 ≡ class.residue
+pub record IsInClass (bound residue n : ℕ) : Type 0 where
+  pub above : bound ≤ n
+  pub residue_is : n % 100 ≡ residue
 
 -- the operands are those of such a number
-abbrev pub HasWhole : ResidueClass → Operands → Type 0
-HasWhole class o = (n : ℕ) × (o ≡ of_whole n) × IsInClass class n
+abbrev pub HasResidue : ℕ → ℕ → Operands → Type 0
+HasResidue bound residue o = (n : ℕ) × (o ≡ of_whole n) × IsInClass bound residue n
 
--- a value is as is known of it
-abbrev pub Fits : Known → ℕ → Type 0
-Fits (Is one) value = value ≡ one
-Fits (From least) value = least ≤ value
-Fits (Leaves residue) value = value % 100 ≡ residue
-Fits Nothing value = Unit {0}
+-- a value at a number of a class, by the place of the class, is as is known of it
+abbrev pub Fits : Known → ℕ → ℕ → Type 0
+Fits Zero class value = value ≡ 0
+Fits (RemainderBy modulus) class value = value ≡ remainder modulus class
+Fits (From least) class value = least ≤ value
+Fits Leaves class value = value % 100 ≡ class
+Fits Nothing class value = Unit {0}
 
 -- ---- The walk over the relations of a rule
 
@@ -66,7 +67,7 @@ group_after Or group truth = truth
 
 -- each entry is the category of the number of its place
 abbrev pub AreLowEntries : FiveRules → List PluralCategory → Type 0
-AreLowEntries rules low = (n : ℕ) → n < 128 → slice_index_or low n Zero ≡ category_of_whole rules n
+AreLowEntries rules low = (n : ℕ) → n < 128 → slice_index_or low n category.Zero ≡ category_of_whole rules n
 
 -- each entry, if it is a category, is that of all numbers from the bound on that leave the number
 -- of its place by 100

@@ -6,11 +6,12 @@ ghost use Rattle.plural_reference.specs.Truth.{holds_value, is_in_ranges, remain
 ghost use Rattle.plural_operands.specs.Operands.{operand_value};
 ghost use Rattle.plural_operands.specs.declared.operand.Operand.TheVariants.{N};
 ghost use Rattle.plural_runtime.specs.Inner.RuleViews.{lent_relation};
-ghost use Rattle.plural_base.specs.Inner.FractionClasses.{IsOfFractions};
-ghost use Rattle.plural_base.specs.Inner.WholeNumbers.{IsTold};
+ghost use Rattle.plural_base.specs.Inner.FractionClasses.{HasFraction, IsOfFractions};
+ghost use Rattle.plural_base.specs.Inner.Masks.{IsToldAt};
 
-use crate::rules::residue_class::{Known, told_list, under_polarity};
-use crate::rules::told::NumberClass;
+use crate::rules::known::{Known, told_list};
+use crate::rules::told::NumberClasses;
+use crate::rules::told_masks::{Told, told_false, under_polarity, untold};
 use plural_reference::{PluralOperands, RawPluralOperands};
 use plural_runtime::{Operand, Relation};
 
@@ -36,47 +37,51 @@ pub(crate) fn fractions_of(operands: PluralOperands) -> Option<Fractions>
     Some(Fractions::NotZero)
 }
 
-impl NumberClass for Fractions {
-    ghost use Rattle.plural_base.specs.Inner.FractionClasses.{IsOfFractions};
+// The two sets at the places 0 and 1. One set has no number at a further place.
+#[derive(Clone, Copy)]
+pub(crate) struct FractionClasses;
 
-    ghost has = { IsOfFractions };
+// The mask of the numbers whose fraction isn't 0.
+const NOT_ZERO: u128 = 1 << 1;
 
-    fn told_relation(self, relation: &Relation<'_>) -> Option<bool> {
-        under_polarity(told_in(relation, self), relation.polarity())
+impl NumberClasses for FractionClasses {
+    ghost use Rattle.plural_base.specs.Inner.FractionClasses.{HasFraction};
+
+    ghost has = { λ classes class o. HasFraction class o };
+
+    fn told_relation(self, relation: &Relation<'_>) -> Told {
+        under_polarity(told_in(relation), relation.polarity())
     }
 }
 
-// Whether the list of a relation holds its operand's value, if it can be told.
-fn told_in(relation: &Relation<'_>, fractions: Fractions) -> Option<bool>
-    ensures { (o : Operands) → IsOfFractions fractions o → let meaning = (lent_relation relation.now).meaning in
-        IsTold (holds_value meaning.ranges (option_map (remainder meaning.modulus) (operand_value meaning.operand o))) result }
+// Whether the list of a relation holds its operand's value, as far as it can be told.
+fn told_in(relation: &Relation<'_>) -> Told
+    ensures { (class : ℕ) (o : Operands) → class < 128 → HasFraction class o → let meaning = (lent_relation relation.now).meaning in
+        IsToldAt class (holds_value meaning.ranges (option_map (remainder meaning.modulus) (operand_value meaning.operand o))) result }
 {
     match relation.operand() {
         Operand::V => told_places(relation),
-        Operand::N => told_whole(fractions),
-        Operand::I | Operand::W | Operand::F | Operand::T | Operand::C | Operand::E => None,
+        Operand::N => told_whole(),
+        Operand::I | Operand::W | Operand::F | Operand::T | Operand::C | Operand::E => untold(),
     }
 }
 
 // Whether the list holds the count of fraction digits, which is at least 1, if it can be told.
-fn told_places(relation: &Relation<'_>) -> Option<bool>
-    ensures { (count : ℕ) → 0 < count → let meaning = (lent_relation relation.now).meaning in
-        IsTold (is_in_ranges meaning.ranges (remainder meaning.modulus count)) result }
+fn told_places(relation: &Relation<'_>) -> Told
+    ensures { (class count : ℕ) → class < 128 → 0 < count → let meaning = (lent_relation relation.now).meaning in
+        IsToldAt class (is_in_ranges meaning.ranges (remainder meaning.modulus count)) result }
 {
     if relation.modulo() == 0 {
         told_list(relation, Known::From(1))
     } else {
-        None
+        untold()
     }
 }
 
 // Whether a list holds n, if it can be told: a number whose fraction isn't 0 has no value there.
-fn told_whole(fractions: Fractions) -> Option<bool>
-    ensures { (o : Operands) (ranges : List (ℕ × ℕ)) (modulus : ℕ) → IsOfFractions fractions o
-        → IsTold (holds_value ranges (option_map (remainder modulus) (operand_value N o))) result }
+fn told_whole() -> Told
+    ensures { (class : ℕ) (o : Operands) (ranges : List (ℕ × ℕ)) (modulus : ℕ) → HasFraction class o
+        → IsToldAt class (holds_value ranges (option_map (remainder modulus) (operand_value N o))) result }
 {
-    match fractions {
-        Fractions::Shown => None,
-        Fractions::NotZero => Some(false),
-    }
+    told_false(NOT_ZERO)
 }

@@ -1,21 +1,22 @@
 //! Rules with tables of the categories of integers.
 
-ghost use Rattle.std.specs.Prelude.{◌≡◌, ℕ, ◌<◌, Contains};
+ghost use Rattle.std.specs.Prelude.{◌≡◌, ℕ, ◌<◌, Contains, slice_index_or, None};
 ghost use Rattle.plural_operands.specs.Operands.{of_whole};
 ghost use Rattle.plural_runtime.specs.PackedTruth.{packed_truth};
 ghost use Rattle.plural_base.specs.FiveRules.{first_category, categories_of, rules_of};
 ghost use Rattle.plural_base.specs.CategoryTables.{IsTableOf};
-ghost use Rattle.plural_base.specs.Inner.FractionClasses.{IsFractionCategory};
-ghost use Rattle.plural_base.specs.Inner.WholeNumbers.{AreLowEntries, AreTold, IsTold};
+ghost use Rattle.plural_base.specs.Inner.FractionClasses.{AreFractionCategories, IsFractionCategory};
+ghost use Rattle.plural_base.specs.Inner.WholeNumbers.{AreLowEntries, AreTold, IsTold, category_of_whole};
 
 use crate::category::PluralCategory;
 use crate::rules::PluralRules;
 use crate::rules::as_plural_rules::AsPluralRules;
 use crate::rules::data::PluralRulesData;
-use crate::rules::fractions::{Fractions, fractions_of};
-use crate::rules::residue_class::{CYCLE, ResidueClass, bound_of};
+use crate::rules::fractions::{FractionClasses, Fractions, fractions_of};
+use crate::rules::low_numbers::LowNumbers;
+use crate::rules::residue_class::{CYCLE, ResidueClasses, bound_of};
 use crate::rules::table_bytes::{LOW, TABLE_LENGTH, table_bytes};
-use crate::rules::told::told_category;
+use crate::rules::told::tell_categories;
 use plural_reference::PluralOperands;
 use std::marker::Model;
 
@@ -56,8 +57,7 @@ impl<'data> PreparedRules<'data> {
         let bound = bound_of(&rules.data);
         let low = low_categories(&rules);
         let cycle = cycle_categories(&rules.data, bound);
-        let shown = told_category(&rules.data, Fractions::Shown);
-        let not_zero = told_category(&rules.data, Fractions::NotZero);
+        let [shown, not_zero] = fraction_categories(&rules.data);
         PreparedRules {
             rules,
             bound,
@@ -154,11 +154,29 @@ fn asked(rules: &PluralRules<'_>, number: u64) -> PluralCategory
 fn low_categories(rules: &PluralRules<'_>) -> [PluralCategory; 128]
     ensures { AreLowEntries rules.now result }
 {
+    let mut told = [None; 128];
+    tell_categories(&rules.data, LowNumbers, &mut told);
     let mut low = [PluralCategory::Other; 128];
     for k in 0..128usize {
-        low[k] = asked(rules, k as u64);
+        low[k] = low_category(rules, told[k], k as u64);
     }
     low
+}
+
+// The category of a number: the one that is told of it, else by the rules themselves.
+#[inline]
+fn low_category(
+    rules: &PluralRules<'_>,
+    told: Option<PluralCategory>,
+    number: u64,
+) -> PluralCategory
+    requires { IsTold (category_of_whole rules.now number) told }
+    ensures { result ≡ category_of_whole rules.now number }
+{
+    match told {
+        Some(category) => category,
+        None => asked(rules, number),
+    }
 }
 
 // The categories of all numbers from the bound on, by their remainder by 100, where that tells.
@@ -166,9 +184,16 @@ fn cycle_categories(rules: &PluralRulesData<'_>, bound: u64) -> [Option<PluralCa
     ensures { AreTold (rules_of rules.now) bound result }
 {
     let mut cycle = [None; 100];
-    for k in 0..100usize {
-        let residue = k as u64;
-        cycle[k] = told_category(rules, ResidueClass { bound, residue });
-    }
+    tell_categories(rules, ResidueClasses { bound }, &mut cycle);
     cycle
+}
+
+// The categories of all numbers that show a fraction, and of those whose fraction isn't 0, where
+// they have one.
+fn fraction_categories(rules: &PluralRulesData<'_>) -> [Option<PluralCategory>; 2]
+    ensures { AreFractionCategories (rules_of rules.now) (slice_index_or result 0 None) (slice_index_or result 1 None) }
+{
+    let mut fractions = [None; 2];
+    tell_categories(rules, FractionClasses, &mut fractions);
+    fractions
 }

@@ -1,156 +1,62 @@
-//! What rules tell of all whole numbers from a bound on that leave one remainder by 100.
+//! What is known of all whole numbers from a bound on that leave one remainder by 100.
 
-ghost use Rattle.std.specs.Prelude.{◌≡◌, ℕ, ◌%◌, not, Bool, false, IsTrue, slice_index_or};
-ghost use Rattle.plural_reference.specs.Truth.{is_in_ranges, range_holds, remainder, under};
-ghost use Rattle.plural_runtime.specs.RuleKinds.{ends, operator_of, tree_operand_of};
-ghost use Rattle.plural_runtime.specs.Inner.RuleViews.{lent_relation};
-ghost use Rattle.plural_base.specs.Inner.WholeNumbers.{Fits, IsInClass, IsTold, whole_value};
+ghost use Rattle.std.specs.Prelude.{ℕ};
+ghost use Rattle.plural_reference.specs.Truth.{remainder};
+ghost use Rattle.plural_runtime.specs.RuleKinds.{tree_operand_of};
+ghost use Rattle.plural_base.specs.Inner.WholeNumbers.{Fits, IsInClass, whole_value};
 
 use crate::for_five;
 use crate::rules::data::PluralRulesData;
-use crate::rules::told::{NumberClass, either};
-use plural_runtime::{Operand, Polarity, RangeOrValue, Relation, Rule};
+use crate::rules::known::{Known, told_list};
+use crate::rules::told::NumberClasses;
+use crate::rules::told_masks::{Told, under_polarity};
+use plural_runtime::{Operand, RangeOrValue, Relation, Rule};
 
 // The number by whose remainders the numbers are classed.
 pub(crate) const CYCLE: u64 = 100;
 
-// The whole numbers from a bound on that leave a residue by 100.
+// The whole numbers from a bound on, by what they leave by 100.
 #[derive(Clone, Copy)]
-pub(crate) struct ResidueClass {
+pub(crate) struct ResidueClasses {
     pub(crate) bound: u64,
-    pub(crate) residue: u64,
 }
 
-// What is known of a value at all numbers of a class.
-#[derive(Clone, Copy)]
-pub(crate) enum Known {
-    // It is this one.
-    Is(u64),
-    // It is this one or a greater one.
-    From(u64),
-    // It leaves this remainder by 100.
-    Leaves(u64),
-    // It may be any.
-    Nothing,
-}
+impl NumberClasses for ResidueClasses {
+    ghost use Rattle.plural_base.specs.Inner.WholeNumbers.{HasResidue};
 
-impl NumberClass for ResidueClass {
-    ghost use Rattle.plural_base.specs.Inner.WholeNumbers.{HasWhole};
+    ghost has = { λ classes class o. HasResidue classes.bound class o };
 
-    ghost has = { HasWhole };
-
-    fn told_relation(self, relation: &Relation<'_>) -> Option<bool> {
-        let known = known_value(relation.operand(), relation.modulo(), self);
+    fn told_relation(self, relation: &Relation<'_>) -> Told {
+        let known = known_value(relation.operand(), relation.modulo(), self.bound);
         under_polarity(told_list(relation, known), relation.polarity())
-    }
-}
-
-// Whether a relation is true by a polarity, if it is told whether its list holds the value.
-pub(crate) fn under_polarity(is_in: Option<bool>, polarity: Polarity) -> Option<bool>
-    ensures { (b : Bool) → IsTold b is_in → IsTold (under (operator_of polarity) b) result }
-{
-    match polarity {
-        Polarity::Positive => is_in,
-        Polarity::Negative => negated(is_in),
     }
 }
 
 // What is known of an operand's remainder by a modulus.
 #[tactic(auto, using(crate::proofs::integers::Lists::remainder_zero))]
-fn known_value(operand: Operand, modulus: u32, class: ResidueClass) -> Known
-    ensures { (n : ℕ) → IsInClass class n
-        → Fits result (remainder modulus (whole_value (tree_operand_of operand) n)) }
+fn known_value(operand: Operand, modulus: u32, bound: u64) -> Known
+    ensures { (class n : ℕ) → IsInClass bound class n
+        → Fits result class (remainder modulus (whole_value (tree_operand_of operand) n)) }
 {
     match operand {
-        Operand::N | Operand::I => known_remainder(modulus, class),
-        Operand::V | Operand::W | Operand::F | Operand::T | Operand::C | Operand::E => Known::Is(0),
+        Operand::N | Operand::I => known_remainder(modulus, bound),
+        Operand::V | Operand::W | Operand::F | Operand::T | Operand::C | Operand::E => Known::Zero,
     }
 }
 
 // What is known of a number's remainder by a modulus.
-fn known_remainder(modulus: u32, class: ResidueClass) -> Known
-    ensures { (n : ℕ) → IsInClass class n → Fits result (remainder modulus n) }
+fn known_remainder(modulus: u32, bound: u64) -> Known
+    ensures { (class n : ℕ) → IsInClass bound class n → Fits result class (remainder modulus n) }
 {
-    let modulus = u64::from(modulus);
-    if modulus == 0 {
-        Known::From(class.bound)
-    } else if CYCLE % modulus == 0 {
-        Known::Is(class.residue % modulus)
-    } else if modulus % CYCLE == 0 {
-        Known::Leaves(class.residue)
+    let divisor = u64::from(modulus);
+    if divisor == 0 {
+        Known::From(bound)
+    } else if CYCLE % divisor == 0 {
+        Known::RemainderBy(modulus)
+    } else if divisor % CYCLE == 0 {
+        Known::Leaves
     } else {
         Known::Nothing
-    }
-}
-
-// Whether the list of a relation holds a value, as far as what is known tells.
-pub(crate) fn told_list(relation: &Relation<'_>, known: Known) -> Option<bool>
-    ensures { (value : ℕ) → Fits known value
-        → IsTold (is_in_ranges (lent_relation relation.now).meaning.ranges value) result }
-{
-    let mut told = Some(false);
-    let count = relation.len();
-    for k in 0..count {
-        told = either(told, told_at(relation, k, known));
-    }
-    told
-}
-
-// Whether the range at a place holds a value, as far as what is known tells.
-fn told_at(relation: &Relation<'_>, place: usize, known: Known) -> Option<bool>
-    ensures { (value : ℕ) → Fits known value → IsTold
-        (range_holds value (slice_index_or (lent_relation relation.now).meaning.ranges place (0, 0))) result }
-{
-    match relation.range(place) {
-        Some(range) => told_range(range, known),
-        None => None,
-    }
-}
-
-// Whether a range holds a value, as far as what is known tells.
-fn told_range(range: RangeOrValue, known: Known) -> Option<bool>
-    ensures { (value : ℕ) → Fits known value → IsTold (range_holds value (ends range)) result }
-{
-    match range {
-        RangeOrValue::Range(start, end) => told_between(start, end, known),
-        RangeOrValue::Value(value) => told_between(value, value, known),
-    }
-}
-
-// Whether a value is between two ends, as far as what is known tells.
-fn told_between(start: u32, end: u32, known: Known) -> Option<bool>
-    ensures { (value : ℕ) → Fits known value → IsTold (range_holds value (start, end)) result }
-{
-    let (start, end) = (u64::from(start), u64::from(end));
-    match known {
-        Known::Is(value) => Some(start <= value && value <= end),
-        Known::From(least) => refused_if(end < least),
-        Known::Leaves(residue) => refused_if(leaves_no(start, end, residue)),
-        Known::Nothing => None,
-    }
-}
-
-// Whether no value of a range leaves a residue by 100. It isn't told of a range of several values.
-fn leaves_no(start: u64, end: u64, residue: u64) -> bool
-    ensures { IsTrue result → (value : ℕ) → value % 100 ≡ residue → range_holds value (start, end) ≡ false }
-{
-    start == end && start % CYCLE != residue
-}
-
-// `Some(false)` if this holds, else nothing.
-fn refused_if(is_refused: bool) -> Option<bool>
-    ensures { (b : Bool) → (IsTrue is_refused → b ≡ false) → IsTold b result }
-{
-    if is_refused { Some(false) } else { None }
-}
-
-// Whether it doesn't hold.
-fn negated(told: Option<bool>) -> Option<bool>
-    ensures { (b : Bool) → IsTold b told → IsTold (not b) result }
-{
-    match told {
-        Some(truth) => Some(!truth),
-        None => None,
     }
 }
 

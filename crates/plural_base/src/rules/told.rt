@@ -1,122 +1,144 @@
-//! What rules tell of all numbers of a class.
+//! What rules tell of all numbers of each of some classes.
 
-ghost use Rattle.std.specs.Prelude.{◌&&◌, ◌||◌, Bool};
+ghost use Rattle.std.specs.Prelude.{◌≡◌, ◌<◌, ℕ, Bool, if◌then◌else◌, length, slice_index_or, None};
 ghost use Rattle.plural_operands.specs.Operands.{Operands};
 ghost use Rattle.plural_runtime.specs.Inner.RuleViews.{lent_relation};
 ghost use Rattle.plural_runtime.specs.PackedTruth.{is_true_at, packed_truth};
+ghost use Rattle.plural_base.specs.declared.category.PluralCategory.{PluralCategory as Category};
 ghost use Rattle.plural_base.specs.FiveRules.{first_category, passes, rules_of};
+ghost use Rattle.plural_base.specs.Inner.Masks.{has_bit, IsToldAt};
 ghost use Rattle.plural_base.specs.Inner.WholeNumbers.{earlier_after, group_after, IsTold};
 
 use crate::category::PluralCategory;
-use crate::for_five;
 use crate::rules::data::PluralRulesData;
+use crate::rules::told_masks::{Told, both, either, told_alike};
 use plural_runtime::{AndOr, Relation, Rule};
 
-// A class of numbers, of all of which at once is told what holds.
-pub(crate) trait NumberClass: Copy {
+// At most 128 classes of numbers, by place, of all of which at once is told what holds.
+pub(crate) trait NumberClasses: Copy {
+    ghost use Rattle.std.specs.Prelude.{◌<◌, ℕ};
     ghost use Rattle.plural_operands.specs.Operands.{Operands};
 
-    // The operands of a number of the class.
-    ghost has: { Self → Operands → Type 0 };
+    // The operands of a number of the class at a place.
+    ghost has: { Self → ℕ → Operands → Type 0 };
 
-    // Whether a relation is true of all numbers of the class, if it can be told.
-    fn told_relation(self, relation: &Relation<'_>) -> Option<bool>
-        ensures { (o : Operands) → has self o → IsTold (is_true_at o (lent_relation relation.now)) result };
+    // Whether a relation is true of all numbers of a class, of each class where it can be told.
+    fn told_relation(self, relation: &Relation<'_>) -> Told
+        ensures { (class : ℕ) (o : Operands) → class < 128 → has self class o
+            → IsToldAt class (is_true_at o (lent_relation relation.now)) result };
 }
 
 // How far a rule is read: whether a group before the open one is true, and whether the open one is
-// so far, each if it can be told.
+// so far, as far as each is told.
 #[derive(Clone, Copy)]
 struct Walk {
-    earlier: Option<bool>,
-    group: Option<bool>,
+    earlier: Told,
+    group: Told,
 }
 
-// The category that five rules give all numbers of a class, if it can be told.
-pub(crate) fn told_category<C: NumberClass>(
+// Writes the category that five rules give all numbers of a class, at the place of each class,
+// where it is told. The rules are read from the last one on, so that the first true one is kept.
+pub(crate) fn tell_categories<C: NumberClasses>(
     rules: &PluralRulesData<'_>,
-    class: C,
-) -> Option<PluralCategory>
-    ensures { (o : Operands) → C.has class o
-        → IsTold (first_category (packed_truth o) (rules_of rules.now)) result }
+    classes: C,
+    entries: &mut [Option<PluralCategory>],
+)
+    ensures { (class : ℕ) (o : Operands) → class < 128 → C.has classes class o
+        → IsTold (first_category (packed_truth o) (rules_of rules.now)) (slice_index_or entries.new class None) }
 {
-    for_five!(rules, |rule, category| {
-        if told_rule(rule, class)? {
-            return Some(category);
-        }
-    });
-    Some(PluralCategory::Other)
+    tell_all(entries);
+    tell_rule(&rules.many, PluralCategory::Many, classes, entries);
+    tell_rule(&rules.few, PluralCategory::Few, classes, entries);
+    tell_rule(&rules.two, PluralCategory::Two, classes, entries);
+    tell_rule(&rules.one, PluralCategory::One, classes, entries);
+    tell_rule(&rules.zero, PluralCategory::Zero, classes, entries);
 }
 
-// Whether a rule is present and true of all numbers of a class, if it can be told.
-fn told_rule<C: NumberClass>(rule: &Option<Rule<'_>>, class: C) -> Option<bool>
-    ensures { (o : Operands) → C.has class o → IsTold (passes (packed_truth o) rule.now) result }
+// Writes a rule's category for the classes of whose numbers it is present and true, and nothing
+// where it isn't told. The other entries stay.
+fn tell_rule<C: NumberClasses>(
+    rule: &Option<Rule<'_>>,
+    category: PluralCategory,
+    classes: C,
+    entries: &mut [Option<PluralCategory>],
+)
+    ensures { (class : ℕ) (o : Operands) (rest : Category) → class < 128 → C.has classes class o
+        → IsTold rest (slice_index_or entries.old class None)
+        → IsTold (if passes (packed_truth o) rule.now then category else rest) (slice_index_or entries.new class None) }
 {
-    match rule {
-        Some(rule) => told_relations(rule, class),
-        None => Some(false),
+    if let Some(rule) = rule {
+        tell(told_relations(rule, classes), category, entries);
     }
 }
 
-// The same of a rule that is present.
-fn told_relations<C: NumberClass>(rule: &Rule<'_>, class: C) -> Option<bool>
-    ensures { (o : Operands) → C.has class o → IsTold (packed_truth o rule.now) result }
+// Whether a rule is true of all numbers of a class, of each class where it can be told.
+fn told_relations<C: NumberClasses>(rule: &Rule<'_>, classes: C) -> Told
+    ensures { (class : ℕ) (o : Operands) → class < 128 → C.has classes class o
+        → IsToldAt class (packed_truth o rule.now) result }
 {
     let mut walk = Walk {
-        earlier: Some(false),
-        group: Some(true),
+        earlier: told_alike(false),
+        group: told_alike(true),
     };
     for item in rule.iter() {
-        walk = walk_on(walk, &item.as_relation(), class);
+        walk = walk_on(walk, &item.as_relation(), classes);
     }
     either(walk.earlier, walk.group)
 }
 
 // The walk after a further relation.
-fn walk_on<C: NumberClass>(walk: Walk, relation: &Relation<'_>, class: C) -> Walk
-    ensures earlier { (b c : Bool) → IsTold b walk.earlier → IsTold c walk.group
-        → IsTold (earlier_after (lent_relation relation.now).and_or b c) result.earlier }
-    ensures group { (o : Operands) (c : Bool) → C.has class o → IsTold c walk.group
-        → IsTold (group_after (lent_relation relation.now).and_or c (is_true_at o (lent_relation relation.now))) result.group }
+fn walk_on<C: NumberClasses>(walk: Walk, relation: &Relation<'_>, classes: C) -> Walk
+    ensures earlier { (class : ℕ) (b c : Bool) → IsToldAt class b walk.earlier → IsToldAt class c walk.group
+        → IsToldAt class (earlier_after (lent_relation relation.now).and_or b c) result.earlier }
+    ensures group { (class : ℕ) (o : Operands) (c : Bool) → class < 128 → C.has classes class o
+        → IsToldAt class c walk.group → IsToldAt class
+        (group_after (lent_relation relation.now).and_or c (is_true_at o (lent_relation relation.now))) result.group }
 {
+    let told = classes.told_relation(relation);
     match relation.and_or() {
         AndOr::And => Walk {
             earlier: walk.earlier,
-            group: and_relation(walk.group, relation, class),
+            group: both(walk.group, told),
         },
         AndOr::Or => Walk {
             earlier: either(walk.earlier, walk.group),
-            group: class.told_relation(relation),
+            group: told,
         },
     }
 }
 
-// Whether a group is true with a further relation. The relation of a false group isn't looked at.
-fn and_relation<C: NumberClass>(
-    group: Option<bool>,
-    relation: &Relation<'_>,
-    class: C,
-) -> Option<bool>
-    ensures { (o : Operands) (b : Bool) → C.has class o → IsTold b group
-        → IsTold (b && is_true_at o (lent_relation relation.now)) result }
+// Writes a category for the classes where something is told to be true, and nothing where it isn't
+// told whether it is.
+fn tell(told: Told, category: PluralCategory, entries: &mut [Option<PluralCategory>])
+    ensures { (class : ℕ) (truth : Bool) (rest : Category) → class < 128 → IsToldAt class truth told
+        → IsTold rest (slice_index_or entries.old class None)
+        → IsTold (if truth then category else rest) (slice_index_or entries.new class None) }
 {
-    match group {
-        Some(false) => Some(false),
-        Some(true) => class.told_relation(relation),
-        None => match class.told_relation(relation) {
-            Some(false) => Some(false),
-            Some(true) | None => None,
-        },
+    write_at(entries, told.yes, Some(category));
+    write_at(entries, !(told.yes | told.no), None);
+}
+
+// Writes an entry at each place of a mask that the table has.
+fn write_at(entries: &mut [Option<PluralCategory>], places: u128, entry: Option<PluralCategory>)
+    ensures { (place : ℕ) → place < 128 → place < length entries.old → slice_index_or entries.new place None
+        ≡ (if has_bit places place then entry else slice_index_or entries.old place None) }
+{
+    let mut left = places;
+    while left != 0 {
+        let place = left.trailing_zeros();
+        if place as usize >= entries.len() {
+            return;
+        }
+        entries[place as usize] = entry;
+        left &= !(1 << place);
     }
 }
 
-// Whether one of two holds.
-pub(crate) fn either(first: Option<bool>, second: Option<bool>) -> Option<bool>
-    ensures { (b c : Bool) → IsTold b first → IsTold c second → IsTold (b || c) result }
+// Writes other for each class.
+fn tell_all(entries: &mut [Option<PluralCategory>])
+    ensures { (class : ℕ) → IsTold Category.Other (slice_index_or entries.new class None) }
 {
-    match (first, second) {
-        (Some(true), _) | (_, Some(true)) => Some(true),
-        (Some(false), Some(false)) => Some(false),
-        (None, _) | (_, None) => None,
+    for entry in entries.iter_mut() {
+        *entry = Some(PluralCategory::Other);
     }
 }

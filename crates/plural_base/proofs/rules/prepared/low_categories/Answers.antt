@@ -9,6 +9,7 @@ loop-k-preserved c =
     let low = c.loop-k.low in
     let k = c.loop-k.k in
     let within : k < length low = omega (arith, c.loop-k.invariant.0) in (
-      length-set low k c.asked.result ∙ c.loop-k.invariant.0,
-      entries_more low k c.asked.result Zero (category_of_whole c.args.rules.now) within c.loop-k.invariant.1 c.asked.ensures,
+      length-set low k c.low_category.result ∙ c.loop-k.invariant.0,
+      entries_more low k c.low_category.result Zero (category_of_whole c.args.rules.now) within c.loop-k.invariant.1
+          c.low_category.ensures,
     )

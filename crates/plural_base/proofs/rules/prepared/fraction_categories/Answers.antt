@@ -1,0 +1,8 @@
+use Rattle.std.proofs.Common.{refl, arith}
+use Rattle.plural_base.proofs.rules.prepared.fraction_categories.Goals as goal
+
+pub returns : goal.returns
+returns c = (
+  λ o f. c.tell_categories.ensures 0 o (omega arith) (record { places = f.shown; above = λ e. absurd (omega (arith, e)) }),
+  λ o f. c.tell_categories.ensures 1 o (omega arith) (record { places = f.shown; above = λ e. f.not_zero refl }),
+)

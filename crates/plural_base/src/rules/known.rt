@@ -1,0 +1,100 @@
+//! What is known of a value at all numbers of each of 128 classes, and what it tells of ranges.
+
+ghost use Rattle.std.specs.Prelude.{◌≡◌, ◌<◌, ℕ, ◌%◌, Bool, false, IsTrue, slice_index_or};
+ghost use Rattle.plural_reference.specs.Truth.{is_in_ranges, range_holds};
+ghost use Rattle.plural_runtime.specs.RuleKinds.{ends};
+ghost use Rattle.plural_runtime.specs.Inner.RuleViews.{lent_relation};
+ghost use Rattle.plural_base.specs.Inner.Masks.{IsToldAt};
+ghost use Rattle.plural_base.specs.Inner.WholeNumbers.{Fits};
+
+use crate::rules::masks::{between, repeated};
+use crate::rules::told_masks::{Told, either, told_alike, told_exactly, told_false, untold};
+use plural_runtime::{RangeOrValue, Relation};
+
+// What is known of a value at all numbers of each class.
+#[derive(Clone, Copy)]
+pub(crate) enum Known {
+    // It is 0.
+    Zero,
+    // It is what the place of the class leaves by this modulus; by 0 it is the place.
+    RemainderBy(u32),
+    // It is this one or a greater one.
+    From(u64),
+    // It leaves the place of the class by 100.
+    Leaves,
+    // It may be any.
+    Nothing,
+}
+
+// Whether the list of a relation holds a value, as far as what is known tells.
+pub(crate) fn told_list(relation: &Relation<'_>, known: Known) -> Told
+    ensures { (class value : ℕ) → class < 128 → Fits known class value
+        → IsToldAt class (is_in_ranges (lent_relation relation.now).meaning.ranges value) result }
+{
+    let mut told = told_alike(false);
+    let count = relation.len();
+    for k in 0..count {
+        told = either(told, told_at(relation, k, known));
+    }
+    told
+}
+
+// Whether the range at a place holds a value, as far as what is known tells.
+fn told_at(relation: &Relation<'_>, place: usize, known: Known) -> Told
+    ensures { (class value : ℕ) → class < 128 → Fits known class value → IsToldAt class
+        (range_holds value (slice_index_or (lent_relation relation.now).meaning.ranges place (0, 0))) result }
+{
+    match relation.range(place) {
+        Some(range) => told_range(range, known),
+        None => untold(),
+    }
+}
+
+// Whether a range holds a value, as far as what is known tells.
+fn told_range(range: RangeOrValue, known: Known) -> Told
+    ensures { (class value : ℕ) → class < 128 → Fits known class value
+        → IsToldAt class (range_holds value (ends range)) result }
+{
+    match range {
+        RangeOrValue::Range(start, end) => told_between(start, end, known),
+        RangeOrValue::Value(value) => told_between(value, value, known),
+    }
+}
+
+// Whether a value is between two ends, as far as what is known tells.
+fn told_between(start: u32, end: u32, known: Known) -> Told
+    ensures { (class value : ℕ) → class < 128 → Fits known class value
+        → IsToldAt class (range_holds value (start, end)) result }
+{
+    match known {
+        Known::Zero => told_alike(start == 0),
+        Known::RemainderBy(modulus) => told_exactly(repeated(between(start, end), modulus)),
+        Known::From(least) => refused_if(u64::from(end) < least),
+        Known::Leaves => told_of_residues(start, end),
+        Known::Nothing => untold(),
+    }
+}
+
+// Whether a range holds a value that leaves the place of the class by 100. It isn't told of a range
+// of several values, nor of the class of the one value.
+fn told_of_residues(start: u32, end: u32) -> Told
+    ensures { (class value : ℕ) → class < 128 → value % 100 ≡ class
+        → IsToldAt class (range_holds value (start, end)) result }
+{
+    if start != end {
+        return untold();
+    }
+    let residue = start % 100;
+    told_false(!(1 << residue))
+}
+
+// That it is false of each class, if this holds, else nothing.
+fn refused_if(is_refused: bool) -> Told
+    ensures { (class : ℕ) (b : Bool) → (IsTrue is_refused → b ≡ false) → IsToldAt class b result }
+{
+    if is_refused {
+        told_alike(false)
+    } else {
+        untold()
+    }
+}
