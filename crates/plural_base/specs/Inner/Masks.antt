@@ -1,6 +1,6 @@
 -- Not a definition of the subject: sets of the numbers below 128 as bits, and what is told of 128
 -- classes of numbers at once.
-use Rattle.std.specs.Prelude.{◌≡◌, ℕ, ◌==◌, Bool, true, false, IsTrue}
+use Rattle.std.specs.Prelude.{◌≡◌, ℕ, ◌==◌, Bool, true, false}
 use Rattle.std.specs.Int.{bit_at}
 use Rattle.plural_base.specs.declared.rules.told_masks.Told.{Told}
 

@@ -37,11 +37,12 @@ pub(crate) fn fractions_of(operands: PluralOperands) -> Option<Fractions>
     Some(Fractions::NotZero)
 }
 
-// The two sets at the places 0 and 1. One set has no number at a further place.
+// The numbers that show a fraction, as class 0, and those of them whose fraction isn't 0, as
+// class 1.
 #[derive(Clone, Copy)]
 pub(crate) struct FractionClasses;
 
-// The mask of the numbers whose fraction isn't 0.
+// The mask of class 1.
 const NOT_ZERO: u128 = 1 << 1;
 
 impl NumberClasses for FractionClasses {

@@ -1,7 +1,7 @@
 use Rattle.std.proofs.Common.{◌≡◌, ◌≤◌, ◌<◌, ℕ, ◌%◌, ◌∙◌, sym, ap, subst, arith, Bool}
 use Rattle.std.specs.Prelude.{IsTrue, nat_lt}
 use Rattle.std.proofs.lemmas.Bool.Decides.{nat_tests}
-use Rattle.plural_base.specs.Inner.Masks.{has_bit, IsToldAt}
+use Rattle.plural_base.specs.Inner.Masks.{IsToldAt}
 use Rattle.plural_base.specs.Inner.WholeNumbers.{Fits}
 use Rattle.plural_reference.specs.Truth.{range_holds, remainder}
 use Rattle.plural_base.proofs.integers.Bits.{remainder-below}

@@ -1,4 +1,4 @@
-use Rattle.std.proofs.Common.{◌≡◌, ◌^◌, ◌+◌, ◌<◌, ℕ, ◌∙◌, ap, rules}
+use Rattle.std.proofs.Common.{◌^◌, ◌+◌, ◌<◌, ◌∙◌, ap, rules}
 use Rattle.std.specs.Prelude.{◌&&◌, not, nat_lt, nat_le}
 use Rattle.plural_base.specs.Inner.Masks.{has_bit}
 use Rattle.plural_base.proofs.integers.Bits.{has-and, has-not, inside}

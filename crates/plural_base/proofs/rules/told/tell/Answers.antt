@@ -1,6 +1,6 @@
 use Rattle.std.proofs.Common.{◌≡◌, ◌^◌, ◌<◌, ◌≤◌, ◌∙◌, length, ap, sym, subst, arith, rules, ⊎_elim, bit_or}
 use Rattle.std.specs.Int.{w128, bit_not}
-use Rattle.std.specs.Prelude.{Option, None, Some, if◌then◌else◌, slice_index_or}
+use Rattle.std.specs.Prelude.{Option, None, if◌then◌else◌, slice_index_or}
 use Rattle.std.proofs.lemmas.Bool.{cases_lt}
 use Rattle.std.proofs.lemmas.List.{get_or_past}
 use Rattle.plural_base.specs.declared.category.PluralCategory.{PluralCategory}

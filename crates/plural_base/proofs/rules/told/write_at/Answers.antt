@@ -1,4 +1,4 @@
-use Rattle.std.proofs.Common.{◌≡◌, ◌^◌, ◌<◌, ◌≤◌, ◌∙◌, length, ap, arith, rules}
+use Rattle.std.proofs.Common.{◌^◌, ◌<◌, ◌∙◌, length, ap, arith, rules}
 use Rattle.std.specs.Int.{w128, trailing_zeros}
 use Rattle.plural_base.specs.Inner.Masks.{has_bit}
 use Rattle.plural_base.proofs.integers.Bits.{first_of_mask, has-none, smaller}
