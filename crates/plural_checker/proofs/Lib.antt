@@ -6,3 +6,9 @@ pub mod AllDigits
 pub mod TextsRead
 -- the order of lists of samples
 pub mod ListOrders
+-- the zeros at the end of a fraction
+pub mod TrailingZeros
+-- the texts of steps
+pub mod StepTexts
+-- numbers that are checked by their operands
+pub mod ShortChecks

@@ -1,5 +1,5 @@
 -- The order of the lists of samples of a text.
-use Rattle.std.proofs.Common.{◌≡◌, ◌≢◌, ◌↔◌, ℕ, Bool, true, false, List, [], ◌∷◌, Ok, Err, Result, IfOk, ap, refl, sym, subst, ◌∙◌}
+use Rattle.std.proofs.Common.{◌≡◌, ◌↔◌, ℕ, Bool, true, false, List, Ok, Err, Result, IfOk, ap, refl, sym, subst, ◌∙◌}
 use Rattle.std.specs.Prelude.{IsTrue, MatchBool, filter}
 use Rattle.std.specs.declared.alloc.AllocError.{AllocError}
 use Rattle.icu_plurals.specs.declared.provider.rules.reference.Token.{Token}

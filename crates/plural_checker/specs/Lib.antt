@@ -9,3 +9,5 @@ pub mod TextChecks
 pub mod WholeNumbers
 -- the texts of faults
 pub mod PluralCheckerErrors
+-- no definitions of the subject
+pub mod Inner

@@ -14,6 +14,7 @@ mod range_check;
 mod reading;
 mod report;
 mod sample_range;
+mod short_number;
 mod text_check;
 mod texts;
 mod whole_numbers;

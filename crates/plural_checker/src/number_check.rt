@@ -8,6 +8,7 @@ ghost use Rattle.plural_checker.specs.SampleNumbers.{count_of, number_at};
 use crate::fault::{NumberFault, SampleFault};
 use crate::reading::read_number;
 use crate::sample_range::SampleNumbers;
+use crate::short_number::is_right;
 use icu_plurals::provider::rules::reference::ast::DecimalValue;
 use icu_plurals::{CompactDecimal, PluralCategory, PluralRules};
 use std::alloc::{AllocError, Global};
@@ -22,6 +23,9 @@ pub(crate) fn check_numbers(
     ensures { IfOk result (λ fault. AreCheckedNumbers (option_copied rules.entry) category numbers.now fault) }
 {
     for index in 0..numbers.count() {
+        if is_right(rules, category, numbers, index) {
+            continue;
+        }
         let text = numbers.text(alloc, index)?;
         if let Some(fault) = check_text(alloc, rules, category, &text)? {
             return Ok(Some(SampleFault::Number(text, fault)));

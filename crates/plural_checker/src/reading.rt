@@ -9,7 +9,7 @@ use icu_plurals::{CompactDecimal, DecimalError, UnsignedDecimal};
 use std::alloc::{AllocError, Global};
 
 // The most digits that an end of a range may have.
-const MOST_DIGITS: usize = 18;
+pub(crate) const MOST_DIGITS: usize = 18;
 
 // Returns the number that a sample writes, or why it writes none.
 pub(crate) fn read_sample(

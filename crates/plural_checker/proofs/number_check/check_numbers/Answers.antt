@@ -4,6 +4,11 @@ use Rattle.plural_checker.specs.NumberChecks.{IsCheckedText}
 use Rattle.plural_checker.specs.SampleNumbers.{number_at}
 use Rattle.plural_checker.proofs.number_check.check_numbers.Goals as goal
 
+pub loop-index-preserved-then-is_right : goal.loop-index-preserved-then-is_right
+loop-index-preserved-then-is_right c =
+    below_more (λ k. IsCheckedText (option_copied c.args.rules) c.args.category (number_at c.args.numbers.now k) None)
+    c.loop-index.index c.loop-index.invariant c.if-is_right.ensures
+
 pub loop-index-preserved : goal.loop-index-preserved
 loop-index-preserved c =
     let rules = option_copied c.args.rules in

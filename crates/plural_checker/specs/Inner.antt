@@ -1,0 +1,2 @@
+-- numbers that are checked by their operands alone
+pub mod ShortNumbers

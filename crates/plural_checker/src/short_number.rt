@@ -1,0 +1,132 @@
+//! Checks short numbers by their operands, without their texts.
+
+ghost use Rattle.std.specs.Prelude.{◌≡◌, ◌+◌, ◌-◌, ◌/◌, ◌^◌, ◌≤◌, ◌<◌, ℕ, List, IfSome, None, Some};
+ghost use Rattle.std.specs.Bool.{OnTrue};
+ghost use Rattle.std.specs.Int.{◌∣◌};
+ghost use Rattle.std.specs.Option.{option_copied};
+ghost use Rattle.plural_checker.specs.Inner.ShortNumbers.{WritesShortNumber};
+ghost use Rattle.plural_checker.specs.NumberChecks.{IsCheckedText};
+ghost use Rattle.plural_checker.specs.SampleNumbers.{number_at, number_text};
+
+use crate::reading::MOST_DIGITS;
+use crate::sample_range::{SampleNumbers, Steps};
+use icu_plurals::{PluralCategory, PluralOperands, PluralRules, RawPluralOperands};
+use plural_base::laws::kept_choice_is_exact;
+
+// The least number of more than 18 digits.
+const LONG: u64 = 1_000_000_000_000_000_000;
+
+// Returns whether a number of a range is short, and right under a category. `false` says nothing.
+pub(crate) fn is_right(
+    rules: Option<&PluralRules<'_>>,
+    category: PluralCategory,
+    numbers: &SampleNumbers,
+    index: u64,
+) -> bool
+    ensures { OnTrue result
+        (IsCheckedText (option_copied rules.entry) category (number_at numbers.now index) None) }
+{
+    match numbers {
+        SampleNumbers::Single(_) => false,
+        SampleNumbers::Stepped(steps) => is_step_right(rules, category, steps, index),
+    }
+}
+
+// Returns whether a number of steps is short, and right under a category. `false` says nothing.
+fn is_step_right(
+    rules: Option<&PluralRules<'_>>,
+    category: PluralCategory,
+    steps: &Steps,
+    index: u64,
+) -> bool
+    ensures { let text = number_text steps.now.places (steps.now.first + index) steps.now.exponent in
+        OnTrue result (IsCheckedText (option_copied rules.entry) category text None) }
+{
+    match operands_at(steps, index) {
+        Some(operands) => has_category(rules, category, operands),
+        None => false,
+    }
+}
+
+// Returns whether every short number of these operands is right under a category: without rules no
+// number is wrong.
+fn has_category(
+    rules: Option<&PluralRules<'_>>,
+    category: PluralCategory,
+    operands: PluralOperands,
+) -> bool
+    ensures { OnTrue result ((text : List ℕ) → WritesShortNumber text operands
+        → IsCheckedText (option_copied rules.entry) category text None) }
+{
+    match rules {
+        Some(rules) => has_category_by(rules, category, operands),
+        None => true,
+    }
+}
+
+// Returns the same under these rules.
+fn has_category_by(
+    rules: &PluralRules<'_>,
+    category: PluralCategory,
+    operands: PluralOperands,
+) -> bool
+    ensures { OnTrue result ((text : List ℕ) → WritesShortNumber text operands
+        → IsCheckedText (Some rules.now) category text None) }
+{
+    kept_choice_is_exact();
+    let chosen = rules.category_for(operands);
+    if chosen == category { true } else { false }
+}
+
+// Returns the operands of a number of steps, if it has at most 18 digits and no exponent.
+fn operands_at(steps: &Steps, index: u64) -> Option<PluralOperands>
+    ensures { let text = number_text steps.now.places (steps.now.first + index) steps.now.exponent in
+        IfSome result (λ operands. WritesShortNumber text operands) }
+{
+    if steps.exponent != 0 || steps.places > MOST_DIGITS {
+        return None;
+    }
+    let parts = steps.first.checked_add(index)?;
+    if parts >= LONG {
+        return None;
+    }
+    Some(operands_of(steps.places, parts))
+}
+
+// Returns the operands of `parts / 10^places`.
+fn operands_of(places: usize, parts: u64) -> PluralOperands
+    requires places { places ≤ 18 }
+    requires parts { parts < 10 ^ 18 }
+    ensures { WritesShortNumber (number_text places parts 0) result }
+{
+    let unit = 10_u64.pow(places as u32);
+    let written = parts % unit;
+    let (w, t) = without_zeros(places, written);
+    PluralOperands::from(RawPluralOperands {
+        i: parts / unit,
+        v: places,
+        w,
+        f: written,
+        t,
+        c: 0,
+    })
+}
+
+// Returns how many of the digits that are shown are left without the zeros at their end, and what
+// these write.
+fn without_zeros(shown: usize, written: u64) -> (usize, u64)
+    ensures divides { 10 ^ (shown - result.0) ∣ written }
+    ensures least { (k : ℕ) → 10 ^ (shown - k) ∣ written → result.0 ≤ k }
+    ensures number { result.1 ≡ written / 10 ^ (shown - result.0) }
+{
+    if written == 0 {
+        return (0, 0);
+    }
+    let mut left = shown;
+    let mut rest = written;
+    while left > 0 && rest % 10 == 0 {
+        left -= 1;
+        rest /= 10;
+    }
+    (left, rest)
+}
