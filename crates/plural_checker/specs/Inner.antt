@@ -1,2 +1,4 @@
 -- numbers that are checked by their operands alone
 pub mod ShortNumbers
+-- rules whose ranges are in order
+pub mod OrderedRules

@@ -5,12 +5,13 @@ ghost use Rattle.std.specs.Option.{option_copied};
 ghost use Rattle.plural_checker.specs.LanguageTexts.{six_texts};
 ghost use Rattle.plural_checker.specs.TextChecks.{AreFindingsOf, AreFindingsUnder, AreRulesIfRead};
 
+use crate::chooser::Chooser;
 use crate::report::Report;
 use crate::text_check::check_if_there;
 use crate::texts::LanguageTexts;
 use icu_plurals::provider::PluralRulesData;
 use icu_plurals::provider::rules::runtime::ast::RuleError;
-use icu_plurals::{Five, PluralCategory, PluralRules};
+use icu_plurals::{Five, PluralCategory};
 use plural_base::{for_five, make_five};
 use std::alloc::{AllocError, Global};
 
@@ -49,7 +50,7 @@ pub fn check_texts(alloc: Global, texts: &LanguageTexts<'_>) -> Result<Report, A
 // Returns the faults of the texts under these rules.
 fn check_all(
     alloc: Global,
-    rules: Option<&PluralRules<'_>>,
+    rules: Option<&Chooser<'_>>,
     texts: &LanguageTexts<'_>,
 ) -> Result<Report, AllocError>
     ensures { IfOk result (λ report. AreFindingsUnder (option_copied rules.entry) (six_texts texts.now) report) }
@@ -72,7 +73,7 @@ fn check_all(
 fn rules_of(
     alloc: Global,
     texts: &LanguageTexts<'_>,
-) -> Result<Option<PluralRules<'static>>, AllocError>
+) -> Result<Option<Chooser<'static>>, AllocError>
     ensures { IfOk result (λ rules. AreRulesIfRead (six_texts texts.now).five rules) }
 {
     if texts.has_long() {
@@ -80,7 +81,7 @@ fn rules_of(
     }
     let five = make_five!(Five, texts, |text| *text);
     match PluralRulesData::from_five(alloc, &five) {
-        Ok(data) => Ok(Some(PluralRules::from_data(data))),
+        Ok(data) => Ok(Some(Chooser::of(alloc, data)?)),
         Err(refused) => match refused.error {
             RuleError::Parse(_) | RuleError::StartLimit => Ok(None),
             RuleError::Memory => Err(AllocError),

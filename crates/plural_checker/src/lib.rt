@@ -4,11 +4,15 @@
 #![tactic(auto)]
 
 mod check;
+mod chooser;
 mod coverage;
 mod fault;
 mod list_order;
 mod number_check;
 mod number_text;
+mod ordered_ranges;
+mod ordered_relation;
+mod ordered_rules;
 mod printed_rule;
 mod range_check;
 mod reading;

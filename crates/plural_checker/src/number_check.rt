@@ -2,21 +2,24 @@
 
 ghost use Rattle.std.specs.Prelude.{◌≡◌, ◌<◌, IfOk};
 ghost use Rattle.std.specs.Option.{option_copied};
+ghost use Rattle.icu_plurals.specs.DecimalChoice.{HasCategory};
 ghost use Rattle.plural_checker.specs.NumberChecks.{AreCheckedNumbers, IsCheckedBy, IsCheckedNumber, IsCheckedText};
 ghost use Rattle.plural_checker.specs.SampleNumbers.{count_of, number_at};
 
+use crate::chooser::Chooser;
 use crate::fault::{NumberFault, SampleFault};
 use crate::reading::read_number;
 use crate::sample_range::SampleNumbers;
 use crate::short_number::is_right;
 use icu_plurals::provider::rules::reference::ast::DecimalValue;
-use icu_plurals::{CompactDecimal, PluralCategory, PluralRules};
+use icu_plurals::{CompactDecimal, PluralCategory, PluralOperands};
+use plural_base::laws::kept_choice_is_exact;
 use std::alloc::{AllocError, Global};
 
 // Returns the fault of the first number that is wrong, if there is one.
 pub(crate) fn check_numbers(
     alloc: Global,
-    rules: Option<&PluralRules<'_>>,
+    rules: Option<&Chooser<'_>>,
     category: PluralCategory,
     numbers: &SampleNumbers,
 ) -> Result<Option<SampleFault>, AllocError>
@@ -37,7 +40,7 @@ pub(crate) fn check_numbers(
 // Returns the fault of a text that is listed under a category.
 fn check_text(
     alloc: Global,
-    rules: Option<&PluralRules<'_>>,
+    rules: Option<&Chooser<'_>>,
     category: PluralCategory,
     text: &DecimalValue,
 ) -> Result<Option<NumberFault>, AllocError>
@@ -51,7 +54,7 @@ fn check_text(
 
 // Returns the fault of a number that is listed under a category; `None` without rules.
 fn check_number(
-    rules: Option<&PluralRules<'_>>,
+    rules: Option<&Chooser<'_>>,
     category: PluralCategory,
     number: &CompactDecimal,
 ) -> Option<NumberFault>
@@ -65,19 +68,28 @@ fn check_number(
 
 // Returns the fault of a number under these rules.
 fn check_by(
-    rules: &PluralRules<'_>,
+    rules: &Chooser<'_>,
     category: PluralCategory,
     number: &CompactDecimal,
 ) -> Option<NumberFault>
     ensures { IsCheckedBy rules.now category number.now result }
 {
-    if !rules.is_exact_for(number) {
+    if !rules.rules().is_exact_for(number) {
         return Some(NumberFault::Outside);
     }
-    let chosen = rules.category_for_compact(number);
+    let chosen = category_of(rules, number);
     if chosen == category {
         None
     } else {
         Some(NumberFault::Category(chosen))
     }
+}
+
+// Returns the category of a number.
+fn category_of(rules: &Chooser<'_>, number: &CompactDecimal) -> PluralCategory
+    ensures { HasCategory rules.now number.now result }
+{
+    kept_choice_is_exact();
+    let operands = PluralOperands::from(number);
+    rules.category_for(operands)
 }

@@ -6,18 +6,19 @@ ghost use Rattle.plural_checker.specs.Findings.{AddsFindings, EachFinds, GrowsBy
 ghost use Rattle.plural_checker.specs.NumberChecks.{IsCheckedRange};
 ghost use Rattle.plural_checker.specs.TextChecks.{IsFoundInList, IsFoundInRange, IsFoundInSamples, sample_findings};
 
+use crate::chooser::Chooser;
 use crate::fault::{Fault, SampleFault, SampleType, TextFault};
 use crate::number_check::check_numbers;
 use crate::report::Report;
 use crate::sample_range::SampleNumbers;
+use icu_plurals::PluralCategory;
 use icu_plurals::provider::rules::reference::ast::{SampleList, SampleRange, Samples};
-use icu_plurals::{PluralCategory, PluralRules};
 use std::alloc::{AllocError, Global};
 
 // Adds the faults of the samples of a category's text.
 pub(crate) fn check_samples(
     alloc: Global,
-    rules: Option<&PluralRules<'_>>,
+    rules: Option<&Chooser<'_>>,
     category: PluralCategory,
     samples: &Option<Samples>,
     report: &mut Report,
@@ -48,7 +49,7 @@ pub(crate) fn check_samples(
 // Adds the faults of a list of samples, if it is present.
 fn check_list(
     alloc: Global,
-    rules: Option<&PluralRules<'_>>,
+    rules: Option<&Chooser<'_>>,
     category: PluralCategory,
     sample_type: SampleType,
     list: &Option<SampleList>,
@@ -72,7 +73,7 @@ fn check_list(
 // Adds the faults of ranges of samples.
 fn check_ranges(
     alloc: Global,
-    rules: Option<&PluralRules<'_>>,
+    rules: Option<&Chooser<'_>>,
     category: PluralCategory,
     sample_type: SampleType,
     ranges: &[SampleRange],
@@ -91,7 +92,7 @@ fn check_ranges(
 // Returns the fault of a range of samples, and the count of its numbers.
 fn check_range(
     alloc: Global,
-    rules: Option<&PluralRules<'_>>,
+    rules: Option<&Chooser<'_>>,
     category: PluralCategory,
     range: &SampleRange,
 ) -> Result<(Option<SampleFault>, u64), AllocError>

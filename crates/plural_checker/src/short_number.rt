@@ -8,9 +8,10 @@ ghost use Rattle.plural_checker.specs.Inner.ShortNumbers.{WritesShortNumber};
 ghost use Rattle.plural_checker.specs.NumberChecks.{IsCheckedText};
 ghost use Rattle.plural_checker.specs.SampleNumbers.{number_at, number_text};
 
+use crate::chooser::Chooser;
 use crate::reading::MOST_DIGITS;
 use crate::sample_range::{SampleNumbers, Steps};
-use icu_plurals::{PluralCategory, PluralOperands, PluralRules, RawPluralOperands};
+use icu_plurals::{PluralCategory, PluralOperands, RawPluralOperands};
 use plural_base::laws::kept_choice_is_exact;
 
 // The least number of more than 18 digits.
@@ -18,7 +19,7 @@ const LONG: u64 = 1_000_000_000_000_000_000;
 
 // Returns whether a number of a range is short, and right under a category. `false` says nothing.
 pub(crate) fn is_right(
-    rules: Option<&PluralRules<'_>>,
+    rules: Option<&Chooser<'_>>,
     category: PluralCategory,
     numbers: &SampleNumbers,
     index: u64,
@@ -34,7 +35,7 @@ pub(crate) fn is_right(
 
 // Returns whether a number of steps is short, and right under a category. `false` says nothing.
 fn is_step_right(
-    rules: Option<&PluralRules<'_>>,
+    rules: Option<&Chooser<'_>>,
     category: PluralCategory,
     steps: &Steps,
     index: u64,
@@ -51,7 +52,7 @@ fn is_step_right(
 // Returns whether every short number of these operands is right under a category: without rules no
 // number is wrong.
 fn has_category(
-    rules: Option<&PluralRules<'_>>,
+    rules: Option<&Chooser<'_>>,
     category: PluralCategory,
     operands: PluralOperands,
 ) -> bool
@@ -65,11 +66,7 @@ fn has_category(
 }
 
 // Returns the same under these rules.
-fn has_category_by(
-    rules: &PluralRules<'_>,
-    category: PluralCategory,
-    operands: PluralOperands,
-) -> bool
+fn has_category_by(rules: &Chooser<'_>, category: PluralCategory, operands: PluralOperands) -> bool
     ensures { OnTrue result ((text : List ℕ) → WritesShortNumber text operands
         → IsCheckedText (Some rules.now) category text None) }
 {

@@ -6,23 +6,24 @@ ghost use Rattle.plural_checker.specs.Findings.{AddsFindings, GrowsBy};
 ghost use Rattle.plural_checker.specs.TextChecks.{HaveOtherTokens, HaveSameTokens, IsReadAsRule, IsTreeOf};
 ghost use Rattle.plural_checker.specs.TextChecks.{condition_findings, IsFoundIn, IsFoundInReading, IsFoundInRule, IsFoundInCategoryText};
 
+use crate::chooser::Chooser;
 use crate::fault::{Fault, TextFault};
 use crate::list_order::is_out_of_order;
 use crate::printed_rule::PrintedRule;
 use crate::range_check::check_samples;
 use crate::report::Report;
 use crate::texts::is_long;
+use icu_plurals::PluralCategory;
 use icu_plurals::laws::one_list_of_tokens;
 use icu_plurals::provider::rules::reference::ast::{Condition, Rule};
 use icu_plurals::provider::rules::reference::{Lexer, ReadError, parse};
 use icu_plurals::provider::rules::runtime::ast::{Rule as PackedRule, RuleError};
-use icu_plurals::{PluralCategory, PluralRules};
 use std::alloc::{AllocError, Global};
 
 // Adds the faults of a category's text, if it is present.
 pub(crate) fn check_if_there(
     alloc: Global,
-    rules: Option<&PluralRules<'_>>,
+    rules: Option<&Chooser<'_>>,
     category: PluralCategory,
     text: Option<&str>,
     report: &mut Report,
@@ -39,7 +40,7 @@ pub(crate) fn check_if_there(
 // Adds the faults of a category's text. A long text isn't read.
 fn check_text(
     alloc: Global,
-    rules: Option<&PluralRules<'_>>,
+    rules: Option<&Chooser<'_>>,
     category: PluralCategory,
     text: &str,
     report: &mut Report,
@@ -56,7 +57,7 @@ fn check_text(
 // Adds the faults of a category's text, as a rule.
 fn check_rule(
     alloc: Global,
-    rules: Option<&PluralRules<'_>>,
+    rules: Option<&Chooser<'_>>,
     category: PluralCategory,
     text: &str,
     report: &mut Report,
