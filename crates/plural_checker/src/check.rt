@@ -81,7 +81,7 @@ fn rules_of(
     }
     let five = make_five!(Five, texts, |text| *text);
     match PluralRulesData::from_five(alloc, &five) {
-        Ok(data) => Ok(Some(Chooser::of(alloc, data)?)),
+        Ok(data) => Ok(Some(Chooser::of(alloc, data, texts)?)),
         Err(refused) => match refused.error {
             RuleError::Parse(_) | RuleError::StartLimit => Ok(None),
             RuleError::Memory => Err(AllocError),

@@ -6,6 +6,7 @@ ghost use Rattle.icu_plurals.specs.PackedTruth.{packed_truth};
 ghost use Rattle.plural_checker.specs.Inner.OrderedRules.{AreLike};
 
 use crate::ordered_rules::{OrderedRule, first_true, ordered_rules};
+use crate::texts::LanguageTexts;
 use icu_plurals::provider::PluralRulesData;
 use icu_plurals::provider::rules::runtime::ast::Rule;
 use icu_plurals::{Five, PluralCategory, PluralOperands, PluralRules};
@@ -14,8 +15,11 @@ use std::alloc::{AllocError, Global};
 use std::marker::Model;
 
 // Rules of at most this many ranges are asked as they are. Those of a language of CLDR 41 have at
-// most 40.
+// most 25.
 const FEW_RANGES: usize = 64;
+
+// So are those of languages whose samples have at most this many numbers.
+const FEW_NUMBERS: usize = 128;
 
 // Rules, and the same with their ranges in order if there are many. Contracts see the rules.
 #[derive(Debug, Drop)]
@@ -37,14 +41,15 @@ impl<'data> Model for Chooser<'data> {
 }
 
 impl<'data> Chooser<'data> {
-    // Returns rules with this data.
+    // Returns rules with this data, which will be asked for the samples of texts.
     pub(crate) fn of(
         alloc: Global,
         rules: PluralRulesData<'data>,
+        texts: &LanguageTexts<'_>,
     ) -> Result<Chooser<'data>, AllocError>
         ensures { IfOk result (λ chooser. chooser ≡ rules_of rules.entry) }
     {
-        let ordered = ordered_if_many(alloc, &rules)?;
+        let ordered = ordered_if_many(alloc, &rules, texts)?;
         Ok(Chooser {
             rules: PluralRules::from_data(rules),
             ordered,
@@ -69,15 +74,16 @@ impl<'data> Chooser<'data> {
     }
 }
 
-// Returns the rules with their ranges in order if there are many.
+// Returns the rules with their ranges in order if these are many, and the samples too.
 fn ordered_if_many(
     alloc: Global,
     rules: &PluralRulesData<'_>,
+    texts: &LanguageTexts<'_>,
 ) -> Result<Option<Five<Option<OrderedRule>>>, AllocError>
     ensures { IfOk result (λ made.
         IfSome made (λ ordered. ArePaired AreLike ordered (rules_of rules.now))) }
 {
-    if range_count(rules) <= FEW_RANGES {
+    if range_count(rules) <= FEW_RANGES || texts.most_numbers() <= FEW_NUMBERS {
         return Ok(None);
     }
     Ok(Some(ordered_rules(alloc, rules)?))
