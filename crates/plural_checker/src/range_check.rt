@@ -11,6 +11,7 @@ use crate::fault::{Fault, SampleFault, SampleType, TextFault};
 use crate::number_check::check_numbers;
 use crate::report::Report;
 use crate::sample_range::SampleNumbers;
+use crate::short_number::is_sample_right;
 use icu_plurals::PluralCategory;
 use icu_plurals::provider::rules::reference::ast::{SampleList, SampleRange, Samples};
 use std::alloc::{AllocError, Global};
@@ -99,6 +100,9 @@ fn check_range(
     ensures { IfOk result (λ checked.
         IsCheckedRange (option_copied rules.entry) category range.now checked.0 checked.1) }
 {
+    if is_sample_right(alloc, rules, category, range) {
+        return Ok((None, 1));
+    }
     match SampleNumbers::of(alloc, range)? {
         Ok(numbers) => {
             let fault = check_numbers(alloc, rules, category, &numbers)?;

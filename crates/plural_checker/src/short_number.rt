@@ -1,21 +1,96 @@
-//! Checks short numbers by their operands, without their texts.
+//! Checks short numbers by their operands: those of ranges without a text, and other samples without
+//! a copy of theirs.
 
 ghost use Rattle.std.specs.Prelude.{◌≡◌, ◌+◌, ◌-◌, ◌/◌, ◌^◌, ◌≤◌, ◌<◌, ℕ, List, IfSome, None, Some};
 ghost use Rattle.std.specs.Bool.{OnTrue};
 ghost use Rattle.std.specs.Int.{◌∣◌};
 ghost use Rattle.std.specs.Option.{option_copied};
 ghost use Rattle.plural_checker.specs.Inner.ShortNumbers.{WritesShortNumber};
-ghost use Rattle.plural_checker.specs.NumberChecks.{IsCheckedText};
-ghost use Rattle.plural_checker.specs.SampleNumbers.{number_at, number_text};
+ghost use Rattle.plural_checker.specs.NumberChecks.{IsCheckedRange, IsCheckedText};
+ghost use Rattle.plural_checker.specs.SampleNumbers.{number_at, number_text, text_with_c};
 
 use crate::chooser::Chooser;
 use crate::reading::MOST_DIGITS;
 use crate::sample_range::{SampleNumbers, Steps};
+use icu_plurals::provider::rules::reference::ast::{DecimalValue, Operand, SampleRange};
 use icu_plurals::{PluralCategory, PluralOperands, RawPluralOperands};
 use plural_base::laws::kept_choice_is_exact;
+use std::alloc::Global;
+
+// A text of at most this many bytes is read without memory.
+const MOST_BYTES: usize = 16;
 
 // The least number of more than 18 digits.
 const LONG: u64 = 1_000_000_000_000_000_000;
+
+// Returns whether a sample that isn't a range is short, and right under a category. `false` says
+// nothing.
+pub(crate) fn is_sample_right(
+    alloc: Global,
+    rules: Option<&Chooser<'_>>,
+    category: PluralCategory,
+    range: &SampleRange,
+) -> bool
+    ensures { OnTrue result
+        (IsCheckedRange (option_copied rules.entry) category range.now None 1) }
+{
+    match &range.upper_val {
+        Some(_) => false,
+        None => is_text_right(alloc, rules, category, &range.lower_val),
+    }
+}
+
+// Returns whether a sample's text is that of a short number, which is right under a category.
+// `false` says nothing.
+fn is_text_right(
+    alloc: Global,
+    rules: Option<&Chooser<'_>>,
+    category: PluralCategory,
+    sample: &DecimalValue,
+) -> bool
+    ensures { OnTrue result
+        (IsCheckedText (option_copied rules.entry) category (text_with_c sample.now) None) }
+{
+    match sample_operands(alloc, sample) {
+        Some(operands) => has_category(rules, category, operands),
+        None => false,
+    }
+}
+
+// Returns the operands of a sample's text, if it has at most 16 bytes and no exponent.
+fn sample_operands(alloc: Global, sample: &DecimalValue) -> Option<PluralOperands>
+    ensures { IfSome result (λ operands. WritesShortNumber (text_with_c sample.now) operands) }
+{
+    let text = sample.0.as_str();
+    match text.split_once('e') {
+        Some(_) => None,
+        None => text_operands(alloc, text),
+    }
+}
+
+// Returns the operands of a text, if it has at most 16 bytes and no exponent.
+fn text_operands(alloc: Global, text: &str) -> Option<PluralOperands>
+    ensures { IfSome result (λ operands. WritesShortNumber text.now operands) }
+{
+    if text.len() > MOST_BYTES {
+        return None;
+    }
+    match PluralOperands::from_compact_text(alloc, text) {
+        Ok(operands) => without_exponent(operands),
+        Err(_) => None,
+    }
+}
+
+// Returns operands without an exponent.
+fn without_exponent(operands: PluralOperands) -> Option<PluralOperands>
+    ensures { IfSome result (λ same. (same ≡ operands) × (operands.c ≡ 0)) }
+{
+    if operands.value(Operand::C) == Some(0) {
+        Some(operands)
+    } else {
+        None
+    }
+}
 
 // Returns whether a number of a range is short, and right under a category. `false` says nothing.
 pub(crate) fn is_right(
