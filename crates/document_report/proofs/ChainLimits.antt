@@ -17,7 +17,7 @@ pub begins : (next : List ℕ → Option (List ℕ)) (locale : List ℕ) → loc
 unfolding locale_at
 begins next locale = refl
 
-one_more : (next : List ℕ → Option (List ℕ)) (locale : List ℕ) (n : ℕ)
+pub one_more : (next : List ℕ → Option (List ℕ)) (locale : List ℕ) (n : ℕ)
     → locale_at next locale (n + 1) ≡ option_and_then next (locale_at next locale n)
 unfolding locale_at
 one_more next locale n = let e : n + 1 ≡ suc n = omega arith in ap (locale_at next locale) e
@@ -28,7 +28,7 @@ pub goes_on : (next : List ℕ → Option (List ℕ)) (locale current : List ℕ
 goes_on next locale current n here = one_more next locale n ∙ ap (option_and_then next) here
 
 -- after its end there is nothing
-stays_ended : (next : List ℕ → Option (List ℕ)) (locale : List ℕ) (n : ℕ) → locale_at next locale n ≡ None → (k : ℕ)
+pub stays_ended : (next : List ℕ → Option (List ℕ)) (locale : List ℕ) (n : ℕ) → locale_at next locale n ≡ None → (k : ℕ)
     → locale_at next locale (n + k) ≡ None
 stays_ended next locale n ended zero = let e : n + 0 ≡ n = omega arith in ap (locale_at next locale) e ∙ ended
 stays_ended next locale n ended (suc k) =

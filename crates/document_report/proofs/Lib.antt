@@ -5,6 +5,7 @@ pub mod LineTexts
 pub mod Told
 pub mod RowLookups
 pub mod ChainLimits
+pub mod ChainSteps
 pub mod ParentsFound
 pub mod CheckReadings
 pub mod Faultless

@@ -1,3 +1,4 @@
 -- No definitions of the subject: words of private contracts.
 pub mod CheckCalls
+pub mod ChainSteps
 pub mod ParentRows

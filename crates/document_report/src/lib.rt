@@ -2,6 +2,7 @@
 #![tactic(auto)]
 
 pub mod arguments;
+mod chains;
 mod document;
 mod entry;
 mod error;

@@ -1,20 +1,20 @@
 //! What is found in the parents of a document.
 
-ghost use Rattle.std.specs.Prelude.{◌≡◌, codes, IfOk, OnOk, is_some, option_map, string_bytes};
+ghost use Rattle.std.specs.Prelude.{◌≡◌, codes, IfOk, OnOk, option_map, string_bytes};
 ghost use Rattle.std.specs.Option.{option_and_then, option_copied};
-ghost use Rattle.plural_fallback.specs.FirstKeys.{locale_at};
 ghost use Rattle.plural_documents.specs.Found.{together, IsFoundInMembers};
 ghost use Rattle.plural_documents.specs.Found.{HasGrownBy};
+ghost use Rattle.document_report.specs.Inner.ChainSteps.{AreKnown};
 ghost use Rattle.document_report.specs.Inner.ParentRows.{named_parent, parent_among};
 ghost use Rattle.document_report.specs.ParentFaults.{found_of_chain, found_of_child, found_of_parent, found_of_shape};
 ghost use Rattle.document_report.specs.ParentFaults.{IsFoundInParent, IsFoundInParents, parent_line, short_next};
 ghost use Rattle.serde_json.specs.Find.{as_object, get};
 ghost use Rattle.serde_json.specs.View.{members_view, view};
 
-use crate::names::{MOST_NAME_BYTES, is_long_name};
+use crate::chains::{KnownChains, goes_on};
+use crate::names::is_long_name;
 use crate::parent_rows::Parents;
-use plural_documents::{Found, MemberCheck, add_members, name_text};
-use plural_fallback::{MOST_LOCALES, next_locale};
+use plural_documents::{Found, name_text};
 use serde_json::{Map, Value};
 use std::alloc::{AllocError, Global};
 
@@ -71,30 +71,43 @@ fn add_named(
         (members_view members.now.entries)) found.old found.new) }
 {
     let parents = Parents::of(alloc, members)?;
-    let check = ParentCheck { parents: &parents };
-    add_members(alloc, &check, members, found)
+    add_all(alloc, &parents, members, found)
 }
 
-// Checks a member, beside all parents.
-#[derive(Clone, Copy)]
-struct ParentCheck<'p, 'a> {
-    parents: &'p Parents<'a>,
-}
-
-impl<'p, 'a> MemberCheck for ParentCheck<'p, 'a> {
-    ghost finds = { λ check. IsFoundInParent (named_parent check.parents.now) };
-
-    fn add(
-        &self,
-        alloc: Global,
-        key: &str,
-        value: &Value,
-        found: &mut Found,
-    ) -> Result<(), AllocError> {
-        add_child(alloc, key, found)?;
-        add_parent(alloc, key, value.as_str(), found)?;
-        add_chain(alloc, self.parents, key, found)
+// Adds what is found in each member, beside all parents.
+fn add_all<'p>(
+    alloc: Global,
+    parents: &'p Parents<'_>,
+    members: &'p Map<String, Value>,
+    found: &mut Found,
+) -> Result<(), AllocError>
+    ensures { OnOk result (HasGrownBy (IsFoundInMembers (IsFoundInParent (named_parent parents.now))
+        (members_view members.now.entries)) found.old found.new) }
+{
+    let mut chains = KnownChains::new(alloc, members.len())?;
+    for (key, value) in members.iter() {
+        add_member(alloc, parents, &mut chains, key.as_str(), value, found)?;
     }
+    Ok(())
+}
+
+// Adds what is found in a member, beside all parents and what is known of their chains.
+fn add_member<'p>(
+    alloc: Global,
+    parents: &'p Parents<'_>,
+    chains: &mut KnownChains<'p>,
+    key: &'p str,
+    value: &Value,
+    found: &mut Found,
+) -> Result<(), AllocError>
+    requires { AreKnown (short_next (named_parent parents.now)) chains.old }
+    ensures found { OnOk result (HasGrownBy (IsFoundInParent (named_parent parents.now) key.now (view value.now))
+        found.old found.new) }
+    ensures known { OnOk result (AreKnown (short_next (named_parent parents.now)) chains.new) }
+{
+    add_child(alloc, key, found)?;
+    add_parent(alloc, key, value.as_str(), found)?;
+    add_chain(alloc, parents, chains, key, found)
 }
 
 // Adds a line if the key is long.
@@ -133,54 +146,21 @@ fn add_text(alloc: Global, locale: &str, parent: &str, found: &mut Found) -> Res
 }
 
 // Adds a line if the chain of a locale doesn't end.
-fn add_chain(
+fn add_chain<'p>(
     alloc: Global,
-    parents: &Parents<'_>,
-    locale: &str,
+    parents: &'p Parents<'_>,
+    chains: &mut KnownChains<'p>,
+    locale: &'p str,
     found: &mut Found,
 ) -> Result<(), AllocError>
-    ensures { OnOk result (found.new ≡ together found.old (found_of_chain (named_parent parents.now) locale.now)) }
+    requires { AreKnown (short_next (named_parent parents.now)) chains.old }
+    ensures found { OnOk result (found.new ≡ together found.old (found_of_chain (named_parent parents.now) locale.now)) }
+    ensures known { OnOk result (AreKnown (short_next (named_parent parents.now)) chains.new) }
 {
-    if !goes_on(alloc, parents, locale.as_bytes())? {
+    if !goes_on(alloc, parents, chains, locale.as_bytes())? {
         return Ok(());
     }
     found.add_fault(parent_line(alloc, locale, "the chain of parents doesn't end")?)
-}
-
-// Returns whether a chain goes on after all the locales that are looked up.
-fn goes_on<'p>(
-    alloc: Global,
-    parents: &'p Parents<'_>,
-    locale: &'p [u8],
-) -> Result<bool, AllocError>
-    ensures { IfOk result (λ answer. answer
-        ≡ is_some (locale_at (short_next (named_parent parents.now)) locale.now MOST_LOCALES)) }
-{
-    let mut current = locale;
-    let mut steps = 0;
-    while steps < MOST_LOCALES {
-        let Some(next) = short_next(alloc, parents, current)? else {
-            return Ok(false);
-        };
-        current = next;
-        steps += 1;
-    }
-    Ok(true)
-}
-
-// Returns the next locale of a chain; a long one is the last.
-fn short_next<'p>(
-    alloc: Global,
-    parents: &'p Parents<'_>,
-    locale: &'p [u8],
-) -> Result<Option<&'p [u8]>, AllocError>
-    ensures { IfOk result (λ next. option_copied next ≡ short_next (named_parent parents.now) locale.now) }
-{
-    if locale.len() > MOST_NAME_BYTES {
-        return Ok(None);
-    }
-    let row = parents.row(alloc, locale)?;
-    Ok(next_locale(row, locale))
 }
 
 // Returns the line for a fault of a locale.

@@ -5,14 +5,14 @@ use Rattle.plural_documents.specs.Found.{together}
 use Rattle.document_report.specs.Inner.ParentRows.{named_parent}
 use Rattle.document_report.specs.ParentFaults.{found_of_chain, found_of_child, found_of_parent}
 use Rattle.document_report.proofs.FoundParts.{on_ok, three_more}
-use Rattle.document_report.proofs.parents.ParentCheckMemberCheck.add.Goals as goal
+use Rattle.document_report.proofs.parents.add_member.Goals as goal
 
-pub returns : goal.returns
-returns c =
+pub returns-clause-found : goal.returns-clause-found
+returns-clause-found c =
     let key = c.args.key.now in
     let child = found_of_child key in
     let parent = found_of_parent key (as_str (view c.args.value.now)) in
-    let chain = found_of_chain (named_parent c.args.self.now.parents.now) key in
+    let chain = found_of_chain (named_parent c.args.parents.now) key in
     on_ok c.add_chain.result
     (λ added. (
       together child (together parent chain),
@@ -23,4 +23,4 @@ returns c =
           ∙ ap (λ (text : Option (List ℕ)). together c.add_child.new.found (found_of_parent key text)) c.as_str.ensures)
           added,
     ))
-    c.add_chain.ensures
+    c.add_chain.ensures.found

@@ -1,0 +1,17 @@
+use Rattle.std.proofs.Common.{◌≡◌, ◌-◌, ◌≤◌, Some}
+use Rattle.std.specs.List.{All}
+use Rattle.plural_fallback.specs.FirstKeys.{locale_at}
+use Rattle.document_report.specs.Inner.ChainSteps.{IsStop}
+use Rattle.document_report.specs.Inner.ParentRows.{named_parent}
+use Rattle.document_report.specs.ParentFaults.{short_next}
+use Rattle.document_report.proofs.chains.walk.Given as goal
+
+-- the current locale is the one after so many steps, and the path has those before
+abbrev pub invariant-loop-steps : goal.invariant-loop-steps
+invariant-loop-steps l =
+    (l.steps ≤ 40)
+    × (locale_at (short_next (named_parent l.parents)) l.locale l.steps ≡ Some l.current)
+    × All (IsStop (short_next (named_parent l.parents)) l.locale) l.path.items
+
+abbrev pub decreases-loop-steps : goal.decreases-loop-steps
+decreases-loop-steps l = 40 - l.steps

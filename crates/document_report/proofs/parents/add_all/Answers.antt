@@ -1,0 +1,36 @@
+use Rattle.std.proofs.Common.{string_bytes, ap, subst, ◌∙◌}
+use Rattle.serde_json.specs.View.{view, members_view}
+use Rattle.document_report.specs.Inner.ParentRows.{named_parent}
+use Rattle.document_report.specs.ParentFaults.{IsFoundInParent, short_next}
+use Rattle.plural_documents.specs.Found.{HasGrownBy}
+use Rattle.plural_documents.proofs.FoundLemmas.{Completes, begins, ends, goes_on}
+use Rattle.document_report.proofs.parents.add_all.Goals as goal
+
+pub loop-key-init : goal.loop-key-init
+loop-key-init c =
+    let parent = named_parent c.args.parents.now in (
+      c.in_ok-chains.ensures (short_next parent),
+      begins (IsFoundInParent parent) (members_view c.args.members.now.entries) c.args.found.now _
+          (ap members_view (c.into_iter-key-iterator.ensures.into_iter_gives ∙ c.iter-key-items.ensures.rest)),
+    )
+
+pub loop-key-preserved : goal.loop-key-preserved
+loop-key-preserved c =
+    let Is = IsFoundInParent (named_parent c.args.parents.now) in
+    let all = members_view c.args.members.now.entries in
+    let value = view c.in-Some.value.now in (
+      c.in_ok-add_member.ensures.known,
+      goes_on Is all c.args.found.now (string_bytes c.in-Some.key.now) value (members_view c.next.new.self) c.loop-key.found
+          c.add_member.new.found
+          (subst (λ es. Completes Is (members_view es) all c.loop-key.found c.args.found.now) c.in-Some.ensures.steps c.loop-key.invariant.1)
+          (subst (λ key. HasGrownBy (Is key value) c.loop-key.found c.add_member.new.found) c.as_str.ensures.value
+          c.in_ok-add_member.ensures.found),
+    )
+
+pub returns : goal.returns
+returns c =
+    let Is = IsFoundInParent (named_parent c.args.parents.now) in
+    let all = members_view c.args.members.now.entries in
+    ends Is all c.args.found.now c.loop-key.found
+    (subst (λ es. Completes Is (members_view es) all c.loop-key.found c.args.found.now) c.in-None.ensures.steps.0
+    c.loop-key.invariant.1)
