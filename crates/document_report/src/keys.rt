@@ -6,7 +6,7 @@ ghost use Rattle.document_report.specs.DocumentReport.{found_of_part, is_part_na
 ghost use Rattle.plural_documents.specs.Found.{together};
 ghost use Rattle.plural_documents.specs.PrintedKeys.{name_text};
 
-use crate::names::{has_underscore, is_long_name};
+use crate::names::{FAULT_ROOM, has_underscore, is_long_name, new_line};
 use icu_plurals::PluralCategory;
 use plural_documents::{Found, MemberCheck, name_text};
 use plural_fallback::Part;
@@ -70,7 +70,9 @@ pub(crate) fn locale_line(
 ) -> Result<String, AllocError>
     ensures { IfOk result (λ line. string_bytes line ≡ locale_line part name.now fault.now) }
 {
-    format!(in alloc; "{} {}: {}", part.as_str(), name, fault)
+    let mut line = new_line(alloc, name, fault.len())?;
+    write!(line, "{} {}: {}", part.as_str(), name, fault)?;
+    Ok(line)
 }
 
 // Checks the keys of a locale's value, whose printed name is given.
@@ -102,12 +104,10 @@ fn category_line(alloc: Global, part: Part, name: &str, key: &str) -> Result<Str
     ensures { IfOk result (λ line. string_bytes line ≡ category_line part name.now key.now) }
 {
     let key = name_text(alloc, key)?;
-    format!(in alloc;
-        "{} {} {}: not a category",
-        part.as_str(),
-        name,
-        key.as_str()
-    )
+    let key = key.as_str();
+    let mut line = new_line(alloc, name, FAULT_ROOM)?;
+    write!(line, "{} {} {}: not a category", part.as_str(), name, key)?;
+    Ok(line)
 }
 
 // Checks the keys of a document.

@@ -16,6 +16,7 @@ ghost use Rattle.serde_json.specs.View.{view};
 
 use crate::document::add_members_of;
 use crate::keys::{CategoryCheck, add_key, locale_line};
+use crate::names::{FAULT_ROOM, new_line};
 use icu_plurals::PluralCategory;
 use icu_plurals::provider::RawPluralCategory;
 use plural_checker::{Fault, LanguageTexts, check_texts};
@@ -190,7 +191,9 @@ fn no_text_line(
     ensures { IfOk result (λ line. string_bytes line ≡ no_text_line part name.now category) }
 {
     let category = name_of(category);
-    format!(in alloc; "{} {} {}: no text", part.as_str(), name, category)
+    let mut line = new_line(alloc, name, "other: no text".len())?;
+    write!(line, "{} {} {}: no text", part.as_str(), name, category)?;
+    Ok(line)
 }
 
 // Adds the faults of one category's text.
@@ -268,5 +271,7 @@ fn category_place(
 fn fault_line(alloc: Global, part: Part, name: &str, fault: &Fault) -> Result<String, AllocError>
     ensures { IfOk result (λ line. string_bytes line ≡ fault_line part name.now fault.now) }
 {
-    format!(in alloc; "{} {} {}", part.as_str(), name, fault)
+    let mut line = new_line(alloc, name, FAULT_ROOM)?;
+    write!(line, "{} {} {}", part.as_str(), name, fault)?;
+    Ok(line)
 }

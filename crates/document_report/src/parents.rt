@@ -12,7 +12,7 @@ ghost use Rattle.serde_json.specs.Find.{as_object, get};
 ghost use Rattle.serde_json.specs.View.{members_view, view};
 
 use crate::chains::{KnownChains, goes_on};
-use crate::names::is_long_name;
+use crate::names::{is_long_name, new_line};
 use crate::parent_rows::Parents;
 use plural_documents::{Found, name_text};
 use serde_json::{Map, Value};
@@ -168,5 +168,7 @@ fn parent_line(alloc: Global, locale: &str, fault: &str) -> Result<String, Alloc
     ensures { IfOk result (λ line. string_bytes line ≡ parent_line locale.now fault.now) }
 {
     let name = name_text(alloc, locale)?;
-    format!(in alloc; "parents {}: {}", name.as_str(), fault)
+    let mut line = new_line(alloc, name.as_str(), fault.len())?;
+    write!(line, "parents {}: {}", name.as_str(), fault)?;
+    Ok(line)
 }

@@ -11,6 +11,7 @@ use crate::entry::{EntryFault, entry_fault};
 use crate::form::table_in;
 use crate::keys::{add_key, locale_line};
 use crate::languages::texts_of;
+use crate::names::{FAULT_ROOM, new_line};
 use plural_checker::LanguageTexts;
 use plural_documents::{Found, MemberCheck, name_text};
 use plural_fallback::Part;
@@ -76,7 +77,9 @@ fn entry_line(alloc: Global, name: &str, key: &str, fault: EntryFault) -> Result
 {
     let part = Part::Ranges.as_str();
     let key = name_text(alloc, key)?;
-    format!(in alloc; "{} {} {}: {}", part, name, key.as_str(), fault)
+    let mut line = new_line(alloc, name, FAULT_ROOM)?;
+    write!(line, "{} {} {}: {}", part, name, key.as_str(), fault)?;
+    Ok(line)
 }
 
 // Returns the texts of cardinal rules, if there are any.
