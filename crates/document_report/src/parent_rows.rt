@@ -1,8 +1,8 @@
 //! The parents of a document, found by the names of their locales.
 
-ghost use Rattle.std.specs.Prelude.{◌≡◌, ℕ, List, Some, IfOk, OnOk, map, bytes_eq, if◌then◌else◌};
-ghost use Rattle.std.specs.Option.{option_copied, option_or};
-ghost use Rattle.document_report.specs.Inner.ParentRows.{first_by, name_by, named_parent, parent_among, row_text, rows_at};
+ghost use Rattle.std.specs.Prelude.{◌≡◌, ℕ, List, None, Some, IfOk, OnOk, is_some, map, bytes_eq, if◌then◌else◌};
+ghost use Rattle.std.specs.Option.{option_or};
+ghost use Rattle.document_report.specs.Inner.ParentRows.{named_parent, parent_among, row_at, row_seen, row_text};
 ghost use Rattle.plural_fallback.specs.LocaleNames.{folded};
 ghost use Rattle.serde_json.specs.View.{members_view};
 
@@ -11,9 +11,10 @@ use serde_json::{Map, Value};
 use std::alloc::{AllocError, Global};
 use std::collections::BTreeMap;
 
-// The parent of a locale: the text of its member, if the member has one.
+// A locale and its parent: the text of its member, if the member has one.
 #[derive(Clone, Copy)]
 pub(crate) struct Row<'a> {
+    name: &'a str,
     parent: Option<&'a str>,
 }
 
@@ -35,21 +36,12 @@ impl<'a> Locales for Row<'a> {
     }
 }
 
-// How names are compared.
-#[derive(Clone, Copy)]
-pub(crate) enum Names {
-    // As they are.
-    Exact,
-    // Without regard to ASCII case, and with `_` as `-`.
-    Folded,
-}
-
-// The parents of a document, by the exact names of their locales, and by folded names, of which
-// each has the parent of the first of its locales.
+// The parents of a document: those of the first locale of each folded name, by this, and those of
+// the others by their exact names.
 #[derive(Drop)]
 pub(crate) struct Parents<'a> {
-    exact: BTreeMap<Vec<u8>, Row<'a>>,
     folded: BTreeMap<Vec<u8>, Row<'a>>,
+    exact: BTreeMap<Vec<u8>, Row<'a>>,
     absent: Row<'a>,
 }
 
@@ -62,12 +54,23 @@ impl<'a> Parents<'a> {
         ensures { IfOk result (λ parents. (locale : List ℕ)
             → named_parent parents locale ≡ parent_among (members_view members.now.entries) locale) }
     {
-        let exact = rows_of(alloc, Names::Exact, members)?;
-        let folded = rows_of(alloc, Names::Folded, members)?;
-        let absent = Row { parent: None };
+        let mut folded = BTreeMap::new(alloc);
+        let mut exact = BTreeMap::new(alloc);
+        for (key, value) in members.iter() {
+            let name = key.as_str();
+            let row = Row {
+                name,
+                parent: value.as_str(),
+            };
+            put(alloc, &mut folded, &mut exact, row)?;
+        }
+        let absent = Row {
+            name: "",
+            parent: None,
+        };
         Ok(Parents {
-            exact,
             folded,
+            exact,
             absent,
         })
     }
@@ -76,33 +79,42 @@ impl<'a> Parents<'a> {
     pub(crate) fn row(&self, alloc: Global, locale: &[u8]) -> Result<&Row<'a>, AllocError>
         ensures { IfOk result (λ row. row_text row.now ≡ named_parent self.now locale.now) }
     {
-        if let Some(row) = self.exact.get(locale) {
+        let name = folded_name(alloc, locale)?;
+        let Some(row) = self.folded.get(name.as_slice()) else {
+            return Ok(&self.absent);
+        };
+        if row.name.as_bytes() == locale {
             return Ok(row);
         }
-        let name = folded_name(alloc, locale)?;
-        match self.folded.get(name.as_slice()) {
-            Some(row) => Ok(row),
-            None => Ok(&self.absent),
+        match self.exact.get(locale) {
+            Some(other) => Ok(other),
+            None => Ok(row),
         }
     }
 }
 
-// Returns the rows of the members, by their names.
-fn rows_of<'a>(
+// Puts a row under its folded name, or if there is one already, under its exact name.
+fn put<'a>(
     alloc: Global,
-    names: Names,
-    members: &'a Map<String, Value>,
-) -> Result<BTreeMap<Vec<u8>, Row<'a>>, AllocError>
-    ensures { IfOk result (λ rows. (name : List ℕ)
-        → rows_at rows name ≡ first_by (λ key. bytes_eq name (name_by names key)) (members_view members.now.entries)) }
+    firsts: &mut BTreeMap<Vec<u8>, Row<'a>>,
+    others: &mut BTreeMap<Vec<u8>, Row<'a>>,
+    row: Row<'a>,
+) -> Result<(), AllocError>
+    ensures firsts { OnOk result ((name : List ℕ) → row_at firsts.new name
+        ≡ option_or (row_at firsts.old name)
+        (if bytes_eq name (map folded row.entry.name.now) then Some (row_seen row.entry) else None)) }
+    ensures others { OnOk result ((name : List ℕ) → row_at others.new name
+        ≡ (if is_some (row_at firsts.old (map folded row.entry.name.now))
+        then option_or (row_at others.old name) (if bytes_eq name row.entry.name.now then Some (row_seen row.entry) else None)
+        else row_at others.old name)) }
 {
-    let mut rows = BTreeMap::new(alloc);
-    for (key, value) in members.iter() {
-        let name = name_by(alloc, names, key.as_str().as_bytes())?;
-        let parent = value.as_str();
-        put_first(&mut rows, name, Row { parent })?;
+    let name = folded_name(alloc, row.name.as_bytes())?;
+    if firsts.contains_key(name.as_slice()) {
+        let name = Vec::from_slice(alloc, row.name.as_bytes())?;
+        return put_first(others, name, row);
     }
-    Ok(rows)
+    firsts.insert(name, row)?;
+    Ok(())
 }
 
 // Puts a row under a name, unless there is one.
@@ -111,24 +123,14 @@ fn put_first<'a>(
     name: Vec<u8>,
     row: Row<'a>,
 ) -> Result<(), AllocError>
-    ensures { OnOk result ((other : List ℕ) → rows_at rows.new other
-        ≡ option_or (rows_at rows.old other) (if bytes_eq other name.items then Some (row_text row.entry) else None)) }
+    ensures { OnOk result ((other : List ℕ) → row_at rows.new other
+        ≡ option_or (row_at rows.old other) (if bytes_eq other name.items then Some (row_seen row.entry) else None)) }
 {
     if rows.contains_key(name.as_slice()) {
         return Ok(());
     }
     rows.insert(name, row)?;
     Ok(())
-}
-
-// Returns a name as it is compared.
-fn name_by(alloc: Global, names: Names, name: &[u8]) -> Result<Vec<u8>, AllocError>
-    ensures { IfOk result (λ bytes. bytes.items ≡ name_by names name.now) }
-{
-    match names {
-        Names::Exact => Vec::from_slice(alloc, name),
-        Names::Folded => folded_name(alloc, name),
-    }
 }
 
 // Returns a name in lower case, with `_` as `-`.

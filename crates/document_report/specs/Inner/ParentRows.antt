@@ -1,18 +1,16 @@
 -- Not a definition of the subject: how the parents of a document are found by the names of their
 -- locales.
-use Rattle.std.specs.Prelude.{ℕ, List, Bool, Option, Some, None, option_map, map, if◌then◌else◌}
+use Rattle.std.specs.Prelude.{ℕ, List, Bool, Option, Some, None, bytes_eq, option_map, map, if◌then◌else◌}
 use Rattle.std.specs.Prelude.{option_and_then, Vec}
 use Rattle.std.specs.BTreeMap.{BTreeMap, get_by}
 use Rattle.std.specs.Cmp.Lexicographic.{slice_cmp}
 use Rattle.std.specs.declared.alloc.Global.{Global}
-use Rattle.std.specs.Option.{option_copied, option_flatten, option_or}
+use Rattle.std.specs.Option.{option_copied}
 use Rattle.std.specs.Ordering.{nat_cmp}
 use Rattle.serde_json.specs.Data.{Members, no_members, member}
 use Rattle.serde_json.specs.Find.{as_str, get_member}
 use Rattle.plural_fallback.specs.LocaleNames.{folded, key_of}
 use Rattle.plural_fallback.specs.LocalesJson.{keys_of}
-use Rattle.document_report.specs.declared.parent_rows.Names.{Names}
-use Rattle.document_report.specs.declared.parent_rows.Names.TheVariants.{Exact, Folded}
 use Rattle.document_report.specs.declared.parent_rows.Parents.{Parents}
 use Rattle.document_report.specs.declared.parent_rows.Row.{Row}
 
@@ -20,25 +18,35 @@ use Rattle.document_report.specs.declared.parent_rows.Row.{Row}
 abbrev pub row_text : Row → Option (List ℕ)
 row_text row = option_copied row.parent
 
--- the parent of the row under a name, if there is a row
-abbrev pub rows_at : BTreeMap (Vec ℕ Global) Row → List ℕ → Option (Option (List ℕ))
-rows_at rows name = option_map row_text (get_by (λ key. slice_cmp nat_cmp name key.items) rows)
+-- a locale's name and its parent
+abbrev pub Seen : Type 0
+Seen = List ℕ × Option (List ℕ)
 
--- a name as it is compared
-abbrev pub name_by : Names → List ℕ → List ℕ
-name_by Exact name = name
-name_by Folded name = map folded name
+abbrev pub row_seen : Row → Seen
+row_seen row = (row.name.now, row_text row)
 
--- the text of the first member whose key passes, if there is one
-abbrev pub first_by : (List ℕ → Bool) → Members → Option (Option (List ℕ))
+-- the row under a name, if there is one
+abbrev pub row_at : BTreeMap (Vec ℕ Global) Row → List ℕ → Option Seen
+row_at rows name = option_map row_seen (get_by (λ key. slice_cmp nat_cmp name key.items) rows)
+
+-- the first member whose key passes, if there is one
+abbrev pub first_by : (List ℕ → Bool) → Members → Option Seen
 first_by test no_members = None
-first_by test (member key value members) = if test key then Some (as_str value) else first_by test members
+first_by test (member key value members) = if test key then Some (key, as_str value) else first_by test members
 
--- the parent of a locale: that of the exact name, else that of the folded name
+-- the parent of the row under the exact name, else that of another
+abbrev pub exact_parent : Option (List ℕ) → Option Seen → Option (List ℕ)
+exact_parent other None = other
+exact_parent other (Some row) = row.1
+
+-- the parent of a locale, by the rows under its folded and its exact name
+abbrev pub parent_by : Option (List ℕ) → List ℕ → Option Seen → Option Seen → Option (List ℕ)
+parent_by absent locale None exact = absent
+parent_by absent locale (Some row) exact = if bytes_eq row.0 locale then row.1 else exact_parent row.1 exact
+
 abbrev pub named_parent : Parents → List ℕ → Option (List ℕ)
 named_parent parents locale =
-    option_flatten (option_or (rows_at parents.exact locale)
-    (option_or (rows_at parents.folded (map folded locale)) (Some (row_text parents.absent))))
+    parent_by (row_text parents.absent) locale (row_at parents.folded (map folded locale)) (row_at parents.exact locale)
 
 -- the text that members have under a key
 abbrev pub text_among : Members → List ℕ → Option (List ℕ)
