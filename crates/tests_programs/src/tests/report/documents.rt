@@ -149,6 +149,17 @@ parents Nb: the chain of parents doesn't end
 parents nB: no text
 parents no: the chain of parents doesn't end
 locales: 1, rules: 1, numbers: 0, faults: 3
+< {"cardinal":{"a":{"other":""}},"parents":{"a":"b","b":"c","c":"b","d":"a"}}
+parents a: the chain of parents doesn't end
+parents b: the chain of parents doesn't end
+parents c: the chain of parents doesn't end
+parents d: the chain of parents doesn't end
+locales: 1, rules: 1, numbers: 0, faults: 4
+< {"cardinal":{"a":{"other":""}},"parents":{"C":"b","a":"B","b":"c","d":"en-x-y","e":"D","f":"d"}}
+parents C: the chain of parents doesn't end
+parents a: the chain of parents doesn't end
+parents b: the chain of parents doesn't end
+locales: 1, rules: 1, numbers: 0, faults: 3
 "#;
     table_holds(&rt, rt.alloc(), table)
 }
@@ -184,6 +195,34 @@ fn chains_of_more_locales_than_are_looked_up_do_not_end(rt: HostRuntime) -> Resu
     let report = "parents a: the chain of parents doesn't end
 locales: 1, rules: 1, numbers: 0, faults: 1\n";
     holds!(rt; gives(alloc, false, &mut document.as_bytes(), report) == Some(true));
+    Ok(())
+}
+
+// Returns the report of a document where the chains of this many locales of letters don't end.
+fn report_of_chain(alloc: Global, faults: usize) -> Result<String, AllocError> {
+    let mut text = String::new(alloc);
+    for letters in 0..faults {
+        let child = letters_of(alloc, letters + 1)?;
+        let child = child.as_str();
+        let line = format!(in alloc; "parents {child}: the chain of parents doesn't end\n")?;
+        text.push_str(line.as_str())?;
+    }
+    let counts = format!(in alloc; "locales: 1, rules: 1, numbers: 0, faults: {faults}\n")?;
+    text.push_str(counts.as_str())?;
+    Ok(text)
+}
+
+// The chain of each locale is told by its own steps, also where that of another one passes it: all
+// but the last 31 go on.
+#[test]
+fn chains_on_the_way_of_longer_ones_have_their_own_steps(rt: HostRuntime) -> Result<(), Fail> {
+    let alloc = rt.alloc();
+    for locales in 33..64 {
+        let document = document_of_chain(alloc, locales)?;
+        let report = report_of_chain(alloc, locales - 31)?;
+        let given = gives(alloc, false, &mut document.as_bytes(), report.as_str());
+        holds!(rt; given == Some(true));
+    }
     Ok(())
 }
 
