@@ -1,18 +1,37 @@
 -- A language of the code is that of its rules.
-use Rattle.std.proofs.Common.{◌≡◌, Bool, true, refl, ap, ◌∙◌}
+use Rattle.std.proofs.Common.{◌≡◌, ◌↔◌, Bool, true, refl, sym, ap, subst, ◌∙◌}
 use Rattle.std.specs.Prelude.{IsTrue}
 use Rattle.icu_plurals.specs.declared.PluralCategory.{PluralCategory}
 use Rattle.icu_plurals.specs.declared.PluralCategory.TheVariants.{Zero, One, Two, Few, Many, Other}
-use Rattle.icu_plurals.specs.FiveRules.{FiveRules}
+use Rattle.icu_plurals.specs.FiveRules.{FiveRules, first_category}
+use Rattle.icu_plurals.specs.Operands.{of_whole}
+use Rattle.icu_plurals.specs.PackedTruth.{packed_truth}
 use Rattle.plural_checker.specs.LanguageTexts.{categories_with_rule}
 use Rattle.plural_checker.specs.declared.coverage.CategorySet.{CategorySet}
 use Rattle.plural_checker.specs.WholeNumbers.{AreTwoLeastOf}
 use Rattle.message_report.specs.MessageForms.{Chooses}
 use Rattle.message_report.specs.FormFaults.{has_category_rule, IsLanguageOf}
-use Rattle.message_report.specs.Inner.KnownNumbers.{AreNumbersOf, chosen_of}
+use Rattle.message_report.specs.Inner.KnownNumbers.{AreNumbersOf, AreTwoFrom, chosen_of}
 use Rattle.message_report.specs.Inner.LanguageViews.{is_in_set, language_view, numbers_at}
+use Rattle.message_report.specs.Inner.SeenNumbers.{AreFound, seen_at}
+use Rattle.message_report.specs.declared.category_numbers.CategoryNumbers.{CategoryNumbers}
+use Rattle.message_report.specs.declared.category_numbers.TwoNumbers.{TwoNumbers}
 use Rattle.message_report.specs.declared.language.Language.{Language}
+use Rattle.message_report.specs.declared.seen_numbers.SeenNumbers.{SeenNumbers}
 use Rattle.message_report.proofs.ChosenLemmas.{are_two_least}
+
+-- what is known of a category's numbers, given the categories of 0 and of 1
+pub numbers_are : (rules : FiveRules) (category first next : PluralCategory) (set : CategorySet) (seen : SeenNumbers)
+    (numbers : CategoryNumbers) → first ≡ first_category (packed_truth (of_whole 0)) rules
+    → next ≡ first_category (packed_truth (of_whole 1)) rules → AreFound rules set seen
+    → (IsTrue numbers.zero ↔ first ≡ category) → (IsTrue numbers.one ↔ next ≡ category)
+    → numbers.from_two ≡ seen_at seen category → IsTrue (is_in_set set category) → AreNumbersOf rules category numbers
+numbers_are rules category first next set seen numbers zero one found is_zero is_one is_seen is_there = record {
+  zero = ((λ yes. sym zero ∙ is_zero.0 yes), (λ has. is_zero.1 (zero ∙ has)));
+  one = ((λ yes. sym one ∙ is_one.0 yes), (λ has. is_one.1 (one ∙ has)));
+  from_two = (let P : TwoNumbers → Type 0 = λ two. AreTwoFrom rules category two.first two.second in
+      subst P (sym is_seen) (found.at category is_there));
+}
 
 -- its categories are those of the rules, and its numbers are known by the rules
 pub language_is : (rules : FiveRules) (language : Language) → language.categories ≡ categories_with_rule rules

@@ -1,4 +1,7 @@
 pub mod ChosenLemmas
+-- the two least numbers of each category
+pub mod SeenLemmas
+pub mod ToldNumbers
 pub mod EachFound
 pub mod KeywordLemmas
 pub mod LanguageLemmas

@@ -2,5 +2,6 @@
 pub mod ArgumentViews
 pub mod KnownNumbers
 pub mod LanguageViews
+pub mod SeenNumbers
 pub mod ToldKeys
 pub mod ToldLines

@@ -1,13 +1,16 @@
 //! What is known of a language's rules of one type.
 
-ghost use Rattle.std.specs.Prelude.{◌≡◌};
+ghost use Rattle.std.specs.Prelude.{◌≡◌, ◌↔◌, IsTrue};
 ghost use Rattle.icu_plurals.specs.FiveRules.{rules_of};
 ghost use Rattle.message_report.specs.FormFaults.{IsLanguageOf};
 ghost use Rattle.message_report.specs.Inner.LanguageViews.{language_view, numbers_at};
+ghost use Rattle.message_report.specs.Inner.SeenNumbers.{seen_at};
 
 use crate::category_numbers::{CategoryNumbers, TwoNumbers};
+use crate::number_walk::numbers_from_two;
+use crate::seen_numbers::SeenNumbers;
 use icu_plurals::provider::PluralRulesData;
-use icu_plurals::{Five, PluralCategory, PluralRules};
+use icu_plurals::{Five, PluralCategory, PluralOperands, PluralRules};
 use plural_base::{at_category, make_five};
 use plural_checker::CategorySet;
 
@@ -26,12 +29,16 @@ impl Language {
     {
         let rules = &PluralRules::from_data(given.as_borrowed());
         let categories = CategorySet::of_rules(given);
+        let of_zero = rules.category_for(PluralOperands::from(0u16));
+        let of_one = rules.category_for(PluralOperands::from(1u16));
+        let seen = numbers_from_two(rules, categories);
         Language {
             categories,
-            numbers: make_five!(Five, categories, |is_there, category| {
-                CategoryNumbers::if_there(rules, category, *is_there)
-            }),
-            other: CategoryNumbers::if_there(rules, PluralCategory::Other, true),
+            numbers: make_five!(
+                Five,
+                |category| numbers_of(of_zero, of_one, &seen, category)
+            ),
+            other: numbers_of(of_zero, of_one, &seen, PluralCategory::Other),
         }
     }
 
@@ -59,5 +66,23 @@ impl Language {
         ensures { result ≡ numbers_at self.now category }
     {
         at_category!(self.numbers, category, |numbers| *numbers, self.other)
+    }
+}
+
+// Returns what is known of a category's numbers, given the categories of 0 and of 1.
+fn numbers_of(
+    of_zero: PluralCategory,
+    of_one: PluralCategory,
+    seen: &SeenNumbers,
+    category: PluralCategory,
+) -> CategoryNumbers
+    ensures zero { IsTrue result.zero ↔ of_zero ≡ category }
+    ensures one { IsTrue result.one ↔ of_one ≡ category }
+    ensures from_two { result.from_two ≡ seen_at seen.now category }
+{
+    CategoryNumbers {
+        zero: of_zero == category,
+        one: of_one == category,
+        from_two: seen.at(category),
     }
 }

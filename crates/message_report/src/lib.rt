@@ -16,6 +16,7 @@ mod language;
 pub mod laws;
 mod message;
 mod message_set;
+mod number_walk;
 mod part;
 mod pattern;
 mod pattern_lines;
@@ -23,6 +24,7 @@ mod patterns;
 mod printed_key;
 mod report;
 pub mod run;
+mod seen_numbers;
 mod source;
 
 pub use counts::Counts;

@@ -1,0 +1,113 @@
+-- Where a table tells each of 100 numbers in a row, no number from 328 on tells more.
+use Rattle.std.proofs.Common.{◌≡◌, ◌⊎◌, ℕ, ◌+◌, ◌%◌, ◌<◌, ◌≤◌, List, true, Option, Some, None, refl, sym, subst, ◌∙◌, arith, inl, inr}
+use Rattle.std.specs.Prelude.{is_some, slice_index}
+use Rattle.std.proofs.lemmas.Bool.{cases_lt, cases_order}
+use Rattle.icu_plurals.specs.Categories.{place_of}
+use Rattle.icu_plurals.specs.CategoryTables.{IsTableOf, TableTells, table_bound}
+use Rattle.icu_plurals.specs.FiveRules.{FiveRules, first_category}
+use Rattle.icu_plurals.specs.Operands.{of_whole}
+use Rattle.icu_plurals.specs.PackedTruth.{packed_truth}
+use Rattle.icu_plurals.specs.declared.PluralCategory.{PluralCategory}
+use Rattle.plural_base.proofs.tables.Entries.{table_category}
+use Rattle.plural_checker.specs.WholeNumbers.{HasWhole}
+use Rattle.message_report.specs.Inner.SeenNumbers.{AreSeenBelow, AreTwoBelow, IsLeastBelow, TellsEach, seen_at}
+use Rattle.message_report.specs.declared.seen_numbers.SeenNumbers.{SeenNumbers}
+
+module _ (rules : FiveRules) (bytes : List ℕ) (of : IsTableOf rules bytes) (each : TellsEach bytes) where
+  -- the remainders tell from 128 on
+  bound_low : table_bound bytes ≤ 128
+  bound_low = by (cases_lt 128 (table_bound bytes))
+    where
+      by : (128 < table_bound bytes) ⊎ (table_bound bytes ≤ 128) → table_bound bytes ≤ 128
+      by (inl above) =
+          let told = each.at 128 (omega arith) (omega arith) in
+          let none : ◌≡◌ {A = Option PluralCategory} (Some told.0) None = told.1.between (omega arith) above in
+          absurd (cc none)
+      by (inr low) = low
+
+  -- what is told of a number is told of those that leave the same
+  told_too : (m n : ℕ) (c : PluralCategory) → 128 ≤ m → 128 ≤ n → n % 100 ≡ m % 100 → TableTells bytes m (Some c)
+      → TableTells bytes n (Some c)
+  told_too m n c from high same tells = record {
+    low = λ less. absurd (omega arith);
+    between = λ above less. absurd (omega (arith, bound_low));
+    cycle = λ above bound. (let P : ℕ → Type 0 = λ r. slice_index bytes (136 + r) ≡ place_of c in
+        subst P (sym same) (tells.cycle from (omega (arith, bound_low))));
+  }
+
+  same_category : (m n : ℕ) → 128 ≤ m → m < 228 → 128 ≤ n → n % 100 ≡ m % 100
+      → first_category (packed_truth (of_whole n)) rules ≡ first_category (packed_truth (of_whole m)) rules
+  same_category m n from below high same =
+      let told = each.at m from below in
+      sym (table_category rules bytes n (Some told.0) (told_too m n told.0 from high same told.1) of)
+      ∙ table_category rules bytes m (Some told.0) told.1 of
+
+  module _ (c : PluralCategory) where
+    -- a number from 328 on has what two numbers below have
+    two_below : (n r : ℕ) → 328 ≤ n → (n + 72) % 100 ≡ r → HasWhole rules c n
+        → (r < 100) × HasWhole rules c (128 + r) × HasWhole rules c (228 + r)
+    two_below n r from left has =
+        let small : r < 100 = omega arith in
+        let low : n % 100 ≡ (128 + r) % 100 = omega arith in
+        let high : (228 + r) % 100 ≡ (128 + r) % 100 = omega arith in
+        let is : HasWhole rules c (128 + r) = sym (same_category (128 + r) n (omega arith) (omega arith) (omega arith) low) ∙ has in
+        (small, is, same_category (128 + r) (228 + r) (omega arith) (omega arith) (omega arith) high ∙ is)
+
+    after : (start : ℕ) (n : ℕ) → IsLeastBelow rules c start 328 None → start ≤ 128 → 328 ≤ n → HasWhole rules c n → ⊥
+    after start n none low from has =
+        let two = two_below n ((n + 72) % 100) from refl has in
+        none (128 + (n + 72) % 100) (omega arith) (omega (arith, two.0)) two.1
+
+    none_later : (start : ℕ) → IsLeastBelow rules c start 328 None → ((n : ℕ) → 328 ≤ n → HasWhole rules c n → ⊥)
+        → IsLeastBelow rules c start 10000 None
+    none_later start none later n from below has = by (cases_lt n 328)
+      where
+        by : (n < 328) ⊎ (328 ≤ n) → ⊥
+        by (inl less) = none n from less has
+        by (inr above) = later n above has
+
+    -- if one number is seen, no other has the category
+    no_second : (m n : ℕ) → IsLeastBelow rules c 2 328 (Some m) → IsLeastBelow rules c (m + 1) 328 None → 328 ≤ n
+        → HasWhole rules c n → ⊥
+    no_second m n found none from has = by (cases_lt m (228 + (n + 72) % 100))
+      where
+        two : ((n + 72) % 100 < 100) × HasWhole rules c (128 + (n + 72) % 100) × HasWhole rules c (228 + (n + 72) % 100)
+        two = two_below n ((n + 72) % 100) from refl has
+
+        by : (m < 228 + (n + 72) % 100) ⊎ (228 + (n + 72) % 100 ≤ m) → ⊥
+        by (inl before) = none (228 + (n + 72) % 100) (omega arith) (omega (arith, two.0)) two.2
+        by (inr later) = found.3 (128 + (n + 72) % 100) (omega arith) (omega arith) two.1
+
+    second_later : (m : ℕ) (second : Option ℕ) → IsLeastBelow rules c 2 328 (Some m) → IsLeastBelow rules c (m + 1) 328 second
+        → IsLeastBelow rules c (m + 1) 10000 second
+    second_later m None found none = none_later (m + 1) none (λ n from has. no_second m n found none from has)
+    second_later m (Some n) found (from, below, has, none) = (from, omega arith, has, none)
+
+    two_later : (first second : Option ℕ) → AreTwoBelow rules c 328 first second → AreTwoBelow rules c 10000 first second
+    two_later None second (none, absent) = (none_later 2 none (λ n from has. after 2 n none (omega arith) from has), absent)
+    two_later (Some m) second (found, next) =
+        ((found.0, omega (arith, found.1), found.2, found.3), second_later m second found next)
+
+-- no further number tells more
+pub none_more : (rules : FiveRules) (bytes : List ℕ) → IsTableOf rules bytes → TellsEach bytes → (seen : SeenNumbers)
+    → AreSeenBelow rules 328 seen → AreSeenBelow rules 10000 seen
+none_more rules bytes of each seen so_far = record {
+  at = λ c. two_later rules bytes of each c (seen_at seen c).first (seen_at seen c).second (so_far.at c);
+}
+
+-- the numbers up to the next one are told
+pub told_next : (bytes table : List ℕ) (k : ℕ) (told : Option PluralCategory) → table ≡ bytes → TableTells table k told
+    → is_some told ≡ true → ((n : ℕ) → 128 ≤ n → n < k → (c : PluralCategory) × TableTells bytes n (Some c))
+    → (n : ℕ) → 128 ≤ n → n < k + 1 → (c : PluralCategory) × TableTells bytes n (Some c)
+told_next bytes table k None same tells is_there so_far n from below = cc
+told_next bytes table k (Some told) same tells is_there so_far n from below = by (cases_order n k)
+  where
+    P : ℕ → Type 0
+    P m = (c : PluralCategory) × TableTells bytes m (Some c)
+
+    by : (n ≡ k) ⊎ ((n < k) ⊎ (k < n)) → P n
+    by (inl is) =
+        let Q : List ℕ → Type 0 = λ text. (c : PluralCategory) × TableTells text k (Some c) in
+        subst P (sym is) (subst Q same (told, tells))
+    by (inr (inl less)) = so_far n from less
+    by (inr (inr more)) = absurd (omega arith)
