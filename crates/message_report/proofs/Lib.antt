@@ -3,6 +3,7 @@ pub mod ChosenLemmas
 pub mod SeenLemmas
 pub mod ToldNumbers
 pub mod EachFound
+pub mod FormLemmas
 pub mod KeywordLemmas
 pub mod LanguageLemmas
 pub mod PartLemmas

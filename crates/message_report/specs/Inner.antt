@@ -1,7 +1,11 @@
 -- No definitions of the subject: words of private contracts.
 pub mod ArgumentViews
+pub mod FormSteps
 pub mod KnownNumbers
 pub mod LanguageViews
+pub mod NeededRules
+pub mod OwnForms
+pub mod PatternPlaces
 pub mod SeenNumbers
 pub mod ToldKeys
 pub mod ToldLines

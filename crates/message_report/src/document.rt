@@ -3,13 +3,16 @@
 ghost use Rattle.std.specs.Prelude.{◌≡◌, codes, IfOk, OnOk, Some, string_bytes};
 ghost use Rattle.plural_documents.specs.Found.{together, IsFoundInMembers};
 ghost use Rattle.plural_documents.specs.Found.{HasGrownBy};
+ghost use Rattle.message_report.specs.Inner.ArgumentViews.{languages_view};
+ghost use Rattle.message_report.specs.Inner.NeededRules.{IsFoundInBothBy};
 ghost use Rattle.message_report.specs.MessagesReport.{found_of_part_key, is_locale_part, place_line};
-ghost use Rattle.message_report.specs.MessagesReport.{IsFoundInAll, IsFoundInBoth, IsFoundInMessagesDocument, IsFoundInLocale, IsFoundInLocaleKey, IsFoundInParts};
+ghost use Rattle.message_report.specs.MessagesReport.{IsFoundInAll, IsFoundInMessagesDocument, IsFoundInLocale, IsFoundInLocaleKey, IsFoundInParts};
 ghost use Rattle.plural_documents.specs.PrintedKeys.{name_text};
 ghost use Rattle.serde_json.specs.Find.{as_object};
 ghost use Rattle.serde_json.specs.View.{members_view, view};
 
 use crate::keys::{named_line, place_line};
+use crate::languages::Languages;
 use crate::part::add_part;
 use crate::patterns::add_patterns;
 use crate::source::RulesOfLocales;
@@ -104,29 +107,31 @@ fn add_all<S: RulesOfLocales>(
 ) -> Result<(), AllocError>
     ensures { OnOk result (HasGrownBy (IsFoundInAll (S.source source.now) locale.now (view value.now)) found.old found.new) }
 {
-    add_parts(alloc, source, locale, value, found)?;
-    add_patterns(alloc, source, locale, value, found)
+    let languages = Languages::needed(source, locale, value);
+    add_parts(alloc, &languages, locale, value, found)?;
+    add_patterns(alloc, &languages, locale, value, found)
 }
 
 // Adds what is found in the messages of both types.
-fn add_parts<S: RulesOfLocales>(
+fn add_parts(
     alloc: Global,
-    source: &S,
+    languages: &Languages,
     locale: &str,
     value: &Value,
     found: &mut Found,
 ) -> Result<(), AllocError>
-    ensures { OnOk result (HasGrownBy (IsFoundInBoth (S.source source.now) locale.now (view value.now)) found.old found.new) }
+    ensures { OnOk result (HasGrownBy (IsFoundInBothBy (languages_view languages.now) locale.now (view value.now)) found.old found.new) }
 {
+    let (cardinal, ordinal) = (PluralRuleType::Cardinal, PluralRuleType::Ordinal);
     add_part(
         alloc,
-        source,
-        PluralRuleType::Cardinal,
+        languages.of(cardinal),
+        cardinal,
         locale,
         value,
         found,
     )?;
-    add_part(alloc, source, PluralRuleType::Ordinal, locale, value, found)
+    add_part(alloc, languages.of(ordinal), ordinal, locale, value, found)
 }
 
 // Adds what is found in the keys of a locale, whose printed name is given.

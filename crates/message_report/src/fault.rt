@@ -1,14 +1,15 @@
 //! What is wrong with a form of a message.
 
 ghost use Rattle.std.specs.Prelude.{◌≡◌, Some, None, option_map};
-ghost use Rattle.message_report.specs.FormFaults.{form_fault_text, no_number, numbers_in, form_value_fault};
-ghost use Rattle.message_report.specs.FormFaults.{HasCategoryFault, HasFaultUnder, HasFormFault, HasPresentFault, HasTextFault};
+ghost use Rattle.message_report.specs.FormFaults.{form_fault_text, no_number, form_value_fault};
+ghost use Rattle.message_report.specs.FormFaults.{HasFaultUnder, HasPresentFault, HasTextFault};
+ghost use Rattle.message_report.specs.Inner.FormSteps.{HasFaultOf, language_lent, value_lent};
 ghost use Rattle.message_report.specs.Inner.LanguageViews.{language_view};
 ghost use Rattle.message_report.specs.declared.form.Form.TheVariants.{Category};
 ghost use Rattle.serde_json.specs.View.{view};
 
 use crate::category_numbers::TwoNumbers;
-use crate::form::{Form, name_of};
+use crate::form::{Form, OwnForms, name_of};
 use crate::language::Language;
 use icu_plurals::PluralCategory;
 use serde_json::Value;
@@ -61,33 +62,35 @@ impl fmt::Display for FormFault {
     }
 }
 
-// Returns the fault of a form in a message, if it has one; without a language only that it has no
-// text.
+// Returns the fault of a form, given what a message has under its key, if it has one; without a
+// language only that it has no text.
 pub(crate) fn form_fault(
-    language: Option<Language>,
+    language: Option<&Language>,
+    own: OwnForms,
     form: Form,
-    message: &Value,
+    value: Option<&Value>,
 ) -> Option<FormFault>
-    ensures { HasFormFault (option_map language_view language) form (view message.now) result }
+    ensures { HasFaultOf (language_lent language.entry) own.zero own.one form (value_lent value.entry) result }
 {
     match form {
-        Form::ExplicitZero => value_fault(form.in_message(message)),
-        Form::ExplicitOne => value_fault(form.in_message(message)),
-        Form::Category(category) => category_fault_if(language, category, message),
+        Form::ExplicitZero => value_fault(value),
+        Form::ExplicitOne => value_fault(value),
+        Form::Category(category) => category_fault_if(language, own, category, value),
     }
 }
 
-// Returns the fault of a category's form in a message; without a language only that it has no text.
+// Returns the fault of a category's form; without a language only that it has no text.
 fn category_fault_if(
-    language: Option<Language>,
+    language: Option<&Language>,
+    own: OwnForms,
     category: PluralCategory,
-    message: &Value,
+    value: Option<&Value>,
 ) -> Option<FormFault>
-    ensures { HasFormFault (option_map language_view language) (Category category) (view message.now) result }
+    ensures { HasFaultOf (language_lent language.entry) own.zero own.one (Category category) (value_lent value.entry) result }
 {
     match language {
-        Some(language) => category_fault(&language, category, message),
-        None => value_fault(Form::Category(category).in_message(message)),
+        Some(language) => category_fault(language, own, category, value),
+        None => value_fault(value),
     }
 }
 
@@ -102,39 +105,29 @@ fn value_fault(value: Option<&Value>) -> Option<FormFault>
     }
 }
 
-// Returns the fault of a category's form in a message, if it has one.
+// Returns the fault of a category's form, if it has one.
 fn category_fault(
     language: &Language,
+    own: OwnForms,
     category: PluralCategory,
-    message: &Value,
+    value: Option<&Value>,
 ) -> Option<FormFault>
-    ensures { HasCategoryFault (language_view language.now) category (view message.now) result }
+    ensures { HasFaultUnder (language_view language.now) category ((language_view language.now).numbers category own.zero own.one)
+        (value_lent value.entry) result }
 {
-    let numbers = numbers_in(language, category, message);
-    match Form::Category(category).in_message(message) {
-        Some(value) => fault_of_value(language, category, numbers, value),
-        None => fault_of_none(language, category, numbers),
+    match value {
+        Some(value) => fault_of_value(language, own, category, value),
+        None => fault_of_none(language, own, category),
     }
 }
 
-// Returns the two least numbers that choose a category's form in a message.
-fn numbers_in(language: &Language, category: PluralCategory, message: &Value) -> TwoNumbers
-    ensures { result ≡ numbers_in (language_view language.now) category (view message.now) }
-{
-    let own_zero = Form::ExplicitZero.is_in(message);
-    let own_one = Form::ExplicitOne.is_in(message);
-    language.numbers(category, own_zero, own_one)
-}
-
 // Returns the fault of a form that isn't there, if it has one.
-fn fault_of_none(
-    language: &Language,
-    category: PluralCategory,
-    numbers: TwoNumbers,
-) -> Option<FormFault>
-    ensures { HasFaultUnder (language_view language.now) category numbers None result }
+fn fault_of_none(language: &Language, own: OwnForms, category: PluralCategory) -> Option<FormFault>
+    ensures { HasFaultUnder (language_view language.now) category ((language_view language.now).numbers category own.zero own.one)
+        None result }
 {
     if language.has(category) {
+        let numbers = language.numbers(category, own.zero, own.one);
         Some(FormFault::Missing(category, numbers.first, numbers.second))
     } else {
         None
@@ -144,13 +137,15 @@ fn fault_of_none(
 // Returns the fault of a form, given its value.
 fn fault_of_value(
     language: &Language,
+    own: OwnForms,
     category: PluralCategory,
-    numbers: TwoNumbers,
     value: &Value,
 ) -> Option<FormFault>
-    ensures { HasFaultUnder (language_view language.now) category numbers (Some (view value.now)) result }
+    ensures { HasFaultUnder (language_view language.now) category ((language_view language.now).numbers category own.zero own.one)
+        (Some (view value.now)) result }
 {
     if language.has(category) {
+        let numbers = language.numbers(category, own.zero, own.one);
         present_fault(category, numbers, value)
     } else {
         Some(FormFault::Unused(category))

@@ -3,6 +3,7 @@
 ghost use Rattle.std.specs.Prelude.{◌≡◌, option_map};
 ghost use Rattle.icu_plurals.specs.Categories.{name_of};
 ghost use Rattle.message_report.specs.MessageForms.{form_name, form_under, has_form, is_form_name};
+ghost use Rattle.message_report.specs.Inner.OwnForms.{own_forms};
 ghost use Rattle.serde_json.specs.View.{view};
 
 use icu_plurals::PluralCategory;
@@ -44,6 +45,25 @@ impl Form {
         ensures { result ≡ has_form self (view message.now) }
     {
         self.in_message(message).is_some()
+    }
+}
+
+// Whether exactly 0 and exactly 1 have forms of their own in a message.
+#[derive(Clone, Copy, Debug, PartialEq, Eq)]
+pub(crate) struct OwnForms {
+    pub(crate) zero: bool,
+    pub(crate) one: bool,
+}
+
+impl OwnForms {
+    // Returns those of a message.
+    pub(crate) fn of(message: &Value) -> OwnForms
+        ensures { result ≡ own_forms (view message.now) }
+    {
+        OwnForms {
+            zero: Form::ExplicitZero.is_in(message),
+            one: Form::ExplicitOne.is_in(message),
+        }
     }
 }
 

@@ -1,6 +1,6 @@
 //! The keys of a message that name no form.
 
-ghost use Rattle.std.specs.Prelude.{◌≡◌, IfOk, OnOk, string_bytes};
+ghost use Rattle.std.specs.Prelude.{◌≡◌, [], IfOk, IsTrue, OnOk, string_bytes};
 ghost use Rattle.plural_documents.specs.Found.{together};
 ghost use Rattle.message_report.specs.Inner.ToldKeys.{count_at, told_at, told_key};
 ghost use Rattle.message_report.specs.MessagesReport.{found_of_keys, key_line, named_line, other_keys, place_line};
@@ -27,6 +27,18 @@ pub(crate) fn add_keys(
         count = add_key(alloc, place, key.as_str(), count, found)?;
     }
     add_rest(alloc, place, count, found)
+}
+
+// Returns whether each key names a form.
+pub(crate) fn has_only_forms(members: &Map<String, Value>) -> bool
+    ensures { IsTrue result → other_keys (members_view members.now.entries) ≡ [] }
+{
+    for (key, _) in members.iter() {
+        if !is_form_name(key.as_str()) {
+            return false;
+        }
+    }
+    true
 }
 
 // Adds what is found in a key, and returns how many keys name no form so far.

@@ -1,21 +1,22 @@
 //! What is found in a message.
 
-ghost use Rattle.std.specs.Prelude.{◌≡◌, IfOk, OnOk, Some, option_map, string_bytes};
+ghost use Rattle.std.specs.Prelude.{◌≡◌, codes, IfOk, OnOk, Some, string_bytes};
 ghost use Rattle.message_report.specs.FoundInMessages.{IsFoundInEach};
 ghost use Rattle.plural_documents.specs.Found.{together};
 ghost use Rattle.plural_documents.specs.Found.{HasGrownBy};
-ghost use Rattle.message_report.specs.Inner.LanguageViews.{language_view};
+ghost use Rattle.message_report.specs.Inner.FormSteps.{language_lent, place_text, value_count, value_lent};
+ghost use Rattle.message_report.specs.Inner.OwnForms.{own_forms};
 ghost use Rattle.message_report.specs.FormFaults.{form_fault_text};
 ghost use Rattle.message_report.specs.MessageForms.{form_name, form_order};
-ghost use Rattle.message_report.specs.MessagesReport.{form_count, found_of_fault, message_place, named_line};
+ghost use Rattle.message_report.specs.MessagesReport.{found_of_fault, found_of_keys, message_place, named_line, other_keys, place_line};
 ghost use Rattle.message_report.specs.MessagesReport.{IsFoundInForm, IsFoundInForms, IsFoundInMessage};
 ghost use Rattle.message_report.specs.PrintedKeys.{message_text};
 ghost use Rattle.serde_json.specs.Find.{as_object};
 ghost use Rattle.serde_json.specs.View.{members_view, view};
 
 use crate::fault::{FormFault, form_fault};
-use crate::form::Form;
-use crate::keys::{add_keys, place_line};
+use crate::form::{Form, OwnForms};
+use crate::keys::{add_keys, has_only_forms, place_line};
 use crate::language::Language;
 use crate::printed_key::message_text;
 use icu_plurals::{PluralCategory, PluralRuleType};
@@ -38,13 +39,21 @@ const FORM_ORDER: [Form; 8] = [
 // Checks a message of a type, in a locale whose printed name is given.
 #[derive(Clone, Copy)]
 pub(crate) struct MessageCheck<'a> {
-    pub(crate) language: Option<Language>,
+    pub(crate) language: Option<&'a Language>,
     pub(crate) rule_type: PluralRuleType,
     pub(crate) locale: &'a str,
 }
 
+// The place of a message, whose text is made for a line alone.
+#[derive(Clone, Copy)]
+pub(crate) struct MessagePlace<'a> {
+    rule_type: PluralRuleType,
+    locale: &'a str,
+    key: &'a str,
+}
+
 impl<'a> MemberCheck for MessageCheck<'a> {
-    ghost finds = { λ check. IsFoundInMessage (option_map language_view check.language) check.rule_type check.locale.now };
+    ghost finds = { λ check. IsFoundInMessage (language_lent check.language) check.rule_type check.locale.now };
 
     fn add(
         &self,
@@ -53,23 +62,24 @@ impl<'a> MemberCheck for MessageCheck<'a> {
         message: &Value,
         found: &mut Found,
     ) -> Result<(), AllocError> {
-        let place = place_of(alloc, self.rule_type, self.locale, key)?;
+        let place = MessagePlace {
+            rule_type: self.rule_type,
+            locale: self.locale,
+            key,
+        };
         found.add_checked(1)?;
-        add_forms(alloc, self.language, place.as_str(), message, found)
+        add_forms(alloc, self.language, place, message, found)
     }
 }
 
-// Returns the place of a message.
-fn place_of(
-    alloc: Global,
-    rule_type: PluralRuleType,
-    locale: &str,
-    key: &str,
-) -> Result<String, AllocError>
-    ensures { IfOk result (λ place. string_bytes place ≡ message_place rule_type locale.now (message_text key.now)) }
-{
-    let key = message_text(alloc, key)?;
-    message_place(alloc, rule_type, locale, key.as_str())
+impl MessagePlace<'_> {
+    // Returns the text of the place.
+    fn text(self, alloc: Global) -> Result<String, AllocError>
+        ensures { IfOk result (λ text. string_bytes text ≡ place_text self.entry) }
+    {
+        let key = message_text(alloc, self.key)?;
+        message_place(alloc, self.rule_type, self.locale, key.as_str())
+    }
 }
 
 // Returns the place of a message, given its printed key.
@@ -90,98 +100,139 @@ fn message_place(
 // Adds what is found in the forms of a message, and in its other keys.
 fn add_forms(
     alloc: Global,
-    language: Option<Language>,
-    place: &str,
+    language: Option<&Language>,
+    place: MessagePlace<'_>,
     message: &Value,
     found: &mut Found,
 ) -> Result<(), AllocError>
-    ensures { OnOk result (HasGrownBy (IsFoundInForms (option_map language_view language) place.now (view message.now)
+    ensures { OnOk result (HasGrownBy (IsFoundInForms (language_lent language.entry) (place_text place.entry) (view message.now)
         (as_object (view message.now))) found.old found.new) }
 {
     match message.as_object() {
         Some(members) => add_all(alloc, language, place, message, members, found),
-        None => found.add_fault(place_line(alloc, place, "no object")?),
+        None => found.add_fault(no_object_line(alloc, place)?),
     }
+}
+
+// Returns the line for a message that is no object.
+fn no_object_line(alloc: Global, place: MessagePlace<'_>) -> Result<String, AllocError>
+    ensures { IfOk result (λ line. string_bytes line ≡ place_line (place_text place.entry) (codes "no object")) }
+{
+    let place = place.text(alloc)?;
+    place_line(alloc, place.as_str(), "no object")
 }
 
 // Adds what is found in each form of a message with these members, and in its other keys.
 fn add_all(
     alloc: Global,
-    language: Option<Language>,
-    place: &str,
+    language: Option<&Language>,
+    place: MessagePlace<'_>,
     message: &Value,
     members: &Map<String, Value>,
     found: &mut Found,
 ) -> Result<(), AllocError>
-    ensures { OnOk result (HasGrownBy (IsFoundInForms (option_map language_view language) place.now (view message.now)
+    ensures { OnOk result (HasGrownBy (IsFoundInForms (language_lent language.entry) (place_text place.entry) (view message.now)
         (Some (members_view members.now.entries))) found.old found.new) }
 {
     add_each_form(alloc, language, place, message, found)?;
-    add_keys(alloc, place, members, found)
+    add_other_keys(alloc, place, members, found)
+}
+
+// Adds what is found in the keys that name no form, if there are any.
+fn add_other_keys(
+    alloc: Global,
+    place: MessagePlace<'_>,
+    members: &Map<String, Value>,
+    found: &mut Found,
+) -> Result<(), AllocError>
+    ensures { OnOk result (found.new
+        ≡ together found.old (found_of_keys (place_text place.entry) (other_keys (members_view members.now.entries)))) }
+{
+    if has_only_forms(members) {
+        return Ok(());
+    }
+    let place = place.text(alloc)?;
+    add_keys(alloc, place.as_str(), members, found)
 }
 
 // Adds what is found in each form.
 fn add_each_form(
     alloc: Global,
-    language: Option<Language>,
-    place: &str,
+    language: Option<&Language>,
+    place: MessagePlace<'_>,
     message: &Value,
     found: &mut Found,
 ) -> Result<(), AllocError>
-    ensures { OnOk result (HasGrownBy (IsFoundInEach (IsFoundInForm (option_map language_view language) place.now (view message.now))
+    ensures { OnOk result (HasGrownBy (IsFoundInEach (IsFoundInForm (language_lent language.entry) (place_text place.entry) (view message.now))
         form_order) found.old found.new) }
 {
+    let own = OwnForms::of(message);
     for form in &FORM_ORDER {
-        add_form(alloc, language, place, message, *form, found)?;
+        add_form(alloc, language, own, place, message, *form, found)?;
     }
     Ok(())
 }
 
-// Adds what is found in a form.
+// Adds what is found in a form, given which of 0 and 1 have forms of their own in the message.
 fn add_form(
     alloc: Global,
-    language: Option<Language>,
-    place: &str,
+    language: Option<&Language>,
+    own: OwnForms,
+    place: MessagePlace<'_>,
     message: &Value,
     form: Form,
     found: &mut Found,
 ) -> Result<(), AllocError>
-    ensures { OnOk result (HasGrownBy (IsFoundInForm (option_map language_view language) place.now (view message.now) form)
+    requires { own ≡ own_forms (view message.now) }
+    ensures { OnOk result (HasGrownBy (IsFoundInForm (language_lent language.entry) (place_text place.entry) (view message.now) form)
         found.old found.new) }
 {
-    let fault = form_fault(language, form, message);
-    count_form(message, form, found)?;
+    let value = form.in_message(message);
+    count_value(value, found)?;
+    let fault = form_fault(language, own, form, value);
     add_fault(alloc, place, form, fault, found)
 }
 
-// Counts a form that is there.
-fn count_form(message: &Value, form: Form, found: &mut Found) -> Result<(), AllocError>
-    ensures { OnOk result (found.new ≡ together found.old (form_count form (view message.now))) }
+// Counts what a message has under the key of a form, if there is something.
+fn count_value(value: Option<&Value>, found: &mut Found) -> Result<(), AllocError>
+    ensures { OnOk result (found.new ≡ together found.old (value_count (value_lent value.entry))) }
 {
-    if form.is_in(message) {
-        found.add_cases(1)
-    } else {
-        Ok(())
+    match value {
+        Some(_) => found.add_cases(1),
+        None => Ok(()),
     }
 }
 
 // Adds the fault of a form, if it has one.
 fn add_fault(
     alloc: Global,
-    place: &str,
+    place: MessagePlace<'_>,
     form: Form,
     fault: Option<FormFault>,
     found: &mut Found,
 ) -> Result<(), AllocError>
-    ensures { OnOk result (found.new ≡ together found.old (found_of_fault place.now form fault)) }
+    ensures { OnOk result (found.new ≡ together found.old (found_of_fault (place_text place.entry) form fault)) }
 {
     match fault {
-        Some(fault) => found.add_fault(form_line(alloc, place, form, fault)?),
+        Some(fault) => found.add_fault(line_at(alloc, place, form, fault)?),
         None => Ok(()),
     }
 }
 
-// Returns the line for a fault of a form.
+// Returns the line for a fault of a form at a place.
+fn line_at(
+    alloc: Global,
+    place: MessagePlace<'_>,
+    form: Form,
+    fault: FormFault,
+) -> Result<String, AllocError>
+    ensures { IfOk result (λ line. string_bytes line ≡ named_line (place_text place.entry) (form_name form) (form_fault_text fault)) }
+{
+    let place = place.text(alloc)?;
+    form_line(alloc, place.as_str(), form, fault)
+}
+
+// Returns the line for a fault of a form, given the text of the place.
 fn form_line(alloc: Global, place: &str, form: Form, fault: FormFault) -> Result<String, AllocError>
     ensures { IfOk result (λ line. string_bytes line ≡ named_line place.now (form_name form) (form_fault_text fault)) }
 {

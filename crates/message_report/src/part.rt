@@ -1,11 +1,12 @@
 //! What is found in the messages of a type.
 
-ghost use Rattle.std.specs.Prelude.{◌≡◌, codes, IfOk, OnOk, option_map, string_bytes};
+ghost use Rattle.std.specs.Prelude.{◌≡◌, codes, IfOk, OnOk, string_bytes};
 ghost use Rattle.plural_documents.specs.Found.{together};
 ghost use Rattle.plural_documents.specs.Found.{HasGrownBy};
-ghost use Rattle.message_report.specs.Inner.LanguageViews.{language_view};
+ghost use Rattle.message_report.specs.Inner.FormSteps.{language_lent};
+ghost use Rattle.message_report.specs.Inner.NeededRules.{IsFoundInMessagesBy, IsFoundInObjectBy, IsFoundInPartBy};
 ghost use Rattle.message_report.specs.MessagesReport.{found_of_language, no_rules_text, part_place, place_line, type_name};
-ghost use Rattle.message_report.specs.MessagesReport.{IsFoundInMessages, IsFoundInObject, IsFoundInPart, IsFoundUnder, HasLanguage};
+ghost use Rattle.message_report.specs.MessagesReport.{IsFoundUnder};
 ghost use Rattle.plural_documents.specs.PrintedKeys.{name_text};
 ghost use Rattle.serde_json.specs.Find.{as_object, get};
 ghost use Rattle.serde_json.specs.View.{members_view, view};
@@ -13,7 +14,6 @@ ghost use Rattle.serde_json.specs.View.{members_view, view};
 use crate::keys::place_line;
 use crate::language::Language;
 use crate::message::MessageCheck;
-use crate::source::RulesOfLocales;
 use icu_plurals::PluralRuleType;
 use plural_documents::{Found, add_members, name_text};
 use serde_json::{Map, Value};
@@ -29,38 +29,39 @@ pub(crate) fn type_name(rule_type: PluralRuleType) -> &'static str
     }
 }
 
-// Adds what is found in the messages of a type, given a locale's value.
-pub(crate) fn add_part<S: RulesOfLocales>(
+// Adds what is found in the messages of a type, given a locale's value and its language, if there is
+// one.
+pub(crate) fn add_part(
     alloc: Global,
-    source: &S,
+    language: Option<&Language>,
     rule_type: PluralRuleType,
     locale: &str,
     value: &Value,
     found: &mut Found,
 ) -> Result<(), AllocError>
-    ensures { OnOk result (HasGrownBy (IsFoundInPart (S.source source.now) rule_type locale.now
+    ensures { OnOk result (HasGrownBy (IsFoundInPartBy (language_lent language.entry) rule_type locale.now
         (get (type_name rule_type) (view value.now))) found.old found.new) }
 {
     match value.get(type_name(rule_type)) {
-        Some(part) => add_object(alloc, source, rule_type, locale, part, found),
+        Some(part) => add_object(alloc, language, rule_type, locale, part, found),
         None => Ok(()),
     }
 }
 
 // Adds what is found in the messages of a type, which should be an object.
-fn add_object<S: RulesOfLocales>(
+fn add_object(
     alloc: Global,
-    source: &S,
+    language: Option<&Language>,
     rule_type: PluralRuleType,
     locale: &str,
     part: &Value,
     found: &mut Found,
 ) -> Result<(), AllocError>
-    ensures { OnOk result (HasGrownBy (IsFoundInObject (S.source source.now) rule_type locale.now
+    ensures { OnOk result (HasGrownBy (IsFoundInObjectBy (language_lent language.entry) rule_type locale.now
         (as_object (view part.now))) found.old found.new) }
 {
     match part.as_object() {
-        Some(members) => add_messages(alloc, source, rule_type, locale, members, found),
+        Some(members) => add_messages(alloc, language, rule_type, locale, members, found),
         None => found.add_fault(part_line(alloc, rule_type, locale)?),
     }
 }
@@ -82,51 +83,36 @@ fn part_place(alloc: Global, rule_type: PluralRuleType, locale: &str) -> Result<
     format!(in alloc; "{locale} {part}")
 }
 
-// Adds what is found in the messages of a type. Without messages no rules are looked for.
-fn add_messages<S: RulesOfLocales>(
+// Adds what is found in the messages of a type. Without messages no rules are needed.
+fn add_messages(
     alloc: Global,
-    source: &S,
+    language: Option<&Language>,
     rule_type: PluralRuleType,
     locale: &str,
     members: &Map<String, Value>,
     found: &mut Found,
 ) -> Result<(), AllocError>
-    ensures { OnOk result (HasGrownBy (IsFoundInMessages (S.source source.now) rule_type locale.now
+    ensures { OnOk result (HasGrownBy (IsFoundInMessagesBy (language_lent language.entry) rule_type locale.now
         (members_view members.now.entries)) found.old found.new) }
 {
     if members.is_empty() {
         return Ok(());
     }
     let name = name_text(alloc, locale)?;
-    let language = language_at(source, rule_type, locale);
     add_under(alloc, language, rule_type, name.as_str(), members, found)
-}
-
-// Returns the language of a locale's rules, if there are any.
-pub(crate) fn language_at<S: RulesOfLocales>(
-    source: &S,
-    rule_type: PluralRuleType,
-    locale: &str,
-) -> Option<Language>
-    ensures { HasLanguage (S.source source.now) rule_type locale.now (option_map language_view result) }
-{
-    match source.rules_of(rule_type, locale) {
-        Some(rules) => Some(Language::of(&rules)),
-        None => None,
-    }
 }
 
 // Adds what is found in messages of a language, if it is known, given the printed name of the
 // locale.
 fn add_under(
     alloc: Global,
-    language: Option<Language>,
+    language: Option<&Language>,
     rule_type: PluralRuleType,
     locale: &str,
     members: &Map<String, Value>,
     found: &mut Found,
 ) -> Result<(), AllocError>
-    ensures { OnOk result (HasGrownBy (IsFoundUnder (option_map language_view language) rule_type locale.now
+    ensures { OnOk result (HasGrownBy (IsFoundUnder (language_lent language.entry) rule_type locale.now
         (members_view members.now.entries)) found.old found.new) }
 {
     add_no_rules(alloc, language, rule_type, locale, found)?;
@@ -141,13 +127,13 @@ fn add_under(
 // Adds a line if there is no language, since there are no rules.
 fn add_no_rules(
     alloc: Global,
-    language: Option<Language>,
+    language: Option<&Language>,
     rule_type: PluralRuleType,
     locale: &str,
     found: &mut Found,
 ) -> Result<(), AllocError>
     ensures { OnOk result (found.new
-        ≡ together found.old (found_of_language rule_type locale.now (option_map language_view language))) }
+        ≡ together found.old (found_of_language rule_type locale.now (language_lent language.entry))) }
 {
     if language.is_some() {
         return Ok(());

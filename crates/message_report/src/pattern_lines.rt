@@ -1,23 +1,27 @@
 //! What is told of a pattern.
 
-ghost use Rattle.std.specs.Prelude.{◌≡◌, ◌∷◌, ◌++◌, [], codes, IfOk, OnOk, map, option_map, string_bytes};
+ghost use Rattle.std.specs.Prelude.{◌≡◌, ◌∷◌, ◌++◌, [], codes, IfOk, OnOk, map, string_bytes};
 ghost use Rattle.icu_plurals.specs.Categories.{name_of};
 ghost use Rattle.message_pattern.specs.PatternParts.{parts_view, piece_view, selector_view};
 ghost use Rattle.message_report.specs.Inner.ArgumentViews.{argument_view, languages_view};
+ghost use Rattle.message_report.specs.Inner.FormSteps.{language_lent};
 ghost use Rattle.message_report.specs.Inner.LanguageViews.{language_view};
 ghost use Rattle.message_report.specs.Inner.ToldLines.{Tells, TellsThose, remembered};
-ghost use Rattle.message_report.specs.MessagesReport.{argument_lines, argument_place, branch_lines, category_order, fault_lines};
+ghost use Rattle.message_report.specs.Inner.PatternPlaces.{argument_text, pattern_text};
+ghost use Rattle.message_report.specs.MessagesReport.{argument_lines, branch_lines, category_order, fault_lines};
 ghost use Rattle.message_report.specs.MessagesReport.{HasPatternLines, HasPieceLines, language_lines, lines_under, missing_lines, named_line};
 ghost use Rattle.message_report.specs.MessagesReport.{no_rules_text, place_line, selector_name};
 ghost use Rattle.message_report.specs.PrintedKeys.{bytes_text};
-ghost use Rattle.message_report.specs.PatternFaults.{branch_fault, branch_fault_text, language_of, missing_fault, type_of_kind};
+ghost use Rattle.message_report.specs.PatternFaults.{branch_fault, branch_fault_text, missing_fault, type_of_kind};
 
 use crate::argument::{Argument, argument_at};
 use crate::branch_fault::{BranchFault, branch_fault, missing_fault};
 use crate::form::name_of;
 use crate::keys::place_line;
 use crate::language::Language;
+use crate::languages::Languages;
 use crate::part::no_rules_text;
+use crate::pattern_place::{ArgumentPlace, PatternPlace};
 use crate::printed_key::bytes_text;
 use icu_plurals::{PluralCategory, PluralRuleType};
 use message_pattern::{ArgumentKind, Part, Piece, Selector};
@@ -37,35 +41,16 @@ const CATEGORY_ORDER: [PluralCategory; 6] = [
     PluralCategory::Other,
 ];
 
-// The languages of a locale, by both types of rules.
-#[derive(Clone, Copy)]
-pub(crate) struct Languages {
-    pub(crate) cardinal: Option<Language>,
-    pub(crate) ordinal: Option<Language>,
-}
-
-impl Languages {
-    // Returns the language of a type.
-    fn of(&self, rule_type: PluralRuleType) -> Option<Language>
-        ensures { option_map language_view result ≡ language_of (languages_view self.now) rule_type }
-    {
-        match rule_type {
-            PluralRuleType::Cardinal => self.cardinal,
-            PluralRuleType::Ordinal => self.ordinal,
-        }
-    }
-}
-
 // Tells what is wrong with each argument of a pattern, the first ones by a line, and returns how
 // many faults there are.
 pub(crate) fn tell_pattern(
     alloc: Global,
     languages: &Languages,
-    place: &str,
+    place: PatternPlace<'_>,
     parts: &[Part<'_>],
     found: &mut Found,
 ) -> Result<u64, AllocError>
-    ensures { IfOk result (λ count. TellsThose (HasPatternLines (languages_view languages.now) place.now (parts_view parts.now))
+    ensures { IfOk result (λ count. TellsThose (HasPatternLines (languages_view languages.now) (pattern_text place.entry) (parts_view parts.now))
         0 found.old count found.new) }
 {
     let mut count = 0;
@@ -82,14 +67,14 @@ pub(crate) fn tell_pattern(
 fn tell_part(
     alloc: Global,
     languages: &Languages,
-    place: &str,
+    place: PatternPlace<'_>,
     part: &Part<'_>,
     parts: &[Part<'_>],
     before: u64,
     found: &mut Found,
 ) -> Result<u64, AllocError>
     ensures { IfOk result (λ count. TellsThose
-        (HasPieceLines (languages_view languages.now) place.now part.now.depth (piece_view part.now.piece) (parts_view parts.now))
+        (HasPieceLines (languages_view languages.now) (pattern_text place.entry) part.now.depth (piece_view part.now.piece) (parts_view parts.now))
         before found.old count found.new) }
 {
     let Piece::Begin(kind, name, offset) = part.piece else {
@@ -122,60 +107,48 @@ fn type_of_kind(kind: ArgumentKind) -> Option<PluralRuleType>
 fn tell_argument(
     alloc: Global,
     languages: &Languages,
-    place: &str,
+    place: PatternPlace<'_>,
     rule_type: Option<PluralRuleType>,
     argument: Argument<'_>,
     before: u64,
     found: &mut Found,
 ) -> Result<u64, AllocError>
     ensures { IfOk result (λ count. Tells before found.old count found.new
-        (argument_lines (languages_view languages.now) place.now rule_type (argument_view argument.entry))) }
+        (argument_lines (languages_view languages.now) (pattern_text place.entry) rule_type (argument_view argument.entry))) }
 {
     let Some(rule_type) = rule_type else {
         return Ok(before);
     };
-    let place = argument_place(alloc, place, argument.name)?;
+    let place = ArgumentPlace {
+        pattern: place,
+        name: argument.name,
+    };
     tell_under(
         alloc,
         languages.of(rule_type),
         rule_type,
-        place.as_str(),
+        place,
         argument,
         before,
         found,
     )
 }
 
-// Returns the place of an argument.
-fn argument_place(alloc: Global, place: &str, name: &[u8]) -> Result<String, AllocError>
-    ensures { IfOk result (λ text. string_bytes text ≡ argument_place place.now name.now) }
-{
-    let name = bytes_text(alloc, name)?;
-    braced_place(alloc, place, name.as_str())
-}
-
-// Returns the place of an argument, given its printed name.
-fn braced_place(alloc: Global, place: &str, name: &str) -> Result<String, AllocError>
-    ensures { IfOk result (λ text. string_bytes text ≡ place.now ++ (codes " {" ++ (name.now ++ codes "}"))) }
-{
-    format!(in alloc; "{place} {{{name}}}")
-}
-
 // Tells what is wrong with an argument of a language, or that it isn't known.
 fn tell_under(
     alloc: Global,
-    language: Option<Language>,
+    language: Option<&Language>,
     rule_type: PluralRuleType,
-    place: &str,
+    place: ArgumentPlace<'_>,
     argument: Argument<'_>,
     before: u64,
     found: &mut Found,
 ) -> Result<u64, AllocError>
     ensures { IfOk result (λ count. Tells before found.old count found.new
-        (lines_under rule_type place.now (option_map language_view language) (argument_view argument.entry))) }
+        (lines_under rule_type (argument_text place.entry) (language_lent language.entry) (argument_view argument.entry))) }
 {
     match language {
-        Some(language) => tell_branches(alloc, &language, place, argument, before, found),
+        Some(language) => tell_branches(alloc, language, place, argument, before, found),
         None => tell_no_rules(alloc, rule_type, place, before, found),
     }
 }
@@ -184,15 +157,16 @@ fn tell_under(
 fn tell_no_rules(
     alloc: Global,
     rule_type: PluralRuleType,
-    place: &str,
+    place: ArgumentPlace<'_>,
     before: u64,
     found: &mut Found,
 ) -> Result<u64, AllocError>
     ensures { IfOk result (λ count. Tells before found.old count found.new
-        (place_line place.now (no_rules_text rule_type) ∷ [])) }
+        (place_line (argument_text place.entry) (no_rules_text rule_type) ∷ [])) }
 {
     if before < MOST_TOLD {
-        found.add_fault(place_line(alloc, place, no_rules_text(rule_type))?)?;
+        let place = place.text(alloc)?;
+        found.add_fault(place_line(alloc, place.as_str(), no_rules_text(rule_type))?)?;
     } else {
         found.add_faults(1)?;
     }
@@ -203,13 +177,13 @@ fn tell_no_rules(
 fn tell_branches(
     alloc: Global,
     language: &Language,
-    place: &str,
+    place: ArgumentPlace<'_>,
     argument: Argument<'_>,
     before: u64,
     found: &mut Found,
 ) -> Result<u64, AllocError>
     ensures { IfOk result (λ count. Tells before found.old count found.new
-        (language_lines (language_view language.now) place.now (argument_view argument.entry))) }
+        (language_lines (language_view language.now) (argument_text place.entry) (argument_view argument.entry))) }
 {
     let count = tell_missing(alloc, language, place, argument, before, found)?;
     tell_each_branch(alloc, language, place, argument, count, found)
@@ -219,13 +193,13 @@ fn tell_branches(
 fn tell_missing(
     alloc: Global,
     language: &Language,
-    place: &str,
+    place: ArgumentPlace<'_>,
     argument: Argument<'_>,
     before: u64,
     found: &mut Found,
 ) -> Result<u64, AllocError>
     ensures { IfOk result (λ count. Tells before found.old count found.new
-        (missing_lines (language_view language.now) place.now (argument_view argument.entry) category_order)) }
+        (missing_lines (language_view language.now) (argument_text place.entry) (argument_view argument.entry) category_order)) }
 {
     let mut count = before;
     let mut left: &[PluralCategory] = &CATEGORY_ORDER;
@@ -241,13 +215,13 @@ fn tell_missing(
 fn tell_each_branch(
     alloc: Global,
     language: &Language,
-    place: &str,
+    place: ArgumentPlace<'_>,
     argument: Argument<'_>,
     before: u64,
     found: &mut Found,
 ) -> Result<u64, AllocError>
     ensures { IfOk result (λ count. Tells before found.old count found.new
-        (branch_lines (language_view language.now) place.now (argument_view argument.entry) []
+        (branch_lines (language_view language.now) (argument_text place.entry) (argument_view argument.entry) []
         (argument_view argument.entry).branches)) }
 {
     let mut seen = Vec::new(alloc);
@@ -281,14 +255,14 @@ fn remember<'p>(selector: Selector<'p>, seen: &mut Vec<Selector<'p>>) -> Result<
 // Tells the fault of a branch, if it has one.
 fn tell_branch(
     alloc: Global,
-    place: &str,
+    place: ArgumentPlace<'_>,
     selector: Selector<'_>,
     fault: Option<BranchFault>,
     before: u64,
     found: &mut Found,
 ) -> Result<u64, AllocError>
     ensures { IfOk result (λ count. Tells before found.old count found.new
-        (fault_lines place.now (selector_name (selector_view selector.entry)) fault)) }
+        (fault_lines (argument_text place.entry) (selector_name (selector_view selector.entry)) fault)) }
 {
     if fault.is_none() {
         return Ok(before);
@@ -325,19 +299,20 @@ fn equals_text(alloc: Global, number: &str) -> Result<String, AllocError>
 // Tells the fault of what has a name, if it has one: by a line if at most nine come before it.
 fn tell(
     alloc: Global,
-    place: &str,
+    place: ArgumentPlace<'_>,
     name: &str,
     fault: Option<BranchFault>,
     before: u64,
     found: &mut Found,
 ) -> Result<u64, AllocError>
-    ensures { IfOk result (λ count. Tells before found.old count found.new (fault_lines place.now name.now fault)) }
+    ensures { IfOk result (λ count. Tells before found.old count found.new (fault_lines (argument_text place.entry) name.now fault)) }
 {
     let Some(fault) = fault else {
         return Ok(before);
     };
     if before < MOST_TOLD {
-        found.add_fault(branch_line(alloc, place, name, fault)?)?;
+        let place = place.text(alloc)?;
+        found.add_fault(branch_line(alloc, place.as_str(), name, fault)?)?;
     } else {
         found.add_faults(1)?;
     }

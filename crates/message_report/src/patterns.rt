@@ -3,52 +3,49 @@
 ghost use Rattle.std.specs.Prelude.{◌≡◌, codes, IfOk, OnOk, string_bytes};
 ghost use Rattle.plural_documents.specs.Found.{HasGrownBy};
 ghost use Rattle.message_report.specs.Inner.ArgumentViews.{languages_view};
+ghost use Rattle.message_report.specs.Inner.NeededRules.{IsFoundInPatternsBy, IsFoundInPatternsObjectBy, IsFoundInPatternsPartBy};
 ghost use Rattle.message_report.specs.MessagesReport.{patterns_name, patterns_place, place_line};
-ghost use Rattle.message_report.specs.MessagesReport.{HaveLanguages, IsFoundInPatterns, IsFoundInPatternsObject, IsFoundInPatternsPart};
 ghost use Rattle.plural_documents.specs.PrintedKeys.{name_text};
 ghost use Rattle.serde_json.specs.Find.{as_object, get};
 ghost use Rattle.serde_json.specs.View.{members_view, view};
 
 use crate::keys::place_line;
-use crate::part::language_at;
+use crate::languages::Languages;
 use crate::pattern::PatternCheck;
-use crate::pattern_lines::Languages;
-use crate::source::RulesOfLocales;
-use icu_plurals::PluralRuleType;
 use plural_documents::{Found, add_members, name_text};
 use serde_json::{Map, Value};
 use std::alloc::{AllocError, Global};
 
 // Adds what is found in the patterns of a locale, given its value.
-pub(crate) fn add_patterns<S: RulesOfLocales>(
+pub(crate) fn add_patterns(
     alloc: Global,
-    source: &S,
+    languages: &Languages,
     locale: &str,
     value: &Value,
     found: &mut Found,
 ) -> Result<(), AllocError>
-    ensures { OnOk result (HasGrownBy (IsFoundInPatternsPart (S.source source.now) locale.now
+    ensures { OnOk result (HasGrownBy (IsFoundInPatternsPartBy (languages_view languages.now) locale.now
         (get patterns_name (view value.now))) found.old found.new) }
 {
     match value.get("patterns") {
-        Some(part) => add_object(alloc, source, locale, part, found),
+        Some(part) => add_object(alloc, languages, locale, part, found),
         None => Ok(()),
     }
 }
 
 // Adds what is found in the patterns of a locale, which should be an object.
-fn add_object<S: RulesOfLocales>(
+fn add_object(
     alloc: Global,
-    source: &S,
+    languages: &Languages,
     locale: &str,
     part: &Value,
     found: &mut Found,
 ) -> Result<(), AllocError>
-    ensures { OnOk result (HasGrownBy (IsFoundInPatternsObject (S.source source.now) locale.now
+    ensures { OnOk result (HasGrownBy (IsFoundInPatternsObjectBy (languages_view languages.now) locale.now
         (as_object (view part.now))) found.old found.new) }
 {
     match part.as_object() {
-        Some(members) => add_each(alloc, source, locale, members, found),
+        Some(members) => add_each(alloc, languages, locale, members, found),
         None => found.add_fault(patterns_line(alloc, locale)?),
     }
 }
@@ -70,30 +67,20 @@ fn patterns_place(alloc: Global, locale: &str) -> Result<String, AllocError>
 }
 
 // Adds what is found in each pattern.
-fn add_each<S: RulesOfLocales>(
+fn add_each(
     alloc: Global,
-    source: &S,
+    languages: &Languages,
     locale: &str,
     members: &Map<String, Value>,
     found: &mut Found,
 ) -> Result<(), AllocError>
-    ensures { OnOk result (HasGrownBy (IsFoundInPatterns (S.source source.now) locale.now
+    ensures { OnOk result (HasGrownBy (IsFoundInPatternsBy (languages_view languages.now) locale.now
         (members_view members.now.entries)) found.old found.new) }
 {
     let name = name_text(alloc, locale)?;
     let check = PatternCheck {
-        languages: languages_at(source, locale),
+        languages,
         locale: name.as_str(),
     };
     add_members(alloc, &check, members, found)
-}
-
-// Returns the languages of a locale's rules of both types.
-fn languages_at<S: RulesOfLocales>(source: &S, locale: &str) -> Languages
-    ensures { HaveLanguages (S.source source.now) locale.now (languages_view result) }
-{
-    Languages {
-        cardinal: language_at(source, PluralRuleType::Cardinal, locale),
-        ordinal: language_at(source, PluralRuleType::Ordinal, locale),
-    }
 }

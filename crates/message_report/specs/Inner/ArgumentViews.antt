@@ -7,7 +7,7 @@ use Rattle.message_pattern.specs.PatternParts.{Branching, branches_of, parts_vie
 use Rattle.message_report.specs.Inner.LanguageViews.{language_view}
 use Rattle.message_report.specs.PatternFaults.{PluralArgument, TwoLanguages}
 use Rattle.message_report.specs.declared.argument.Argument.{Argument}
-use Rattle.message_report.specs.declared.pattern_lines.Languages.{Languages}
+use Rattle.message_report.specs.declared.languages.Languages.{Languages}
 
 abbrev pub argument_view : Argument → PluralArgument
 argument_view a = record {

@@ -1,7 +1,6 @@
 use Rattle.std.proofs.Common.{drop}
-use Rattle.std.specs.Prelude.{option_map}
 use Rattle.serde_json.specs.View.{view}
-use Rattle.message_report.specs.Inner.LanguageViews.{language_view}
+use Rattle.message_report.specs.Inner.FormSteps.{language_lent, place_text}
 use Rattle.message_report.specs.MessageForms.{form_order}
 use Rattle.message_report.specs.MessagesReport.{IsFoundInForm}
 use Rattle.message_report.proofs.EachFound.{CompletesEach}
@@ -10,5 +9,5 @@ use Rattle.message_report.proofs.message.add_each_form.Given as goal
 -- what is found in the remaining forms completes what was found so far
 abbrev pub invariant-loop-form : goal.invariant-loop-form
 invariant-loop-form l =
-    CompletesEach (IsFoundInForm (option_map language_view l.language) l.place (view l.message)) (drop l.form-index form_order)
+    CompletesEach (IsFoundInForm (language_lent l.language) (place_text l.place) (view l.message)) (drop l.form-index form_order)
     form_order l.found l.initial.found

@@ -1,19 +1,34 @@
-use Rattle.std.proofs.Common.{refl}
+use Rattle.std.proofs.Common.{ap, refl, ◌∙◌}
+use Rattle.std.specs.Prelude.{Option}
+use Rattle.serde_json.specs.Data.{Data}
 use Rattle.serde_json.specs.View.{view}
 use Rattle.plural_documents.specs.Found.{together}
+use Rattle.message_report.specs.Inner.FormSteps.{language_lent, place_text, value_count}
 use Rattle.message_report.specs.MessagesReport.{form_count, found_of_fault}
+use Rattle.message_report.specs.declared.form.OwnForms.{OwnForms}
 use Rattle.message_report.proofs.EachFound.{on_ok}
+use Rattle.message_report.proofs.FormLemmas.{form_fault_is}
 use Rattle.plural_documents.proofs.FoundLemmas.{two_added}
 use Rattle.message_report.proofs.message.add_form.Goals as goal
 
 pub returns : goal.returns
 returns c =
-    let counted = form_count c.args.form (view c.args.message.now) in
-    let told = found_of_fault c.args.place.now c.args.form c.form_fault-fault.result in
+    let message = view c.args.message.now in
+    let counted = form_count c.args.form message in
+    let told = found_of_fault (place_text c.args.place) c.args.form c.form_fault-fault.result in
+    let is_zero = ap (λ (own : OwnForms). own.zero) c.requires in
+    let is_one = ap (λ (own : OwnForms). own.one) c.requires in
     on_ok c.add_fault.result
     (λ added. (
       together counted told,
-      (c.form_fault-fault.result, c.form_fault-fault.ensures, refl),
-      two_added c.args.found.now counted told c.count_form.new.found c.add_fault.new.found c.in_ok-count_form.ensures added,
+      (
+        c.form_fault-fault.result,
+        form_fault_is (language_lent c.args.language) c.args.form message c.args.own.zero c.args.own.one _ c.form_fault-fault.result
+            is_zero is_one c.in_message-value.ensures c.form_fault-fault.ensures,
+        refl,
+      ),
+      two_added c.args.found.now counted told c.count_value.new.found c.add_fault.new.found
+          (c.in_ok-count_value.ensures
+          ∙ ap (λ (value : Option Data). together c.args.found.now (value_count value)) c.in_message-value.ensures) added,
     ))
     c.add_fault.ensures

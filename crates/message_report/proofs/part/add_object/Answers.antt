@@ -2,19 +2,21 @@ use Rattle.std.proofs.Common.{ℕ, List, codes, ap, refl, subst, ◌∙◌}
 use Rattle.std.specs.Prelude.{Option}
 use Rattle.serde_json.specs.Data.{Members}
 use Rattle.plural_documents.specs.Found.{one_fault, together}
-use Rattle.message_report.specs.MessagesReport.{part_place, place_line, IsFoundInObject}
+use Rattle.message_report.specs.MessagesReport.{part_place, place_line}
+use Rattle.message_report.specs.Inner.FormSteps.{language_lent}
+use Rattle.message_report.specs.Inner.NeededRules.{IsFoundInObjectBy}
 use Rattle.plural_documents.specs.PrintedKeys.{name_text}
 use Rattle.message_report.proofs.EachFound.{on_ok}
 use Rattle.message_report.proofs.part.add_object.Goals as goal
 
 pub returns-in_ok-part_line-in-None : goal.returns-in_ok-part_line-in-None
-returns-in_ok-part_line-in-None g c =
+returns-in_ok-part_line-in-None c =
     let found = one_fault (place_line (part_place c.args.rule_type (name_text c.args.locale.now)) (codes "no object")) in
     on_ok c.add_fault.result
     (λ added. (
       found,
       subst (λ (members : Option Members).
-          IsFoundInObject (g.S.RulesOfLocales.source c.args.source.now) c.args.rule_type c.args.locale.now members found)
+          IsFoundInObjectBy (language_lent c.args.language) c.args.rule_type c.args.locale.now members found)
           c.in-None.ensures refl,
       added ∙ ap (λ (line : List ℕ). together c.args.found.now (one_fault line)) c.in_ok-part_line-in-None.ensures,
     ))

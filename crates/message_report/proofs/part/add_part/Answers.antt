@@ -4,15 +4,16 @@ use Rattle.serde_json.specs.Data.{Data}
 use Rattle.serde_json.specs.Find.{get}
 use Rattle.serde_json.specs.View.{view}
 use Rattle.plural_documents.specs.Found.{nothing_found}
-use Rattle.message_report.specs.MessagesReport.{IsFoundInPart}
+use Rattle.message_report.specs.Inner.FormSteps.{language_lent}
+use Rattle.message_report.specs.Inner.NeededRules.{IsFoundInPartBy}
 use Rattle.plural_documents.proofs.FoundLemmas.{none_added}
 use Rattle.message_report.proofs.part.add_part.Goals as goal
 
 pub returns-in-None : goal.returns-in-None
-returns-in-None g c = (
+returns-in-None c = (
   nothing_found,
   subst (λ (part : Option Data).
-      IsFoundInPart (g.S.RulesOfLocales.source c.args.source.now) c.args.rule_type c.args.locale.now part nothing_found)
+      IsFoundInPartBy (language_lent c.args.language) c.args.rule_type c.args.locale.now part nothing_found)
       (c.in-None.ensures ∙ ap (λ (key : List ℕ). get key (view c.args.value.now)) c.type_name.ensures) refl,
   none_added c.args.found.now,
 )

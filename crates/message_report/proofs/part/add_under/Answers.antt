@@ -1,7 +1,6 @@
-use Rattle.std.specs.Prelude.{option_map}
 use Rattle.std.proofs.Common.{refl}
 use Rattle.plural_documents.specs.Found.{together}
-use Rattle.message_report.specs.Inner.LanguageViews.{language_view}
+use Rattle.message_report.specs.Inner.FormSteps.{language_lent}
 use Rattle.message_report.specs.MessagesReport.{found_of_language}
 use Rattle.message_report.proofs.EachFound.{on_ok}
 use Rattle.plural_documents.proofs.FoundLemmas.{two_added}
@@ -9,7 +8,7 @@ use Rattle.message_report.proofs.part.add_under.Goals as goal
 
 pub returns : goal.returns
 returns c =
-    let rules = found_of_language c.args.rule_type c.args.locale.now (option_map language_view c.args.language) in
+    let rules = found_of_language c.args.rule_type c.args.locale.now (language_lent c.args.language) in
     on_ok c.add_members.result
     (λ added. (
       together rules added.0,

@@ -2,6 +2,7 @@ use Rattle.std.proofs.Common.{[]}
 use Rattle.message_report.specs.Inner.ArgumentViews.{argument_view}
 use Rattle.message_report.specs.Inner.LanguageViews.{language_view}
 use Rattle.message_report.specs.MessagesReport.{branch_lines, category_order, missing_lines}
+use Rattle.message_report.specs.Inner.PatternPlaces.{argument_text}
 use Rattle.message_report.proofs.TellLemmas.{tells_if_ok}
 use Rattle.message_report.proofs.pattern_lines.tell_branches.Goals as goal
 
@@ -10,5 +11,5 @@ returns c =
     let language = language_view c.args.language.now in
     let a = argument_view c.args.argument in
     tells_if_ok c.args.before c.args.found.now c.in_ok-count.count c.tell_missing.new.found c.tell_each_branch.new.found
-    (missing_lines language c.args.place.now a category_order) (branch_lines language c.args.place.now a [] a.branches)
+    (missing_lines language (argument_text c.args.place) a category_order) (branch_lines language (argument_text c.args.place) a [] a.branches)
     c.tell_each_branch.result c.in_ok-count.ensures c.tell_each_branch.ensures

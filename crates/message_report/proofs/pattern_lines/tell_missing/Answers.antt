@@ -6,13 +6,14 @@ use Rattle.message_report.specs.Inner.ArgumentViews.{argument_view}
 use Rattle.message_report.specs.Inner.LanguageViews.{language_view}
 use Rattle.message_report.specs.MessagesReport.{category_order, fault_lines, missing_lines}
 use Rattle.message_report.specs.PatternFaults.{missing_fault}
+use Rattle.message_report.specs.Inner.PatternPlaces.{argument_text}
 use Rattle.message_report.proofs.TellLemmas.{completes, continues, headed, none_left, starts}
 use Rattle.message_report.proofs.pattern_lines.tell_missing.Goals as goal
 
 pub loop-left-init : goal.loop-left-init
 loop-left-init c =
     starts c.args.before c.args.found.now
-    (missing_lines (language_view c.args.language.now) c.args.place.now (argument_view c.args.argument) category_order)
+    (missing_lines (language_view c.args.language.now) (argument_text c.args.place) (argument_view c.args.argument) category_order)
 
 pub loop-left-preserved : goal.loop-left-preserved
 loop-left-preserved c =
@@ -21,7 +22,7 @@ loop-left-preserved c =
     let rest = take (length cs - 1) (drop 1 cs) in
     let language = language_view c.args.language.now in
     let a = argument_view c.args.argument in
-    let place = c.args.place.now in
+    let place = argument_text c.args.place in
     continues c.args.before c.args.found.now c.loop-left.count c.loop-left.found c.in_ok-count.count c.tell.new.found
     (fault_lines place (name_of category) (missing_fault language a category)) (missing_lines language place a rest)
     (missing_lines language place a cs) (missing_lines language place a category_order)
@@ -32,7 +33,7 @@ pub returns : goal.returns
 returns c =
     let language = language_view c.args.language.now in
     let a = argument_view c.args.argument in
-    let place = c.args.place.now in
+    let place = argument_text c.args.place in
     completes c.args.before c.args.found.now c.loop-left.count c.loop-left.found
     (missing_lines language place a c.loop-left.left.now) (missing_lines language place a category_order)
     (ap (λ (l : List PluralCategory). missing_lines language place a l) (none_left c.loop-left.left.now c.in_default.len_below))

@@ -5,13 +5,14 @@ use Rattle.message_report.specs.Inner.ArgumentViews.{argument_view, languages_vi
 use Rattle.message_report.specs.Inner.ToldLines.{TellsThose}
 use Rattle.message_report.specs.MessagesReport.{HasPieceLines, argument_lines}
 use Rattle.message_report.specs.PatternFaults.{IsArgumentAt, type_of_kind}
+use Rattle.message_report.specs.Inner.PatternPlaces.{pattern_text}
 use Rattle.message_report.proofs.PatternTold.{same_offset, those_told}
 use Rattle.message_report.proofs.pattern_lines.tell_part.Goals as goal
 
 pub returns : goal.returns
 returns c =
     let two = languages_view c.args.languages.now in
-    let place = c.args.place.now in
+    let place = pattern_text c.args.place in
     let depth = c.args.part.now.depth in
     let ps = parts_view c.args.parts.now in
     let a = argument_view c.in_ok-argument.argument in

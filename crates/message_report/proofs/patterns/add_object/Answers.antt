@@ -2,19 +2,21 @@ use Rattle.std.proofs.Common.{ℕ, List, codes, ap, refl, subst, ◌∙◌}
 use Rattle.std.specs.Prelude.{Option}
 use Rattle.serde_json.specs.Data.{Members}
 use Rattle.plural_documents.specs.Found.{one_fault, together}
-use Rattle.message_report.specs.MessagesReport.{patterns_place, place_line, IsFoundInPatternsObject}
+use Rattle.message_report.specs.MessagesReport.{patterns_place, place_line}
+use Rattle.message_report.specs.Inner.ArgumentViews.{languages_view}
+use Rattle.message_report.specs.Inner.NeededRules.{IsFoundInPatternsObjectBy}
 use Rattle.plural_documents.specs.PrintedKeys.{name_text}
 use Rattle.message_report.proofs.EachFound.{on_ok}
 use Rattle.message_report.proofs.patterns.add_object.Goals as goal
 
 pub returns-in_ok-patterns_line-in-None : goal.returns-in_ok-patterns_line-in-None
-returns-in_ok-patterns_line-in-None g c =
+returns-in_ok-patterns_line-in-None c =
     let found = one_fault (place_line (patterns_place (name_text c.args.locale.now)) (codes "no object")) in
     on_ok c.add_fault.result
     (λ added. (
       found,
       subst (λ (members : Option Members).
-          IsFoundInPatternsObject (g.S.RulesOfLocales.source c.args.source.now) c.args.locale.now members found)
+          IsFoundInPatternsObjectBy (languages_view c.args.languages.now) c.args.locale.now members found)
           c.in-None.ensures refl,
       added ∙ ap (λ (line : List ℕ). together c.args.found.now (one_fault line)) c.in_ok-patterns_line-in-None.ensures,
     ))

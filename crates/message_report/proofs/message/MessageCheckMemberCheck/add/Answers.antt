@@ -1,31 +1,16 @@
-use Rattle.std.specs.Prelude.{option_map}
-use Rattle.std.proofs.Common.{◌≡◌, ℕ, List, refl, subst, ◌∙◌}
-use Rattle.serde_json.specs.Find.{as_object}
-use Rattle.serde_json.specs.View.{view}
+use Rattle.std.proofs.Common.{refl}
 use Rattle.message_report.specs.FoundInMessages.{one_message}
 use Rattle.plural_documents.specs.Found.{together}
-use Rattle.message_report.specs.Inner.LanguageViews.{language_view}
-use Rattle.message_report.specs.MessagesReport.{message_place, IsFoundInForms}
-use Rattle.message_report.specs.PrintedKeys.{message_text}
 use Rattle.message_report.proofs.EachFound.{on_ok}
 use Rattle.plural_documents.proofs.FoundLemmas.{two_added}
 use Rattle.message_report.proofs.message.MessageCheckMemberCheck.add.Goals as goal
 
 pub returns : goal.returns
 returns c =
-    let check = c.args.self.now in
-    let message = view c.args.message.now in
-    let place : c.as_str.result.now ≡ message_place check.rule_type check.locale.now (message_text c.args.key.now) =
-    c.as_str.ensures.value ∙ c.in_ok-place.ensures in
     on_ok c.add_forms.result
     (λ added. (
       together one_message added.0,
-      (
-        added.0,
-        subst (λ (p : List ℕ). IsFoundInForms (option_map language_view check.language) p message (as_object message) added.0)
-            place added.1,
-        refl,
-      ),
+      (added.0, added.1, refl),
       two_added c.args.found.now one_message added.0 c.add_checked.new.self c.add_forms.new.found c.in_ok-add_checked.ensures added.2,
     ))
     c.add_forms.ensures
