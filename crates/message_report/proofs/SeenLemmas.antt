@@ -32,7 +32,7 @@ placed-place_of Few = refl
 placed-place_of Many = refl
 placed-place_of Other = refl
 
-same_or_not : (a b : PluralCategory) → (a ≡ b) ⊎ (a ≢ b)
+pub same_or_not : (a b : PluralCategory) → (a ≡ b) ⊎ (a ≢ b)
 same_or_not a b = by (cases_order (place_of a) (place_of b))
   where
     by : (place_of a ≡ place_of b) ⊎ ((place_of a < place_of b) ⊎ (place_of b < place_of a)) → (a ≡ b) ⊎ (a ≢ b)
@@ -68,7 +68,7 @@ module _ (rules : FiveRules) (c : PluralCategory) where
       → IsLeastBelow rules c start (end + 1) (Some end)
   least_new start end up has none = (up, omega arith, has, none)
 
-  without : (end : ℕ) (first second : Option ℕ) → ¬ (Has end) → AreTwoBelow rules c end first second
+  pub without : (end : ℕ) (first second : Option ℕ) → ¬ (Has end) → AreTwoBelow rules c end first second
       → AreTwoBelow rules c (end + 1) first second
   without end None second free (none, absent) = (least_without 2 end None free none, absent)
   without end (Some n) second free (found, after) =

@@ -1,5 +1,6 @@
--- Where a table tells each of 100 numbers in a row, no number from 328 on tells more.
-use Rattle.std.proofs.Common.{◌≡◌, ◌⊎◌, ℕ, ◌+◌, ◌%◌, ◌<◌, ◌≤◌, List, true, Option, Some, None, refl, sym, subst, ◌∙◌, arith, inl, inr}
+-- Where a table tells each of 100 numbers in a row, no number from 328 on tells more; and a number
+-- that it tells has the category of two numbers before it.
+use Rattle.std.proofs.Common.{◌≡◌, ◌≢◌, ◌⊎◌, ℕ, ◌+◌, ◌-◌, ◌%◌, ◌<◌, ◌≤◌, List, true, Option, Some, None, refl, sym, subst, ◌∙◌, arith, inl, inr}
 use Rattle.std.specs.Prelude.{is_some, slice_index}
 use Rattle.std.proofs.lemmas.Bool.{cases_lt, cases_order}
 use Rattle.icu_plurals.specs.Categories.{place_of}
@@ -12,6 +13,7 @@ use Rattle.plural_base.proofs.tables.Entries.{table_category}
 use Rattle.plural_checker.specs.WholeNumbers.{HasWhole}
 use Rattle.message_report.specs.Inner.SeenNumbers.{AreSeenBelow, AreTwoBelow, IsLeastBelow, TellsEach, seen_at}
 use Rattle.message_report.specs.declared.seen_numbers.SeenNumbers.{SeenNumbers}
+use Rattle.message_report.proofs.SeenLemmas.{same_or_not, without}
 
 module _ (rules : FiveRules) (bytes : List ℕ) (of : IsTableOf rules bytes) (each : TellsEach bytes) where
   -- the remainders tell from 128 on
@@ -96,18 +98,83 @@ none_more rules bytes of each seen so_far = record {
 }
 
 -- the numbers up to the next one are told
-pub told_next : (bytes table : List ℕ) (k : ℕ) (told : Option PluralCategory) → table ≡ bytes → TableTells table k told
-    → is_some told ≡ true → ((n : ℕ) → 128 ≤ n → n < k → (c : PluralCategory) × TableTells bytes n (Some c))
+pub told_next : (bytes : List ℕ) (k : ℕ) (told : Option PluralCategory) → TableTells bytes k told → is_some told ≡ true
+    → ((n : ℕ) → 128 ≤ n → n < k → (c : PluralCategory) × TableTells bytes n (Some c))
     → (n : ℕ) → 128 ≤ n → n < k + 1 → (c : PluralCategory) × TableTells bytes n (Some c)
-told_next bytes table k None same tells is_there so_far n from below = cc
-told_next bytes table k (Some told) same tells is_there so_far n from below = by (cases_order n k)
+told_next bytes k None tells is_there so_far n from below = cc
+told_next bytes k (Some told) tells is_there so_far n from below = by (cases_order n k)
   where
     P : ℕ → Type 0
     P m = (c : PluralCategory) × TableTells bytes m (Some c)
 
     by : (n ≡ k) ⊎ ((n < k) ⊎ (k < n)) → P n
-    by (inl is) =
-        let Q : List ℕ → Type 0 = λ text. (c : PluralCategory) × TableTells text k (Some c) in
-        subst P (sym is) (subst Q same (told, tells))
+    by (inl is) = subst P (sym is) (told, tells)
     by (inr (inl less)) = so_far n from less
     by (inr (inr more)) = absurd (omega arith)
+
+-- ---- A number that is told
+
+module _ (rules : FiveRules) (bytes : List ℕ) (of : IsTableOf rules bytes) (m : ℕ) (from : 128 ≤ m) (told : PluralCategory)
+    (tells : TableTells bytes m (Some told)) where
+  -- the bound isn't above it
+  bound_below : table_bound bytes ≤ m
+  bound_below = by (cases_lt m (table_bound bytes))
+    where
+      by : (m < table_bound bytes) ⊎ (table_bound bytes ≤ m) → table_bound bytes ≤ m
+      by (inl above) =
+          let none : ◌≡◌ {A = Option PluralCategory} (Some told) None = tells.between from above in
+          absurd (cc none)
+      by (inr low) = low
+
+  -- a later number that leaves the same has the category that is told
+  later_told : (n : ℕ) → m ≤ n → n % 100 ≡ m % 100 → HasWhole rules told n
+  later_told n after same =
+      sym (table_category rules bytes n (Some told) record {
+        low = λ less. absurd (omega arith);
+        between = λ above less. absurd (omega (arith, bound_below));
+        cycle = λ above bound. (let P : ℕ → Type 0 = λ r. slice_index bytes (136 + r) ≡ place_of told in
+            subst P (sym same) (tells.cycle from bound_below));
+      } of)
+
+  -- two numbers before one that has their category are the least of it
+  two_before : (c : PluralCategory) (first second : Option ℕ) → HasWhole rules c m → HasWhole rules c (m + 100)
+      → AreTwoBelow rules c (m + 200) first second → AreTwoBelow rules c (m + 200 + 1) first second
+  two_before c None second here next (none, absent) = absurd (none m (omega arith) (omega arith) here)
+  two_before c (Some n) None here next (found, none) = by (cases_lt n (m + 100))
+    where
+      by : (n < m + 100) ⊎ (m + 100 ≤ n) → AreTwoBelow rules c (m + 200 + 1) (Some n) None
+      by (inl before) = absurd (none (m + 100) (omega arith) (omega arith) next)
+      by (inr later) = absurd (found.3 m (omega arith) (omega arith) here)
+  two_before c (Some n) (Some k) here next (found, after) =
+      ((found.0, omega (arith, found.1), found.2, found.3), (after.0, omega (arith, after.1), after.2, after.3))
+
+  passed : (seen : SeenNumbers) → AreSeenBelow rules (m + 200) seen → AreSeenBelow rules (m + 200 + 1) seen
+  passed seen so_far = record { at = λ c. by c (same_or_not c told) }
+    where
+      two : HasWhole rules told m × HasWhole rules told (m + 100) × HasWhole rules told (m + 200)
+      two = (
+        later_told m (omega arith) refl,
+        later_told (m + 100) (omega arith) (omega arith),
+        later_told (m + 200) (omega arith) (omega arith),
+      )
+
+      by : (c : PluralCategory) → (c ≡ told) ⊎ (c ≢ told)
+          → AreTwoBelow rules c (m + 200 + 1) (seen_at seen c).first (seen_at seen c).second
+      by c (inl same) =
+          let P : PluralCategory → Type 0 = λ d. AreTwoBelow rules d (m + 200 + 1) (seen_at seen d).first (seen_at seen d).second in
+          subst P (sym same)
+          (two_before told (seen_at seen told).first (seen_at seen told).second two.0 two.1 (so_far.at told))
+      by c (inr other) =
+          without rules c (m + 200) (seen_at seen c).first (seen_at seen c).second
+          (λ (is : HasWhole rules c (m + 200)). other (sym is ∙ two.2)) (so_far.at c)
+
+-- a number that the table tells, as it does one 200 before, tells nothing more
+pub told_passed : (rules : FiveRules) (bytes : List ℕ) → IsTableOf rules bytes → (n : ℕ) → 328 ≤ n
+    → (told : Option PluralCategory) → TableTells bytes (n - 200) told → is_some told ≡ true → (seen : SeenNumbers)
+    → AreSeenBelow rules n seen → AreSeenBelow rules (n + 1) seen
+told_passed rules bytes of n from None tells is_there seen so_far = cc
+told_passed rules bytes of n from (Some told) tells is_there seen so_far =
+    let is : n - 200 + 200 ≡ n = omega arith in
+    let P : ℕ → Type 0 = λ k. AreSeenBelow rules k seen in
+    let Q : ℕ → Type 0 = λ k. AreSeenBelow rules (k + 1) seen in
+    subst Q is (passed rules bytes of (n - 200) (omega arith) told tells seen (subst P (sym is) so_far))

@@ -1,9 +1,8 @@
 //! Looks for the two least whole numbers of each category from 2 on.
 
-ghost use Rattle.std.specs.Prelude.{◌≤◌, IsFalse, IsTrue};
-ghost use Rattle.plural_checker.specs.WholeNumbers.{whole_limit};
+ghost use Rattle.std.specs.Prelude.{IsFalse, IsTrue};
+ghost use Rattle.icu_plurals.specs.CategoryTables.{IsTableOf};
 ghost use Rattle.message_report.specs.Inner.SeenNumbers.{AreSeenBelow, AreFound, TellsEach};
-ghost use Rattle.message_report.specs.declared.seen_numbers.SeenNumbers.{SeenNumbers};
 
 use crate::seen_numbers::SeenNumbers;
 use icu_plurals::{CategoryTable, PluralOperands, PluralRules, PreparedRules};
@@ -53,38 +52,64 @@ fn see_by_tables(tables: &PreparedRules<'_>, categories: CategorySet, seen: &mut
     requires { AreSeenBelow tables.now ASKED seen.old }
     ensures { AreFound tables.now categories seen.new }
 {
-    for number in ASKED..end_of(tables) {
+    if see_each(tables, categories, seen) {
+        return;
+    }
+    let bytes = tables.to_table();
+    let Some(told) = CategoryTable::from_bytes(&bytes) else {
+        return;
+    };
+    if !tells_each(&told) {
+        see_untold(tables, &told, categories, seen);
+    }
+}
+
+// Sees each of the next numbers, until each category has two. Returns whether each has.
+fn see_each(tables: &PreparedRules<'_>, categories: CategorySet, seen: &mut SeenNumbers) -> bool
+    requires { AreSeenBelow tables.now ASKED seen.old }
+    ensures found { IsTrue result → AreFound tables.now categories seen.new }
+    ensures seen { IsFalse result → AreSeenBelow tables.now TWICE_TOLD seen.new }
+{
+    for number in ASKED..TWICE_TOLD {
+        let category = tables.category_for_integer(u64::from(number));
+        if seen.add(category, number) && seen.have_two(categories) {
+            return true;
+        }
+    }
+    false
+}
+
+// Returns whether a table tells each of 100 numbers.
+fn tells_each(told: &CategoryTable<'_>) -> bool
+    ensures { IsTrue result → TellsEach told.now }
+{
+    for number in u64::from(TOLD)..u64::from(TOLD) + 100 {
+        if told.category_for_integer(number).is_none() {
+            return false;
+        }
+    }
+    true
+}
+
+// Sees those of the last numbers that the table of the rules doesn't tell, until each category has
+// two. A number that it tells has the category of two numbers before it.
+fn see_untold(
+    tables: &PreparedRules<'_>,
+    told: &CategoryTable<'_>,
+    categories: CategorySet,
+    seen: &mut SeenNumbers,
+)
+    requires table { IsTableOf tables.now told.now }
+    requires seen { AreSeenBelow tables.now TWICE_TOLD seen.old }
+    ensures { AreFound tables.now categories seen.new }
+{
+    for number in TWICE_TOLD..WHOLE_LIMIT {
+        if told.category_for_integer(u64::from(number) - 200).is_some() {
+            continue;
+        }
         let category = tables.category_for_integer(u64::from(number));
         if seen.add(category, number) && seen.have_two(categories) {
             return;
         }
     }
-}
-
-// Returns a number from which on no number tells more.
-fn end_of(tables: &PreparedRules<'_>) -> u16
-    ensures start { ASKED ≤ result }
-    ensures end { result ≤ whole_limit }
-    ensures all { (seen : SeenNumbers) → AreSeenBelow tables.now result seen → AreSeenBelow tables.now whole_limit seen }
-{
-    if tells_each(&tables.to_table()) {
-        TWICE_TOLD
-    } else {
-        WHOLE_LIMIT
-    }
-}
-
-// Returns whether a table tells each of 100 numbers.
-fn tells_each(bytes: &[u8]) -> bool
-    ensures { IsTrue result → TellsEach bytes.now }
-{
-    let Some(table) = CategoryTable::from_bytes(bytes) else {
-        return false;
-    };
-    for number in u64::from(TOLD)..u64::from(TOLD) + 100 {
-        if table.category_for_integer(number).is_none() {
-            return false;
-        }
-    }
-    true
 }

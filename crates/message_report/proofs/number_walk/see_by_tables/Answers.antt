@@ -1,23 +1,12 @@
-use Rattle.std.proofs.Common.{arith, subst, ℕ, ◌+◌, ◌≡◌}
-use Rattle.message_report.specs.Inner.SeenNumbers.{AreSeenBelow}
-use Rattle.message_report.proofs.SeenLemmas.{all_seen, next_seen, two_each}
+use Rattle.std.proofs.Common.{subst}
+use Rattle.message_report.specs.Inner.SeenNumbers.{TellsEach}
+use Rattle.message_report.proofs.SeenLemmas.{all_seen}
+use Rattle.message_report.proofs.ToldNumbers.{none_more}
 use Rattle.message_report.proofs.number_walk.see_by_tables.Goals as goal
 
-pub loop-number-preserved : goal.loop-number-preserved
-loop-number-preserved c =
-    next_seen c.args.tables.now c.loop-number.number c.loop-number.seen c.add.new.self c.category_for_integer-category.result
-    (omega arith) (cc) c.loop-number.invariant c.add.ensures.own c.add.ensures.others
-
-pub returns : goal.returns
-returns c =
-    let end : c.loop-number.number ≡ c.end_of-number-end.result = omega arith in
-    let P : ℕ → Type 0 = λ n. AreSeenBelow c.args.tables.now n c.loop-number.seen in
-    all_seen c.args.tables.now c.args.categories c.loop-number.seen
-    (c.end_of-number-end.ensures.all c.loop-number.seen (subst P end c.loop-number.invariant))
-
-pub returns-then-have_two : goal.returns-then-have_two
-returns-then-have_two c =
-    two_each c.args.tables.now (c.loop-number.number + 1) c.args.categories c.add.new.self (omega arith)
-    (c.have_two.ensures c.if-have_two.true)
-    (next_seen c.args.tables.now c.loop-number.number c.loop-number.seen c.add.new.self c.category_for_integer-category.result
-    (omega arith) (cc) c.loop-number.invariant c.add.ensures.own c.add.ensures.others)
+pub returns-else-not-tells_each : goal.returns-else-not-tells_each
+returns-else-not-tells_each c =
+    all_seen c.args.tables.now c.args.categories c.see_each.new.seen
+    (none_more c.args.tables.now c.to_table-bytes.result c.to_table-bytes.ensures
+    (subst TellsEach c.in-Some.ensures.same (c.tells_each.ensures c.if-not-tells_each.false)) c.see_each.new.seen
+    (c.see_each.ensures.seen c.if-see_each.false))

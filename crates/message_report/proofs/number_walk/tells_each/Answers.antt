@@ -5,5 +5,5 @@ use Rattle.message_report.proofs.number_walk.tells_each.Goals as goal
 
 pub loop-number-preserved : goal.loop-number-preserved
 loop-number-preserved c =
-    told_next c.args.bytes.now c.in-Some.table c.loop-number.number c.category_for_integer.result c.in-Some.ensures.same
-    c.category_for_integer.ensures.told (c.is_none.ensures ∙ ap not c.if-is_none.false) c.loop-number.invariant
+    told_next c.args.told.now c.loop-number.number c.category_for_integer.result c.category_for_integer.ensures.told
+    (c.is_none.ensures ∙ ap not c.if-is_none.false) c.loop-number.invariant

@@ -1,5 +1,5 @@
 use Rattle.message_report.specs.Inner.SeenNumbers.{AreSeenBelow}
-use Rattle.message_report.proofs.number_walk.see_by_tables.Given as goal
+use Rattle.message_report.proofs.number_walk.see_untold.Given as goal
 
 -- the numbers before this one are seen
 abbrev pub invariant-loop-number : goal.invariant-loop-number
