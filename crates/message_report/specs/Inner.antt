@@ -4,6 +4,7 @@ pub mod FormSteps
 pub mod KnownNumbers
 pub mod LanguageViews
 pub mod NeededRules
+pub mod NumberBranches
 pub mod OwnForms
 pub mod PatternPlaces
 pub mod SeenNumbers

@@ -3,7 +3,9 @@
 ghost use Rattle.std.specs.Prelude.{◌≡◌, ◌<◌, IfOk, is_some, map};
 ghost use Rattle.message_format.specs.FormatBranches.{branch_of_keyword, is_keyword};
 ghost use Rattle.message_pattern.specs.PatternParts.{branches_of, Exactly, Keyword, part_view, parts_view, selector_view};
+ghost use Rattle.fixed_decimal.specs.Written.{CompactNumber, WritesCompact};
 ghost use Rattle.message_report.specs.Inner.ArgumentViews.{argument_view};
+ghost use Rattle.message_report.specs.Inner.NumberBranches.{has_number_branch, is_of_number};
 ghost use Rattle.message_report.specs.PatternFaults.{IsArgumentAt};
 ghost use Rattle.message_report.specs.PatternBranches.{IsOwn, has_category_branch, has_number, inside_of};
 ghost use Rattle.message_report.specs.PatternBranches.{same_selector, says_number, stands_in};
@@ -51,7 +53,8 @@ pub(crate) fn argument_at<'p>(
     })
 }
 
-// Returns whether exactly the number that a text writes has a branch of its own.
+// Returns whether exactly the number that a text writes has a branch of its own. Without a branch
+// of a number, the text isn't read.
 fn is_own(
     alloc: Global,
     number: &str,
@@ -59,15 +62,48 @@ fn is_own(
     depth: usize,
     parts: &[Part<'_>],
 ) -> Result<bool, AllocError>
+    requires { (x : CompactNumber) × WritesCompact number.now x }
     ensures { IfOk result (λ own. IsOwn number.now has_offset (branches_of depth (parts_view parts.now)) own) }
 {
     if has_offset {
+        return Ok(false);
+    }
+    if !has_number_branch(depth, parts) {
         return Ok(false);
     }
     match CompactDecimal::from_str(alloc, number) {
         Ok(number) => has_branch_of_value(alloc, &number, depth, parts),
         // A digit is a number, so memory ran out.
         Err(_) => Err(AllocError),
+    }
+}
+
+// Returns whether an argument at this depth has a branch whose selector is `=` and a number.
+fn has_number_branch(depth: usize, parts: &[Part<'_>]) -> bool
+    ensures { result ≡ has_number_branch (branches_of depth (parts_view parts.now)) }
+{
+    let mut left = parts;
+    while let [part, rest @ ..] = left {
+        if part.depth <= depth {
+            let Piece::Branch(selector) = part.piece else {
+                return false;
+            };
+            if is_of_number(selector) {
+                return true;
+            }
+        }
+        left = rest;
+    }
+    false
+}
+
+// Returns whether a selector is `=` and a number.
+fn is_of_number(selector: Selector<'_>) -> bool
+    ensures { result ≡ is_of_number (selector_view selector.entry) }
+{
+    match selector {
+        Selector::Exactly(_) => true,
+        Selector::Keyword(_) => false,
     }
 }
 
