@@ -8,15 +8,15 @@ use Rattle.plural_documents.specs.Inputs.{IsPartWritten}
 use Rattle.icu_plurals.specs.FiveRules.{FiveRules}
 use Rattle.icu_plurals.specs.declared.PluralCategory.{PluralCategory}
 use Rattle.form_commands.specs.InputLines.{HasNoEnd, lines_of}
-use Rattle.form_commands.specs.Inner.LineSteps.{EndsLine, Forgets, IsAfter, place_after}
+use Rattle.form_commands.specs.Inner.LineSteps.{EndsLine, Forgets, IsAfter, KeepsBytes, place_after}
 use Rattle.form_commands.specs.Inner.StreamSteps.{IsBegunAfter, IsWrittenAfter}
 use Rattle.form_commands.specs.NumberAnswers.{AreLineAnswers, IsAnswerAt, IsCategoryOf, most_number_bytes, next_place}
-use Rattle.form_commands.specs.PrintedTexts.{PrintedText, after_text, nothing}
+use Rattle.form_commands.specs.PrintedTexts.{PrintedText, after_text, both_printed, nothing}
 use Rattle.form_commands.specs.declared.printed.NumberFault.{NumberFault}
 use Rattle.form_commands.specs.declared.printed.Place.{Place}
 use Rattle.form_commands.specs.declared.printed.Place.TheVariants.{Line}
 use Rattle.form_commands.specs.declared.stream.Lines.{Lines}
-use Rattle.form_commands.proofs.LineLemmas.{ended, kept_long, kept_nothing, kept_whole, no_end_append, unended}
+use Rattle.form_commands.proofs.LineLemmas.{ended, kept_bound, kept_long, kept_more, kept_nothing, kept_whole, no_end_append, no_end_both, unended}
 use Rattle.form_commands.proofs.PrintedLemmas.{after_joined, answers_append, place_after_one}
 
 -- ---- The answer to a line of which not all is kept
@@ -52,19 +52,43 @@ after_byte rules bytes text old new byte other place printed keeps a = record {
   answered = subst (λ (p : PrintedText). AreLineAnswers rules a.done (after_text text p)) (sym printed) a.answered;
 }
 
+-- bytes that end no line
+pub after_more : (rules : FiveRules) (bytes text more : List ℕ) (old new : Lines) → HasNoEnd more → KeepsBytes more old new
+    → IsAfter rules bytes text old → IsAfter rules (bytes ++ more) text new
+after_more rules bytes text more old new none keeps a =
+    let short : length old.line.items ≤ most_number_bytes + 1 =
+    subst (λ (l : List ℕ). length l ≤ most_number_bytes + 1) (sym a.kept) (kept_bound (most_number_bytes + 1) a.last) in
+    record {
+      done = a.done;
+      last = a.last ++ more;
+      cut = λ rest. rw (append_assoc bytes more rest, append_assoc a.last more rest) (a.cut (more ++ rest));
+      no_end = no_end_both a.last more a.no_end none;
+      kept = keeps.line short ∙ ap (λ (l : List ℕ). take (most_number_bytes + 1) (l ++ more)) a.kept
+          ∙ kept_more (most_number_bytes + 1) a.last more;
+      place = keeps.place ∙ a.place;
+      answered = subst (λ (p : PrintedText). AreLineAnswers rules a.done (after_text text p)) (sym keeps.printed) a.answered;
+    }
+
+-- one more line is answered
+answered_line : (rules : FiveRules) (bytes text line : List ℕ) (old new : Lines) (answer : PrintedText) (a : IsAfter rules bytes text old)
+    → IsAnswerAt rules (Line old.place) line answer → new.printed ≡ both_printed old.printed answer
+    → AreLineAnswers rules (a.done ++ line ∷ []) (after_text text new.printed)
+answered_line rules bytes text line old new answer a answers printed =
+    let here : IsAnswerAt rules (Line (place_after 1 a.done)) line answer =
+    subst (λ (n : ℕ). IsAnswerAt rules (Line n) line answer) a.place answers in
+    subst (λ (p : PrintedText). AreLineAnswers rules (a.done ++ line ∷ []) p)
+    (after_joined text old.printed answer ∙ ap (after_text text) (sym printed))
+    (answers_append Line rules 1 a.done line (after_text text old.printed) answer a.answered here)
+
 -- the lines that have ended then are answered
-answered_end : (rules : FiveRules) (bytes text : List ℕ) (old new : Lines) → EndsLine rules old new
+answered_end : (rules : FiveRules) (bytes text : List ℕ) (old new : Lines) → EndsLine rules old.line.items old new
     → (a : IsAfter rules bytes text old) → AreLineAnswers rules (a.done ++ a.last ∷ []) (after_text text new.printed)
 answered_end rules bytes text old new e a =
-    let here : IsAnswerAt rules (Line (place_after 1 a.done)) a.last e.answer =
-    subst (λ (n : ℕ). IsAnswerAt rules (Line n) a.last e.answer) a.place
-    (kept_answer rules (Line old.place) a.last old.line.items e.answer a.kept e.answers) in
-    subst (λ (p : PrintedText). AreLineAnswers rules (a.done ++ a.last ∷ []) p)
-    (after_joined text old.printed e.answer ∙ ap (after_text text) (sym e.printed))
-    (answers_append Line rules 1 a.done a.last (after_text text old.printed) e.answer a.answered here)
+    answered_line rules bytes text a.last old new e.answer a
+    (kept_answer rules (Line old.place) a.last old.line.items e.answer a.kept e.answers) e.printed
 
 -- a newline
-pub after_end : (rules : FiveRules) (bytes text : List ℕ) (old new : Lines) → EndsLine rules old new
+pub after_end : (rules : FiveRules) (bytes text : List ℕ) (old new : Lines) → EndsLine rules old.line.items old new
     → IsAfter rules bytes text old → IsAfter rules (bytes ++ 10 ∷ []) text new
 after_end rules bytes text old new e a = record {
   done = a.done ++ a.last ∷ [];
@@ -76,6 +100,34 @@ after_end rules bytes text old new e a = record {
   place = e.place ∙ ap next_place a.place ∙ sym (place_after_one 1 a.done a.last);
   answered = answered_end rules bytes text old new e a;
 }
+
+-- a whole line, of which nothing was kept
+pub after_line : (rules : FiveRules) (bytes text line : List ℕ) (old new : Lines) → HasNoEnd line → old.line.items ≡ []
+    → EndsLine rules line old new → IsAfter rules bytes text old → IsAfter rules (bytes ++ (line ++ 10 ∷ [])) text new
+after_line rules bytes text line old new none nothing_kept e a =
+    let empty : a.last ≡ [] = kept_nothing most_number_bytes a.last (sym a.kept ∙ nothing_kept) in
+    record {
+      done = a.done ++ line ∷ [];
+      last = [];
+      cut = λ rest. rw (
+        append_assoc bytes (line ++ 10 ∷ []) rest,
+        append_assoc line (10 ∷ []) rest,
+        append_assoc a.done (line ∷ []) (lines_of rest),
+      )
+          (a.cut (line ++ 10 ∷ rest) ∙ ap (λ (l : List ℕ). a.done ++ lines_of (l ++ (line ++ 10 ∷ rest))) empty
+          ∙ ap (λ (ls : List (List ℕ)). a.done ++ ls) (ended line rest none));
+      no_end = tt;
+      kept = e.line ∙ sym (take-nil (most_number_bytes + 1));
+      place = e.place ∙ ap next_place a.place ∙ sym (place_after_one 1 a.done line);
+      answered = answered_line rules bytes text line old new e.answer a e.answers e.printed;
+    }
+
+-- the end of a line of which bytes are kept
+pub after_kept : (rules : FiveRules) (bytes text line : List ℕ) (old mid new : Lines) → HasNoEnd line → KeepsBytes line old mid
+    → EndsLine rules mid.line.items mid new → IsAfter rules bytes text old → IsAfter rules (bytes ++ (line ++ 10 ∷ [])) text new
+after_kept rules bytes text line old mid new none keeps e a =
+    subst (λ (b : List ℕ). IsAfter rules b text new) (append_assoc bytes line (10 ∷ []))
+    (after_end rules (bytes ++ line) text mid new e (after_more rules bytes text line old mid none keeps a))
 
 -- ---- Nothing before the first byte
 
@@ -162,7 +214,7 @@ last_lines [] none there = absurd (there refl)
 last_lines (byte ∷ bytes) none there = unended byte bytes none
 
 -- its answer completes the answers to all lines
-pub last_answered : (rules : FiveRules) (bytes text : List ℕ) (old mid : Lines) → (old.line.items ≡ [] → ⊥) → EndsLine rules old mid
+pub last_answered : (rules : FiveRules) (bytes text : List ℕ) (old mid : Lines) → (old.line.items ≡ [] → ⊥) → EndsLine rules old.line.items old mid
     → IsAfter rules bytes text old → AreLineAnswers rules (lines_of bytes) (after_text text mid.printed)
 last_answered rules bytes text old mid there e a =
     let begun : a.last ≡ [] → ⊥ = λ none. there (a.kept ∙ ap (take (most_number_bytes + 1)) none ∙ take-nil (most_number_bytes + 1)) in

@@ -39,7 +39,7 @@ wrote_on rules more lines mid new before after (Err e) takes appended forgets pa
 -- ---- The last line
 
 pub finished : (rules : FiveRules) (lines mid : Lines) (before after : Option (List ℕ)) (r : Result Verdict FormsError)
-    → (lines.line.items ≡ [] → ⊥) → EndsLine rules lines mid → WritesText mid.printed before after r → FinishesLines rules lines before after r
+    → (lines.line.items ≡ [] → ⊥) → EndsLine rules lines.line.items lines mid → WritesText mid.printed before after r → FinishesLines rules lines before after r
 finished rules lines mid before after (Ok verdict) there e written = λ bytes text h. (
   after_text text mid.printed,
   mid.printed.text,

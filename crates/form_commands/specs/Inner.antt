@@ -7,3 +7,4 @@ pub mod LineSteps
 pub mod StreamSteps
 pub mod NoteSteps
 pub mod ConditionSteps
+pub mod ChooserRules

@@ -2,6 +2,7 @@
 #![tactic(auto)]
 
 mod c_condition;
+mod chooser;
 mod error;
 mod gettext;
 mod joined;

@@ -1,10 +1,13 @@
 //! The categories of numbers.
 
 ghost use Rattle.std.specs.Prelude.{◌≡◌, IfOk, OnOk};
+ghost use Rattle.form_commands.specs.Inner.ChooserRules.{chooser_rules};
 ghost use Rattle.form_commands.specs.Inner.PrintedSteps.{AddsPrinted};
 ghost use Rattle.form_commands.specs.Inner.QuestionViews.{words_view};
-ghost use Rattle.form_commands.specs.NumberAnswers.{AreNumberAnswers, IsAnswerAt, IsCategoryOf, IsShortCategoryOf, next_place};
+ghost use Rattle.form_commands.specs.NumberAnswers.{AreNumberAnswers, IsAnswerAt, IsCategoryOf, IsShortCategoryOf, answer_text, next_place};
+ghost use Rattle.form_commands.specs.PrintedTexts.{both_printed};
 
+use crate::chooser::Chooser;
 use crate::printed::{NumberFault, Place, Printed};
 use icu_plurals::{DecimalError, PluralCategory, PluralRules};
 use std::alloc::{AllocError, Global};
@@ -21,13 +24,20 @@ pub(crate) fn numbers_text(
 ) -> Result<Printed, AllocError>
     ensures { IfOk result (λ printed. AreNumberAnswers rules.now (words_view numbers.now) printed) }
 {
+    numbers_by(alloc, &Chooser::of(rules), numbers)
+}
+
+// Returns the lines of numbers by what chooses their categories.
+fn numbers_by(alloc: Global, chooser: &Chooser<'_>, numbers: &[&str]) -> Result<Printed, AllocError>
+    ensures { IfOk result (λ printed. AreNumberAnswers (chooser_rules chooser.now) (words_view numbers.now) printed) }
+{
     let mut printed = Printed::new(alloc);
     let mut place = 1;
     let mut rest = numbers;
     while let [number, after @ ..] = rest {
         push_answer(
             alloc,
-            rules,
+            chooser,
             Place::Number(place),
             number.as_bytes(),
             &mut printed,
@@ -39,6 +49,7 @@ pub(crate) fn numbers_text(
 }
 
 // Returns the place after a place.
+#[inline]
 pub(crate) fn next_place(place: u64) -> u64
     ensures { result ≡ next_place place }
 {
@@ -48,14 +59,43 @@ pub(crate) fn next_place(place: u64) -> u64
 // Appends the line of a number.
 pub(crate) fn push_answer(
     alloc: Global,
-    rules: &PluralRules<'_>,
+    chooser: &Chooser<'_>,
     place: Place,
     number: &[u8],
     printed: &mut Printed,
 ) -> Result<(), AllocError>
-    ensures { OnOk result (AddsPrinted (IsAnswerAt rules.now place number.now) printed.old printed.new) }
+    ensures { OnOk result (AddsPrinted (IsAnswerAt (chooser_rules chooser.now) place number.now) printed.old printed.new) }
 {
-    match category_of(alloc, rules, number)? {
+    let answer = category_of(alloc, chooser, number)?;
+    push_line(alloc, place, answer, printed)
+}
+
+// Appends the line of a number as a text.
+#[inline]
+pub(crate) fn push_text_answer(
+    alloc: Global,
+    chooser: &Chooser<'_>,
+    place: Place,
+    number: &str,
+    printed: &mut Printed,
+) -> Result<(), AllocError>
+    ensures { OnOk result (AddsPrinted (IsAnswerAt (chooser_rules chooser.now) place number.now) printed.old printed.new) }
+{
+    let answer = category_of_text(alloc, chooser, number)?;
+    push_line(alloc, place, answer, printed)
+}
+
+// Appends the line of an answer.
+#[inline]
+fn push_line(
+    alloc: Global,
+    place: Place,
+    answer: Result<PluralCategory, NumberFault>,
+    printed: &mut Printed,
+) -> Result<(), AllocError>
+    ensures { OnOk result (printed.new ≡ both_printed printed.old (answer_text place answer)) }
+{
+    match answer {
         Ok(category) => printed.push_category(category),
         Err(fault) => printed.push_fault(alloc, place, fault),
     }
@@ -64,29 +104,45 @@ pub(crate) fn push_answer(
 // Returns the category of a number, or why it has none.
 fn category_of(
     alloc: Global,
-    rules: &PluralRules<'_>,
+    chooser: &Chooser<'_>,
     number: &[u8],
 ) -> Result<Result<PluralCategory, NumberFault>, AllocError>
-    ensures { IfOk result (λ answer. IsCategoryOf rules.now number.now answer) }
+    ensures { IfOk result (λ answer. IsCategoryOf (chooser_rules chooser.now) number.now answer) }
 {
     if number.len() > MOST_NUMBER_BYTES {
         return Ok(Err(NumberFault::TooLong));
     }
     match str::from_utf8(number) {
-        Ok(text) => category_of_text(alloc, rules, text),
+        Ok(text) => category_of_short_text(alloc, chooser, text),
         Err(_) => Ok(Err(NumberFault::NotText)),
     }
 }
 
 // Returns the category of a number as a text, or why it has none.
+#[inline]
 fn category_of_text(
     alloc: Global,
-    rules: &PluralRules<'_>,
+    chooser: &Chooser<'_>,
     text: &str,
 ) -> Result<Result<PluralCategory, NumberFault>, AllocError>
-    ensures { IfOk result (λ answer. IsShortCategoryOf rules.now text.now answer) }
+    ensures { IfOk result (λ answer. IsCategoryOf (chooser_rules chooser.now) text.now answer) }
 {
-    match rules.category_for_text(alloc, text) {
+    if text.len() <= MOST_NUMBER_BYTES {
+        return category_of_short_text(alloc, chooser, text);
+    }
+    Ok(Err(NumberFault::TooLong))
+}
+
+// Returns the category of a number as a text that isn't too long, or why it has none.
+#[inline]
+fn category_of_short_text(
+    alloc: Global,
+    chooser: &Chooser<'_>,
+    text: &str,
+) -> Result<Result<PluralCategory, NumberFault>, AllocError>
+    ensures { IfOk result (λ answer. IsShortCategoryOf (chooser_rules chooser.now) text.now answer) }
+{
+    match chooser.category_for_text(alloc, text) {
         Ok(category) => Ok(Ok(category)),
         Err(DecimalError::Syntax) => Ok(Err(NumberFault::Syntax)),
         Err(DecimalError::Limit) => Ok(Err(NumberFault::Limit)),

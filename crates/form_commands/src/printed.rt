@@ -1,13 +1,13 @@
 //! What is printed for a question.
 
-ghost use Rattle.std.specs.Prelude.{◌≡◌, ◌≢◌, IfErr, OnOk, string_bytes};
+ghost use Rattle.std.specs.Prelude.{◌≡◌, ◌≢◌, ◌++◌, IfErr, OnOk, codes, string_bytes};
 ghost use Rattle.form_commands.specs.Inner.RunSteps.{WritesText};
 ghost use Rattle.form_commands.specs.NumberAnswers.{category_answer, fault_answer};
 ghost use Rattle.form_commands.specs.PrintedTexts.{both_printed, nothing, only_text, verdict_of, without_text};
+ghost use Rattle.icu_plurals.specs.Categories.{name_of};
 
 use crate::error::{FormsError, Verdict};
 use icu_plurals::PluralCategory;
-use icu_plurals::provider::RawPluralCategory;
 use plural_documents::write_output;
 use std::alloc::{AllocError, Global};
 use std::fmt;
@@ -143,9 +143,7 @@ impl Printed {
     pub(crate) fn push_category(&mut self, category: PluralCategory) -> Result<(), AllocError>
         ensures { OnOk result (self.new ≡ both_printed self.old (category_answer category)) }
     {
-        self.text
-            .push_str(RawPluralCategory::from(category).as_str())?;
-        self.text.push_str("\n")
+        self.text.push_str(category_line(category))
     }
 
     // Appends the line of a fault.
@@ -161,5 +159,19 @@ impl Printed {
         self.text.push_str(line.as_str())?;
         self.has_fault = true;
         Ok(())
+    }
+}
+
+// The line of a category.
+fn category_line(category: PluralCategory) -> &'static str
+    ensures { result.now ≡ name_of category ++ codes "\n" }
+{
+    match category {
+        PluralCategory::Zero => "zero\n",
+        PluralCategory::One => "one\n",
+        PluralCategory::Two => "two\n",
+        PluralCategory::Few => "few\n",
+        PluralCategory::Many => "many\n",
+        PluralCategory::Other => "other\n",
     }
 }

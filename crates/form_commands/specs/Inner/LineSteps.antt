@@ -1,5 +1,5 @@
 -- Not a definition of the subject: the state after some bytes of an input, and one step of it.
-use Rattle.std.specs.Prelude.{◌≡◌, ℕ, ◌+◌, List, [], ◌∷◌, ◌++◌, take}
+use Rattle.std.specs.Prelude.{◌≡◌, ℕ, ◌+◌, ◌≤◌, List, [], ◌∷◌, ◌++◌, length, take}
 use Rattle.icu_plurals.specs.FiveRules.{FiveRules}
 use Rattle.form_commands.specs.InputLines.{HasNoEnd, lines_of}
 use Rattle.form_commands.specs.NumberAnswers.{AreLineAnswers, IsAnswerAt, most_number_bytes, next_place}
@@ -31,13 +31,19 @@ pub record IsAfter (rules : FiveRules) (bytes text : List ℕ) (lines : Lines) :
 abbrev pub TakesBytes : FiveRules → List ℕ → Lines → Lines → Type 0
 TakesBytes rules more old new = (bytes text : List ℕ) → IsAfter rules bytes text old → IsAfter rules (bytes ++ more) text new
 
--- the line is answered, and a new one begins
-pub record EndsLine (rules : FiveRules) (old new : Lines) : Type 0 where
+-- the line is answered as a word, and a new one begins
+pub record EndsLine (rules : FiveRules) (word : List ℕ) (old new : Lines) : Type 0 where
   pub answer : PrintedText
-  pub answers : IsAnswerAt rules (Line old.place) old.line.items answer
+  pub answers : IsAnswerAt rules (Line old.place) word answer
   pub line : new.line.items ≡ []
   pub place : new.place ≡ next_place old.place
   pub printed : new.printed ≡ both_printed old.printed answer
+
+-- bytes of the line are kept, up to one byte above the limit
+pub record KeepsBytes (more : List ℕ) (old new : Lines) : Type 0 where
+  pub line : length old.line.items ≤ most_number_bytes + 1 → new.line.items ≡ take (most_number_bytes + 1) (old.line.items ++ more)
+  pub place : new.place ≡ old.place
+  pub printed : new.printed ≡ old.printed
 
 -- what is printed was written
 abbrev pub Forgets : Lines → Lines → Type 0

@@ -1,14 +1,18 @@
-use Rattle.std.proofs.Common.{ℕ, List, subst}
+use Rattle.std.proofs.Common.{◌∙◌, ap, ℕ, List, subst}
+use Rattle.form_commands.specs.Inner.ChooserRules.{chooser_rules}
 use Rattle.form_commands.specs.NumberAnswers.{IsAnswerAt}
+use Rattle.form_commands.specs.declared.printed.Place.{Place}
 use Rattle.form_commands.specs.declared.printed.Place.TheVariants.{Line}
 use Rattle.form_commands.proofs.stream.end_line.Goals as goal
 
 pub returns : goal.returns
 returns c =
     let e = c.in_ok-push_answer.ensures in
+    let rules = chooser_rules c.args.chooser.now in
     record {
       answer = e.0;
-      answers = subst (λ (l : List ℕ). IsAnswerAt c.args.rules.now (Line c.args.lines.now.place) l e.0) c.as_slice.ensures.value e.1;
+      answers = subst (λ (p : Place). IsAnswerAt rules p c.args.lines.now.line.items e.0) c.place.ensures
+          (subst (λ (l : List ℕ). IsAnswerAt rules c.place.result l e.0) c.as_slice.ensures.value e.1);
       line = c.clear.ensures.items;
       place = c.next_place-lines.ensures;
       printed = e.2;
