@@ -7,9 +7,9 @@ ghost use Rattle.icu_plurals.specs.DecimalChoice.{IsTextAnswer};
 use icu_plurals::{DecimalError, PluralCategory, PluralRules, PreparedRules};
 use std::alloc::Global;
 
-// Up to which place of a number no tables are made: so many numbers cost as much without them as
-// their making.
-const LAST_BEFORE_TABLES: u64 = 512;
+// Up to which place of a number no tables are made: the tables of few numbers cost more than they
+// save.
+const LAST_BEFORE_TABLES: u64 = 1024;
 
 // Rules, or their tables.
 #[derive(Drop)]

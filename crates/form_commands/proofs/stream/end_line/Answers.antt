@@ -1,8 +1,7 @@
-use Rattle.std.proofs.Common.{◌∙◌, ap, ℕ, List, subst}
+use Rattle.std.proofs.Common.{ℕ, List, subst}
 use Rattle.form_commands.specs.Inner.ChooserRules.{chooser_rules}
 use Rattle.form_commands.specs.NumberAnswers.{IsAnswerAt}
 use Rattle.form_commands.specs.declared.printed.Place.{Place}
-use Rattle.form_commands.specs.declared.printed.Place.TheVariants.{Line}
 use Rattle.form_commands.proofs.stream.end_line.Goals as goal
 
 pub returns : goal.returns

@@ -1,4 +1,4 @@
-use Rattle.std.proofs.Common.{◌≡◌, ◌++◌, ◌∷◌, [], ℕ, List, refl, sym, ◌∙◌, ap, subst, append_assoc, rules}
+use Rattle.std.proofs.Common.{◌++◌, ◌∷◌, [], ℕ, List, refl, sym, ◌∙◌, ap, subst, append_assoc, rules}
 use Rattle.std.proofs.lemmas.List.{append-nil}
 use Rattle.form_commands.specs.Inner.ChooserRules.{chooser_rules}
 use Rattle.form_commands.specs.Inner.LineSteps.{IsAfter, KeepsBytes, TakesBytes}

@@ -75,3 +75,36 @@ fn lines_before_a_failing_read_or_write_are_answered(rt: HostRuntime) -> Result<
     }
     Ok(())
 }
+
+// Returns whether the lines are answered by this text, and its note follows.
+fn are_answered_by(alloc: Global, lines: &[u8], text: &str) -> bool {
+    let (mut rules, mut rest) = (RULES, lines);
+    let (mut writer, mut notes) = (awaiting(text), awaiting(Asked::Lines.notes()));
+    let answer = answer(
+        alloc,
+        Asked::Lines,
+        &mut rules,
+        &mut rest,
+        &mut writer,
+        &mut notes,
+    );
+    answer.is_ok() && writer.is_done() && notes.is_done()
+}
+
+// Three of the lines are 9 bytes, so that a line stands over the end of some of the reads of 4096
+// bytes; the tables are made after 1024 lines. The last read is no text.
+#[test]
+fn many_lines_are_answered(rt: HostRuntime) -> Result<(), Fail> {
+    let mut lines = Vec::new(rt.alloc());
+    let mut text = String::new(rt.alloc());
+    for k in 0..1500u64 {
+        lines.extend_from_slice(b"1\n22.50\n\n")?;
+        text.push_str("one\nother\n")?;
+        let empty = format!(in rt.alloc(); "line {}: bad number\n", 3 * k + 3)?;
+        text.push_str(empty.as_str())?;
+    }
+    lines.extend_from_slice(b"1\r\n\xff\n1")?;
+    text.push_str("line 4501: bad number\nline 4502: not UTF-8\none\n")?;
+    holds!(rt; are_answered_by(rt.alloc(), lines.as_slice(), text.as_str()));
+    Ok(())
+}

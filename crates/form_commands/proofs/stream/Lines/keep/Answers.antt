@@ -1,4 +1,4 @@
-use Rattle.std.proofs.Common.{◌≡◌, ◌+◌, ◌-◌, ◌++◌, min, length, take, refl, ap, ◌∙◌, arith, List, ℕ}
+use Rattle.std.proofs.Common.{◌≡◌, ◌+◌, ◌-◌, ◌++◌, min, length, take, refl, ap, ◌∙◌, arith, ℕ}
 use Rattle.std.proofs.lemmas.Grind.{common_steps}
 use Rattle.form_commands.specs.NumberAnswers.{most_number_bytes}
 use Rattle.form_commands.proofs.LineLemmas.{kept_with}
