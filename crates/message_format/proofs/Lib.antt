@@ -8,3 +8,4 @@ pub mod Equal
 pub mod Passes
 pub mod Less
 pub mod Walk
+pub mod Plainly

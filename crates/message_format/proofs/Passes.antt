@@ -1,5 +1,5 @@
--- The first of the parts that are left, and a branch that isn't of the number.
-use Rattle.std.proofs.Common.{◌≡◌, ◌≤◌, ◌<◌, ◌-◌, ℕ, List, [], ◌∷◌, Option, false, nat_lt, length, take, drop, get_or, refl, sym, ap, subst, inr, arith}
+-- The first of the parts that are left, and the branch at their front.
+use Rattle.std.proofs.Common.{◌≡◌, ◌≤◌, ◌<◌, ◌-◌, ℕ, List, [], ◌∷◌, Option, Some, false, nat_lt, length, take, drop, get_or, refl, sym, ap, subst, inl, inr, arith}
 use Rattle.std.proofs.lemmas.List.{take_all}
 use Rattle.std.proofs.lemmas.Bool.Decides.{nat_tests}
 use Rattle.fixed_decimal.specs.Written.{CompactNumber}
@@ -7,7 +7,8 @@ use Rattle.message_pattern.specs.declared.part.Part as parts
 use Rattle.message_pattern.specs.declared.part.Piece.TheVariants as pieces
 use Rattle.message_pattern.specs.declared.part.Selector as selectors
 use Rattle.message_pattern.specs.PatternParts.{Part, parts_view, selector_view, Branching, branches_of}
-use Rattle.message_format.specs.FormatBranches.{Equals, IsBranchOfValue}
+use Rattle.message_format.specs.FormatBranches.{Equals, IsBranchOfValue, behind_end, branch_of_keyword, or_branch}
+use Rattle.message_format.specs.Inner.FormatWalks.{IsFirstOf}
 
 -- what stands for a part that isn't there
 abbrev pub no_part : parts.Part
@@ -24,7 +25,7 @@ none_left [] h = refl
 none_left (p ∷ ps) h = absurd (omega arith)
 
 -- the first branch
-branches_from : (depth : ℕ) (p : parts.Part) (rest : List parts.Part) (s : selectors.Selector) → p.depth ≤ depth → p.piece ≡ pieces.Branch s
+pub branches_from : (depth : ℕ) (p : parts.Part) (rest : List parts.Part) (s : selectors.Selector) → p.depth ≤ depth → p.piece ≡ pieces.Branch s
     → branches_of depth (parts_view (p ∷ rest)) ≡ record { selector = selector_view s; parts = parts_view rest } ∷ branches_of depth (parts_view rest)
 branches_from depth p rest s h is =
     let f : nat_lt depth p.depth ≡ false = grind (arith, nat_tests) in
@@ -37,3 +38,27 @@ pub passed : (x : CompactNumber) (depth : ℕ) (ps : List parts.Part) (p : parts
 passed x depth ps p rest s found e h is other k =
     subst (λ (l : List parts.Part). IsBranchOfValue x (branches_of depth (parts_view l)) found) (sym e)
     (subst (λ (l : List Branching). IsBranchOfValue x l found) (sym (branches_from depth p rest s h is)) (inr (other, k)))
+
+-- a branch that is of the number is chosen
+pub taken : (x : CompactNumber) (depth : ℕ) (ps : List parts.Part) (p : parts.Part) (rest : List parts.Part) (s : selectors.Selector)
+    → ps ≡ p ∷ rest → p.depth ≤ depth → p.piece ≡ pieces.Branch s → Equals x (selector_view s)
+    → IsBranchOfValue x (branches_of depth (parts_view ps)) (Some (parts_view rest))
+taken x depth ps p rest s e h is same =
+    subst (λ (l : List parts.Part). IsBranchOfValue x (branches_of depth (parts_view l)) (Some (parts_view rest))) (sym e)
+    (subst (λ (l : List Branching). IsBranchOfValue x l (Some (parts_view rest))) (sym (branches_from depth p rest s h is)) (inl (same, refl)))
+
+-- the first branch of a keyword is found behind a branch as in front of it
+pub noted : (word : List ℕ) (depth : ℕ) (ps : List parts.Part) (p : parts.Part) (rest : List parts.Part) (s : selectors.Selector) (seen found : Option (List Part))
+    → ps ≡ p ∷ rest → p.depth ≤ depth → p.piece ≡ pieces.Branch s → IsFirstOf word seen (selector_view s) (parts_view rest) found
+    → or_branch found (branch_of_keyword word (branches_of depth (parts_view rest))) ≡ or_branch seen (branch_of_keyword word (branches_of depth (parts_view ps)))
+noted word depth ps p rest s seen found e h is first =
+    subst (λ (l : List parts.Part). or_branch found (branch_of_keyword word (branches_of depth (parts_view rest))) ≡ or_branch seen (branch_of_keyword word (branches_of depth (parts_view l)))) (sym e)
+    (subst (λ (l : List Branching). or_branch found (branch_of_keyword word (branches_of depth (parts_view rest))) ≡ or_branch seen (branch_of_keyword word l)) (sym (branches_from depth p rest s h is))
+    (first (branches_of depth (parts_view rest))))
+
+-- the end of the argument isn't a branch
+pub behind_branch : (depth : ℕ) (ps : List parts.Part) (p : parts.Part) (rest : List parts.Part) (s : selectors.Selector)
+    → ps ≡ p ∷ rest → p.depth ≤ depth → p.piece ≡ pieces.Branch s → behind_end depth (parts_view rest) ≡ behind_end depth (parts_view ps)
+behind_branch depth ps p rest s e h is =
+    let f : nat_lt depth p.depth ≡ false = grind (arith, nat_tests) in
+    subst (λ (l : List parts.Part). behind_end depth (parts_view rest) ≡ behind_end depth (parts_view l)) (sym e) (rw (f, is) refl)

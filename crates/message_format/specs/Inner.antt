@@ -1,3 +1,5 @@
 -- No definitions of the subject: views of private types, for private contracts.
 pub mod FormatViews
 pub mod FormatColumns
+pub mod FormatWalks
+pub mod FormatPlain

@@ -29,7 +29,8 @@ pub(crate) fn behind_end<'s, 'p>(depth: usize, parts: &'s [Part<'p>]) -> &'s [Pa
 }
 
 // Whether a selector is this keyword.
-fn is_keyword(word: &[u8], selector: Selector<'_>) -> bool
+#[inline(always)]
+pub(crate) fn is_keyword(word: &[u8], selector: Selector<'_>) -> bool
     ensures { result ≡ is_keyword word.now (selector_view selector.entry) }
 {
     match selector {

@@ -37,9 +37,9 @@ fn message<'s, 'p: 's>(
                 said.extend_from_slice(text)?;
                 left = rest;
             }
-            Step::Chooses(number, branch) => {
+            Step::Chooses(number, branch, behind) => {
                 message(alloc, &*arguments, rules, number.as_bytes(), branch, said)?;
-                left = behind_end(part.depth, rest);
+                left = behind_end(part.depth, behind);
             }
         }
     }

@@ -9,8 +9,10 @@ mod formatting;
 pub mod laws;
 mod numbers;
 mod offsets;
+mod plain;
 mod step;
 mod steps;
+mod walks;
 
 pub use arguments::{Argument, Value};
 pub use branches::has_branch_of_value;

@@ -1,6 +1,6 @@
 //! A plural with an offset.
 
-ghost use Rattle.std.specs.Prelude.{◌≡◌, ◌≤◌, length, IfOk, Err};
+ghost use Rattle.std.specs.Prelude.{◌≡◌, IfOk, Err};
 ghost use Rattle.fixed_decimal.specs.Places.{IsWithinLimit};
 ghost use Rattle.fixed_decimal.specs.Written.{CompactNumber, WritesCompact, IsCompactOverLimit};
 ghost use Rattle.fixed_decimal.specs.declared.decimal.Decimal.{Decimal as SignedNumber};
@@ -44,7 +44,7 @@ fn counted_by<'s, 'p: 's>(
     requires number { IsWithinLimit number.now.significand.absolute }
     requires offset { IsWithinLimit offset.now }
     ensures step { GivesStep (λ step. (less : SignedNumber) × IsDifference number.now.significand offset.now less × IsCountedBy rules.now name.now (branches_of depth (parts_view rest.now)) number.now less step) result }
-    ensures shorter { ChoosesWithin (length rest.now) result }
+    ensures left { ChoosesWithin depth rest.now result }
 {
     numbers_are_read_again();
     texts_write_one_number();
@@ -52,7 +52,7 @@ fn counted_by<'s, 'p: 's>(
     match number_of_text(alloc, &text) {
         Ok(less) => {
             let branch = branch_of_number(alloc, rules, number, &less, depth, rest)?;
-            Ok(Step::Chooses(Shown::Less(text), branch))
+            Ok(Step::Chooses(Shown::Less(text), branch, rest))
         }
         Err(DecimalError::Syntax) => { Err(FormatError::Argument(ArgumentFault::NotANumber, name)) }
         Err(DecimalError::Limit) => Err(FormatError::Argument(ArgumentFault::OverLimit, name)),
@@ -72,7 +72,7 @@ fn less<'s, 'p: 's>(
 ) -> Result<Step<'s, 'p>, FormatError<'p>>
     requires { IsWithinLimit number.now.significand.absolute }
     ensures step { GivesStep (λ step. IsLess rules.now name.now (branches_of depth (parts_view rest.now)) digits.now number.now step) result }
-    ensures shorter { ChoosesWithin (length rest.now) result }
+    ensures left { ChoosesWithin depth rest.now result }
 {
     if number.exponent() != 0 {
         return Err(FormatError::Argument(ArgumentFault::CompactOffset, name));
@@ -99,7 +99,7 @@ pub(crate) fn counted_less<'s, 'p: 's>(
     text: &str,
 ) -> Result<Step<'s, 'p>, FormatError<'p>>
     ensures step { GivesStep (λ step. IsCountedLess rules.now name.now (branches_of depth (parts_view rest.now)) digits.now text.now step) result }
-    ensures shorter { ChoosesWithin (length rest.now) result }
+    ensures left { ChoosesWithin depth rest.now result }
 {
     match CompactDecimal::from_str(alloc, text) {
         Ok(number) => less(alloc, rules, name, digits, depth, rest, &number),

@@ -11,8 +11,9 @@ pub(crate) enum Step<'s, 'p> {
     Stops,
     // Prints a text.
     Prints(&'s [u8]),
-    // Chooses a branch: the text of `#` in it, and the parts from it on.
-    Chooses(Shown<'s>, &'s [Part<'p>]),
+    // Chooses a branch: the text of `#` in it, the parts from it on, and the parts from which the
+    // end of the argument is sought.
+    Chooses(Shown<'s>, &'s [Part<'p>], &'s [Part<'p>]),
 }
 
 // The text of `#`.

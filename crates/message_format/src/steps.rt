@@ -1,21 +1,27 @@
 //! What a part of a message does.
 
-ghost use Rattle.std.specs.Prelude.{◌≡◌, ◌≤◌, length, IfOk, Some};
+ghost use Rattle.std.specs.Prelude.{◌≡◌, ℕ, List, IfOk, Some};
 ghost use Rattle.message_pattern.specs.PatternParts.{parts_view, piece_view, offset_view, branches_of};
 ghost use Rattle.message_format.specs.FormatArguments.{arguments_view, value_view};
 ghost use Rattle.message_format.specs.FormatSteps.{shown_value, selected, IsCounted, IsPlural, IsChoice, IsStep};
+ghost use Rattle.message_pattern.specs.declared.part.Part.{Part as SpecPart};
 ghost use Rattle.message_format.specs.Inner.FormatViews.{any_value, GivesStep, ChoosesWithin, two_rules};
 
 use crate::arguments::{Argument, Value, value_named};
-use crate::branches::{branch_of_number, branch_or_other};
+use crate::branches::branch_of_number;
 use crate::error::{ArgumentFault, FormatError};
 use crate::offsets::counted_less;
 use crate::step::{Shown, Step};
+use crate::walks::{branch_by_number, branch_by_text};
 use fixed_decimal::laws::texts_write_one_number;
 use fixed_decimal::{CompactDecimal, DecimalError};
 use message_pattern::{ArgumentKind, Part, Piece};
 use plural_base::PluralRules;
 use std::alloc::Global;
+
+// The most bytes of a number's text whose category is told before its digits are kept: so few are
+// read without memory.
+const SHORT: usize = 18;
 
 /// The rules of a language, for cardinal and for ordinal numbers.
 #[derive(Clone, Copy, Debug)]
@@ -32,7 +38,7 @@ fn shown_value<'s, 'p: 's>(
     value: Option<Value<'s>>,
 ) -> Result<Step<'s, 'p>, FormatError<'p>>
     ensures step { GivesStep (λ step. step ≡ shown_value name.now (any_value value.entry)) result }
-    ensures shorter { ChoosesWithin 0 result }
+    ensures left { (depth : ℕ) → (ps : List SpecPart) → ChoosesWithin depth ps result }
 {
     match value {
         Some(Value::Number(number)) => Ok(Step::Prints(number.as_bytes())),
@@ -50,15 +56,38 @@ fn selected<'s, 'p: 's>(
     value: Option<Value<'s>>,
 ) -> Result<Step<'s, 'p>, FormatError<'p>>
     ensures step { GivesStep (λ step. step ≡ selected hash.now name.now (branches_of depth (parts_view rest.now)) (any_value value.entry)) result }
-    ensures shorter { ChoosesWithin (length rest.now) result }
+    ensures left { ChoosesWithin depth rest.now result }
 {
     match value {
         Some(Value::Text(text)) => {
-            let branch = branch_or_other(text.as_bytes(), depth, rest);
-            Ok(Step::Chooses(Shown::Given(hash), branch))
+            let found = branch_by_text(text.as_bytes(), depth, rest);
+            Ok(Step::Chooses(Shown::Given(hash), found.branch, found.left))
         }
         Some(Value::Number(_)) => Err(FormatError::Argument(ArgumentFault::WrongKind, name)),
         None => Err(FormatError::Argument(ArgumentFault::Missing, name)),
+    }
+}
+
+// A plural without an offset, of the text of a number, by its digits.
+fn counted_by_digits<'s, 'p: 's>(
+    alloc: Global,
+    rules: &PluralRules<'_>,
+    name: &'p [u8],
+    depth: usize,
+    rest: &'s [Part<'p>],
+    text: &'s str,
+) -> Result<Step<'s, 'p>, FormatError<'p>>
+    ensures step { GivesStep (λ step. IsCounted rules.now name.now (branches_of depth (parts_view rest.now)) text.now step) result }
+    ensures left { ChoosesWithin depth rest.now result }
+{
+    match CompactDecimal::from_str(alloc, text) {
+        Ok(number) => {
+            let branch = branch_of_number(alloc, rules, &number, &number, depth, rest)?;
+            Ok(Step::Chooses(Shown::Given(text.as_bytes()), branch, rest))
+        }
+        Err(DecimalError::Syntax) => { Err(FormatError::Argument(ArgumentFault::NotANumber, name)) }
+        Err(DecimalError::Limit) => Err(FormatError::Argument(ArgumentFault::OverLimit, name)),
+        Err(DecimalError::Memory) => Err(FormatError::Memory),
     }
 }
 
@@ -72,16 +101,26 @@ fn counted<'s, 'p: 's>(
     text: &'s str,
 ) -> Result<Step<'s, 'p>, FormatError<'p>>
     ensures step { GivesStep (λ step. IsCounted rules.now name.now (branches_of depth (parts_view rest.now)) text.now step) result }
-    ensures shorter { ChoosesWithin (length rest.now) result }
+    ensures left { ChoosesWithin depth rest.now result }
 {
-    match CompactDecimal::from_str(alloc, text) {
-        Ok(number) => {
-            let branch = branch_of_number(alloc, rules, &number, &number, depth, rest)?;
-            Ok(Step::Chooses(Shown::Given(text.as_bytes()), branch))
+    if text.len() > SHORT {
+        return counted_by_digits(alloc, rules, name, depth, rest, text);
+    }
+    let category = match rules.category_for_text(alloc, text) {
+        Ok(category) => category,
+        Err(DecimalError::Syntax) => {
+            return Err(FormatError::Argument(ArgumentFault::NotANumber, name));
         }
-        Err(DecimalError::Syntax) => { Err(FormatError::Argument(ArgumentFault::NotANumber, name)) }
-        Err(DecimalError::Limit) => Err(FormatError::Argument(ArgumentFault::OverLimit, name)),
-        Err(DecimalError::Memory) => Err(FormatError::Memory),
+        Err(DecimalError::Limit) => {
+            return Err(FormatError::Argument(ArgumentFault::OverLimit, name));
+        }
+        Err(DecimalError::Memory) => {
+            return Err(FormatError::Memory);
+        }
+    };
+    match branch_by_number(text.as_bytes(), category.as_str().as_bytes(), depth, rest) {
+        Some(found) => Ok(Step::Chooses(Shown::Given(text.as_bytes()), found.branch, found.left)),
+        None => counted_by_digits(alloc, rules, name, depth, rest, text),
     }
 }
 
@@ -96,7 +135,7 @@ fn plural<'s, 'p: 's>(
     value: Option<Value<'s>>,
 ) -> Result<Step<'s, 'p>, FormatError<'p>>
     ensures step { GivesStep (λ step. IsPlural rules.now name.now (offset_view offset.entry) (branches_of depth (parts_view rest.now)) (any_value value.entry) step) result }
-    ensures shorter { ChoosesWithin (length rest.now) result }
+    ensures left { ChoosesWithin depth rest.now result }
 {
     match value {
         Some(Value::Number(text)) => match offset {
@@ -118,7 +157,7 @@ pub(crate) fn step_of<'s, 'p: 's>(
     rest: &'s [Part<'p>],
 ) -> Result<Step<'s, 'p>, FormatError<'p>>
     ensures step { GivesStep (λ step. IsStep (arguments_view arguments.now) (two_rules rules.now) hash.now part.entry.depth (piece_view part.entry.piece) (parts_view rest.now) step) result }
-    ensures shorter { ChoosesWithin (length rest.now) result }
+    ensures left { ChoosesWithin part.entry.depth rest.now result }
 {
     match part.piece {
         Piece::Text(text) => Ok(Step::Prints(text)),

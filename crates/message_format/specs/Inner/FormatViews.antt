@@ -14,6 +14,7 @@ use Rattle.message_format.specs.declared.step.Shown.TheVariants as shows
 use Rattle.message_format.specs.declared.step.Step as steps
 use Rattle.message_format.specs.declared.step.Step.TheVariants as step
 use Rattle.message_format.specs.FormatArguments.{Argument, Value, value_view}
+use Rattle.message_format.specs.FormatBranches.{behind_end}
 use Rattle.message_format.specs.FormatNumbers.{digit_of}
 use Rattle.message_format.specs.FormatSteps.{Step, Stops, Prints, Chooses, Fails, TwoRules}
 use Rattle.message_format.specs.FormatMeaning.{PatternOutcome, Said, Faulty, Says}
@@ -34,7 +35,7 @@ shown_view (shows.Less less) = less.items
 abbrev pub step_view : steps.Step → Step
 step_view step.Stops = Stops
 step_view (step.Prints text) = Prints text.now
-step_view (step.Chooses number branch) = Chooses (shown_view number) (parts_view branch.now)
+step_view (step.Chooses number branch left) = Chooses (shown_view number) (parts_view branch.now)
 
 -- what a private call returns meets the relation of steps, unless memory ran out
 abbrev pub GivesStep : (Step → Type 0) → Result steps.Step FormatError → Type 0
@@ -42,10 +43,16 @@ GivesStep IsStep (Ok s) = IsStep (step_view s)
 GivesStep IsStep (Err (error.Argument fault name)) = IsStep (Fails fault name.now)
 GivesStep IsStep (Err error.Memory) = Unit {0}
 
--- a branch that is chosen is no longer than the parts that it is chosen from
-abbrev pub ChoosesWithin : ℕ → Result steps.Step FormatError → Type 0
-ChoosesWithin n (Ok (step.Chooses number branch)) = length branch.now ≤ n
-ChoosesWithin n _ = Unit {0}
+-- a branch that is chosen is no longer than the parts that it is chosen from, the parts that are left
+-- neither; and behind the end of the argument the same parts follow these
+pub record IsWithin (depth : ℕ) (ps branch left : List parts.Part) : Type 0 where
+  pub shorter : length branch ≤ length ps
+  pub fewer : length left ≤ length ps
+  pub behind : behind_end depth (parts_view left) ≡ behind_end depth (parts_view ps)
+
+abbrev pub ChoosesWithin : ℕ → List parts.Part → Result steps.Step FormatError → Type 0
+ChoosesWithin depth ps (Ok (step.Chooses number branch left)) = IsWithin depth ps branch.now left.now
+ChoosesWithin depth ps _ = Unit {0}
 
 -- the rules, as contracts see them
 abbrev pub two_rules : rules.Rules → TwoRules

@@ -1,4 +1,4 @@
-use Rattle.std.proofs.Common.{◌-◌, length, take, drop, get_or, refl, arith, length-drop}
+use Rattle.std.proofs.Common.{◌-◌, ◌∙◌, length, take, drop, get_or, refl, arith, length-drop}
 use Rattle.std.proofs.lemmas.List.{length-take}
 use Rattle.std.proofs.lemmas.Result.{err_from_is_err_and}
 use Rattle.std.proofs.lemmas.Grind.{common_steps}
@@ -54,26 +54,28 @@ pub parts-preserved-in_ok-message-in-Chooses : goal.parts-preserved-in_ok-messag
 parts-preserved-in_ok-message-in-Chooses t c =
     let ps = c.parts.left.now in
     let does = rw (c.in-Chooses.is, ← c.as_bytes.ensures) at c.in_ok-step_of.ensures.step in
+    let within = rw c.in-Chooses.is at c.in_ok-step_of.ensures.left in
     record {
       says = λ o h.
           c.parts.invariant.says o
           (at_branch (arguments_view c.args.arguments.now) (two_rules c.args.rules.now) c.args.hash.now c.as_bytes.result.now c.parts.said.items c.message.new.said.items ps
           (get_or ps 0 no_part) (take (length ps - 1) (drop 1 ps)) c.in-Chooses.branch.now c.behind_end-left.result.now o
-          (headed ps no_part (length ps) c.in-len1-up.len_at_least refl) does c.in_ok-message-in-Chooses.ensures c.behind_end-left.ensures.rest h);
-      shorter = first_of (grind (arith, common_steps, c.parts.invariant.shorter, c.behind_end-left.ensures.shorter), omega (arith, length-take {A = parts.Part}, length-drop {A = parts.Part}, c.parts.invariant.shorter, c.behind_end-left.ensures.shorter));
+          (headed ps no_part (length ps) c.in-len1-up.len_at_least refl) does c.in_ok-message-in-Chooses.ensures (c.behind_end-left.ensures.rest ∙ within.behind) h);
+      shorter = first_of (grind (arith, common_steps, c.parts.invariant.shorter, c.behind_end-left.ensures.shorter, within.fewer), omega (arith, length-take {A = parts.Part}, length-drop {A = parts.Part}, c.parts.invariant.shorter, c.behind_end-left.ensures.shorter, within.fewer));
     }
 
 pub parts-preserved : goal.parts-preserved
 parts-preserved t c =
     let ps = c.parts.left.now in
     let does = rw (c.in-Chooses.is, ← c.as_bytes.ensures) at c.in_ok-step_of.ensures.step in
+    let within = rw c.in-Chooses.is at c.in_ok-step_of.ensures.left in
     record {
       says = λ o h.
           c.parts.invariant.says o
           (at_branch (arguments_view c.args.arguments.now) (two_rules c.args.rules.now) c.args.hash.now c.as_bytes.result.now c.parts.said.items c.message.new.said.items ps
           (get_or ps 0 no_part) (take (length ps - 1) (drop 1 ps)) c.in-Chooses.branch.now c.behind_end-left.result.now o
-          (headed ps no_part (length ps) c.in-len1-up.len_at_least refl) does c.in_ok-message-in-Chooses.ensures c.behind_end-left.ensures.rest h);
-      shorter = first_of (grind (arith, common_steps, c.parts.invariant.shorter, c.behind_end-left.ensures.shorter), omega (arith, length-take {A = parts.Part}, length-drop {A = parts.Part}, c.parts.invariant.shorter, c.behind_end-left.ensures.shorter));
+          (headed ps no_part (length ps) c.in-len1-up.len_at_least refl) does c.in_ok-message-in-Chooses.ensures (c.behind_end-left.ensures.rest ∙ within.behind) h);
+      shorter = first_of (grind (arith, common_steps, c.parts.invariant.shorter, c.behind_end-left.ensures.shorter, within.fewer), omega (arith, length-take {A = parts.Part}, length-drop {A = parts.Part}, c.parts.invariant.shorter, c.behind_end-left.ensures.shorter, within.fewer));
     }
 
 pub returns : goal.returns

@@ -1,11 +1,13 @@
-use Rattle.std.proofs.Common.{◌∙◌, ap, inl, refl, Err}
-use Rattle.message_format.proofs.Equal.{counted_by}
+use Rattle.std.proofs.Common.{◌∙◌, ap, inl, refl, sym, subst, Err, List, ℕ}
+use Rattle.fixed_decimal.specs.Written.{WritesCompact}
+use Rattle.message_pattern.specs.PatternParts.{parts_view, branches_of}
+use Rattle.message_format.proofs.Equal.{counted_by_text}
 use Rattle.message_format.proofs.steps.counted.Goals as goal
 
-pub returns-in_ok-branch-in-Ok-clause-step : goal.returns-in_ok-branch-in-Ok-clause-step
-returns-in_ok-branch-in-Ok-clause-step c =
-    let w = c.in-Ok.ensures.number in
-    counted_by c.args.rules.now c.args.name.now _ c.args.text.now c.as_bytes.result.now _ _ w.0 w.1 w.2 c.in_ok-branch-in-Ok.ensures.branch c.as_bytes.ensures.value
-
 pub returns-in-Err-Syntax-clause-step : goal.returns-in-Err-Syntax-clause-step
-returns-in-Err-Syntax-clause-step c = inl (c.from_str.ensures.syntax.0 (c.in-Err-Syntax.is ∙ ap Err c.in-Err-Syntax.field-0-is), refl)
+returns-in-Err-Syntax-clause-step c = inl (c.category_for_text.ensures.syntax.0 (c.in-Err-Syntax.is ∙ ap Err c.in-Err-Syntax.field-0-is), refl)
+
+pub returns-in-Some-clause-step : goal.returns-in-Some-clause-step
+returns-in-Some-clause-step c =
+    counted_by_text c.args.rules.now c.args.name.now (branches_of c.args.depth (parts_view c.args.rest.now)) c.args.text.now c.as_bytes-in-Some.result.now c.as_bytes-2.result.now c.in-Ok.category (parts_view c.in-Some.found.branch.now)
+    c.in-Ok.ensures.chosen (c.as_bytes-2.ensures.value ∙ c.as_str.ensures) (λ x w. c.in-Some.ensures.branch x (subst (λ (t : List ℕ). WritesCompact t x) (sym c.as_bytes.ensures.value) w)) c.as_bytes-in-Some.ensures.value

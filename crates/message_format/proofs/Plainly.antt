@@ -1,0 +1,244 @@
+-- Numbers that are written plainly: digits, with a fraction or none.
+use Rattle.std.proofs.Common.{◌≡◌, ◌↔◌, ◌+◌, ◌-◌, ◌≤◌, ◌<◌, ◌&&◌, ℕ, zero, suc, ℤ, pos, negsuc, ◌-ℤ◌, Bool, true, false, List, [], ◌∷◌, ◌++◌, map, length, reverse, take, drop, get_or, refl, sym, ap, subst, ◌∙◌, inl, inr, arith}
+use Rattle.std.specs.Bool.{IsTrue, Decides, ◌==◌}
+use Rattle.std.specs.Char.{is_ascii_digit}
+use Rattle.std.specs.List.{list_all}
+use Rattle.std.specs.Str.{bytes_eq}
+use Rattle.std.proofs.lemmas.Bool.Decides.{nat_tests}
+use Rattle.std.proofs.lemmas.Slice.Eq.{bytes_eq-Decides}
+use Rattle.std.proofs.lemmas.Grind.{same_number_lists}
+use Rattle.std.proofs.lemmas.Int.{ints}
+use Rattle.std.proofs.lemmas.List.{append_assoc, append-nil, length-append, get_or-reverse, get_or_past, length-map, length-reverse, reverse-reverse, take_all}
+use Rattle.fixed_decimal.specs.Digits.{AreDigits, text_of}
+use Rattle.fixed_decimal.specs.Places.{digit_at}
+use Rattle.fixed_decimal.specs.Written.{CompactNumber, WritesCompact, IsCompactOverLimit, OneCompact}
+use Rattle.fixed_decimal.specs.declared.sign.Sign.TheVariants as sign
+use Rattle.message_format.specs.FormatBranches.{EqualsWritten}
+use Rattle.message_format.specs.FormatNumbers.{digit_of, HaveSameValue}
+use Rattle.message_format.specs.Inner.FormatPlain.{is_zero, IsNumeral}
+
+-- the digits that bytes write
+abbrev pub digits_in : List ℕ → List ℕ
+digits_in s = map (λ b. b - 48) s
+
+-- the number that bytes of digits write, before and behind the point
+abbrev pub plainly : List ℕ → List ℕ → CompactNumber
+plainly whole fraction =
+    record {
+      significand = record { sign = sign.None; absolute = record { whole = digits_in whole; fraction = digits_in fraction } };
+      exponent = 0;
+    }
+
+-- if a conjunction is true, both its parts are
+both_true : (a b : Bool) → (a && b) ≡ true → (a ≡ true) × (b ≡ true)
+both_true true b h = (refl, h)
+both_true false b h = let e : false ≡ true = h in cc
+
+digit : (b : ℕ) → is_ascii_digit b ≡ true → (48 ≤ b) × (b ≤ 57)
+digit b h = (grind (arith, nat_tests), grind (arith, nat_tests))
+
+are_digits : (s : List ℕ) → list_all is_ascii_digit s ≡ true → AreDigits (digits_in s)
+are_digits [] h = tt
+are_digits (b ∷ s) h =
+    let p = both_true (is_ascii_digit b) (list_all is_ascii_digit s) h in
+    let d = digit b p.0 in (omega arith, are_digits s p.1)
+
+written : (s : List ℕ) → list_all is_ascii_digit s ≡ true → text_of (digits_in s) ≡ s
+written [] h = refl
+written (b ∷ s) h =
+    let p = both_true (is_ascii_digit b) (list_all is_ascii_digit s) h in
+    let d = digit b p.0 in
+    let e : 48 + (b - 48) ≡ b = omega arith in
+    ap (λ (n : ℕ). n ∷ text_of (digits_in s)) e ∙ ap (λ (l : List ℕ). b ∷ l) (written s p.1)
+
+-- digits write a whole number
+pub writes_whole : (s : List ℕ) → list_all is_ascii_digit s ≡ true → 0 < length s → WritesCompact s (plainly s [])
+writes_whole s h some = (
+  s,
+  [],
+  (
+    s,
+    record {
+      digits = record { nonempty = omega (arith, length-map s (λ (b : ℕ). b - 48)); whole = are_digits s h; fraction = tt };
+      form = inl (refl, sym (written s h));
+    },
+    refl,
+  ),
+  inl (refl, refl),
+  sym (append-nil s),
+)
+
+-- digits, a point and digits write a number
+pub writes_both : (s f : List ℕ) → list_all is_ascii_digit s ≡ true → 0 < length s → list_all is_ascii_digit f ≡ true → 0 < length f
+    → WritesCompact (s ++ 46 ∷ f) (plainly s f)
+writes_both s f h some k more = (
+  s ++ 46 ∷ f,
+  [],
+  (
+    s ++ 46 ∷ f,
+    record {
+      digits = record { nonempty = omega (arith, length-map s (λ (b : ℕ). b - 48)); whole = are_digits s h; fraction = are_digits f k };
+      form = inr (inl (
+        omega (arith, length-map f (λ (b : ℕ). b - 48)),
+        sym (ap (λ (l : List ℕ). l ++ 46 ∷ text_of (digits_in f)) (written s h) ∙ ap (λ (l : List ℕ). s ++ 46 ∷ l) (written f k)) ∙ sym (append_assoc (text_of (digits_in s)) (46 ∷ []) (text_of (digits_in f))),
+      ));
+    },
+    refl,
+  ),
+  inl (refl, refl),
+  sym (append-nil (s ++ 46 ∷ f)),
+)
+
+-- ---- the digits at the powers of ten
+
+before_point : (w f : List ℕ) (k : ℕ) → digit_of (plainly w f) (pos k) ≡ get_or (reverse (digits_in w)) k 0
+before_point w f k =
+    let e : pos k -ℤ pos 0 ≡ pos k = omega (arith, ints) in
+    ap (λ (i : ℤ). digit_at (plainly w f).significand.absolute i) e
+
+behind_point : (w f : List ℕ) (k : ℕ) → digit_of (plainly w f) (negsuc k) ≡ get_or (digits_in f) k 0
+behind_point w f k =
+    let e : negsuc k -ℤ pos 0 ≡ negsuc k = omega (arith, ints) in
+    ap (λ (i : ℤ). digit_at (plainly w f).significand.absolute i) e
+
+first_zero : (s : List ℕ) → list_all is_ascii_digit s ≡ true → 0 < length s → get_or (digits_in s) 0 0 ≡ 0 → get_or s 0 0 ≡ 48
+first_zero [] h n e = absurd (omega arith)
+first_zero (b ∷ s) h n e =
+    let p = both_true (is_ascii_digit b) (list_all is_ascii_digit s) h in
+    let d = digit b p.0 in
+    let z : b - 48 ≡ 0 = e in
+    let r : b ≡ 48 = omega arith in
+    r
+
+-- a numeral that is longer has a digit above all of the other's
+not_longer : (w v : List ℕ) → list_all is_ascii_digit w ≡ true → IsNumeral w → IsNumeral v
+    → ((k : ℕ) → get_or (reverse (digits_in w)) k 0 ≡ get_or (reverse (digits_in v)) k 0) → length v < length w → ⊥
+not_longer w v h n m same l =
+    let f : ℕ → ℕ = λ b. b - 48 in
+    let lw : length (digits_in w) ≡ length w = length-map w (λ (b : ℕ). b - 48) in
+    let lv : length (reverse (digits_in v)) ≡ length v = length-reverse (digits_in v) ∙ length-map v (λ (b : ℕ). b - 48) in
+    let k : ℕ = length w - 1 in
+    let top : get_or (reverse (digits_in w)) (length w - 1) 0 ≡ get_or (digits_in w) (length (digits_in w) - 1 - (length w - 1)) 0
+    = get_or-reverse (digits_in w) (length w - 1) 0 (omega arith) in
+    let place : length (digits_in w) - 1 - (length w - 1) ≡ 0 = omega arith in
+    let past : get_or (reverse (digits_in v)) (length w - 1) 0 ≡ 0 = get_or_past (reverse (digits_in v)) (length w - 1) 0 (omega arith) in
+    let zero : get_or (digits_in w) 0 0 ≡ 0 = sym (ap (λ (i : ℕ). get_or (digits_in w) i 0) place) ∙ (sym top ∙ (same (length w - 1) ∙ past)) in
+    let one : length w ≡ 1 = n.shortest (first_zero w h n.nonempty zero) in
+    let some : 0 < length v = m.nonempty in
+    omega arith
+
+same_digits : (w v : List ℕ) → list_all is_ascii_digit w ≡ true → list_all is_ascii_digit v ≡ true → IsNumeral w → IsNumeral v
+    → ((k : ℕ) → get_or (reverse (digits_in w)) k 0 ≡ get_or (reverse (digits_in v)) k 0) → w ≡ v
+same_digits w v h g n m same =
+    let lw : length (reverse (digits_in w)) ≡ length w = length-reverse (digits_in w) ∙ length-map w (λ (b : ℕ). b - 48) in
+    let lv : length (reverse (digits_in v)) ≡ length v = length-reverse (digits_in v) ∙ length-map v (λ (b : ℕ). b - 48) in
+    let a : length v < length w → ⊥ = not_longer w v h n m same in
+    let b : length w < length v → ⊥ = not_longer v w g m n (λ k. sym (same k)) in
+    let equal : length w ≡ length v = omega arith in
+    let turned : reverse (digits_in w) ≡ reverse (digits_in v) = same_number_lists _ _ (omega arith) (λ k l. same k) in
+    let digits : digits_in w ≡ digits_in v = sym (reverse-reverse (digits_in w)) ∙ (ap (λ (l : List ℕ). reverse l) turned ∙ reverse-reverse (digits_in v)) in
+    sym (written w h) ∙ (ap (λ (l : List ℕ). text_of l) digits ∙ written v g)
+
+zeros : (f : List ℕ) → list_all is_ascii_digit f ≡ true → ((k : ℕ) → get_or (digits_in f) k 0 ≡ 0) → list_all is_zero f ≡ true
+zeros [] h all = refl
+zeros (b ∷ f) h all =
+    let p = both_true (is_ascii_digit b) (list_all is_ascii_digit f) h in
+    let d = digit b p.0 in
+    let z : b - 48 ≡ 0 = all 0 in
+    let r : b ≡ 48 = omega arith in
+    let e : is_zero b ≡ true = grind (arith, nat_tests) in
+    ap (λ (t : Bool). t && list_all is_zero f) e ∙ zeros f p.1 (λ k. all (suc k))
+
+no_digit : (f : List ℕ) → list_all is_zero f ≡ true → (k : ℕ) → get_or (digits_in f) k 0 ≡ 0
+no_digit [] h k = refl
+no_digit (b ∷ f) h zero =
+    let p = both_true (is_zero b) (list_all is_zero f) h in
+    let e : is_zero b ≡ true = p.0 in
+    let r : b ≡ 48 = grind (arith, nat_tests) in
+    let z : b - 48 ≡ 0 = omega arith in
+    z
+no_digit (b ∷ f) h (suc k) = no_digit f (both_true (is_zero b) (list_all is_zero f) h).1 k
+
+-- ---- the same value
+
+same_value : (w f v : List ℕ) → w ≡ v → list_all is_zero f ≡ true → HaveSameValue (plainly w f) (plainly v [])
+same_value w f v e z = record {
+  digits = λ k.
+      elim k as (λ (i : ℤ). digit_of (plainly w f) i ≡ digit_of (plainly v []) i) [
+        | pos n ↦ before_point w f n ∙ (ap (λ (l : List ℕ). get_or (reverse (digits_in l)) n 0) e ∙ sym (before_point v [] n))
+        | negsuc n ↦ behind_point w f n ∙ (no_digit f z n ∙ sym (behind_point v [] n))
+      ];
+  signs = (λ s. let e : sign.None ≡ sign.Negative = s.0 in cc, λ s. let e : sign.None ≡ sign.Negative = s.0 in cc);
+}
+
+-- where both numbers are written plainly, their digits tell whether they have the same value
+pub decided : OneCompact → (text written w f v : List ℕ) (b : Bool) → WritesCompact text (plainly w f) → WritesCompact written (plainly v [])
+    → list_all is_ascii_digit w ≡ true → list_all is_ascii_digit f ≡ true → list_all is_ascii_digit v ≡ true → IsNumeral w → IsNumeral v
+    → length w ≤ 32767 → IsTrue b ↔ ((w ≡ v) × (list_all is_zero f ≡ true))
+    → (x : CompactNumber) → WritesCompact text x → IsTrue b ↔ EqualsWritten x written
+decided one text written w f v b p q dw df dv n m short test x k =
+    let is : plainly w f ≡ x = one text (plainly w f) x p k in
+    let yes : IsTrue b → EqualsWritten (plainly w f) written = λ t.
+    let both = test.0 t in
+    let fits : length (digits_in v) ≤ 32767 = omega (arith, length-map v (λ (b : ℕ). b - 48), ap (λ (l : List ℕ). length l) both.0) in
+    let within : IsCompactOverLimit (plainly v []) → ⊥ = λ o.
+    elim o [
+      | inl side ↦ elim side [ inl over ↦ omega arith | inr over ↦ omega arith ]
+      | inr over ↦ omega arith
+    ]
+    in
+    (plainly v [], q, within, same_value w f v both.0 both.1)
+    in
+    let no : EqualsWritten (plainly w f) written → IsTrue b = λ e.
+    let other : e.0 ≡ plainly v [] = one written e.0 (plainly v []) e.1 q in
+    let same : HaveSameValue (plainly w f) (plainly v []) = subst (λ (y : CompactNumber). HaveSameValue (plainly w f) y) other e.3 in
+    test.1 (
+      same_digits w v dw dv n m (λ i. sym (before_point w f i) ∙ (same.digits (pos i) ∙ before_point v [] i)),
+      zeros f df (λ i. sym (behind_point w f i) ∙ (same.digits (negsuc i) ∙ behind_point v [] i)),
+    )
+    in
+    subst (λ (y : CompactNumber). IsTrue b ↔ EqualsWritten y written) is (yes, no)
+
+-- ---- two texts of which the digits at the front were split off
+
+nothing : (s : List ℕ) → length s < 1 → s ≡ []
+nothing [] h = refl
+nothing (b ∷ s) h = absurd (omega arith)
+
+only : (s front rest : List ℕ) → s ≡ front ++ rest → length rest < 1 → s ≡ front
+only s front rest e h = e ∙ (ap (λ (l : List ℕ). front ++ l) (nothing rest h) ∙ append-nil front)
+
+shorter : (s front rest : List ℕ) → s ≡ front ++ rest → length s ≤ 32767 → length front ≤ 32767
+shorter s front rest e h = omega (arith, ap (λ (l : List ℕ). length l) e, length-append front rest)
+
+is_written : (written v behind : List ℕ) → written ≡ v ++ behind → true ≡ (length behind == 0) → list_all is_ascii_digit v ≡ true → IsNumeral v
+    → WritesCompact written (plainly v [])
+is_written written v behind e h d n =
+    let none : length behind < 1 = grind (arith, nat_tests) in
+    subst (λ (t : List ℕ). WritesCompact t (plainly v [])) (sym (only written v behind e none)) (writes_whole v d n.nonempty)
+
+-- both are whole numbers
+pub at_whole : OneCompact → (text written w rest v behind : List ℕ) (b : Bool) → text ≡ w ++ rest → length rest < 1 → written ≡ v ++ behind → true ≡ (length behind == 0)
+    → list_all is_ascii_digit w ≡ true → list_all is_ascii_digit v ≡ true → IsNumeral w → IsNumeral v → length text ≤ 32767 → b ≡ bytes_eq w v
+    → (x : CompactNumber) → WritesCompact text x → IsTrue b ↔ EqualsWritten x written
+at_whole one text written w rest v behind b e none e' none' dw dv n m short same =
+    let p : WritesCompact text (plainly w []) = subst (λ (t : List ℕ). WritesCompact t (plainly w [])) (sym (only text w rest e none)) (writes_whole w dw n.nonempty) in
+    decided one text written w [] v b p (is_written written v behind e' none' dv m) dw refl dv n m (shorter text w rest e short)
+    (λ t. ((bytes_eq-Decides w v).0 (sym same ∙ t), refl), λ both. same ∙ (bytes_eq-Decides w v).1 both.0)
+
+-- the first has a fraction
+pub at_fraction : OneCompact → (text written w rest after f more v behind : List ℕ) (b : Bool) → text ≡ w ++ rest → rest ≡ 46 ∷ after → after ≡ f ++ more → true ≡ (length more == 0)
+    → 0 < length f → written ≡ v ++ behind → true ≡ (length behind == 0)
+    → list_all is_ascii_digit w ≡ true → list_all is_ascii_digit f ≡ true → list_all is_ascii_digit v ≡ true → IsNumeral w → IsNumeral v → length text ≤ 32767
+    → Decides b ((w ≡ v) × (list_all is_zero f ≡ true))
+    → (x : CompactNumber) → WritesCompact text x → IsTrue b ↔ EqualsWritten x written
+at_fraction one text written w rest after f more v behind b e point e'' none'' some e' none' dw df dv n m short test =
+    let none : length more < 1 = grind (arith, nat_tests) in
+    let is : w ++ 46 ∷ f ≡ text = sym (e ∙ ap (λ (l : List ℕ). w ++ l) (point ∙ ap (λ (l : List ℕ). 46 ∷ l) (only after f more e'' none))) in
+    let p : WritesCompact text (plainly w f) = subst (λ (t : List ℕ). WritesCompact t (plainly w f)) is (writes_both w f dw n.nonempty df some) in
+    decided one text written w f v b p (is_written written v behind e' none' dv m) dw df dv n m (shorter text w rest e short) test
+
+-- the byte at the front, and the rest
+pub led : (s : List ℕ) → 1 ≤ length s → get_or s 0 0 ≡ 46 → s ≡ 46 ∷ take (length s - 1) (drop 1 s)
+led [] h e = absurd (omega arith)
+led (b ∷ s) h e = ap (λ (n : ℕ). n ∷ s) e ∙ ap (λ (l : List ℕ). 46 ∷ l) (sym (take_all (length (b ∷ s) - 1) s (omega arith)))

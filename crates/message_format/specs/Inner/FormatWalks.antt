@@ -1,0 +1,17 @@
+-- What one walk over the branches of an argument finds.
+use Rattle.std.specs.Prelude.{◌≡◌, ◌⊎◌, ℕ, List, ◌∷◌, Option, Some, None}
+use Rattle.fixed_decimal.specs.Written.{CompactNumber}
+use Rattle.message_pattern.specs.PatternParts.{Part, Selector, Branching}
+use Rattle.message_format.specs.FormatBranches.{branch_of_keyword, or_branch, branch_or_other, IsBranchOfValue}
+
+-- before any further branches the first one of the keyword is found as before, if this branch stands
+-- in front of them
+abbrev pub IsFirstOf : List ℕ → Option (List Part) → Selector → List Part → Option (List Part) → Type 0
+IsFirstOf word seen selector branch found =
+    (bs : List Branching) → or_branch found (branch_of_keyword word bs)
+    ≡ or_branch seen (branch_of_keyword word (record { selector = selector; parts = branch } ∷ bs))
+
+-- the branch for a number whose category has this name
+abbrev pub IsBranchOfWord : CompactNumber → List ℕ → List Branching → List Part → Type 0
+IsBranchOfWord x word bs parts =
+    IsBranchOfValue x bs (Some parts) ⊎ (IsBranchOfValue x bs None × (parts ≡ branch_or_other word bs))

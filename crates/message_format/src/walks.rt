@@ -1,0 +1,127 @@
+//! One walk over the branches of an argument.
+
+ghost use Rattle.std.specs.Prelude.{◌≡◌, ◌≤◌, ℕ, length, IfSome};
+ghost use Rattle.fixed_decimal.specs.Written.{CompactNumber, WritesCompact};
+ghost use Rattle.message_pattern.specs.PatternParts.{parts_view, branches_of, selector_view};
+ghost use Rattle.message_format.specs.FormatBranches.{behind_end, branch_or_other, parts_or_none, or_branch};
+ghost use Rattle.message_format.specs.Inner.FormatViews.{any_parts};
+ghost use Rattle.message_format.specs.Inner.FormatWalks.{IsFirstOf, IsBranchOfWord};
+
+use crate::branches::is_keyword;
+use crate::plain::equals_at_sight;
+use message_pattern::{Part, Piece, Selector};
+
+// A branch, and the parts from which the end of the argument is sought: what follows it is the same
+// as from all parts on.
+#[derive(Clone, Copy)]
+pub(crate) struct Found<'s, 'p> {
+    pub(crate) branch: &'s [Part<'p>],
+    pub(crate) left: &'s [Part<'p>],
+}
+
+// The first branch of a keyword: the one that was seen before, or this one if it is of the keyword.
+#[inline(always)]
+fn first_of_keyword<'s, 'p>(
+    word: &[u8],
+    seen: Option<&'s [Part<'p>]>,
+    selector: Selector<'p>,
+    branch: &'s [Part<'p>],
+) -> Option<&'s [Part<'p>]>
+    ensures first { IsFirstOf word.now (any_parts seen.entry) (selector_view selector.entry) (parts_view branch.now) (any_parts result) }
+    ensures within { (n : ℕ) → length branch.now ≤ n → IfSome seen.entry (λ x. length x.now ≤ n) → IfSome result (λ x. length x.now ≤ n) }
+{
+    if seen.is_none() && is_keyword(word, selector) {
+        return Some(branch);
+    }
+    seen
+}
+
+// The branch that was seen, else the other one, else no parts.
+#[inline(always)]
+fn seen_or_other<'s, 'p>(
+    named: Option<&'s [Part<'p>]>,
+    other: Option<&'s [Part<'p>]>,
+    left: &'s [Part<'p>],
+) -> &'s [Part<'p>]
+    ensures branch { parts_view result.now ≡ parts_or_none (or_branch (any_parts named.entry) (any_parts other.entry)) }
+    ensures within { (n : ℕ) → length left.now ≤ n → IfSome named.entry (λ x. length x.now ≤ n) → IfSome other.entry (λ x. length x.now ≤ n) → length result.now ≤ n }
+{
+    if let Some(branch) = named {
+        return branch;
+    }
+    match other {
+        Some(branch) => branch,
+        None => &left[left.len()..],
+    }
+}
+
+// The branch of a keyword, or of `other` if there is none.
+pub(crate) fn branch_by_text<'s, 'p>(
+    word: &[u8],
+    depth: usize,
+    parts: &'s [Part<'p>],
+) -> Found<'s, 'p>
+    ensures branch { parts_view result.branch.now ≡ branch_or_other word.now (branches_of depth (parts_view parts.now)) }
+    ensures left { behind_end depth (parts_view result.left.now) ≡ behind_end depth (parts_view parts.now) }
+    ensures shorter { length result.branch.now ≤ length parts.now }
+    ensures fewer { length result.left.now ≤ length parts.now }
+{
+    let mut other = None;
+    let mut left = parts;
+    while let [part, rest @ ..] = left {
+        if part.depth <= depth {
+            let Piece::Branch(selector) = part.piece else {
+                let branch = seen_or_other(None, other, left);
+                return Found { branch, left };
+            };
+            if is_keyword(word, selector) {
+                return Found {
+                    branch: rest,
+                    left: rest,
+                };
+            }
+            other = first_of_keyword(b"other", other, selector, rest);
+        }
+        left = rest;
+    }
+    let branch = seen_or_other(None, other, left);
+    Found { branch, left }
+}
+
+// The branch of a number's value, else that of a keyword, else that of `other`; none where a
+// selector has to be read as a number first.
+pub(crate) fn branch_by_number<'s, 'p>(
+    text: &[u8],
+    word: &[u8],
+    depth: usize,
+    parts: &'s [Part<'p>],
+) -> Option<Found<'s, 'p>>
+    requires { length text.now ≤ 32767 }
+    ensures branch { IfSome result (λ f. (x : CompactNumber) → WritesCompact text.now x → IsBranchOfWord x word.now (branches_of depth (parts_view parts.now)) (parts_view f.branch.now)) }
+    ensures left { IfSome result (λ f. behind_end depth (parts_view f.left.now) ≡ behind_end depth (parts_view parts.now)) }
+    ensures shorter { IfSome result (λ f. length f.branch.now ≤ length parts.now) }
+    ensures fewer { IfSome result (λ f. length f.left.now ≤ length parts.now) }
+{
+    let mut named = None;
+    let mut other = None;
+    let mut left = parts;
+    while let [part, rest @ ..] = left {
+        if part.depth <= depth {
+            let Piece::Branch(selector) = part.piece else {
+                let branch = seen_or_other(named, other, left);
+                return Some(Found { branch, left });
+            };
+            if equals_at_sight(text, selector)? {
+                return Some(Found {
+                    branch: rest,
+                    left: rest,
+                });
+            }
+            named = first_of_keyword(word, named, selector, rest);
+            other = first_of_keyword(b"other", other, selector, rest);
+        }
+        left = rest;
+    }
+    let branch = seen_or_other(named, other, left);
+    Some(Found { branch, left })
+}
