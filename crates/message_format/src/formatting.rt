@@ -10,7 +10,7 @@ use crate::arguments::Argument;
 use crate::branches::behind_end;
 use crate::error::FormatError;
 use crate::step::Step;
-use crate::steps::{Rules, step_of};
+use crate::steps::{Rules, step_of, text_of};
 use fixed_decimal::laws::texts_write_one_number;
 use message_pattern::{Part, Pattern};
 use std::alloc::Global;
@@ -31,6 +31,11 @@ fn message<'s, 'p: 's>(
 {
     let mut left = parts;
     'parts: while let [part, rest @ ..] = left {
+        if let Some(text) = text_of(hash, part.piece) {
+            said.extend_from_slice(text)?;
+            left = rest;
+            continue;
+        }
         match step_of(alloc, arguments, rules, hash, *part, rest)? {
             Step::Stops => return Ok(()),
             Step::Prints(text) => {

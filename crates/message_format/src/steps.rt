@@ -1,10 +1,11 @@
 //! What a part of a message does.
 
-ghost use Rattle.std.specs.Prelude.{◌≡◌, ℕ, List, IfOk, Some};
+ghost use Rattle.std.specs.Prelude.{◌≡◌, ℕ, List, IfOk, IfSome, Some};
 ghost use Rattle.message_pattern.specs.PatternParts.{parts_view, piece_view, offset_view, branches_of};
 ghost use Rattle.message_format.specs.FormatArguments.{arguments_view, value_view};
 ghost use Rattle.message_format.specs.FormatSteps.{shown_value, selected, IsCounted, IsPlural, IsChoice, IsStep};
 ghost use Rattle.message_pattern.specs.declared.part.Part.{Part as SpecPart};
+ghost use Rattle.message_format.specs.Inner.FormatWalks.{PrintsAlways};
 ghost use Rattle.message_format.specs.Inner.FormatViews.{any_value, GivesStep, ChoosesWithin, two_rules};
 
 use crate::arguments::{Argument, Value, value_named};
@@ -144,6 +145,18 @@ fn plural<'s, 'p: 's>(
         },
         Some(Value::Text(_)) => Err(FormatError::Argument(ArgumentFault::WrongKind, name)),
         None => Err(FormatError::Argument(ArgumentFault::Missing, name)),
+    }
+}
+
+// The text that a piece prints, if it needs no argument.
+#[inline(always)]
+pub(crate) fn text_of<'s, 'p: 's>(hash: &'s [u8], piece: Piece<'p>) -> Option<&'s [u8]>
+    ensures { IfSome result (λ text. PrintsAlways hash.now (piece_view piece.entry) text.now) }
+{
+    match piece {
+        Piece::Text(text) => Some(text),
+        Piece::Hash => Some(hash),
+        _ => None,
     }
 }
 

@@ -1,8 +1,10 @@
--- What one walk over the branches of an argument finds.
+-- What one walk over the branches of an argument finds, and what pieces print.
 use Rattle.std.specs.Prelude.{◌≡◌, ◌⊎◌, ℕ, List, ◌∷◌, Option, Some, None}
 use Rattle.fixed_decimal.specs.Written.{CompactNumber}
-use Rattle.message_pattern.specs.PatternParts.{Part, Selector, Branching}
+use Rattle.message_pattern.specs.PatternParts.{Part, PatternPiece, Selector, Branching}
+use Rattle.message_format.specs.FormatArguments.{Argument}
 use Rattle.message_format.specs.FormatBranches.{branch_of_keyword, or_branch, branch_or_other, IsBranchOfValue}
+use Rattle.message_format.specs.FormatSteps.{TwoRules, Prints, IsStep}
 
 -- before any further branches the first one of the keyword is found as before, if this branch stands
 -- in front of them
@@ -15,3 +17,8 @@ IsFirstOf word seen selector branch found =
 abbrev pub IsBranchOfWord : CompactNumber → List ℕ → List Branching → List Part → Type 0
 IsBranchOfWord x word bs parts =
     IsBranchOfValue x bs (Some parts) ⊎ (IsBranchOfValue x bs None × (parts ≡ branch_or_other word bs))
+
+-- whatever the arguments and the parts that follow are, the piece prints the text
+abbrev pub PrintsAlways : List ℕ → PatternPiece → List ℕ → Type 0
+PrintsAlways hash piece text =
+    (arguments : List Argument) (rules : TwoRules) (depth : ℕ) (rest : List Part) → IsStep arguments rules hash depth piece rest (Prints text)

@@ -3,6 +3,7 @@ use Rattle.std.proofs.lemmas.List.{length-take}
 use Rattle.std.proofs.lemmas.Result.{err_from_is_err_and}
 use Rattle.std.proofs.lemmas.Grind.{common_steps}
 use Rattle.message_pattern.specs.declared.part.Part as parts
+use Rattle.message_pattern.specs.PatternParts.{parts_view}
 use Rattle.message_format.specs.FormatArguments.{arguments_view}
 use Rattle.message_format.specs.FormatMeaning.{Said}
 use Rattle.message_format.specs.Inner.FormatViews.{two_rules}
@@ -13,7 +14,7 @@ use Rattle.message_format.proofs.formatting.+message.Goals as goal
 pub returns-in_err-step_of : goal.returns-in_err-step_of
 returns-in_err-step_of t c =
     let ps = c.parts.left.now in
-    let p = err_from_is_err_and c.from_residual.result c.from_residual.ensures.1 in
+    let p = err_from_is_err_and c.from_residual-in_err-step_of.result c.from_residual-in_err-step_of.ensures.1 in
     rw (p.1, p.2)
     (at_fault (arguments_view c.args.arguments.now) (two_rules c.args.rules.now) c.args.hash.now c.parts.said.items c.args.said.now.items c.parts.said.items c.args.parts.now ps
     (get_or ps 0 no_part) (take (length ps - 1) (drop 1 ps)) c.in_err-step_of.field-0.0 (headed ps no_part (length ps) c.in-len1-up.len_at_least refl)
@@ -34,9 +35,24 @@ parts-preserved-in-Prints t c =
     record {
       says = λ o h.
           c.parts.invariant.says o
-          (at_text (arguments_view c.args.arguments.now) (two_rules c.args.rules.now) c.args.hash.now c.parts.said.items c.in-Prints.text.now c.extend_from_slice.new.self.items ps
+          (at_text (arguments_view c.args.arguments.now) (two_rules c.args.rules.now) c.args.hash.now c.parts.said.items c.in-Prints.text.now c.extend_from_slice-in-Prints.new.self.items ps
           (get_or ps 0 no_part) (take (length ps - 1) (drop 1 ps)) o (headed ps no_part (length ps) c.in-len1-up.len_at_least refl) does
           c.in_ok-extend_from_slice-in-Prints.ensures.items h);
+      shorter = first_of (grind (arith, common_steps, c.parts.invariant.shorter), omega (arith, length-take {A = parts.Part}, length-drop {A = parts.Part}, c.parts.invariant.shorter));
+    }
+
+pub parts-preserved-in-Some : goal.parts-preserved-in-Some
+parts-preserved-in-Some t c =
+    let ps = c.parts.left.now in
+    let p = get_or ps 0 no_part in
+    let rest = take (length ps - 1) (drop 1 ps) in
+    record {
+      says = λ o h.
+          c.parts.invariant.says o
+          (at_text (arguments_view c.args.arguments.now) (two_rules c.args.rules.now) c.args.hash.now c.parts.said.items c.in-Some.text.now c.extend_from_slice.new.self.items ps
+          p rest o (headed ps no_part (length ps) c.in-len1-up.len_at_least refl)
+          (c.in-Some.ensures (arguments_view c.args.arguments.now) (two_rules c.args.rules.now) p.depth (parts_view rest))
+          c.in_ok-extend_from_slice.ensures.items h);
       shorter = first_of (grind (arith, common_steps, c.parts.invariant.shorter), omega (arith, length-take {A = parts.Part}, length-drop {A = parts.Part}, c.parts.invariant.shorter));
     }
 
