@@ -37,7 +37,10 @@ fn is_in(class: Class, byte: u8) -> bool
         Class::Number => is_digit(byte) || byte == b'-' || byte == b'.',
         Class::Digit => is_digit(byte),
         Class::Letter => is_letter(byte),
-        Class::Plain => !(byte == b'\'' || byte == b'{' || byte == b'}' || byte == b'#'),
+        Class::Plain => {
+            b'\'' < byte && byte < b'{'
+                || !(byte == b'\'' || byte == b'{' || byte == b'}' || byte == b'#')
+        }
         Class::Unquoted => !(byte == b'\''),
     }
 }
@@ -57,7 +60,8 @@ fn white_width(text: &[u8]) -> usize
     }
 }
 
-// A byte of the class begins the text; in a name white space doesn't.
+// A byte of the class begins the text; in a name white space doesn't. A byte of ASCII that is in a
+// name begins none.
 #[inline(always)]
 fn begins(class: Class, text: &[u8]) -> bool
     ensures { result ≡ begins class text.now }
@@ -66,7 +70,7 @@ fn begins(class: Class, text: &[u8]) -> bool
         return false;
     };
     match class {
-        Class::Name => is_in(class, *first) && white_width(text) == 0,
+        Class::Name => is_in(class, *first) && (*first < 128 || white_width(text) == 0),
         _ => is_in(class, *first),
     }
 }
