@@ -1,5 +1,5 @@
 -- What is told of classes by masks.
-use Rattle.std.proofs.Common.{◌≡◌, ℕ, ◌^◌, ◌<◌, Bool, true, false, refl, sym, ◌∙◌, ap, subst, bit_and, bit_or}
+use Rattle.std.proofs.Common.{◌≡◌, ℕ, ◌^◌, ◌-◌, ◌<◌, Bool, true, false, refl, sym, ◌∙◌, ap, subst, bit_and, bit_or}
 use Rattle.std.proofs.lemmas.Nat.{or_lt}
 use Rattle.plural_base.specs.declared.category.PluralCategory.{PluralCategory}
 use Rattle.std.specs.Prelude.{◌&&◌, ◌||◌, not, if◌then◌else◌, Option, Some, None}
@@ -7,7 +7,8 @@ use Rattle.std.specs.Int.{w128, bit_not}
 use Rattle.plural_base.specs.declared.rules.told_masks.Told.{Told}
 use Rattle.plural_base.specs.Inner.Masks.{has_bit, IsToldAt}
 use Rattle.plural_base.specs.Inner.WholeNumbers.{IsTold}
-use Rattle.plural_base.proofs.integers.Bits.{has-and, has-or, has-not, has-none}
+use Rattle.std.proofs.lemmas.Bool.{lt-ltb}
+use Rattle.plural_base.proofs.integers.Bits.{has-and, has-or, has-not, has-none, has-ones, not_both}
 
 -- ---- Of two
 
@@ -43,6 +44,17 @@ told_both k b c first second f g = record {
   yes = λ h. both_yes b c (has_bit first.yes k) (has_bit second.yes k) f.yes g.yes (sym (has-and first.yes second.yes k) ∙ h);
   no = λ h. both_no b c (has_bit first.no k) (has_bit second.no k) f.no g.no (sym (has-or first.no second.no k) ∙ h);
 }
+
+-- what is told to be false of each class stays so with anything else
+pub told_false_with : (k : ℕ) (b c : Bool) (told : Told) → k < 128 → told.no ≡ 2 ^ 128 - 1 → IsToldAt k b told
+    → IsToldAt k (b && c) told
+told_false_with k b c told within all f =
+    let set : has_bit told.no k ≡ true =
+    ap (λ mask. has_bit mask k) all ∙ has-ones 128 k ∙ lt-ltb k 128 within in
+    let is : b ≡ false = f.no set in record {
+      yes = λ h. absurd (not_both b (f.yes h) is);
+      no = λ h. ap (λ t. t && c) is;
+    }
 
 -- ---- Of one
 

@@ -1,10 +1,10 @@
 //! What is known of a value at all numbers of each of 128 classes, and what it tells of ranges.
 
-ghost use Rattle.std.specs.Prelude.{◌≡◌, ◌<◌, ℕ, ◌%◌, Bool, false, IsTrue, slice_index_or};
+ghost use Rattle.std.specs.Prelude.{◌≡◌, ◌<◌, ℕ, ◌%◌, Bool, false, IsTrue, length, slice_index_or};
 ghost use Rattle.plural_reference.specs.Truth.{is_in_ranges, range_holds};
 ghost use Rattle.plural_runtime.specs.RuleKinds.{ends};
 ghost use Rattle.plural_runtime.specs.Inner.RuleViews.{lent_relation};
-ghost use Rattle.plural_base.specs.Inner.Masks.{IsToldAt};
+ghost use Rattle.plural_base.specs.Inner.Masks.{has_bit, IsToldAt};
 ghost use Rattle.plural_base.specs.Inner.WholeNumbers.{Fits};
 
 use crate::rules::masks::{between, repeated};
@@ -28,6 +28,51 @@ pub(crate) enum Known {
 
 // Whether the list of a relation holds a value, as far as what is known tells.
 pub(crate) fn told_list(relation: &Relation<'_>, known: Known) -> Told
+    ensures { (class value : ℕ) → class < 128 → Fits known class value
+        → IsToldAt class (is_in_ranges (lent_relation relation.now).meaning.ranges value) result }
+{
+    match known {
+        Known::RemainderBy(modulus) => told_exactly(repeated(ranges_mask(relation), modulus)),
+        Known::Zero | Known::From(_) | Known::Leaves | Known::Nothing => told_each(relation, known),
+    }
+}
+
+// The numbers in the list of a relation.
+fn ranges_mask(relation: &Relation<'_>) -> u128
+    ensures { (k : ℕ) → k < 128 → has_bit result k ≡ is_in_ranges (lent_relation relation.now).meaning.ranges k }
+{
+    let mut mask = 0;
+    let count = relation.len();
+    for place in 0..count {
+        mask |= range_mask(relation, place);
+    }
+    mask
+}
+
+// The numbers in the range at a place.
+fn range_mask(relation: &Relation<'_>, place: usize) -> u128
+    requires { place < length (lent_relation relation.now).meaning.ranges }
+    ensures { (k : ℕ) → k < 128 → has_bit result k
+        ≡ range_holds k (slice_index_or (lent_relation relation.now).meaning.ranges place (0, 0)) }
+{
+    match relation.range(place) {
+        Some(range) => mask_of(range),
+        None => unreachable!(),
+    }
+}
+
+// The numbers in a range.
+fn mask_of(range: RangeOrValue) -> u128
+    ensures { (k : ℕ) → k < 128 → has_bit result k ≡ range_holds k (ends range) }
+{
+    match range {
+        RangeOrValue::Range(start, end) => between(start, end),
+        RangeOrValue::Value(value) => between(value, value),
+    }
+}
+
+// The same, range by range.
+fn told_each(relation: &Relation<'_>, known: Known) -> Told
     ensures { (class value : ℕ) → class < 128 → Fits known class value
         → IsToldAt class (is_in_ranges (lent_relation relation.now).meaning.ranges value) result }
 {

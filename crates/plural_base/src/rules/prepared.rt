@@ -13,7 +13,7 @@ use crate::rules::PluralRules;
 use crate::rules::as_plural_rules::AsPluralRules;
 use crate::rules::data::PluralRulesData;
 use crate::rules::fractions::{FractionClasses, Fractions, fractions_of};
-use crate::rules::low_numbers::LowNumbers;
+use crate::rules::low_numbers::{LowNumbers, has_few_ranges};
 use crate::rules::residue_class::{CYCLE, ResidueClasses, bound_of};
 use crate::rules::table_bytes::{LOW, TABLE_LENGTH, table_bytes};
 use crate::rules::told::tell_categories;
@@ -154,8 +154,14 @@ fn asked(rules: &PluralRules<'_>, number: u64) -> PluralCategory
 fn low_categories(rules: &PluralRules<'_>) -> [PluralCategory; 128]
     ensures { AreLowEntries rules.now result }
 {
+    // Rules of many ranges are asked for each number: they read no more than it needs.
+    let open = if has_few_ranges(&rules.data) {
+        u128::MAX
+    } else {
+        0
+    };
     let mut told = [None; 128];
-    tell_categories(&rules.data, LowNumbers, &mut told);
+    tell_categories(&rules.data, LowNumbers, open, &mut told);
     let mut low = [PluralCategory::Other; 128];
     for k in 0..128usize {
         low[k] = low_category(rules, told[k], k as u64);
@@ -184,7 +190,7 @@ fn cycle_categories(rules: &PluralRulesData<'_>, bound: u64) -> [Option<PluralCa
     ensures { AreTold (rules_of rules.now) bound result }
 {
     let mut cycle = [None; 100];
-    tell_categories(rules, ResidueClasses { bound }, &mut cycle);
+    tell_categories(rules, ResidueClasses { bound }, u128::MAX, &mut cycle);
     cycle
 }
 
@@ -194,6 +200,6 @@ fn fraction_categories(rules: &PluralRulesData<'_>) -> [Option<PluralCategory>; 
     ensures { AreFractionCategories (rules_of rules.now) (slice_index_or result 0 None) (slice_index_or result 1 None) }
 {
     let mut fractions = [None; 2];
-    tell_categories(rules, FractionClasses, &mut fractions);
+    tell_categories(rules, FractionClasses, u128::MAX, &mut fractions);
     fractions
 }

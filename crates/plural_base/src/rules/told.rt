@@ -1,6 +1,6 @@
 //! What rules tell of all numbers of each of some classes.
 
-ghost use Rattle.std.specs.Prelude.{◌≡◌, ◌<◌, ℕ, Bool, if◌then◌else◌, length, slice_index_or, None};
+ghost use Rattle.std.specs.Prelude.{◌≡◌, ◌<◌, ◌&&◌, ℕ, Bool, if◌then◌else◌, length, slice_index_or, None};
 ghost use Rattle.plural_operands.specs.Operands.{Operands};
 ghost use Rattle.plural_runtime.specs.Inner.RuleViews.{lent_relation};
 ghost use Rattle.plural_runtime.specs.PackedTruth.{is_true_at, packed_truth};
@@ -11,7 +11,7 @@ ghost use Rattle.plural_base.specs.Inner.WholeNumbers.{earlier_after, group_afte
 
 use crate::category::PluralCategory;
 use crate::rules::data::PluralRulesData;
-use crate::rules::told_masks::{Told, both, either, told_alike};
+use crate::rules::told_masks::{Told, both, either, told_alike, untold};
 use plural_runtime::{AndOr, Relation, Rule};
 
 // At most 128 classes of numbers, by place, of all of which at once is told what holds.
@@ -37,37 +37,47 @@ struct Walk {
 }
 
 // Writes the category that five rules give all numbers of a class, at the place of each class,
-// where it is told. The rules are read from the last one on, so that the first true one is kept.
+// where it is told. A rule is read only if a class is open: if each rule before it is told to be
+// false of it. The categories are written from the last one on, so that the first true rule's is
+// kept.
 pub(crate) fn tell_categories<C: NumberClasses>(
     rules: &PluralRulesData<'_>,
     classes: C,
+    open: u128,
     entries: &mut [Option<PluralCategory>],
 )
     ensures { (class : ℕ) (o : Operands) → class < 128 → C.has classes class o
         → IsTold (first_category (packed_truth o) (rules_of rules.now)) (slice_index_or entries.new class None) }
 {
+    let zero = told_if_open(&rules.zero, classes, open);
+    let open = open & zero.no;
+    let one = told_if_open(&rules.one, classes, open);
+    let open = open & one.no;
+    let two = told_if_open(&rules.two, classes, open);
+    let open = open & two.no;
+    let few = told_if_open(&rules.few, classes, open);
+    let open = open & few.no;
+    let many = told_if_open(&rules.many, classes, open);
     tell_all(entries);
-    tell_rule(&rules.many, PluralCategory::Many, classes, entries);
-    tell_rule(&rules.few, PluralCategory::Few, classes, entries);
-    tell_rule(&rules.two, PluralCategory::Two, classes, entries);
-    tell_rule(&rules.one, PluralCategory::One, classes, entries);
-    tell_rule(&rules.zero, PluralCategory::Zero, classes, entries);
+    tell(many, PluralCategory::Many, entries);
+    tell(few, PluralCategory::Few, entries);
+    tell(two, PluralCategory::Two, entries);
+    tell(one, PluralCategory::One, entries);
+    tell(zero, PluralCategory::Zero, entries);
 }
 
-// Writes a rule's category for the classes of whose numbers it is present and true, and nothing
-// where it isn't told. The other entries stay.
-fn tell_rule<C: NumberClasses>(
-    rule: &Option<Rule<'_>>,
-    category: PluralCategory,
-    classes: C,
-    entries: &mut [Option<PluralCategory>],
-)
-    ensures { (class : ℕ) (o : Operands) (rest : Category) → class < 128 → C.has classes class o
-        → IsTold rest (slice_index_or entries.old class None)
-        → IsTold (if passes (packed_truth o) rule.now then category else rest) (slice_index_or entries.new class None) }
+// Whether a rule is present and true of all numbers of a class, of each class where it can be told.
+// Without an open class it isn't read, and nothing is told.
+fn told_if_open<C: NumberClasses>(rule: &Option<Rule<'_>>, classes: C, open: u128) -> Told
+    ensures { (class : ℕ) (o : Operands) → class < 128 → C.has classes class o
+        → IsToldAt class (passes (packed_truth o) rule.now) result }
 {
-    if let Some(rule) = rule {
-        tell(told_relations(rule, classes), category, entries);
+    if open == 0 {
+        return untold();
+    }
+    match rule {
+        Some(rule) => told_relations(rule, classes),
+        None => told_alike(false),
     }
 }
 
@@ -94,17 +104,28 @@ fn walk_on<C: NumberClasses>(walk: Walk, relation: &Relation<'_>, classes: C) ->
         → IsToldAt class c walk.group → IsToldAt class
         (group_after (lent_relation relation.now).and_or c (is_true_at o (lent_relation relation.now))) result.group }
 {
-    let told = classes.told_relation(relation);
     match relation.and_or() {
         AndOr::And => Walk {
             earlier: walk.earlier,
-            group: both(walk.group, told),
+            group: and_relation(walk.group, relation, classes),
         },
         AndOr::Or => Walk {
             earlier: either(walk.earlier, walk.group),
-            group: told,
+            group: classes.told_relation(relation),
         },
     }
+}
+
+// Whether a group is true with a further relation. The relation of a group that is told to be false
+// of each class isn't read.
+fn and_relation<C: NumberClasses>(group: Told, relation: &Relation<'_>, classes: C) -> Told
+    ensures { (class : ℕ) (o : Operands) (b : Bool) → class < 128 → C.has classes class o → IsToldAt class b group
+        → IsToldAt class (b && is_true_at o (lent_relation relation.now)) result }
+{
+    if group.no == u128::MAX {
+        return group;
+    }
+    both(group, classes.told_relation(relation))
 }
 
 // Writes a category for the classes where something is told to be true, and nothing where it isn't

@@ -14,8 +14,8 @@ returns-in-And-clause-earlier g c = λ class b d first second.
 pub returns-in-And-clause-group : goal.returns-in-And-clause-group
 returns-in-And-clause-group g c = λ class o b h has told.
     let truth = is_true_at o (lent_relation c.args.relation.now) in
-    let P : AndOr → Type 0 = λ mark. IsToldAt class (group_after mark b truth) c.both.result in
-    subst P c.in-And.ensures (c.both.ensures class b truth told (c.told_relation-told.ensures class o h has))
+    let P : AndOr → Type 0 = λ mark. IsToldAt class (group_after mark b truth) c.and_relation.result in
+    subst P c.in-And.ensures (c.and_relation.ensures class o b h has told)
 
 pub returns-in-Or-clause-earlier : goal.returns-in-Or-clause-earlier
 returns-in-Or-clause-earlier g c = λ class b d first second.
@@ -25,5 +25,5 @@ returns-in-Or-clause-earlier g c = λ class b d first second.
 pub returns-in-Or-clause-group : goal.returns-in-Or-clause-group
 returns-in-Or-clause-group g c = λ class o b h has told.
     let truth = is_true_at o (lent_relation c.args.relation.now) in
-    let P : AndOr → Type 0 = λ mark. IsToldAt class (group_after mark b truth) c.told_relation-told.result in
-    subst P c.in-Or.ensures (c.told_relation-told.ensures class o h has)
+    let P : AndOr → Type 0 = λ mark. IsToldAt class (group_after mark b truth) c.told_relation.result in
+    subst P c.in-Or.ensures (c.told_relation.ensures class o h has)

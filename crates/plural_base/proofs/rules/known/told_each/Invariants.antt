@@ -3,7 +3,7 @@ use Rattle.plural_reference.specs.Truth.{is_in_ranges}
 use Rattle.plural_runtime.specs.Inner.RuleViews.{lent_relation}
 use Rattle.plural_base.specs.Inner.Masks.{IsToldAt}
 use Rattle.plural_base.specs.Inner.WholeNumbers.{Fits}
-use Rattle.plural_base.proofs.rules.known.told_list.Given as goal
+use Rattle.plural_base.proofs.rules.known.told_each.Given as goal
 
 abbrev pub invariant-loop-k : goal.invariant-loop-k
 invariant-loop-k l =
