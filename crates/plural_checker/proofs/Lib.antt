@@ -4,6 +4,8 @@ pub mod Growth
 pub mod AllDigits
 -- what is read from a text
 pub mod TextsRead
+-- texts behind spaces
+pub mod SpacedTexts
 -- the order of lists of samples
 pub mod ListOrders
 -- the zeros at the end of a fraction

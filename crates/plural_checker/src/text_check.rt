@@ -1,6 +1,8 @@
 //! One text of a language's rules.
 
-ghost use Rattle.std.specs.Prelude.{◌≡◌, ◌≢◌, IfOk, OnOk, MatchBool};
+ghost use Rattle.std.specs.Prelude.{◌≡◌, ◌≢◌, IfOk, IsTrue, List, OnOk, MatchBool};
+ghost use Rattle.icu_plurals.specs.Lexer.{AreTokensOf};
+ghost use Rattle.icu_plurals.specs.declared.provider.rules.reference.Token.{Token};
 ghost use Rattle.std.specs.Option.{option_copied};
 ghost use Rattle.plural_checker.specs.Findings.{AddsFindings, GrowsBy};
 ghost use Rattle.plural_checker.specs.TextChecks.{HaveOtherTokens, HaveSameTokens, IsReadAsRule, IsTreeOf};
@@ -142,7 +144,34 @@ fn tree_of(alloc: Global, text: &str) -> Result<Result<Rule, RuleError>, AllocEr
 fn has_tokens_of(text: &str, other: &str) -> bool
     ensures { MatchBool result (HaveSameTokens text.now other.now) (HaveOtherTokens text.now other.now) }
 {
+    // Most texts of CLDR are as they print, but for spaces at the front.
+    if is_behind_spaces(text, other) {
+        // Only for the proof: shows that the other text has tokens.
+        let _tokens = Lexer::new(other.as_bytes());
+        return true;
+    }
+    are_cut_alike(text, other)
+}
+
+// Returns the same by cutting both.
+fn are_cut_alike(text: &str, other: &str) -> bool
+    ensures { MatchBool result (HaveSameTokens text.now other.now) (HaveOtherTokens text.now other.now) }
+{
     are_equal(Lexer::new(text.as_bytes()), Lexer::new(other.as_bytes()))
+}
+
+// Returns whether a text is another one behind spaces, or none.
+fn is_behind_spaces(text: &str, other: &str) -> bool
+    ensures { IsTrue result → (tokens : List Token) → AreTokensOf other.now tokens → AreTokensOf text.now tokens }
+{
+    let mut rest = text.as_bytes();
+    'spaces: while let Some((first, after)) = rest.split_first() {
+        if *first != b' ' {
+            break;
+        }
+        rest = after;
+    }
+    rest == other.as_bytes()
 }
 
 // Returns whether the remaining tokens are the same.
