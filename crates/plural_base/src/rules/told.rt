@@ -67,16 +67,18 @@ pub(crate) fn tell_categories<C: NumberClasses>(
 }
 
 // Whether a rule is present and true of all numbers of a class, of each class where it can be told.
-// Without an open class it isn't read, and nothing is told.
+// A rule that is present isn't read without an open class, and nothing is told of it.
 fn told_if_open<C: NumberClasses>(rule: &Option<Rule<'_>>, classes: C, open: u128) -> Told
     ensures { (class : ℕ) (o : Operands) → class < 128 → C.has classes class o
         → IsToldAt class (passes (packed_truth o) rule.now) result }
 {
-    if open == 0 {
-        return untold();
-    }
     match rule {
-        Some(rule) => told_relations(rule, classes),
+        Some(rule) => {
+            if open == 0 {
+                return untold();
+            }
+            told_relations(rule, classes)
+        }
         None => told_alike(false),
     }
 }

@@ -9,8 +9,8 @@ use Rattle.plural_base.proofs.rules.told.told_if_open.Goals as goal
 pub returns-then-open-eq0 : goal.returns-then-open-eq0
 returns-then-open-eq0 g c = λ class o h has. c.untold.ensures class _
 
-pub returns-in-Some : goal.returns-in-Some
-returns-in-Some g c = λ class o h has.
+pub returns-else-open-eq0 : goal.returns-else-open-eq0
+returns-else-open-eq0 g c = λ class o h has.
     let P : Option (List PackedRelation) → Type 0 = λ rule. IsToldAt class (passes (packed_truth o) rule) c.told_relations.result in
     subst P (sym c.in-Some.is) (c.told_relations.ensures class o h has)
 
