@@ -1,5 +1,5 @@
-//! Growth that is refused, writers that fail, traits and paths at concrete types, and the examples
-//! of the pages: a file for each crate and subject.
+//! Growth that is refused, writers that fail, traits and paths at concrete types, tables of drawn
+//! rules, and the examples of the pages: a file for each crate and subject.
 
 mod assertion;
 mod fixed_decimal_examples;
@@ -13,6 +13,7 @@ mod packed_list_lists;
 mod plural_base_growth;
 mod plural_base_ranges;
 mod plural_base_rules;
+mod plural_base_tables;
 mod plural_checker_reports;
 mod plural_exports_growth;
 mod plural_message_messages;
