@@ -166,7 +166,7 @@ fn is_behind_spaces(text: &str, other: &str) -> bool
 {
     let mut rest = text.as_bytes();
     'spaces: while let Some((first, after)) = rest.split_first() {
-        if *first != b' ' {
+        if *first != b' ' || rest.len() <= other.len() {
             break;
         }
         rest = after;
