@@ -6,6 +6,7 @@ mod first_lines;
 mod found;
 mod input;
 mod json_text;
+mod outline;
 mod output;
 mod printed_key;
 
@@ -13,5 +14,6 @@ pub use first_lines::{MOST_TOLD, add_rest, push_lines};
 pub use found::{Found, MemberCheck, add_members, sum};
 pub use input::{InputError, read_input};
 pub use json_text::{JsonTextError, json_value};
+pub use outline::{Choice, Kept, json_outline};
 pub use output::{OutputError, write_output};
 pub use printed_key::{key_text, name_text};

@@ -1,0 +1,22 @@
+use Rattle.std.proofs.Common.{◌≡◌, ◌*◌, ◌+◌, length}
+use Rattle.plural_documents.proofs.OutlineLemmas.{AreSorted}
+use Rattle.plural_documents.proofs.OutlineReading.{IsReadTo}
+use Rattle.plural_documents.proofs.outline.+read.Given as goal
+use Rattle.plural_documents.specs.Inner.OutlineSteps.{members_by}
+use Rattle.serde_json.specs.Data.{Members}
+use Rattle.serde_json.specs.View.{members_view}
+
+abbrev pub decreases-read : goal.decreases-read
+decreases-read g l = 2 * l.depth
+
+abbrev pub decreases-read_members : goal.decreases-read_members
+decreases-read_members g l = 2 * l.depth + 1
+
+-- some members were read, and what is kept of them was found
+abbrev pub invariant-read_members-loop-found : goal.invariant-read_members-loop-found
+invariant-read_members-loop-found g l =
+    (done : Members) × IsReadTo l.depth l.initial.reader done l.reader × AreSorted done
+    × (members_by g.C.Choice.keeps l.choice done ≡ members_view l.found.entries)
+
+abbrev pub decreases-read_members-loop-found : goal.decreases-read_members-loop-found
+decreases-read_members-loop-found g l = length l.reader

@@ -1,0 +1,16 @@
+use Rattle.std.proofs.Common.{◌≡◌, [], Some, rules}
+use Rattle.json.specs.Lex.{tokens}
+use Rattle.plural_documents.specs.Inner.OutlineSteps.{IsValue}
+use Rattle.plural_documents.proofs.JsonTextLemmas.{value_there}
+use Rattle.plural_documents.proofs.OutlineReading.{text_is}
+use Rattle.plural_documents.proofs.outline.json_outline.Goals as goal
+use Rattle.serde_json.specs.Read.{max_depth, read}
+
+pub returns-then-is_none : goal.returns-then-is_none
+returns-then-is_none g c =
+    let whole = c.in-Ok-read.ensures.read in
+    let text = c.in-Ok.text.now in
+    let none : c.read.new.reader ≡ [] = search rules in
+    let value : IsValue max_depth (tokens text) whole.0 [] = rw (c.in_ok-reader.ensures.ok, none) at whole.1 in
+    let is : read c.args.bytes.now ≡ Some whole.0 = rw (← c.in-Ok.ensures.0) (text_is text whole.0 value) in
+    (whole.0, value_there c.args.bytes.now whole.0 c.in-Ok.ensures.1 is, whole.2)

@@ -1,0 +1,2 @@
+-- Not definitions of the subject: steps of private calls.
+pub mod OutlineSteps

@@ -1,0 +1,49 @@
+-- Not a definition of the subject: what is read of a reader's tokens.
+use Rattle.std.specs.Prelude.{◌≡◌, ℕ, List, length, Option, Some, None}
+use Rattle.json.specs.Json as json
+use Rattle.json.specs.Token.{Token}
+use Rattle.plural_documents.specs.Outlines.{outline, outline_members}
+use Rattle.plural_documents.specs.declared.outline.Kept.{Kept}
+use Rattle.plural_documents.specs.declared.outline.Kept.TheVariants as kept
+use Rattle.serde_json.specs.Data.{Data, Members, no_members}
+use Rattle.serde_json.specs.Read.{of_json, of_members}
+
+-- ---- With or without a choice
+
+-- without a choice the whole
+abbrev pub kept_by : {C : Type 0} → Option C → Kept C
+kept_by None = kept.Whole
+kept_by (Some choice) = kept.Members choice
+
+abbrev pub kept_below : {C : Type 0} → (C → List ℕ → Kept C) → Option C → List ℕ → Kept C
+kept_below keeps None key = kept.Whole
+kept_below keeps (Some choice) key = keeps choice key
+
+abbrev pub members_by : {C : Type 0} → (C → List ℕ → Kept C) → Option C → Members → Members
+members_by keeps None members = members
+members_by keeps (Some choice) members = outline_members keeps choice members
+
+-- ---- Tokens
+
+-- the tokens begin with a value, and these are left after it
+abbrev pub IsValue : ℕ → List Token → Data → List Token → Type 0
+IsValue depth old whole new = (text : json.Json) × (json.value depth old ≡ Some (text, new)) × (of_json text ≡ Some whole)
+
+-- the same of the members of an object
+abbrev pub AreMembers : ℕ → List Token → Members → List Token → Type 0
+AreMembers depth old whole new =
+    (text : json.Members) × (json.members (json.value depth) (length old) old ≡ Some (text, new))
+    × (of_members text no_members ≡ Some whole)
+
+-- some value is passed
+abbrev pub IsPassed : ℕ → List Token → List Token → Type 0
+IsPassed depth old new = (whole : Data) × IsValue depth old whole new
+
+-- a value is read as its outline
+abbrev pub IsReadAs : {C : Type 0} → (C → List ℕ → Kept C) → Option C → ℕ → List Token → Data → List Token → Type 0
+IsReadAs keeps choice depth old read new =
+    (whole : Data) × IsValue depth old whole new × (outline keeps (kept_by choice) whole ≡ Some read)
+
+abbrev pub AreReadAs : {C : Type 0} → (C → List ℕ → Kept C) → Option C → ℕ → List Token → Members → List Token → Type 0
+AreReadAs keeps choice depth old read new =
+    (whole : Members) × AreMembers depth old whole new × (members_by keeps choice whole ≡ read)

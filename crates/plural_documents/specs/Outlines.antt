@@ -1,0 +1,42 @@
+-- The outline of a JSON value: a choice tells by the key of each member of an object whether all of
+-- it is kept, nothing, or what a further choice keeps of it.
+--     outline keeps kept value      what is kept of a value, if anything
+--     GivesOutline keeps choice bytes result      the outline of the value that bytes write, or it
+--         isn't told
+use Rattle.std.specs.Prelude.{◌≡◌, ℕ, List, Option, Some, None, Result, Ok, Err, ⊤}
+use Rattle.std.specs.declared.alloc.AllocError.{AllocError}
+use Rattle.plural_documents.specs.Inputs.{json_of}
+use Rattle.plural_documents.specs.declared.outline.Kept.{Kept}
+use Rattle.plural_documents.specs.declared.outline.Kept.TheVariants as kept
+use Rattle.serde_json.specs.Data.{Data, null, boolean, number, string, array, object, Members, no_members, member}
+use Rattle.serde_json.specs.View.{view}
+use Rattle.serde_json.specs.declared.Value.{Value}
+
+-- a member of which this is kept, before others
+abbrev pub with_member : List ℕ → Option Data → Members → Members
+with_member key None members = members
+with_member key (Some value) members = member key value members
+
+abbrev mutual
+  -- by a choice of an object what is kept of its members, and of any other value all of it
+  pub outline : {C : Type 0} → (C → List ℕ → Kept C) → Kept C → Data → Option Data
+  outline keeps kept.Whole value = Some value
+  outline keeps kept.Nothing value = None
+  outline keeps (kept.Members choice) null = Some null
+  outline keeps (kept.Members choice) (boolean truth) = Some (boolean truth)
+  outline keeps (kept.Members choice) (number n) = Some (number n)
+  outline keeps (kept.Members choice) (string text) = Some (string text)
+  outline keeps (kept.Members choice) (array items) = Some (array items)
+  outline keeps (kept.Members choice) (object members) = Some (object (outline_members keeps choice members))
+
+  pub outline_members : {C : Type 0} → (C → List ℕ → Kept C) → C → Members → Members
+  outline_members keeps choice no_members = no_members
+  outline_members keeps choice (member key value members) =
+      with_member key (outline keeps (keeps choice key) value) (outline_members keeps choice members)
+
+-- the outline of the value that the bytes write; or it isn't told, or memory ran out
+abbrev pub GivesOutline : {C : Type 0} → (C → List ℕ → Kept C) → C → List ℕ → Result (Option Value) AllocError → Type 0
+GivesOutline keeps choice bytes (Ok None) = ⊤
+GivesOutline keeps choice bytes (Ok (Some value)) =
+    (whole : Data) × (json_of bytes ≡ Some whole) × (outline keeps (kept.Members choice) whole ≡ Some (view value))
+GivesOutline keeps choice bytes (Err error) = ⊤
