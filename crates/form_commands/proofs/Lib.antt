@@ -9,6 +9,12 @@ pub mod AfterLemmas
 pub mod StreamLemmas
 -- answers to documents
 pub mod AnswerLemmas
+-- the outline of a document of rules
+pub mod SameNames
+pub mod OutlineFound
+pub mod OutlineStays
+pub mod OutlineServes
+pub mod RulesServe
 -- what is read of the rules
 pub mod RulesRead
 -- the lines of forms

@@ -10,7 +10,7 @@ use Rattle.serde_json.specs.Data.{Data}
 use Rattle.serde_json.specs.declared.Value.{Value}
 use Rattle.form_commands.specs.FormsAnswers.{IsAnsweredLines, IsAnsweredText, IsChecked, IsDocumentIn, forms_origin}
 use Rattle.form_commands.specs.Inner.FormsInputFaults.{rules_input_fault}
-use Rattle.form_commands.specs.Inner.RunSteps.{GivesJsonValue}
+use Rattle.form_commands.specs.Inner.RunSteps.{GivesJsonValue, GivesRulesIn}
 use Rattle.form_commands.specs.PrintedTexts.{PrintedText}
 use Rattle.form_commands.specs.declared.error.FormsError.{FormsError}
 use Rattle.form_commands.specs.declared.error.FormsError.TheVariants.{Rules, TooLong, Json, Refused, Language, Numbers, Write, Memory}
@@ -45,6 +45,11 @@ pub value_read : (left rest : Option (List ℕ)) (bytes : List ℕ) (r : Result 
     → GivesJsonValue bytes r → IsRead forms_origin left rest r
 value_read left rest bytes r end given =
     read_to_end left rest r end (λ is. subst (GivesJsonValue bytes) is given)
+
+pub rules_read : (part : Part) (locale : List ℕ) (left rest : Option (List ℕ)) (bytes : List ℕ) (r : Result Value FormsError)
+    → IsReadToEnd left rest → GivesRulesIn part locale bytes r → IsRead forms_origin left rest r
+rules_read part locale left rest bytes r end given =
+    read_to_end left rest r end (λ is. subst (GivesRulesIn part locale bytes) is given)
 
 -- no input is both within the limit and above it
 not_both : (n most : ℕ) → n ≤ most → most < n → ⊥

@@ -2,6 +2,7 @@
 pub mod QuestionViews
 pub mod FormsInputFaults
 pub mod PrintedSteps
+pub mod RulesOutline
 pub mod RunSteps
 pub mod LineSteps
 pub mod StreamSteps

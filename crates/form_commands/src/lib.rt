@@ -12,6 +12,7 @@ mod list;
 mod name;
 mod note;
 mod number;
+mod outline;
 mod printed;
 mod question;
 mod run;

@@ -6,7 +6,7 @@ ghost use Rattle.form_commands.specs.FormsErrors.{is_of_rules};
 ghost use Rattle.form_commands.specs.Inner.FormsInputFaults.{refused_rules};
 ghost use Rattle.form_commands.specs.Inner.NoteSteps.{NotesAfter, Writes};
 ghost use Rattle.form_commands.specs.Inner.QuestionViews.{words_view};
-ghost use Rattle.form_commands.specs.Inner.RunSteps.{AnswersLines, Checks, GivesDocument, GivesJsonValue, Reports, WritesAnswer};
+ghost use Rattle.form_commands.specs.Inner.RunSteps.{AnswersLines, Checks, GivesDocument, GivesJsonValue, GivesRules, GivesRulesIn, Reports, WritesAnswer};
 ghost use Rattle.form_commands.specs.KeyNotes.{AreFileNotes, IsNote, IsNoted};
 ghost use Rattle.plural_documents.specs.Inputs.{IsInput, IsRead};
 ghost use Rattle.serde_json.specs.View.{view};
@@ -17,6 +17,7 @@ use crate::language::language_of;
 use crate::list::list_text;
 use crate::note::{note_of, notes_of, write_notes};
 use crate::number::numbers_text;
+use crate::outline::rules_outline;
 use crate::printed::Printed;
 use crate::stream::answer_input;
 use icu_plurals::{JsonError, JsonProvider};
@@ -46,7 +47,7 @@ pub fn list_forms<R: Read, W: Write>(
     ensures reads { IsRead forms_origin (R.remaining rules.old) (R.remaining rules.new) result }
     ensures writes_nothing { IfErr result (λ e. e ≢ FormsError.Write → writer.new ≡ writer.old) }
 {
-    match document_of(alloc, rules) {
+    match rules_of(alloc, part, locale, rules) {
         Ok(document) => write_answer(list_of(alloc, &document, part, locale), writer),
         Err(error) => Err(error),
     }
@@ -73,7 +74,7 @@ pub fn answer_numbers<R: Read, W: Write, E: Write>(
     ensures reads { IsRead forms_origin (R.remaining rules.old) (R.remaining rules.new) result }
     ensures writes_nothing { IfErr result (λ e. e ≢ FormsError.Write → (writer.new ≡ writer.old) × (notes.new ≡ notes.old)) }
 {
-    match document_of(alloc, rules) {
+    match rules_of(alloc, part, locale, rules) {
         Ok(document) => numbers_by(alloc, &document, part, locale, numbers, writer, notes),
         Err(error) => Err(error),
     }
@@ -127,7 +128,7 @@ pub fn answer_lines<R: Read, N: Read, W: Write, E: Write>(
     ensures touches_nothing { IfErr result (λ e. IsTrue (is_of_rules e) → (numbers.new ≡ numbers.old) × (writer.new ≡ writer.old)) }
     ensures notes_nothing { IfErr result (λ e. e ≢ FormsError.Write → notes.new ≡ notes.old) }
 {
-    match document_of(alloc, rules) {
+    match rules_of(alloc, part, locale, rules) {
         Ok(document) => noted_lines(alloc, &document, part, locale, numbers, writer, notes),
         Err(error) => Err(error),
     }
@@ -180,7 +181,7 @@ pub fn write_gettext<R: Read, W: Write, E: Write>(
     ensures reads { IsRead forms_origin (R.remaining rules.old) (R.remaining rules.new) result }
     ensures writes_nothing { IfErr result (λ e. e ≢ FormsError.Write → (writer.new ≡ writer.old) × (notes.new ≡ notes.old)) }
 {
-    match document_of(alloc, rules) {
+    match rules_of(alloc, part, locale, rules) {
         Ok(document) => gettext_by(alloc, &document, part, locale, writer, notes),
         Err(error) => Err(error),
     }
@@ -333,6 +334,33 @@ fn lines_by<N: Read, W: Write>(
     match language_of(alloc, document, part, locale) {
         Ok(Ok(language)) => answer_input(alloc, &language.rules, numbers, writer),
         Ok(Err(error)) => Err(FormsError::Language(error)),
+        Err(_) => Err(FormsError::Memory),
+    }
+}
+
+// Returns a document that serves a locale as the one in a reader does.
+fn rules_of<R: Read>(
+    alloc: Global,
+    part: Part,
+    locale: &str,
+    reader: &mut R,
+) -> Result<Value, FormsError>
+    ensures document { (input : List ℕ) × IsInput (R.remaining reader.old) input × GivesRules part locale.now input result }
+    ensures reads { IsRead forms_origin (R.remaining reader.old) (R.remaining reader.new) result }
+{
+    match read_input(alloc, reader) {
+        Ok(input) => rules_in(alloc, part, locale, input.as_slice()),
+        Err(reason) => Err(FormsError::from(reason)),
+    }
+}
+
+// Returns the outline of bytes for a locale, or else their JSON value.
+fn rules_in(alloc: Global, part: Part, locale: &str, bytes: &[u8]) -> Result<Value, FormsError>
+    ensures { GivesRulesIn part locale.now bytes.now result }
+{
+    match rules_outline(alloc, part, locale, bytes) {
+        Ok(Some(outline)) => Ok(outline),
+        Ok(None) => value_of(alloc, bytes),
         Err(_) => Err(FormsError::Memory),
     }
 }

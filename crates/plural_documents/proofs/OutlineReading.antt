@@ -2,7 +2,7 @@
 use Rattle.std.proofs.Common.{◌≡◌, ℕ, ◌-◌, ◌<◌, ◌≤◌, List, [], ◌∷◌, length, Bool, Option, Some, None, refl, ap, ◌∙◌, arith}
 use Rattle.json.specs.Json as json
 use Rattle.json.specs.Json.{parse_map, read_key}
-use Rattle.json.specs.Lex.{tokens}
+use Rattle.json.specs.Lex.{lex, punctuate, tokens}
 use Rattle.json.specs.Token.{Token}
 use Rattle.json.proofs.Grammar.{value_is, value-begin_object, members_end, members_more, read_key-shorter}
 use Rattle.plural_documents.specs.Inner.OutlineSteps.{AreMembers, IsValue}
@@ -32,6 +32,12 @@ object_read depth old new whole deep members = (
 -- the whole text
 pub text_is : (text : List ℕ) (whole : Data) → IsValue max_depth (tokens text) whole [] → read text ≡ Some whole
 text_is text whole value = rw (value.1, value.2) refl
+
+-- no bytes have no token
+pub some_byte : (text : List ℕ) → 0 < length (tokens text) → 0 < length text
+unfolding lex punctuate
+some_byte [] some = some
+some_byte (byte ∷ bytes) some = omega arith
 
 -- ---- Members, one after another
 

@@ -3,7 +3,7 @@
 --     outline keeps kept value      what is kept of a value, if anything
 --     GivesOutline keeps choice bytes result      the outline of the value that bytes write, or it
 --         isn't told
-use Rattle.std.specs.Prelude.{◌≡◌, ℕ, List, Option, Some, None, Result, Ok, Err, ⊤}
+use Rattle.std.specs.Prelude.{◌≡◌, ℕ, ◌<◌, List, length, Option, Some, None, Result, Ok, Err, ⊤}
 use Rattle.std.specs.declared.alloc.AllocError.{AllocError}
 use Rattle.plural_documents.specs.Inputs.{json_of}
 use Rattle.plural_documents.specs.declared.outline.Kept.{Kept}
@@ -34,9 +34,10 @@ abbrev mutual
   outline_members keeps choice (member key value members) =
       with_member key (outline keeps (keeps choice key) value) (outline_members keeps choice members)
 
--- the outline of the value that the bytes write; or it isn't told, or memory ran out
+-- the outline of the value that the bytes write; or it isn't told, or memory ran out, which needs a
+-- byte
 abbrev pub GivesOutline : {C : Type 0} → (C → List ℕ → Kept C) → C → List ℕ → Result (Option Value) AllocError → Type 0
 GivesOutline keeps choice bytes (Ok None) = ⊤
 GivesOutline keeps choice bytes (Ok (Some value)) =
     (whole : Data) × (json_of bytes ≡ Some whole) × (outline keeps (kept.Members choice) whole ≡ Some (view value))
-GivesOutline keeps choice bytes (Err error) = ⊤
+GivesOutline keeps choice bytes (Err error) = 0 < length bytes

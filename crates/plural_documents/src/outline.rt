@@ -1,6 +1,6 @@
 //! The outline of the JSON value that bytes write: what is kept of it, read in one pass.
 
-ghost use Rattle.std.specs.Prelude.{◌≡◌, ◌<◌, IfOk, OnOk, length};
+ghost use Rattle.std.specs.Prelude.{◌≡◌, ◌<◌, Err, IfOk, OnOk, length};
 ghost use Rattle.plural_documents.specs.Inner.OutlineSteps.{AreReadAs, IsPassed, IsReadAs, kept_below};
 ghost use Rattle.plural_documents.specs.Outlines.{GivesOutline};
 ghost use Rattle.serde_json.specs.View.{members_view, view};
@@ -64,7 +64,7 @@ impl<T: Drop> From<AllocFailed<T>> for Stop {
 }
 
 /// Returns the outline of the JSON value that the bytes write, or that it isn't told. It allocates;
-/// the only error is out of memory.
+/// the only error is out of memory, which no bytes are.
 ///
 /// It is told of no bytes that aren't a JSON text, and of no value with an array or a number in it:
 /// ask [`json_value`](crate::json_value) then.
@@ -100,6 +100,7 @@ fn read<C: Choice>(
     depth: usize,
 ) -> Result<Value, Stop>
     ensures read { IfOk result (λ value. IsReadAs C.keeps choice depth reader.old (view value) reader.new) }
+    ensures memory { result ≡ Err Stop.Memory → 0 < length reader.old }
     ensures shorter { OnOk result (length reader.new < length reader.old) }
 {
     match reader.next() {

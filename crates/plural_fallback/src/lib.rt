@@ -13,5 +13,6 @@ mod provider;
 pub use chain::next_locale;
 pub use error::FallbackError;
 pub use first_key::{MOST_LOCALES, find_first};
+pub use locale::{is_same, language};
 pub use locales::{Locales, Part};
 pub use provider::{FallbackProvider, Loaded};

@@ -21,8 +21,9 @@ fn folded(byte: u8) -> u8
     byte.to_ascii_lowercase()
 }
 
-// Whether two locales are the same but for ASCII case and `_` in place of `-`.
-pub(crate) fn is_same(one: &[u8], other: &[u8]) -> bool
+/// Returns whether two locales are the same but for ASCII case and `_` in place of `-`. It allocates
+/// nothing.
+pub fn is_same(one: &[u8], other: &[u8]) -> bool
     ensures { result ≡ is_same one.now other.now }
 {
     let mut ones = one;
@@ -40,8 +41,8 @@ pub(crate) fn is_same(one: &[u8], other: &[u8]) -> bool
     others.is_empty()
 }
 
-// The first subtag of a locale.
-pub(crate) fn language(locale: &[u8]) -> &[u8]
+/// Returns the first subtag of a locale: all of it, if it has no other. It allocates nothing.
+pub fn language(locale: &[u8]) -> &[u8]
     ensures { result.now ≡ language locale.now }
 {
     for index in 0..locale.len() {

@@ -15,6 +15,7 @@ use Rattle.serde_json.specs.View.{view}
 use Rattle.serde_json.specs.declared.Value.{Value}
 use Rattle.form_commands.specs.FormsAnswers.{IsDocumentIn, IsNoJson, IsStreamed, IsUntouched, rules_source, verdict_of_counts}
 use Rattle.form_commands.specs.Inner.FormsInputFaults.{report_fault}
+use Rattle.form_commands.specs.Inner.RulesOutline.{IsServedBy, Serves}
 use Rattle.form_commands.specs.Languages.{IsFoundFor}
 use Rattle.form_commands.specs.PrintedTexts.{PrintedText, verdict_of}
 use Rattle.form_commands.specs.declared.error.FormsError.{FormsError}
@@ -53,6 +54,19 @@ GivesDocument input (Err (Language error)) = ⊥
 GivesDocument input (Err Numbers) = ⊥
 GivesDocument input (Err Write) = ⊥
 GivesDocument input (Err Memory) = ⊤
+
+-- ---- A document that serves a locale
+
+-- an outline of the bytes' value, or the value; or that they have none
+abbrev pub GivesRulesIn : Part → List ℕ → List ℕ → Result Value FormsError → Type 0
+GivesRulesIn part locale bytes (Ok value) = IsServedBy part locale bytes (view value)
+GivesRulesIn part locale bytes (Err error) = GivesJsonValue bytes (Err error)
+
+-- the same of an input
+abbrev pub GivesRules : Part → List ℕ → List ℕ → Result Value FormsError → Type 0
+GivesRules part locale input (Ok value) =
+    (whole : Data) × IsDocumentIn input whole × Serves part locale (view value) whole
+GivesRules part locale input (Err error) = GivesDocument input (Err error)
 
 -- ---- What is written
 

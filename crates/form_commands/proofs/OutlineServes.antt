@@ -1,0 +1,124 @@
+-- An outline of a document of rules serves as the whole does, where the chain stays inside.
+use Rattle.std.proofs.Common.{◌≡◌, ℕ, zero, suc, ◌<◌, ◌≤◌, List, true, Option, Some, None, Bor, Result, Ok, Err, inl, inr, refl, sym, ap, ◌∙◌, arith}
+use Rattle.std.specs.Prelude.{is_some, option_and_then}
+use Rattle.plural_documents.specs.Outlines.{outline}
+use Rattle.plural_documents.specs.declared.Kept.TheVariants as kept
+use Rattle.plural_fallback.specs.Chain.{next_of}
+use Rattle.plural_fallback.specs.FirstKeys.{NoneBefore, locale_at}
+use Rattle.plural_fallback.specs.LocaleNames.{key_of, language}
+use Rattle.plural_fallback.specs.LocalesJson.{keys_under, parent_in, part_name}
+use Rattle.plural_fallback.specs.declared.error.FallbackError.{FallbackError}
+use Rattle.plural_fallback.specs.declared.error.FallbackError.TheVariants.{NotFound, LongChain, NotLoaded}
+use Rattle.plural_fallback.specs.declared.locales.Part.{Part}
+use Rattle.serde_json.specs.Data.{Data}
+use Rattle.form_commands.specs.Inner.RulesOutline.{Serves, StaysInside, is_inside, keeps}
+use Rattle.form_commands.specs.KeyNotes.{IsNote}
+use Rattle.form_commands.specs.Languages.{HasNoKey, IsFoundAt, IsFoundFor, IsKeyOf, key_after, most_locales, value_at}
+use Rattle.form_commands.specs.declared.error.LanguageError.{LanguageError}
+use Rattle.form_commands.specs.declared.language.Language.{Language}
+use Rattle.form_commands.specs.declared.outline.RulesChoice.TheVariants.{Document}
+use Rattle.form_commands.proofs.OutlineFound.{key_inside, same_key, same_next, same_value}
+
+module _ (part : Part) (locale : List ℕ) (of_language : Bor (List ℕ)) (whole document : Data)
+    (is : outline keeps (kept.Members (Document part of_language)) whole ≡ Some document) (same : of_language.now ≡ language locale)
+    (stays : StaysInside document part locale) where
+  -- the locale after some steps of the chain
+  abbrev at : Data → ℕ → Option (List ℕ)
+  at value n = locale_at (next_of (parent_in value)) locale n
+
+  abbrev key : Data → ℕ → Option (List ℕ)
+  key value n = key_after value part locale n
+
+  inside : (n : ℕ) (current : List ℕ) → n < most_locales → NoneBefore n (key document) → at document n ≡ Some current
+      → is_inside of_language.now current ≡ true
+  inside n current below none here = rw same (stays n below current none here)
+
+  -- ---- The chain
+
+  -- the same key, where the chains are at the same locale
+  key_agrees : (n : ℕ) → n < most_locales → NoneBefore n (key document) → at document n ≡ at whole n → key document n ≡ key whole n
+  key_agrees n below none alike = by (at document n) refl
+    where
+      by : (current : Option (List ℕ)) → at document n ≡ current → key document n ≡ key whole n
+      by None here = rw (here, ← alike, here) refl
+      by (Some current) here =
+          ap (option_and_then (key_of (keys_under (part_name part) document))) here
+          ∙ same_key part of_language whole document is current (inside n current below none here)
+          ∙ ap (option_and_then (key_of (keys_under (part_name part) whole))) (sym here ∙ alike)
+
+  next_agrees : (n : ℕ) → n < most_locales → NoneBefore n (key document) → at document n ≡ at whole n → at document (suc n) ≡ at whole (suc n)
+  unfolding locale_at
+  next_agrees n below none alike = by (at document n) refl
+    where
+      by : (current : Option (List ℕ)) → at document n ≡ current → at document (suc n) ≡ at whole (suc n)
+      by None here = ap (option_and_then (next_of (parent_in document))) here ∙ ap (option_and_then (next_of (parent_in whole))) (sym here ∙ alike)
+      by (Some current) here =
+          ap (option_and_then (next_of (parent_in document))) here
+          ∙ same_next part of_language whole document is current (inside n current below none here)
+          ∙ ap (option_and_then (next_of (parent_in whole))) (sym here ∙ alike)
+
+  none_sooner : (n : ℕ) → NoneBefore (suc n) (key document) → NoneBefore n (key document)
+  none_sooner n none m below = none m (omega arith)
+
+  at_agrees : (n : ℕ) → n ≤ most_locales → NoneBefore n (key document) → at document n ≡ at whole n
+  unfolding locale_at
+  at_agrees zero within none = refl
+  at_agrees (suc n) within none =
+      next_agrees n (omega arith) (none_sooner n none) (at_agrees n (omega arith) (none_sooner n none))
+
+  none_before : (n : ℕ) → n ≤ most_locales → NoneBefore n (key document) → NoneBefore n (key whole)
+  none_before n within none m below =
+      let earlier : NoneBefore m (key document) = λ k lower. none k (omega arith) in
+      sym (key_agrees m (omega arith) earlier (at_agrees m (omega arith) earlier)) ∙ none m below
+
+  -- ---- The first key
+
+  first_key : (found : List ℕ) → IsKeyOf document part locale found → IsKeyOf whole part locale found
+  first_key found first =
+      let n = first.0 in
+      let within : n ≤ most_locales = omega (arith, first.1) in (
+        n,
+        first.1,
+        sym (key_agrees n first.1 first.3 (at_agrees n within first.3)) ∙ first.2,
+        none_before n within first.3,
+      )
+
+  no_key : (reason : FallbackError) → HasNoKey document part locale reason → HasNoKey whole part locale reason
+  no_key NotFound none = (none.0, none.1, sym (at_agrees none.0 none.1 none.3) ∙ none.2, none_before none.0 none.1 none.3)
+  no_key LongChain none = (sym (ap is_some (at_agrees most_locales (omega arith) none.1)) ∙ none.0, none_before most_locales (omega arith) none.1)
+  no_key NotLoaded none = absurd none.2
+
+  key_is_inside : (found : List ℕ) → IsKeyOf document part locale found → is_inside of_language.now found ≡ true
+  key_is_inside found first = by (at document first.0) refl
+    where
+      by : (current : Option (List ℕ)) → at document first.0 ≡ current → is_inside of_language.now found ≡ true
+      by None here =
+          let never : None ≡ Some found = sym (ap (option_and_then (key_of (keys_under (part_name part) document))) here) ∙ first.2 in absurd (cc)
+      by (Some current) here =
+          key_inside of_language (keys_under (part_name part) document) current found (inside first.0 current first.1 first.3 here)
+          (sym (ap (option_and_then (key_of (keys_under (part_name part) document))) here) ∙ first.2)
+
+  found_at : (found : List ℕ) (answer : Result Language LanguageError) → value_at document part found ≡ value_at whole part found
+      → IsFoundAt document part found answer → IsFoundAt whole part found answer
+  found_at found (Ok language) alike at = (at.0, sym alike ∙ at.1, at.2)
+  found_at found (Err error) alike at = (at.0, rw (← alike) at.1, at.2)
+
+  found_for : (answer : Result Language LanguageError) → IsFoundFor document part locale answer → IsFoundFor whole part locale answer
+  found_for answer (inl found) =
+      inl (
+        found.0,
+        first_key found.0 found.1,
+        found_at found.0 answer (same_value part of_language whole document is found.0 (key_is_inside found.0 found.1)) found.2,
+      )
+  found_for answer (inr none) = inr (none.0, no_key none.0 none.1, none.2)
+
+  noted : (place note : List ℕ) → IsNote document place part locale note → IsNote whole place part locale note
+  noted place note (inl found) = inl (found.0, first_key found.0 found.1, found.2)
+  noted place note (inr none) = inr (none.0, no_key none.0 none.1, none.2)
+
+  pub outline_serves : Serves part locale document whole
+  outline_serves = (found_for, noted)
+
+-- a document serves as itself
+pub whole_serves : (part : Part) (locale : List ℕ) (document : Data) → Serves part locale document document
+whole_serves part locale document = (λ answer found. found, λ place note is. is)

@@ -1,0 +1,94 @@
+-- Whether a chain stays inside of its language, step by step.
+use Rattle.std.proofs.Common.{◌≡◌, ℕ, zero, suc, ◌+◌, ◌-◌, ◌<◌, ◌≤◌, List, Bool, true, false, Option, Some, None, true≢false, below_more, refl, sym, ap, subst, ◌∙◌, arith}
+use Rattle.std.proofs.Math.Nat.{add-suc, add-zero}
+use Rattle.std.proofs.lemmas.Grind.{common_steps}
+use Rattle.std.specs.Prelude.{nat_lt, option_and_then, unwrap_or}
+use Rattle.plural_fallback.specs.Chain.{next_of}
+use Rattle.plural_fallback.specs.FirstKeys.{NoneBefore, locale_at}
+use Rattle.plural_fallback.specs.LocaleNames.{key_of, language}
+use Rattle.plural_fallback.specs.LocalesJson.{keys_under, parent_in, part_name}
+use Rattle.plural_fallback.specs.declared.locales.Part.{Part}
+use Rattle.serde_json.specs.Data.{Data}
+use Rattle.form_commands.specs.Inner.RulesOutline.{IsInsideAt, StaysInside, is_inside}
+use Rattle.form_commands.specs.Languages.{key_after, most_locales}
+
+module _ (document : Data) (part : Part) (locale : List ℕ) where
+  abbrev pub at : ℕ → Option (List ℕ)
+  at n = locale_at (next_of (parent_in document)) locale n
+
+  abbrev pub key : ℕ → Option (List ℕ)
+  key n = key_after document part locale n
+
+  -- the chain is at a locale, and has been inside so far
+  abbrev pub IsAt : ℕ → List ℕ → Type 0
+  IsAt n current =
+      (n ≤ most_locales) × (at n ≡ Some current) × NoneBefore n key × ((m : ℕ) → m < n → IsInsideAt document part locale m)
+
+  pub at_first : IsAt 0 locale
+  unfolding locale_at
+  at_first = (omega arith, refl, λ m below. absurd (omega arith), λ m below. absurd (omega arith))
+
+  one_more : (n : ℕ) → n + 1 ≡ suc n
+  one_more n = omega arith
+
+  next_at : (n : ℕ) (current : List ℕ) → at n ≡ Some current → at (n + 1) ≡ next_of (parent_in document) current
+  unfolding locale_at
+  next_at n current here = ap at (one_more n) ∙ ap (option_and_then (next_of (parent_in document))) here
+
+  -- nothing comes after the end
+  none_after : (n m : ℕ) → at n ≡ None → at (n + m) ≡ None
+  unfolding locale_at
+  none_after n zero none = rw add-zero none
+  none_after n (suc m) none = rw add-suc (ap (option_and_then (next_of (parent_in document))) (none_after n m none))
+
+  module _ (n : ℕ) (current : List ℕ) (now : IsAt n current) (below : n < most_locales) where
+    -- the locale is inside
+    inside_next : is_inside (language locale) current ≡ true → (m : ℕ) → m < n + 1 → IsInsideAt document part locale m
+    inside_next inside = below_more (IsInsideAt document part locale) n now.3 here
+      where
+        here : IsInsideAt document part locale n
+        here other none is =
+            subst (λ (l : List ℕ). is_inside (language locale) l ≡ true) (ap (λ o. unwrap_or o current) (sym now.1 ∙ is)) inside
+
+    -- or not
+    pub leaves : is_inside (language locale) current ≡ false → ¬ StaysInside document part locale
+    leaves outside stays = true≢false (sym (stays n below current now.2 now.1) ∙ outside)
+
+    key_here : key n ≡ key_of (keys_under (part_name part) document) current
+    key_here = ap (option_and_then (key_of (keys_under (part_name part) document))) now.1
+
+    pub goes_on : (next : List ℕ) → is_inside (language locale) current ≡ true → key_of (keys_under (part_name part) document) current ≡ None
+        → next_of (parent_in document) current ≡ Some next → IsAt (n + 1) next
+    goes_on next inside none is = (
+      omega arith,
+      next_at n current now.1 ∙ is,
+      below_more (λ m. key m ≡ None) n now.2 (key_here ∙ none),
+      inside_next inside,
+    )
+
+    -- a key is found
+    pub finds : (found : List ℕ) → is_inside (language locale) current ≡ true → key_of (keys_under (part_name part) document) current ≡ Some found
+        → StaysInside document part locale
+    finds found inside is m within other none here = by (nat_lt m (n + 1)) refl
+      where
+        by : (b : Bool) → nat_lt m (n + 1) ≡ b → is_inside (language locale) other ≡ true
+        by true lower = inside_next inside m (grind (arith, common_steps, lower)) other none here
+        by false higher =
+            let after : n < m = grind (arith, common_steps, higher) in
+            let never : Some found ≡ None = sym (key_here ∙ is) ∙ none n after in absurd (cc)
+
+    -- or the chain ends
+    pub ends : is_inside (language locale) current ≡ true → next_of (parent_in document) current ≡ None → StaysInside document part locale
+    ends inside is m within other none here = by (nat_lt m (n + 1)) refl
+      where
+        by : (b : Bool) → nat_lt m (n + 1) ≡ b → is_inside (language locale) other ≡ true
+        by true lower = inside_next inside m (grind (arith, common_steps, lower)) other none here
+        by false higher =
+            let after : n + 1 ≤ m = grind (arith, common_steps, higher) in
+            let whole : (n + 1) + (m - (n + 1)) ≡ m = omega arith in
+            let over : at m ≡ None = rw whole at (none_after (n + 1) (m - (n + 1)) (next_at n current now.1 ∙ is)) in
+            let never : Some other ≡ None = sym here ∙ over in absurd (cc)
+
+  -- or all locales that are looked up are inside
+  pub stays_long : (n : ℕ) (current : List ℕ) → IsAt n current → ¬ (n < most_locales) → StaysInside document part locale
+  stays_long n current now all m within = now.3 m (omega (arith, now.0))

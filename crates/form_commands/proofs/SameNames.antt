@@ -1,0 +1,70 @@
+-- Locales that are the same have the same language.
+use Rattle.std.proofs.Common.{◌≡◌, ℕ, List, [], ◌∷◌, Bool, true, false, cond, map, nat_eq, true≢false, refl, sym, ap, ap₂, ◌∙◌, arith}
+use Rattle.std.specs.Prelude.{bytes_eq, codes, not, ◌==◌}
+use Rattle.std.specs.Cmp.Derive.Mapped.{pointwise-map}
+use Rattle.std.proofs.lemmas.Grind.{common_steps}
+use Rattle.std.proofs.lemmas.List.Sums.{take_while-cons}
+use Rattle.std.proofs.lemmas.Slice.Eq.{bytes_eq-Decides}
+use Rattle.plural_fallback.specs.LocaleNames.{folded, is_same, is_separator, language}
+use Rattle.form_commands.specs.Inner.RulesOutline.{is_inside}
+
+-- a locale in lower case, and `_` as `-`
+abbrev pub folds : List ℕ → List ℕ
+folds = map folded
+
+pub same_is : (one other : List ℕ) → is_same one other ≡ bytes_eq (folds one) (folds other)
+same_is one other = sym (pointwise-map folded nat_eq one other)
+
+pub same_folds : (one other : List ℕ) → is_same one other ≡ true → folds one ≡ folds other
+same_folds one other same = (bytes_eq-Decides (folds one) (folds other)).0 (sym (same_is one other) ∙ same)
+
+-- ---- Languages
+
+separator_folded : (byte : ℕ) → is_separator byte ≡ (folded byte == 45)
+separator_folded byte = grind (arith, common_steps)
+
+separators_agree : (one other : ℕ) → folded one ≡ folded other → is_separator one ≡ is_separator other
+separators_agree one other same = separator_folded one ∙ ap (λ byte. byte == 45) same ∙ sym (separator_folded other)
+
+language_cons : (byte : ℕ) (bytes : List ℕ) → language (byte ∷ bytes) ≡ cond (not (is_separator byte)) (byte ∷ language bytes) []
+language_cons byte bytes = take_while-cons (λ b. not (is_separator b)) byte bytes
+
+first_of : List ℕ → ℕ
+first_of [] = 0
+first_of (byte ∷ bytes) = byte
+
+rest_of : List ℕ → List ℕ
+rest_of [] = []
+rest_of (byte ∷ bytes) = bytes
+
+is_some_byte : List ℕ → Bool
+is_some_byte [] = false
+is_some_byte (byte ∷ bytes) = true
+
+pub same_languages : (one other : List ℕ) → folds one ≡ folds other → folds (language one) ≡ folds (language other)
+unfolding first_of rest_of
+same_languages [] [] same = refl
+same_languages [] (y ∷ ys) same = absurd (cc)
+same_languages (x ∷ xs) [] same = absurd (cc)
+same_languages (x ∷ xs) (y ∷ ys) same =
+    let bytes = ap first_of same in
+    ap folds (language_cons x xs) ∙ by (is_separator x) (is_separator y) (separators_agree x y bytes) bytes (same_languages xs ys (ap rest_of same))
+    ∙ sym (ap folds (language_cons y ys))
+  where
+    by : (p q : Bool) → p ≡ q → folded x ≡ folded y → folds (language xs) ≡ folds (language ys)
+        → folds (cond (not p) (x ∷ language xs) []) ≡ folds (cond (not q) (y ∷ language ys) [])
+    by true true e bytes rest = refl
+    by true false e bytes rest = absurd (true≢false e)
+    by false true e bytes rest = absurd (true≢false (sym e))
+    by false false e bytes rest = ap₂ (λ byte others. byte ∷ others) bytes rest
+
+-- ---- Locales inside of a language
+
+same_as : (one other third : List ℕ) → folds one ≡ folds other → is_same one third ≡ is_same other third
+same_as one other third same = same_is one third ∙ ap (λ f. bytes_eq f (folds third)) same ∙ sym (same_is other third)
+
+-- of two locales that are the same both are inside, or none
+pub inside_same : (of_language one other : List ℕ) → is_same one other ≡ true → is_inside of_language one ≡ is_inside of_language other
+inside_same of_language one other same =
+    let alike = same_languages one other (same_folds one other same) in
+    rw (same_as (language one) (language other) of_language alike, same_as (language one) (language other) (codes "root") alike) refl

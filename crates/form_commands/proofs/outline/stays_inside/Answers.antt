@@ -1,0 +1,56 @@
+use Rattle.std.proofs.Common.{◌≡◌, ℕ, ◌<◌, List, true, false, ap, arith, rules, sym, ◌∙◌}
+use Rattle.std.specs.Option.{option_copied}
+use Rattle.plural_fallback.specs.LocaleNames.{language}
+use Rattle.serde_json.specs.View.{view}
+use Rattle.form_commands.specs.Inner.RulesOutline.{is_inside}
+use Rattle.form_commands.specs.Languages.{most_locales}
+use Rattle.form_commands.proofs.OutlineStays.{at_first, ends, finds, goes_on, leaves, stays_long}
+use Rattle.form_commands.proofs.outline.stays_inside.Goals as goal
+
+pub loop-steps-init : goal.loop-steps-init
+loop-steps-init c = rw c.as_bytes-current.ensures.value (at_first (view c.args.document.now) c.args.part c.args.locale.now)
+
+pub returns-then-not-is_inside : goal.returns-then-not-is_inside
+returns-then-not-is_inside c =
+    let l = c.loop-steps in
+    let below : l.steps < most_locales = omega arith in
+    let of_language : c.language-of_language.result.now ≡ language c.args.locale.now =
+    c.language-of_language.ensures ∙ ap language c.as_bytes.ensures.value in
+    let outside : is_inside c.language-of_language.result.now l.current.now ≡ false = search rules in
+    leaves (view c.args.document.now) c.args.part c.args.locale.now l.steps l.current.now l.invariant below (rw of_language at outside)
+
+pub returns-in-Some : goal.returns-in-Some
+returns-in-Some c =
+    let l = c.loop-steps in
+    let below : l.steps < most_locales = omega arith in
+    let of_language : c.language-of_language.result.now ≡ language c.args.locale.now =
+    c.language-of_language.ensures ∙ ap language c.as_bytes.ensures.value in
+    let inside : is_inside c.language-of_language.result.now l.current.now ≡ true = search rules in
+    finds (view c.args.document.now) c.args.part c.args.locale.now l.steps l.current.now l.invariant below c.in-Some.field-0.now
+    (rw of_language at inside) (sym c.find_key.ensures ∙ ap (option_copied {T = List ℕ}) c.in-Some.is)
+
+pub returns-in_default-next_locale : goal.returns-in_default-next_locale
+returns-in_default-next_locale c =
+    let l = c.loop-steps in
+    let below : l.steps < most_locales = omega arith in
+    let of_language : c.language-of_language.result.now ≡ language c.args.locale.now =
+    c.language-of_language.ensures ∙ ap language c.as_bytes.ensures.value in
+    let inside : is_inside c.language-of_language.result.now l.current.now ≡ true = search rules in
+    ends (view c.args.document.now) c.args.part c.args.locale.now l.steps l.current.now l.invariant below (rw of_language at inside)
+    (sym c.next_locale.ensures ∙ ap (option_copied {T = List ℕ}) c.in_default-next_locale.is)
+
+pub loop-steps-preserved : goal.loop-steps-preserved
+loop-steps-preserved c =
+    let l = c.loop-steps in
+    let below : l.steps < most_locales = omega arith in
+    let of_language : c.language-of_language.result.now ≡ language c.args.locale.now =
+    c.language-of_language.ensures ∙ ap language c.as_bytes.ensures.value in
+    let inside : is_inside c.language-of_language.result.now l.current.now ≡ true = search rules in
+    goes_on (view c.args.document.now) c.args.part c.args.locale.now l.steps l.current.now l.invariant below c.in-Some-next_locale.next.now
+    (rw of_language at inside) (sym c.find_key.ensures ∙ ap (option_copied {T = List ℕ}) c.in_default.is)
+    (sym c.next_locale.ensures ∙ ap (option_copied {T = List ℕ}) c.in-Some-next_locale.is)
+
+pub returns : goal.returns
+returns c =
+    let l = c.loop-steps in
+    stays_long (view c.args.document.now) c.args.part c.args.locale.now l.steps l.current.now l.invariant (λ below. absurd (omega arith))

@@ -1,0 +1,55 @@
+-- Not a definition of the subject: what is kept of a document of rules for one locale, and when it
+-- serves as the whole does.
+use Rattle.std.specs.Prelude.{◌≡◌, ℕ, ◌<◌, List, codes, Bool, true, ◌||◌, bytes_eq, Some, Result, if◌then◌else◌}
+use Rattle.plural_documents.specs.Inputs.{json_of}
+use Rattle.plural_documents.specs.declared.Kept.{Kept}
+use Rattle.plural_documents.specs.declared.Kept.TheVariants as kept
+use Rattle.plural_fallback.specs.Chain.{next_of}
+use Rattle.plural_fallback.specs.FirstKeys.{NoneBefore, locale_at}
+use Rattle.plural_fallback.specs.LocaleNames.{is_same, language}
+use Rattle.plural_fallback.specs.LocalesJson.{parent_in, part_name}
+use Rattle.plural_fallback.specs.declared.locales.Part.{Part}
+use Rattle.serde_json.specs.Data.{Data}
+use Rattle.form_commands.specs.KeyNotes.{IsNote}
+use Rattle.form_commands.specs.Languages.{IsFoundFor, key_after, most_locales}
+use Rattle.form_commands.specs.declared.error.LanguageError.{LanguageError}
+use Rattle.form_commands.specs.declared.language.Language.{Language}
+use Rattle.form_commands.specs.declared.outline.RulesChoice.{RulesChoice}
+use Rattle.form_commands.specs.declared.outline.RulesChoice.TheVariants.{Document, Keys}
+
+-- ---- What is kept
+
+-- a locale is of the language, or of `root`
+abbrev pub is_inside : List ℕ → List ℕ → Bool
+is_inside of_language locale = is_same (language locale) of_language || is_same (language locale) (codes "root")
+
+-- a key of a document is that of the part or of the parents
+abbrev pub is_part : Part → List ℕ → Bool
+is_part part key = bytes_eq key (part_name part) || bytes_eq key (codes "parents")
+
+abbrev pub keeps : RulesChoice → List ℕ → Kept RulesChoice
+keeps (Document part of_language) key = if is_part part key then kept.Members (Keys of_language) else kept.Nothing
+keeps (Keys of_language) key = if is_inside of_language.now key then kept.Whole else kept.Nothing
+
+-- ---- When it serves
+
+-- the locale after some steps of the chain, none of which has a key, is of the language of the first
+-- one or of `root`
+abbrev pub IsInsideAt : Data → Part → List ℕ → ℕ → Type 0
+IsInsideAt document part locale n =
+    (current : List ℕ) → NoneBefore n (key_after document part locale)
+    → locale_at (next_of (parent_in document)) locale n ≡ Some current → is_inside (language locale) current ≡ true
+
+-- so are all, up to the first one that has a key
+abbrev pub StaysInside : Data → Part → List ℕ → Type 0
+StaysInside document part locale = (n : ℕ) → n < most_locales → IsInsideAt document part locale n
+
+-- what is found for the locale is found in the whole
+abbrev pub Serves : Part → List ℕ → Data → Data → Type 0
+Serves part locale document whole =
+    ((answer : Result Language LanguageError) → IsFoundFor document part locale answer → IsFoundFor whole part locale answer)
+    × ((place note : List ℕ) → IsNote document place part locale note → IsNote whole place part locale note)
+
+-- the same of the value that the bytes write
+abbrev pub IsServedBy : Part → List ℕ → List ℕ → Data → Type 0
+IsServedBy part locale bytes document = (whole : Data) × (json_of bytes ≡ Some whole) × Serves part locale document whole
