@@ -1,2 +1,3 @@
 mod LastSeparator
 mod ChainSteps
+mod ExactKeys

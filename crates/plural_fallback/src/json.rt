@@ -10,6 +10,7 @@ ghost use Rattle.serde_json.specs.View.{members_view};
 use crate::locale::is_same;
 use crate::locales::{Locales, Part};
 use serde_json::{Map, Value};
+use std::str;
 
 /// A document of rules and ranges: the keys of each part, and as parents the texts of its part
 /// `parents`.
@@ -42,16 +43,17 @@ fn key_in<'a>(members: &'a Map<String, Value>, locale: &[u8]) -> Option<&'a str>
     }
 }
 
-// The key that is the locale itself.
+// The key that is the locale itself. Each key is a text, so a locale that is none has no such key.
 fn exact_key<'a>(members: &'a Map<String, Value>, locale: &[u8]) -> Option<&'a str>
     ensures { option_copied result ≡ find (bytes_eq locale.now) (keys_of (members_view members.now.entries)) }
 {
-    for (key, _) in members.iter() {
-        if locale == key.as_str().as_bytes() {
-            return Some(key.as_str());
-        }
+    let Ok(name) = str::from_utf8(locale) else {
+        return None;
+    };
+    match members.get_key_value(name) {
+        Some((key, _)) => Some(key.as_str()),
+        None => None,
     }
-    None
 }
 
 // The first key that is the same locale.
