@@ -11,6 +11,18 @@ ghost use Rattle.message_format.specs.Inner.FormatPlain.{is_zero, IsNumeral};
 use fixed_decimal::laws::texts_write_one_number;
 use message_pattern::Selector;
 
+// Whether a number has a sign or an exponent of one or two digits: no look at its digits tells
+// whether it has the value of another.
+#[inline(always)]
+pub(crate) fn has_marks(text: &[u8]) -> bool {
+    match text {
+        [b'+' | b'-', ..] => true,
+        [.., mark, _] if *mark == b'c' => true,
+        [.., mark, _, _] if *mark == b'c' => true,
+        _ => false,
+    }
+}
+
 // Digits at the front, as many as there are, and the rest.
 #[inline(always)]
 fn split_digits(text: &[u8]) -> (&[u8], &[u8])

@@ -12,6 +12,7 @@ use crate::arguments::{Argument, Value, value_named};
 use crate::branches::branch_of_number;
 use crate::error::{ArgumentFault, FormatError};
 use crate::offsets::counted_less;
+use crate::plain::has_marks;
 use crate::step::{Shown, Step};
 use crate::walks::{branch_by_number, branch_by_text};
 use fixed_decimal::laws::texts_write_one_number;
@@ -104,7 +105,8 @@ fn counted<'s, 'p: 's>(
     ensures step { GivesStep (λ step. IsCounted rules.now name.now (branches_of depth (parts_view rest.now)) text.now step) result }
     ensures left { ChoosesWithin depth rest.now result }
 {
-    if text.len() > SHORT {
+    let written = text.as_bytes();
+    if written.len() > SHORT || has_marks(written) {
         return counted_by_digits(alloc, rules, name, depth, rest, text);
     }
     let category = match rules.category_for_text(alloc, text) {
@@ -119,8 +121,8 @@ fn counted<'s, 'p: 's>(
             return Err(FormatError::Memory);
         }
     };
-    match branch_by_number(text.as_bytes(), category.as_str().as_bytes(), depth, rest) {
-        Some(found) => Ok(Step::Chooses(Shown::Given(text.as_bytes()), found.branch, found.left)),
+    match branch_by_number(written, category.as_str().as_bytes(), depth, rest) {
+        Some(found) => Ok(Step::Chooses(Shown::Given(written), found.branch, found.left)),
         None => counted_by_digits(alloc, rules, name, depth, rest, text),
     }
 }

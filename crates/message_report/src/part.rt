@@ -29,8 +29,8 @@ pub(crate) fn type_name(rule_type: PluralRuleType) -> &'static str
     }
 }
 
-// Adds what is found in the messages of a type, given a locale's value and its language, if there is
-// one.
+// Adds what is found in the messages of a type, given a locale's value and its language, if there
+// is one.
 pub(crate) fn add_part(
     alloc: Global,
     language: Option<&Language>,

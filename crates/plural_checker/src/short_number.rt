@@ -1,5 +1,5 @@
-//! Checks short numbers by their operands: those of ranges without a text, and other samples without
-//! a copy of theirs.
+//! Checks short numbers by their operands: those of ranges without a text, and other samples
+//! without a copy of theirs.
 
 ghost use Rattle.std.specs.Prelude.{◌≡◌, ◌+◌, ◌-◌, ◌/◌, ◌^◌, ◌≤◌, ◌<◌, ℕ, List, IfSome, None, Some};
 ghost use Rattle.std.specs.Bool.{OnTrue};

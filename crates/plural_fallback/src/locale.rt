@@ -21,8 +21,8 @@ fn folded(byte: u8) -> u8
     byte.to_ascii_lowercase()
 }
 
-/// Returns whether two locales are the same but for ASCII case and `_` in place of `-`. It allocates
-/// nothing.
+/// Returns whether two locales are the same but for ASCII case and `_` in place of `-`. It
+/// allocates nothing.
 pub fn is_same(one: &[u8], other: &[u8]) -> bool
     ensures { result ≡ is_same one.now other.now }
 {

@@ -9,5 +9,5 @@ returns-in-Err-Syntax-clause-step c = inl (c.category_for_text.ensures.syntax.0 
 
 pub returns-in-Some-clause-step : goal.returns-in-Some-clause-step
 returns-in-Some-clause-step c =
-    counted_by_text c.args.rules.now c.args.name.now (branches_of c.args.depth (parts_view c.args.rest.now)) c.args.text.now c.as_bytes-in-Some.result.now c.as_bytes-2.result.now c.in-Ok.category (parts_view c.in-Some.found.branch.now)
-    c.in-Ok.ensures.chosen (c.as_bytes-2.ensures.value ∙ c.as_str.ensures) (λ x w. c.in-Some.ensures.branch x (subst (λ (t : List ℕ). WritesCompact t x) (sym c.as_bytes.ensures.value) w)) c.as_bytes-in-Some.ensures.value
+    counted_by_text c.args.rules.now c.args.name.now (branches_of c.args.depth (parts_view c.args.rest.now)) c.args.text.now c.as_bytes-written.result.now c.as_bytes.result.now c.in-Ok.category (parts_view c.in-Some.found.branch.now)
+    c.in-Ok.ensures.chosen (c.as_bytes.ensures.value ∙ c.as_str.ensures) (λ x w. c.in-Some.ensures.branch x (subst (λ (t : List ℕ). WritesCompact t x) (sym c.as_bytes-written.ensures.value) w)) c.as_bytes-written.ensures.value
