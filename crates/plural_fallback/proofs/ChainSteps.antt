@@ -1,5 +1,5 @@
 -- Steps along a chain.
-use Rattle.std.proofs.Common.{ℕ, suc, ◌+◌, ◌<◌, ◌≤◌, List, Option, Some, None, ◌≡◌, refl, sym, ap, subst, ◌∙◌, arith, below_more}
+use Rattle.std.proofs.Common.{ℕ, suc, ◌+◌, ◌<◌, List, Option, Some, None, ◌≡◌, refl, sym, ap, subst, ◌∙◌, arith, below_more}
 use Rattle.std.specs.Prelude.{option_and_then}
 use Rattle.std.specs.Option.{is_some}
 use Rattle.plural_fallback.specs.LocaleNames.{key_of}

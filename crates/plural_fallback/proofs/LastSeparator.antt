@@ -1,5 +1,5 @@
 -- What stands before the last separator.
-use Rattle.std.proofs.Common.{ℕ, ◌+◌, ◌-◌, ◌<◌, ◌≤◌, List, [], ◌∷◌, ◌++◌, length, Option, Some, None, ◌≡◌, true, false, refl, sym, ap, subst, ◌∙◌, arith}
+use Rattle.std.proofs.Common.{ℕ, ◌+◌, ◌-◌, ◌<◌, ◌≤◌, List, [], ◌∷◌, ◌++◌, length, Some, None, ◌≡◌, true, refl, sym, ap, subst, ◌∙◌, arith}
 use Rattle.std.specs.Prelude.{drop, take, slice_index}
 use Rattle.std.proofs.lemmas.List.{drop_more, take-append-drop}
 use Rattle.plural_fallback.specs.LocaleNames.{before_last, is_separator}

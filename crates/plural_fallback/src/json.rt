@@ -12,6 +12,10 @@ use crate::locales::{Locales, Part};
 use serde_json::{Map, Value};
 use std::str;
 
+// The most bytes of a locale that is looked up. Of a longer one the length tells it apart from most
+// keys, and a look-up would read all of it.
+const MOST_LOOKED_UP: usize = 64;
+
 /// A document of rules and ranges: the keys of each part, and as parents the texts of its part
 /// `parents`.
 impl Locales for Value {
@@ -43,8 +47,31 @@ fn key_in<'a>(members: &'a Map<String, Value>, locale: &[u8]) -> Option<&'a str>
     }
 }
 
-// The key that is the locale itself. Each key is a text, so a locale that is none has no such key.
+// The key that is the locale itself.
 fn exact_key<'a>(members: &'a Map<String, Value>, locale: &[u8]) -> Option<&'a str>
+    ensures { option_copied result ≡ find (bytes_eq locale.now) (keys_of (members_view members.now.entries)) }
+{
+    if locale.len() > MOST_LOOKED_UP {
+        walked_key(members, locale)
+    } else {
+        looked_up_key(members, locale)
+    }
+}
+
+// The same by a look at each key.
+fn walked_key<'a>(members: &'a Map<String, Value>, locale: &[u8]) -> Option<&'a str>
+    ensures { option_copied result ≡ find (bytes_eq locale.now) (keys_of (members_view members.now.entries)) }
+{
+    for (key, _) in members.iter() {
+        if locale == key.as_str().as_bytes() {
+            return Some(key.as_str());
+        }
+    }
+    None
+}
+
+// The same by a look-up. Each key is a text, so a locale that is none has no such key.
+fn looked_up_key<'a>(members: &'a Map<String, Value>, locale: &[u8]) -> Option<&'a str>
     ensures { option_copied result ≡ find (bytes_eq locale.now) (keys_of (members_view members.now.entries)) }
 {
     let Ok(name) = str::from_utf8(locale) else {

@@ -3,7 +3,7 @@ use Rattle.std.specs.List.{find}
 use Rattle.serde_json.specs.View.{members_view}
 use Rattle.plural_fallback.specs.LocalesJson.{keys_of}
 use Rattle.plural_fallback.proofs.ExactKeys.{looked_up, no_text}
-use Rattle.plural_fallback.proofs.json.exact_key.Goals as goal
+use Rattle.plural_fallback.proofs.json.looked_up_key.Goals as goal
 
 pub returns-in_default : goal.returns-in_default
 returns-in_default c = sym (no_text c.args.locale.now c.args.members.now.entries c.in_default.ensures.cases.0)
