@@ -1,7 +1,7 @@
 //! The outline of the JSON value that bytes write: what is kept of it, read in one pass.
 
 ghost use Rattle.std.specs.Prelude.{◌≡◌, ◌<◌, Err, IfOk, OnOk, length};
-ghost use Rattle.plural_documents.specs.Inner.OutlineSteps.{AreReadAs, IsPassed, IsReadAs, kept_below};
+ghost use Rattle.plural_documents.specs.Inner.OutlineSteps.{AreReadAs, IsKept, IsPassed, IsReadAs, kept_below};
 ghost use Rattle.plural_documents.specs.Outlines.{GivesOutline};
 ghost use Rattle.serde_json.specs.View.{members_view, view};
 
@@ -125,9 +125,9 @@ fn read_members<C: Choice>(
     ensures read { IfOk result (λ members. AreReadAs C.keeps choice depth reader.old (members_view members.entries) reader.new) }
     ensures shorter { OnOk result (length reader.new < length reader.old) }
 {
-    let mut found = Map::new(alloc);
-    while let Some(name) = reader.next_key()? {
-        let below = match kept_below(choice, name) {
+    let mut members = Map::new(alloc);
+    'members: while let Some(key) = reader.next_key()? {
+        let below = match kept_below(choice, key) {
             Kept::Nothing => {
                 pass(reader, depth)?;
                 continue;
@@ -135,11 +135,29 @@ fn read_members<C: Choice>(
             Kept::Whole => None,
             Kept::Members(inner) => Some(inner),
         };
-        let key = String::from_str(alloc, name)?;
-        let member = read(alloc, reader, below, depth)?;
-        drop(found.insert(key, member)?);
+        keep(alloc, reader, below, depth, key, &mut members)?;
     }
-    Ok(found)
+    Ok(members)
+}
+
+// Reads the value of a member, and puts what the choice keeps of it among the others.
+#[cycle(read)]
+fn keep<C: Choice>(
+    alloc: Global,
+    reader: &mut Reader<'_>,
+    choice: Option<C>,
+    depth: usize,
+    key: &str,
+    members: &mut Map<String, Value>,
+) -> Result<(), Stop>
+    ensures kept { OnOk result (IsKept C.keeps choice depth key.now reader.old reader.new
+        (members_view members.old.entries) (members_view members.new.entries)) }
+    ensures shorter { OnOk result (length reader.new < length reader.old) }
+{
+    let name = String::from_str(alloc, key)?;
+    let value = read(alloc, reader, choice, depth)?;
+    members.insert(name, value)?;
+    Ok(())
 }
 
 // Returns what is kept of the member with a key: without a choice all of it.

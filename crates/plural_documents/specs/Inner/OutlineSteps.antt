@@ -5,7 +5,7 @@ use Rattle.json.specs.Token.{Token}
 use Rattle.plural_documents.specs.Outlines.{outline, outline_members}
 use Rattle.plural_documents.specs.declared.outline.Kept.{Kept}
 use Rattle.plural_documents.specs.declared.outline.Kept.TheVariants as kept
-use Rattle.serde_json.specs.Data.{Data, Members, no_members}
+use Rattle.serde_json.specs.Data.{Data, Members, no_members, put}
 use Rattle.serde_json.specs.Read.{of_json, of_members}
 
 -- ---- With or without a choice
@@ -47,3 +47,8 @@ IsReadAs keeps choice depth old read new =
 abbrev pub AreReadAs : {C : Type 0} → (C → List ℕ → Kept C) → Option C → ℕ → List Token → Members → List Token → Type 0
 AreReadAs keeps choice depth old read new =
     (whole : Members) × AreMembers depth old whole new × (members_by keeps choice whole ≡ read)
+
+-- a value is read as its outline, which goes in among other members
+abbrev pub IsKept : {C : Type 0} → (C → List ℕ → Kept C) → Option C → ℕ → List ℕ → List Token → List Token → Members → Members → Type 0
+IsKept keeps choice depth key old new before after =
+    (value : Data) × IsReadAs keeps choice depth old value new × (after ≡ put key value before)

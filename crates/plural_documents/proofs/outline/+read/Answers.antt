@@ -43,19 +43,19 @@ read-returns-in_ok-read_members-in-Some-BeginObject-clause-read t g c =
       object_kept t.row.C.Denot t.C.Choice.keeps c.args.choice whole.0 ∙ ap (λ ms. Some (object ms)) whole.2,
     )
 
-pub read_members-loop-found-init : goal.read_members-loop-found-init
-read_members-loop-found-init t g c = (
+pub read_members-members-init : goal.read_members-members-init
+read_members-members-init t g c = (
   no_members,
   none_read c.args.depth c.args.reader.now,
   tt,
-  none_kept t.row.C.Denot t.C.Choice.keeps c.args.choice ∙ ap members_view (sym c.new-found.ensures.empty),
+  none_kept t.row.C.Denot t.C.Choice.keeps c.args.choice ∙ ap members_view (sym c.new-members.ensures.empty),
 )
 
-pub read_members-loop-found-preserved-in-Nothing : goal.read_members-loop-found-preserved-in-Nothing
-read_members-loop-found-preserved-in-Nothing t g c =
-    let l = c.loop-found in
+pub read_members-members-preserved-in-Nothing : goal.read_members-members-preserved-in-Nothing
+read_members-members-preserved-in-Nothing t g c =
+    let l = c.members in
     let done = l.invariant.0 in
-    let key = c.in-Some.name.now in
+    let key = c.in-Some.key.now in
     let read = c.in_ok-pass-in-Nothing.ensures in
     let named : read_key l.reader ≡ Some (Some key, c.next_key.new.self) = grind arith in
     let nothing : kept_below t.C.Choice.keeps c.args.choice key ≡ kept.Nothing =
@@ -64,41 +64,49 @@ read_members-loop-found-preserved-in-Nothing t g c =
       one_read c.args.depth c.args.reader.now l.reader c.next_key.new.self c.pass.new.reader done key read.passed.0 l.invariant.1 named
           read.passed.1 read.shorter,
       sorted_put key read.passed.0 done l.invariant.2,
-      other_put t.row.C.Denot t.C.Choice.keeps c.args.choice key read.passed.0 done (members_view l.found.entries) l.invariant.2 l.invariant.3
+      other_put t.row.C.Denot t.C.Choice.keeps c.args.choice key read.passed.0 done (members_view l.members.entries) l.invariant.2 l.invariant.3
           nothing,
     )
 
-pub read_members-loop-found-preserved : goal.read_members-loop-found-preserved
-read_members-loop-found-preserved t g c =
-    let l = c.loop-found in
+pub read_members-members-preserved : goal.read_members-members-preserved
+read_members-members-preserved t g c =
+    let l = c.members in
     let done = l.invariant.0 in
-    let key = c.in-Some.name.now in
-    let read = c.in_ok-member.ensures in
-    let found = members_view l.found.entries in
+    let key = c.in-Some.key.now in
+    let added = c.in_ok-keep.ensures in
+    let value = added.kept.0 in
+    let read = added.kept.1 in
+    let found = members_view l.members.entries in
     let named : read_key l.reader ≡ Some (Some key, c.next_key.new.self) = grind arith in
-    let copied : string_bytes c.in_ok-key.key ≡ key = search rules in
     let below : kept_below t.C.Choice.keeps c.args.choice key ≡ kept_by c.match-kept_below.below =
     elim c.match-kept_below.branch [
       | read_members-in-Whole w ↦ sym c.kept_below.ensures ∙ w.in-Whole.is ∙ ap kept_by (sym w.below-is)
       | read_members-in-Members w ↦ sym c.kept_below.ensures ∙ w.in-Members.is ∙ ap kept_by (sym w.below-is)
-    ] in
-    let inserted : members_view c.insert.new.self.entries ≡ put key (view c.in_ok-member.member) found =
-    ap members_view c.in_ok-insert.ensures.entries ∙ members_view-insert_entry l.found.entries c.in_ok-key.key c.in_ok-member.member
-    ∙ ap (λ name. put name (view c.in_ok-member.member) found) copied in (
-      put key read.read.0 done,
-      one_read c.args.depth c.args.reader.now l.reader c.next_key.new.self c.read.new.reader done key read.read.0 l.invariant.1 named
-          read.read.1 read.shorter,
-      sorted_put key read.read.0 done l.invariant.2,
-      kept_put t.row.C.Denot t.C.Choice.keeps c.args.choice c.match-kept_below.below key read.read.0 (view c.in_ok-member.member) done found
-          l.invariant.2 l.invariant.3 below read.read.2
-          ∙ sym inserted,
+    ] in (
+      put key read.0 done,
+      one_read c.args.depth c.args.reader.now l.reader c.next_key.new.self c.keep.new.reader done key read.0 l.invariant.1 named
+          read.1 added.shorter,
+      sorted_put key read.0 done l.invariant.2,
+      kept_put t.row.C.Denot t.C.Choice.keeps c.args.choice c.match-kept_below.below key read.0 value done found
+          l.invariant.2 l.invariant.3 below read.2
+          ∙ sym added.kept.2,
     )
 
 pub read_members-returns-clause-read : goal.read_members-returns-clause-read
 read_members-returns-clause-read t g c =
-    let l = c.loop-found in
+    let l = c.members in
     let ended : read_key l.reader ≡ Some (None, c.next_key.new.self) = grind arith in (
       l.invariant.0,
       all_read c.args.depth c.args.reader.now l.reader c.next_key.new.self l.invariant.0 l.invariant.1 ended,
       l.invariant.3,
+    )
+
+pub keep-returns-clause-kept : goal.keep-returns-clause-kept
+keep-returns-clause-kept t g c =
+    let found = members_view c.args.members.now.entries in
+    let copied : string_bytes c.in_ok-name.name ≡ c.args.key.now = search rules in (
+      view c.in_ok-value.value,
+      c.in_ok-value.ensures.read,
+      ap members_view c.in_ok-insert.ensures.entries ∙ members_view-insert_entry c.args.members.now.entries c.in_ok-name.name c.in_ok-value.value
+          ∙ ap (λ name. put name (view c.in_ok-value.value) found) copied,
     )

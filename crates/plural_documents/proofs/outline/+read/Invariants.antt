@@ -7,16 +7,19 @@ use Rattle.serde_json.specs.Data.{Members}
 use Rattle.serde_json.specs.View.{members_view}
 
 abbrev pub decreases-read : goal.decreases-read
-decreases-read g l = 2 * l.depth
+decreases-read g l = 3 * l.depth
 
 abbrev pub decreases-read_members : goal.decreases-read_members
-decreases-read_members g l = 2 * l.depth + 1
+decreases-read_members g l = 3 * l.depth + 2
+
+abbrev pub decreases-keep : goal.decreases-keep
+decreases-keep g l = 3 * l.depth + 1
 
 -- some members were read, and what is kept of them was found
-abbrev pub invariant-read_members-loop-found : goal.invariant-read_members-loop-found
-invariant-read_members-loop-found g l =
+abbrev pub invariant-read_members-members : goal.invariant-read_members-members
+invariant-read_members-members g l =
     (done : Members) × IsReadTo l.depth l.initial.reader done l.reader × AreSorted done
-    × (members_by g.C.Choice.keeps l.choice done ≡ members_view l.found.entries)
+    × (members_by g.C.Choice.keeps l.choice done ≡ members_view l.members.entries)
 
-abbrev pub decreases-read_members-loop-found : goal.decreases-read_members-loop-found
-decreases-read_members-loop-found g l = length l.reader
+abbrev pub decreases-read_members-members : goal.decreases-read_members-members
+decreases-read_members-members g l = length l.reader
