@@ -1,7 +1,6 @@
 //! The outline of a document of rules: what is kept of it serves one locale as the whole does.
 
-ghost use Rattle.std.specs.Prelude.{◌≡◌, IfOk, IfSome};
-ghost use Rattle.std.specs.Bool.{MatchBool};
+ghost use Rattle.std.specs.Prelude.{◌≡◌, IfOk, IfSome, IsTrue};
 ghost use Rattle.form_commands.specs.Inner.RulesOutline.{IsServedBy, StaysInside, is_inside, is_part};
 ghost use Rattle.serde_json.specs.View.{view};
 
@@ -9,6 +8,9 @@ use plural_documents::{Choice, Kept, json_outline};
 use plural_fallback::{Locales, MOST_LOCALES, Part, is_same, language, next_locale};
 use serde_json::Value;
 use std::alloc::{AllocError, Global};
+
+// The most bytes of a locale of a chain that is walked in an outline.
+const MOST_WALKED: usize = 256;
 
 // What is kept for the locales of a language.
 #[derive(Clone, Copy, Debug)]
@@ -51,7 +53,8 @@ fn is_part(part: Part, key: &str) -> bool
 fn is_inside(of_language: &[u8], locale: &[u8]) -> bool
     ensures { result ≡ is_inside of_language.now locale.now }
 {
-    is_same(language(locale), of_language) || is_same(language(locale), b"root")
+    let first = language(locale);
+    is_same(first, of_language) || is_same(first, b"root")
 }
 
 // Returns what is kept of a document for a locale, if that serves as the whole does. It isn't told
@@ -75,15 +78,16 @@ pub(crate) fn rules_outline(
     }
 }
 
-// Returns whether the chain of a locale stays in its language or `root`, up to its first key.
+// Returns whether the chain of a locale stays in its language or `root`, up to its first key. It
+// isn't told of a chain with a long locale, whose language is read at each step.
 fn stays_inside(document: &Value, part: Part, locale: &str) -> bool
-    ensures { MatchBool result (StaysInside (view document.now) part locale.now) (¬ StaysInside (view document.now) part locale.now) }
+    ensures { IsTrue result → StaysInside (view document.now) part locale.now }
 {
     let of_language = language(locale.as_bytes());
     let mut current = locale.as_bytes();
     let mut steps = 0;
     while steps < MOST_LOCALES {
-        if !is_inside(of_language, current) {
+        if current.len() > MOST_WALKED || !is_inside(of_language, current) {
             return false;
         }
         if let Some(_) = document.find_key(part, current) {

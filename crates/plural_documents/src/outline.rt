@@ -1,6 +1,6 @@
 //! The outline of the JSON value that bytes write: what is kept of it, read in one pass.
 
-ghost use Rattle.std.specs.Prelude.{◌≡◌, ◌<◌, Err, IfOk, OnOk, length};
+ghost use Rattle.std.specs.Prelude.{◌≡◌, ◌≢◌, ◌<◌, Err, IfOk, OnOk, length};
 ghost use Rattle.plural_documents.specs.Inner.OutlineSteps.{AreReadAs, IsKept, IsPassed, IsReadAs, kept_below};
 ghost use Rattle.plural_documents.specs.Outlines.{GivesOutline};
 ghost use Rattle.serde_json.specs.View.{members_view, view};
@@ -11,6 +11,9 @@ use std::alloc::{AllocError, AllocFailed, Global};
 
 // How deep arrays and objects nest at most, as in what `serde_json` reads.
 const MOST_NESTED: usize = 127;
+
+// Up to this many members of an object may be kept while fewer are passed.
+const FEW_KEPT: u64 = 64;
 
 /// What is kept of a value.
 #[derive(Clone, Copy, Debug)]
@@ -91,6 +94,36 @@ pub fn json_outline<C: Choice>(
     }
 }
 
+// How many members of an object were kept and passed by a choice.
+#[derive(Clone, Copy)]
+struct Balance {
+    kept: u64,
+    passed: u64,
+}
+
+impl Balance {
+    fn new() -> Balance {
+        Balance { kept: 0, passed: 0 }
+    }
+
+    // Counts a member that is passed.
+    fn count_passed(&mut self) {
+        self.passed = self.passed.saturating_add(1);
+    }
+
+    // Counts a member that is kept. An outline that keeps most of many gains nothing, and isn't
+    // told: the whole may still have to be read.
+    fn count_kept(&mut self) -> Result<(), Stop>
+        ensures { result ≢ Err Stop.Memory }
+    {
+        self.kept = self.kept.saturating_add(1);
+        if self.kept > FEW_KEPT && self.kept > self.passed {
+            return Err(Stop::NotTold);
+        }
+        Ok(())
+    }
+}
+
 // Reads a value: what the choice keeps of it, or all of it.
 #[cycle(read)]
 fn read<C: Choice>(
@@ -126,15 +159,20 @@ fn read_members<C: Choice>(
     ensures shorter { OnOk result (length reader.new < length reader.old) }
 {
     let mut members = Map::new(alloc);
+    let mut balance = Balance::new();
     'members: while let Some(key) = reader.next_key()? {
         let below = match kept_below(choice, key) {
             Kept::Nothing => {
+                balance.count_passed();
                 pass(reader, depth)?;
                 continue;
             }
             Kept::Whole => None,
             Kept::Members(inner) => Some(inner),
         };
+        if choice.is_some() {
+            balance.count_kept()?;
+        }
         keep(alloc, reader, below, depth, key, &mut members)?;
     }
     Ok(members)

@@ -89,3 +89,35 @@ fn objects_nest_as_deep_as_serde_json_reads_them(rt: HostRuntime) -> Result<(), 
     }
     Ok(())
 }
+
+// Members with the key `a`, after others.
+fn repeated(rt: &HostRuntime, kept: u32, passed: u32) -> Result<String, Fail> {
+    let mut text = String::from_str(rt.alloc(), "{")?;
+    for _ in 0..passed {
+        text.push_str("\"b\": null, ")?;
+    }
+    for _ in 1..kept {
+        text.push_str("\"a\": null, ")?;
+    }
+    text.push_str("\"a\": null}")?;
+    Ok(text)
+}
+
+#[test]
+fn outlines_that_keep_most_of_many_members_are_not_told(rt: HostRuntime) -> Result<(), Fail> {
+    // How many members are kept and passed, and whether an outline is told.
+    let rows = [
+        (64, 0, true),
+        (65, 0, false),
+        (65, 64, false),
+        (65, 65, true),
+        (200, 199, false),
+        (200, 200, true),
+    ];
+    for (kept, passed, is_told) in rows {
+        let text = repeated(&rt, kept, passed)?;
+        let outline = json_outline(rt.alloc(), Only("a"), text.as_str().as_bytes())?;
+        holds!(rt; outline.is_some() == is_told, at (kept, passed));
+    }
+    Ok(())
+}

@@ -1,4 +1,4 @@
-use Rattle.std.proofs.Common.{Ok, Some, ap, ◌∙◌}
+use Rattle.std.proofs.Common.{Ok, Some, ap, refl, ◌∙◌}
 use Rattle.plural_documents.specs.Outlines.{GivesOutline}
 use Rattle.plural_fallback.specs.LocaleNames.{language}
 use Rattle.serde_json.specs.View.{view}
@@ -14,5 +14,5 @@ returns-then-stays_inside c =
       found.0,
       found.1,
       outline_serves c.args.part c.args.locale.now c.language.result found.0 (view c.in-Some.outline) found.2
-          (c.language.ensures ∙ ap language c.as_bytes.ensures.value) c.if-stays_inside.ensures,
+          (c.language.ensures ∙ ap language c.as_bytes.ensures.value) (c.if-stays_inside.ensures refl),
     )

@@ -4,23 +4,14 @@ use Rattle.plural_fallback.specs.LocaleNames.{language}
 use Rattle.serde_json.specs.View.{view}
 use Rattle.form_commands.specs.Inner.RulesOutline.{is_inside}
 use Rattle.form_commands.specs.Languages.{most_locales}
-use Rattle.form_commands.proofs.OutlineStays.{at_first, ends, finds, goes_on, leaves, stays_long}
+use Rattle.form_commands.proofs.OutlineStays.{at_first, ends, finds, goes_on, stays_long}
 use Rattle.form_commands.proofs.outline.stays_inside.Goals as goal
 
 pub loop-steps-init : goal.loop-steps-init
 loop-steps-init c = rw c.as_bytes-current.ensures.value (at_first (view c.args.document.now) c.args.part c.args.locale.now)
 
-pub returns-then-not-is_inside : goal.returns-then-not-is_inside
-returns-then-not-is_inside c =
-    let l = c.loop-steps in
-    let below : l.steps < most_locales = omega arith in
-    let of_language : c.language-of_language.result.now ≡ language c.args.locale.now =
-    c.language-of_language.ensures ∙ ap language c.as_bytes.ensures.value in
-    let outside : is_inside c.language-of_language.result.now l.current.now ≡ false = search rules in
-    leaves (view c.args.document.now) c.args.part c.args.locale.now l.steps l.current.now l.invariant below (rw of_language at outside)
-
 pub returns-in-Some : goal.returns-in-Some
-returns-in-Some c =
+returns-in-Some c told =
     let l = c.loop-steps in
     let below : l.steps < most_locales = omega arith in
     let of_language : c.language-of_language.result.now ≡ language c.args.locale.now =
@@ -30,7 +21,7 @@ returns-in-Some c =
     (rw of_language at inside) (sym c.find_key.ensures ∙ ap (option_copied {T = List ℕ}) c.in-Some.is)
 
 pub returns-in_default-next_locale : goal.returns-in_default-next_locale
-returns-in_default-next_locale c =
+returns-in_default-next_locale c told =
     let l = c.loop-steps in
     let below : l.steps < most_locales = omega arith in
     let of_language : c.language-of_language.result.now ≡ language c.args.locale.now =
@@ -51,6 +42,6 @@ loop-steps-preserved c =
     (sym c.next_locale.ensures ∙ ap (option_copied {T = List ℕ}) c.in-Some-next_locale.is)
 
 pub returns : goal.returns
-returns c =
+returns c told =
     let l = c.loop-steps in
     stays_long (view c.args.document.now) c.args.part c.args.locale.now l.steps l.current.now l.invariant (λ below. absurd (omega arith))
