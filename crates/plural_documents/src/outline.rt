@@ -69,8 +69,9 @@ impl<T: Drop> From<AllocFailed<T>> for Stop {
 /// Returns the outline of the JSON value that the bytes write, or that it isn't told. It allocates;
 /// the only error is out of memory, which no bytes are.
 ///
-/// It is told of no bytes that aren't a JSON text, and of no value with an array or a number in it:
-/// ask [`json_value`](crate::json_value) then.
+/// It is told of no bytes that aren't a JSON text, of no value with an array or a number in it, and
+/// of no object of which the choice keeps more than 64 members, and more than it passes: ask
+/// [`json_value`](crate::json_value) then.
 pub fn json_outline<C: Choice>(
     alloc: Global,
     choice: C,
