@@ -1,5 +1,5 @@
 -- What is told of classes by masks.
-use Rattle.std.proofs.Common.{◌≡◌, ℕ, ◌^◌, ◌-◌, ◌<◌, Bool, true, false, refl, sym, ◌∙◌, ap, subst, bit_and, bit_or}
+use Rattle.std.proofs.Common.{◌≡◌, ℕ, ◌^◌, ◌<◌, Bool, true, false, refl, sym, ◌∙◌, ap, subst, bit_and, bit_or}
 use Rattle.std.proofs.lemmas.Nat.{or_lt}
 use Rattle.plural_base.specs.declared.category.PluralCategory.{PluralCategory}
 use Rattle.std.specs.Prelude.{◌&&◌, ◌||◌, not, if◌then◌else◌, Option, Some, None}
@@ -7,10 +7,13 @@ use Rattle.std.specs.Int.{w128, bit_not}
 use Rattle.plural_base.specs.declared.rules.told_masks.Told.{Told}
 use Rattle.plural_base.specs.Inner.Masks.{has_bit, IsToldAt}
 use Rattle.plural_base.specs.Inner.WholeNumbers.{IsTold}
-use Rattle.std.proofs.lemmas.Bool.{lt-ltb}
-use Rattle.plural_base.proofs.integers.Bits.{has-and, has-or, has-not, has-none, has-ones, not_both}
+use Rattle.plural_base.proofs.integers.Bits.{has-and, has-or, has-not, has-none}
 
 -- ---- Of two
+
+-- no bit of 0 is set
+pub none_set : (k : ℕ) → has_bit 0 k ≡ true → ⊥
+none_set k h = let none = has-none k in absurd (cc (h, none))
 
 -- what tests tell of two truths
 either_yes : (b c x y : Bool) → (x ≡ true → b ≡ true) → (y ≡ true → c ≡ true) → (x || y) ≡ true → (b || c) ≡ true
@@ -45,25 +48,18 @@ told_both k b c first second f g = record {
   no = λ h. both_no b c (has_bit first.no k) (has_bit second.no k) f.no g.no (sym (has-or first.no second.no k) ∙ h);
 }
 
--- what is told to be false of each class stays so with anything else
-pub told_false_with : (k : ℕ) (b c : Bool) (told : Told) → k < 128 → told.no ≡ 2 ^ 128 - 1 → IsToldAt k b told
-    → IsToldAt k (b && c) told
-told_false_with k b c told within all f =
-    let set : has_bit told.no k ≡ true =
-    ap (λ mask. has_bit mask k) all ∙ has-ones 128 k ∙ lt-ltb k 128 within in
-    let is : b ≡ false = f.no set in record {
-      yes = λ h. absurd (not_both b (f.yes h) is);
-      no = λ h. ap (λ t. t && c) is;
-    }
+-- what is told to be false stays so with anything else
+pub told_false_with : (k : ℕ) (b c : Bool) (told : Told) → IsToldAt k b told
+    → IsToldAt k (b && c) (record { yes = 0; no = told.no })
+told_false_with k b c told f = record {
+  yes = λ h. absurd (none_set k h);
+  no = λ h. ap (λ t. t && c) (f.no h);
+}
 
 -- ---- Of one
 
 pub told_not : (k : ℕ) (b : Bool) (told : Told) → IsToldAt k b told → IsToldAt k (not b) (record { yes = told.no; no = told.yes })
 told_not k b told f = record { yes = λ h. ap not (f.no h); no = λ h. ap not (f.yes h) }
-
--- no bit of 0 is set
-pub none_set : (k : ℕ) → has_bit 0 k ≡ true → ⊥
-none_set k h = let none = has-none k in absurd (cc (h, none))
 
 -- the bits of a mask and of its complement
 turned : (b : Bool) → not b ≡ true → b ≡ false

@@ -8,9 +8,9 @@ use Rattle.plural_runtime.specs.declared.kinds.AndOr.{AndOr}
 use Rattle.plural_runtime.specs.declared.kinds.AndOr.TheVariants.{And, Or}
 use Rattle.plural_runtime.specs.PackedTruth.{packed_truth}
 use Rattle.plural_base.specs.declared.category.PluralCategory.{PluralCategory}
-use Rattle.plural_base.specs.declared.category.PluralCategory.TheVariants as category
+use Rattle.plural_base.specs.declared.category.PluralCategory.TheVariants.{Zero}
 use Rattle.plural_base.specs.declared.rules.known.Known.{Known}
-use Rattle.plural_base.specs.declared.rules.known.Known.TheVariants.{Zero, RemainderBy, From, Leaves, Nothing}
+use Rattle.plural_base.specs.declared.rules.known.Known.TheVariants.{IsZero, RemainderBy, From, Leaves, Nothing}
 use Rattle.plural_reference.specs.Truth.{remainder}
 use Rattle.plural_base.specs.FiveRules.{FiveRules, first_category}
 
@@ -45,7 +45,7 @@ HasResidue bound residue o = (n : ℕ) × (o ≡ of_whole n) × IsInClass bound 
 
 -- a value at a number of a class, by the place of the class, is as is known of it
 abbrev pub Fits : Known → ℕ → ℕ → Type 0
-Fits Zero class value = value ≡ 0
+Fits IsZero class value = value ≡ 0
 Fits (RemainderBy modulus) class value = value ≡ remainder modulus class
 Fits (From least) class value = least ≤ value
 Fits Leaves class value = value % 100 ≡ class
@@ -67,7 +67,7 @@ group_after Or group truth = truth
 
 -- each entry is the category of the number of its place
 abbrev pub AreLowEntries : FiveRules → List PluralCategory → Type 0
-AreLowEntries rules low = (n : ℕ) → n < 128 → slice_index_or low n category.Zero ≡ category_of_whole rules n
+AreLowEntries rules low = (n : ℕ) → n < 128 → slice_index_or low n Zero ≡ category_of_whole rules n
 
 -- each entry, if it is a category, is that of all numbers from the bound on that leave the number
 -- of its place by 100

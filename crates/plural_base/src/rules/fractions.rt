@@ -45,6 +45,9 @@ pub(crate) struct FractionClasses;
 // The mask of class 1.
 const NOT_ZERO: u128 = 1 << 1;
 
+// The mask of both classes.
+pub(crate) const ALL_FRACTIONS: u128 = NOT_ZERO | 1;
+
 impl NumberClasses for FractionClasses {
     ghost use Rattle.plural_base.specs.Inner.FractionClasses.{HasFraction};
 

@@ -15,7 +15,7 @@ use plural_runtime::{RangeOrValue, Relation};
 #[derive(Clone, Copy)]
 pub(crate) enum Known {
     // It is 0.
-    Zero,
+    IsZero,
     // It is what the place of the class leaves by this modulus; by 0 it is the place.
     RemainderBy(u32),
     // It is this one or a greater one.
@@ -33,7 +33,9 @@ pub(crate) fn told_list(relation: &Relation<'_>, known: Known) -> Told
 {
     match known {
         Known::RemainderBy(modulus) => told_exactly(repeated(ranges_mask(relation), modulus)),
-        Known::Zero | Known::From(_) | Known::Leaves | Known::Nothing => told_each(relation, known),
+        Known::IsZero | Known::From(_) | Known::Leaves | Known::Nothing => {
+            told_each(relation, known)
+        }
     }
 }
 
@@ -112,7 +114,7 @@ fn told_between(start: u32, end: u32, known: Known) -> Told
         → IsToldAt class (range_holds value (start, end)) result }
 {
     match known {
-        Known::Zero => told_alike(start == 0),
+        Known::IsZero => told_alike(start == 0),
         Known::RemainderBy(modulus) => told_exactly(repeated(between(start, end), modulus)),
         Known::From(least) => refused_if(u64::from(end) < least),
         Known::Leaves => told_of_residues(start, end),

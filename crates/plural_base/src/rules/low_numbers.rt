@@ -35,12 +35,13 @@ fn known_value(operand: Operand, modulus: u32) -> Known
 {
     match operand {
         Operand::N | Operand::I => Known::RemainderBy(modulus),
-        Operand::V | Operand::W | Operand::F | Operand::T | Operand::C | Operand::E => Known::Zero,
+        Operand::V | Operand::W | Operand::F | Operand::T | Operand::C | Operand::E =>
+            Known::IsZero,
     }
 }
 
 // Up to this many relations and ranges rules have few. Those of a language of CLDR 41 have at most
-// 45.
+// 35.
 const FEW_RANGES: usize = 128;
 
 // Whether rules have few ranges.

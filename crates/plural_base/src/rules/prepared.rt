@@ -12,9 +12,9 @@ use crate::category::PluralCategory;
 use crate::rules::PluralRules;
 use crate::rules::as_plural_rules::AsPluralRules;
 use crate::rules::data::PluralRulesData;
-use crate::rules::fractions::{FractionClasses, Fractions, fractions_of};
+use crate::rules::fractions::{ALL_FRACTIONS, FractionClasses, Fractions, fractions_of};
 use crate::rules::low_numbers::{LowNumbers, has_few_ranges};
-use crate::rules::residue_class::{CYCLE, ResidueClasses, bound_of};
+use crate::rules::residue_class::{ALL_RESIDUES, CYCLE, ResidueClasses, bound_of};
 use crate::rules::table_bytes::{LOW, TABLE_LENGTH, table_bytes};
 use crate::rules::told::tell_categories;
 use plural_reference::PluralOperands;
@@ -190,7 +190,7 @@ fn cycle_categories(rules: &PluralRulesData<'_>, bound: u64) -> [Option<PluralCa
     ensures { AreTold (rules_of rules.now) bound result }
 {
     let mut cycle = [None; 100];
-    tell_categories(rules, ResidueClasses { bound }, u128::MAX, &mut cycle);
+    tell_categories(rules, ResidueClasses { bound }, ALL_RESIDUES, &mut cycle);
     cycle
 }
 
@@ -200,6 +200,6 @@ fn fraction_categories(rules: &PluralRulesData<'_>) -> [Option<PluralCategory>; 
     ensures { AreFractionCategories (rules_of rules.now) (slice_index_or result 0 None) (slice_index_or result 1 None) }
 {
     let mut fractions = [None; 2];
-    tell_categories(rules, FractionClasses, u128::MAX, &mut fractions);
+    tell_categories(rules, FractionClasses, ALL_FRACTIONS, &mut fractions);
     fractions
 }

@@ -15,6 +15,9 @@ use plural_runtime::{Operand, RangeOrValue, Relation, Rule};
 // The number by whose remainders the numbers are classed.
 pub(crate) const CYCLE: u64 = 100;
 
+// The mask of all classes: a mask has more places than these.
+pub(crate) const ALL_RESIDUES: u128 = (1 << CYCLE) - 1;
+
 // The whole numbers from a bound on, by what they leave by 100.
 #[derive(Clone, Copy)]
 pub(crate) struct ResidueClasses {
@@ -40,7 +43,8 @@ fn known_value(operand: Operand, modulus: u32, bound: u64) -> Known
 {
     match operand {
         Operand::N | Operand::I => known_remainder(modulus, bound),
-        Operand::V | Operand::W | Operand::F | Operand::T | Operand::C | Operand::E => Known::Zero,
+        Operand::V | Operand::W | Operand::F | Operand::T | Operand::C | Operand::E =>
+            Known::IsZero,
     }
 }
 

@@ -37,9 +37,9 @@ struct Walk {
 }
 
 // Writes the category that five rules give all numbers of a class, at the place of each class,
-// where it is told. A rule is read only if a class is open: if each rule before it is told to be
-// false of it. The categories are written from the last one on, so that the first true rule's is
-// kept.
+// where it is told. Those that are open at first are asked for. A rule is read for those alone of
+// them of which each rule before it is told to be false. The categories are written from the last
+// one on, so that the first true rule's is kept.
 pub(crate) fn tell_categories<C: NumberClasses>(
     rules: &PluralRulesData<'_>,
     classes: C,
@@ -77,14 +77,14 @@ fn told_if_open<C: NumberClasses>(rule: &Option<Rule<'_>>, classes: C, open: u12
             if open == 0 {
                 return untold();
             }
-            told_relations(rule, classes)
+            told_relations(rule, classes, open)
         }
         None => told_alike(false),
     }
 }
 
 // Whether a rule is true of all numbers of a class, of each class where it can be told.
-fn told_relations<C: NumberClasses>(rule: &Rule<'_>, classes: C) -> Told
+fn told_relations<C: NumberClasses>(rule: &Rule<'_>, classes: C, open: u128) -> Told
     ensures { (class : ℕ) (o : Operands) → class < 128 → C.has classes class o
         → IsToldAt class (packed_truth o rule.now) result }
 {
@@ -93,13 +93,13 @@ fn told_relations<C: NumberClasses>(rule: &Rule<'_>, classes: C) -> Told
         group: told_alike(true),
     };
     for item in rule.iter() {
-        walk = walk_on(walk, &item.as_relation(), classes);
+        walk = walk_on(walk, &item.as_relation(), classes, open);
     }
     either(walk.earlier, walk.group)
 }
 
 // The walk after a further relation.
-fn walk_on<C: NumberClasses>(walk: Walk, relation: &Relation<'_>, classes: C) -> Walk
+fn walk_on<C: NumberClasses>(walk: Walk, relation: &Relation<'_>, classes: C, open: u128) -> Walk
     ensures earlier { (class : ℕ) (b c : Bool) → IsToldAt class b walk.earlier → IsToldAt class c walk.group
         → IsToldAt class (earlier_after (lent_relation relation.now).and_or b c) result.earlier }
     ensures group { (class : ℕ) (o : Operands) (c : Bool) → class < 128 → C.has classes class o
@@ -109,7 +109,7 @@ fn walk_on<C: NumberClasses>(walk: Walk, relation: &Relation<'_>, classes: C) ->
     match relation.and_or() {
         AndOr::And => Walk {
             earlier: walk.earlier,
-            group: and_relation(walk.group, relation, classes),
+            group: and_relation(walk.group, relation, classes, open),
         },
         AndOr::Or => Walk {
             earlier: either(walk.earlier, walk.group),
@@ -119,13 +119,21 @@ fn walk_on<C: NumberClasses>(walk: Walk, relation: &Relation<'_>, classes: C) ->
 }
 
 // Whether a group is true with a further relation. The relation of a group that is told to be false
-// of each class isn't read.
-fn and_relation<C: NumberClasses>(group: Told, relation: &Relation<'_>, classes: C) -> Told
+// of each open class isn't read, and it isn't told of any class that both are true.
+fn and_relation<C: NumberClasses>(
+    group: Told,
+    relation: &Relation<'_>,
+    classes: C,
+    open: u128,
+) -> Told
     ensures { (class : ℕ) (o : Operands) (b : Bool) → class < 128 → C.has classes class o → IsToldAt class b group
         → IsToldAt class (b && is_true_at o (lent_relation relation.now)) result }
 {
-    if group.no == u128::MAX {
-        return group;
+    if open & !group.no == 0 {
+        return Told {
+            yes: 0,
+            no: group.no,
+        };
     }
     both(group, classes.told_relation(relation))
 }

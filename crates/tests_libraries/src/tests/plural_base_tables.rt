@@ -183,3 +183,48 @@ fn tables_of_languages_are_those_of_the_first_code(rt: HostRuntime) -> Result<()
     holds!(rt; (seen.sets, seen.told, seen.asked) == (4, 398, 2));
     Ok(())
 }
+
+// Rules that tell of most remainders, so that a later rule is read of the others alone: of none, of
+// 99, and of 98 and 99.
+const CLOSED: [Five<Option<&str>>; 4] = [
+    Five {
+        zero: Some("n % 100 = 0..99"),
+        one: Some("n % 10 = 1,1,1"),
+        two: None,
+        few: Some("n % 1000 = 7"),
+        many: None,
+    },
+    Five {
+        zero: Some("n % 100 = 0..98"),
+        one: Some("n % 100 = 5 and n % 10 = 5,5,5"),
+        two: Some("n % 100 = 5 and n % 1000 = 5"),
+        few: None,
+        many: None,
+    },
+    Five {
+        zero: Some("n % 100 = 0..98"),
+        one: Some("n % 100 = 5 and n % 1000 = 5 or n % 10 = 9 and n % 20 = 19"),
+        two: None,
+        few: None,
+        many: Some("n % 1000 = 99"),
+    },
+    Five {
+        zero: Some("n % 100 = 0..97"),
+        one: None,
+        two: Some("n % 100 = 98 and n % 1000 = 98 and n % 10 = 8"),
+        few: Some("n % 100 = 98 and n % 10 = 8"),
+        many: Some("n % 100 = 99 and n % 10 = 9"),
+    },
+];
+
+// Of the remainder 98 alone it isn't told in the last of them.
+#[test]
+fn tables_of_closed_remainders_are_those_of_the_first_code(rt: HostRuntime) -> Result<(), Fail> {
+    let mut seen = Seen::default();
+    for texts in CLOSED {
+        let rules = PluralRulesData::from_five(rt.alloc(), &texts)?;
+        compare(&rt, &rules, seen.sets, &mut seen);
+    }
+    holds!(rt; (seen.sets, seen.told, seen.asked) == (4, 399, 1));
+    Ok(())
+}

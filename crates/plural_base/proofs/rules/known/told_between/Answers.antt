@@ -12,9 +12,9 @@ use Rattle.plural_base.proofs.rules.known.told_between.Goals as goal
 is_below : (a b : ℕ) → IsTrue (nat_lt a b) → a < b
 is_below a b h = grind (arith, nat_tests)
 
-pub returns-in-Zero : goal.returns-in-Zero
-returns-in-Zero c = λ k value h fits.
-    let zero : value ≡ 0 = subst (λ known. Fits known k value) c.in-Zero.is fits in
+pub returns-in-IsZero : goal.returns-in-IsZero
+returns-in-IsZero c = λ k value h fits.
+    let zero : value ≡ 0 = subst (λ known. Fits known k value) c.in-IsZero.is fits in
     let P : Bool → Type 0 = λ b. IsToldAt k b c.told_alike.result in
     subst P (sym (holds_zero c.args.start c.args.end) ∙ ap (λ n. range_holds n (c.args.start, c.args.end)) (sym zero))
     (c.told_alike.ensures k)
