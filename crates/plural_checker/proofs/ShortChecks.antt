@@ -1,7 +1,6 @@
 -- Short numbers are checked by their operands.
-use Rattle.std.proofs.Common.{◌≡◌, ℕ, ◌+◌, ◌≤◌, List, ◌++◌, Bool, true, false, Option, Some, None, Ok, inl, inr, refl, sym, ◌∙◌, ap, subst, length, arith, length-append, codes}
+use Rattle.std.proofs.Common.{◌≡◌, ◌≢◌, ℕ, ◌+◌, ◌≤◌, List, ◌++◌, Option, Some, None, Ok, inl, inr, refl, sym, ◌∙◌, ap, subst, length, arith, length-append, codes}
 use Rattle.std.proofs.lemmas.List.{length-map}
-use Rattle.std.specs.Bool.{OnTrue}
 use Rattle.std.specs.Prelude.{IfSome}
 use Rattle.icu_plurals.specs.declared.provider.rules.reference.ast.DecimalValue.{DecimalValue}
 use Rattle.icu_plurals.specs.declared.provider.rules.reference.ast.SampleRange.{SampleRange}
@@ -9,7 +8,7 @@ use Rattle.icu_plurals.specs.Digits.{text_of}
 use Rattle.icu_plurals.specs.declared.Sign.{Sign}
 use Rattle.icu_plurals.specs.declared.Sign.TheVariants as sign
 use Rattle.icu_plurals.specs.declared.PluralCategory.{PluralCategory}
-use Rattle.icu_plurals.specs.DecimalChoice.{IsKeptChoice}
+use Rattle.icu_plurals.specs.DecimalChoice.{HasCategory, IsKeptChoice}
 use Rattle.icu_plurals.specs.Exactness.{IsBoundedAt}
 use Rattle.icu_plurals.specs.FiveRules.{FiveRules, first_category, moduli_of}
 use Rattle.icu_plurals.specs.Operands.{Operands, AreKept}
@@ -20,20 +19,38 @@ use Rattle.icu_plurals.specs.Written.{CompactNumber, StandsAs, WritesCompact, si
 use Rattle.plural_base.specs.ChoiceLaws.{KeptChoiceIsExact}
 use Rattle.plural_checker.specs.Inner.ShortNumbers.{WritesShortNumber}
 use Rattle.plural_checker.specs.NumberChecks.{IsCheckedRange, IsCheckedText}
-use Rattle.plural_checker.specs.SampleNumbers.{AreNumbersFrom, text_with_c}
+use Rattle.plural_checker.specs.SampleNumbers.{AreNumbersFrom, AreNumbersOfRange, text_with_c}
+use Rattle.plural_checker.specs.declared.fault.NumberFault.{NumberFault}
+use Rattle.plural_checker.specs.declared.fault.NumberFault.TheVariants.{Category}
+use Rattle.plural_checker.specs.declared.fault.SampleFault.TheVariants.{Number}
 use Rattle.plural_checker.specs.declared.sample_range.SampleNumbers.TheVariants.{Single}
 
--- The number is within the bound, so that the category of its operands is its own.
+-- The number is within the bound, and the category of its operands is its own.
+has_choice : KeptChoiceIsExact → (rules : FiveRules) (chosen : PluralCategory) (o : Operands)
+    → chosen ≡ first_category (packed_truth o) rules
+    → (text : List ℕ) (short : WritesShortNumber text o) → IsBounded rules short.number × HasCategory rules short.number chosen
+has_choice exact rules chosen o e text short =
+    let x : CompactNumber = short.number in
+    let digits : Places = x.significand.absolute in
+    let kept : IsKeptChoice rules digits x.exponent chosen = (o, short.kept, e) in
+    let bounded : IsBounded rules x = subst (λ (e : ℕ). IsBoundedAt (shift_right e digits) (moduli_of rules)) (sym short.no_exponent)
+    (record { fraction = short.fraction; whole = inl short.whole }) in
+    (bounded, (kept, exact rules digits x.exponent chosen short.written kept))
+
+-- So it is right where it is listed under that category,
 pub right_by : KeptChoiceIsExact → (rules : FiveRules) (category : PluralCategory) (o : Operands)
     → category ≡ first_category (packed_truth o) rules
     → (text : List ℕ) → WritesShortNumber text o → IsCheckedText (Some rules) category text None
 right_by exact rules category o chosen text short =
-    let x : CompactNumber = short.number in
-    let digits : Places = x.significand.absolute in
-    let kept : IsKeptChoice rules digits x.exponent category = (o, short.kept, chosen) in
-    let bounded : IsBounded rules x = subst (λ (e : ℕ). IsBoundedAt (shift_right e digits) (moduli_of rules)) (sym short.no_exponent)
-    (record { fraction = short.fraction; whole = inl short.whole }) in
-    inl (x, short.given, (bounded, (kept, exact rules digits x.exponent category short.written kept)))
+    inl (short.number, short.given, has_choice exact rules category o chosen text short)
+
+-- and wrong under another.
+pub wrong_by : KeptChoiceIsExact → (rules : FiveRules) (category chosen : PluralCategory) (o : Operands)
+    → chosen ≡ first_category (packed_truth o) rules → chosen ≢ category
+    → (text : List ℕ) → WritesShortNumber text o → IsCheckedText (Some rules) category text (Some (Category chosen))
+wrong_by exact rules category chosen o e other text short =
+    let has = has_choice exact rules chosen o e text short in
+    inl (short.number, short.given, (has.0, has.1, other))
 
 -- Without rules no number is wrong.
 pub right_without : (category : PluralCategory) (o : Operands) (text : List ℕ) → WritesShortNumber text o
@@ -100,14 +117,24 @@ short_texts text o (Some kept) few writes same =
     subst (λ (p : Operands). WritesShortNumber text p) (sym same.0) (short_text text o few same.1 writes)
 
 -- A sample that isn't a range has its own text alone.
-pub single_right : (rules : Option FiveRules) (category : PluralCategory) (range : SampleRange) (right : Bool)
-    → range.upper_val ≡ None → OnTrue right (IsCheckedText rules category (text_with_c range.lower_val) None)
-    → OnTrue right (IsCheckedRange rules category range None 1)
-single_right rules category range false alone checked = tt
-single_right rules category range true alone checked =
+single_text : (range : SampleRange) → range.upper_val ≡ None
+    → AreNumbersOfRange range (Ok (Single (text_with_c range.lower_val)))
+single_text range alone =
+    subst (λ (upper : Option DecimalValue). AreNumbersFrom range.lower_val upper (Ok (Single (text_with_c range.lower_val)))) (sym alone) refl
+
+pub single_right : (rules : Option FiveRules) (category : PluralCategory) (range : SampleRange)
+    → range.upper_val ≡ None → IsCheckedText rules category (text_with_c range.lower_val) None
+    → IsCheckedRange rules category range None 1
+single_right rules category range alone checked =
+    inr (Single (text_with_c range.lower_val), single_text range alone, (λ k below. checked), refl)
+
+pub single_wrong : (rules : Option FiveRules) (category : PluralCategory) (range : SampleRange) (fault : NumberFault)
+    → range.upper_val ≡ None → IsCheckedText rules category (text_with_c range.lower_val) (Some fault)
+    → IsCheckedRange rules category range (Some (Number (text_with_c range.lower_val) fault)) 1
+single_wrong rules category range fault alone checked =
     inr (
       Single (text_with_c range.lower_val),
-      subst (λ (upper : Option DecimalValue). AreNumbersFrom range.lower_val upper (Ok (Single (text_with_c range.lower_val)))) (sym alone) refl,
-      λ k below. checked,
+      single_text range alone,
+      record { place = 0; within = omega arith; before = λ k below. absurd (omega arith); text_is = refl; wrong = checked },
       refl,
     )

@@ -5,6 +5,7 @@ ghost use Rattle.icu_plurals.specs.FiveRules.{ArePaired, first_category, rules_o
 ghost use Rattle.icu_plurals.specs.PackedTruth.{packed_truth};
 ghost use Rattle.plural_checker.specs.Inner.OrderedRules.{AreLike};
 
+use crate::number_estimate::number_estimate;
 use crate::ordered_rules::{OrderedRule, first_true, ordered_rules};
 use crate::texts::LanguageTexts;
 use icu_plurals::provider::PluralRulesData;
@@ -18,8 +19,10 @@ use std::marker::Model;
 // most 25.
 const FEW_RANGES: usize = 64;
 
-// So are those of languages whose samples have at most this many numbers.
-const FEW_NUMBERS: usize = 128;
+// So are those of languages whose samples have at most about this many numbers: each is counted by
+// its comma, and those of a range by the digits of its ends. Putting the ranges in order takes as
+// long as comparing some twenty numbers with all of them, and most numbers are found among the first.
+const FEW_NUMBERS: u64 = 128;
 
 // Rules, and the same with their ranges in order if there are many. Contracts see the rules.
 #[derive(Debug, Drop)]
@@ -83,7 +86,7 @@ fn ordered_if_many(
     ensures { IfOk result (λ made.
         IfSome made (λ ordered. ArePaired AreLike ordered (rules_of rules.now))) }
 {
-    if range_count(rules) <= FEW_RANGES || texts.most_numbers() <= FEW_NUMBERS {
+    if range_count(rules) <= FEW_RANGES || number_estimate(texts) <= FEW_NUMBERS {
         return Ok(None);
     }
     Ok(Some(ordered_rules(alloc, rules)?))

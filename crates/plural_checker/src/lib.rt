@@ -9,6 +9,7 @@ mod coverage;
 mod fault;
 mod list_order;
 mod number_check;
+mod number_estimate;
 mod number_text;
 mod ordered_ranges;
 mod ordered_relation;

@@ -1,6 +1,7 @@
 //! Checks the numbers of samples against the category whose text lists them.
 
-ghost use Rattle.std.specs.Prelude.{◌≡◌, ◌<◌, IfOk};
+ghost use Rattle.std.specs.Prelude.{◌≡◌, ◌<◌, IfOk, IfSome, None, Some};
+ghost use Rattle.std.specs.Bool.{OnTrue};
 ghost use Rattle.std.specs.Option.{option_copied};
 ghost use Rattle.icu_plurals.specs.DecimalChoice.{HasCategory};
 ghost use Rattle.plural_checker.specs.NumberChecks.{AreCheckedNumbers, IsCheckedBy, IsCheckedNumber, IsCheckedText};
@@ -10,7 +11,7 @@ use crate::chooser::Chooser;
 use crate::fault::{NumberFault, SampleFault};
 use crate::reading::read_number;
 use crate::sample_range::SampleNumbers;
-use crate::short_number::is_right;
+use crate::short_number::fault_at;
 use icu_plurals::provider::rules::reference::ast::DecimalValue;
 use icu_plurals::{CompactDecimal, PluralCategory, PluralOperands};
 use plural_base::laws::kept_choice_is_exact;
@@ -26,15 +27,43 @@ pub(crate) fn check_numbers(
     ensures { IfOk result (λ fault. AreCheckedNumbers (option_copied rules.entry) category numbers.now fault) }
 {
     for index in 0..numbers.count() {
-        if is_right(rules, category, numbers, index) {
+        let known = fault_at(rules, category, numbers, index);
+        if is_known_right(&known) {
             continue;
         }
         let text = numbers.text(alloc, index)?;
-        if let Some(fault) = check_text(alloc, rules, category, &text)? {
+        if let Some(fault) = check_if_unknown(alloc, rules, category, &text, known)? {
             return Ok(Some(SampleFault::Number(text, fault)));
         }
     }
     Ok(None)
+}
+
+// Returns whether it is known that there is no fault.
+fn is_known_right(known: &Option<Option<NumberFault>>) -> bool
+    ensures { OnTrue result (known.now ≡ Some None) }
+{
+    match known {
+        Some(None) => true,
+        _ => false,
+    }
+}
+
+// Returns the fault of a text that is listed under a category, if it isn't known.
+fn check_if_unknown(
+    alloc: Global,
+    rules: Option<&Chooser<'_>>,
+    category: PluralCategory,
+    text: &DecimalValue,
+    known: Option<Option<NumberFault>>,
+) -> Result<Option<NumberFault>, AllocError>
+    requires { IfSome known (λ fault. IsCheckedText (option_copied rules) category text.now fault) }
+    ensures { IfOk result (λ fault. IsCheckedText (option_copied rules.entry) category text.now fault) }
+{
+    match known {
+        Some(fault) => Ok(fault),
+        None => check_text(alloc, rules, category, text),
+    }
 }
 
 // Returns the fault of a text that is listed under a category.

@@ -9,9 +9,10 @@ ghost use Rattle.plural_checker.specs.TextChecks.{IsFoundInList, IsFoundInRange,
 use crate::chooser::Chooser;
 use crate::fault::{Fault, SampleFault, SampleType, TextFault};
 use crate::number_check::check_numbers;
+use crate::reading::compact_text;
 use crate::report::Report;
 use crate::sample_range::SampleNumbers;
-use crate::short_number::is_sample_right;
+use crate::short_number::single_fault;
 use icu_plurals::PluralCategory;
 use icu_plurals::provider::rules::reference::ast::{SampleList, SampleRange, Samples};
 use std::alloc::{AllocError, Global};
@@ -100,9 +101,26 @@ fn check_range(
     ensures { IfOk result (λ checked.
         IsCheckedRange (option_copied rules.entry) category range.now checked.0 checked.1) }
 {
-    if is_sample_right(alloc, rules, category, range) {
-        return Ok((None, 1));
+    match single_fault(alloc, rules, category, range) {
+        Some(None) => Ok((None, 1)),
+        Some(Some(fault)) => {
+            let text = compact_text(alloc, &range.lower_val)?;
+            Ok((Some(SampleFault::Number(text, fault)), 1))
+        }
+        None => check_by_text(alloc, rules, category, range),
     }
+}
+
+// Returns the same by the numbers' texts.
+fn check_by_text(
+    alloc: Global,
+    rules: Option<&Chooser<'_>>,
+    category: PluralCategory,
+    range: &SampleRange,
+) -> Result<(Option<SampleFault>, u64), AllocError>
+    ensures { IfOk result (λ checked.
+        IsCheckedRange (option_copied rules.entry) category range.now checked.0 checked.1) }
+{
     match SampleNumbers::of(alloc, range)? {
         Ok(numbers) => {
             let fault = check_numbers(alloc, rules, category, &numbers)?;

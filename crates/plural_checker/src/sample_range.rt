@@ -11,7 +11,7 @@ use icu_plurals::provider::rules::reference::ast::{DecimalValue, SampleRange};
 use std::alloc::{AllocError, Global};
 
 // The most numbers that a range may have.
-const MOST_NUMBERS: u64 = 100;
+pub(crate) const MOST_NUMBERS: u64 = 100;
 
 /// The numbers of a range of samples: a first number and a count. Each number after the first is
 /// `1 / 10^places` more than the number before it.

@@ -2,14 +2,14 @@
 //! without a copy of theirs.
 
 ghost use Rattle.std.specs.Prelude.{◌≡◌, ◌+◌, ◌-◌, ◌/◌, ◌^◌, ◌≤◌, ◌<◌, ℕ, List, IfSome, None, Some};
-ghost use Rattle.std.specs.Bool.{OnTrue};
 ghost use Rattle.std.specs.Int.{◌∣◌};
 ghost use Rattle.std.specs.Option.{option_copied};
 ghost use Rattle.plural_checker.specs.Inner.ShortNumbers.{WritesShortNumber};
-ghost use Rattle.plural_checker.specs.NumberChecks.{IsCheckedRange, IsCheckedText};
+ghost use Rattle.plural_checker.specs.NumberChecks.{IsCheckedText};
 ghost use Rattle.plural_checker.specs.SampleNumbers.{number_at, number_text, text_with_c};
 
 use crate::chooser::Chooser;
+use crate::fault::NumberFault;
 use crate::reading::MOST_DIGITS;
 use crate::sample_range::{SampleNumbers, Steps};
 use icu_plurals::provider::rules::reference::ast::{DecimalValue, Operand, SampleRange};
@@ -23,37 +23,37 @@ const MOST_BYTES: usize = 16;
 // The least number of more than 18 digits.
 const LONG: u64 = 1_000_000_000_000_000_000;
 
-// Returns whether a sample that isn't a range is short, and right under a category. `false` says
-// nothing.
-pub(crate) fn is_sample_right(
+// Returns the fault under a category, or that there is none, of a sample that isn't a range and is
+// short; `None` for others.
+pub(crate) fn single_fault(
     alloc: Global,
     rules: Option<&Chooser<'_>>,
     category: PluralCategory,
     range: &SampleRange,
-) -> bool
-    ensures { OnTrue result
-        (IsCheckedRange (option_copied rules.entry) category range.now None 1) }
+) -> Option<Option<NumberFault>>
+    ensures { IfSome result (λ fault. (range.now.upper_val ≡ None)
+        × IsCheckedText (option_copied rules.entry) category (text_with_c range.now.lower_val) fault) }
 {
     match &range.upper_val {
-        Some(_) => false,
-        None => is_text_right(alloc, rules, category, &range.lower_val),
+        Some(_) => None,
+        None => sample_fault(alloc, rules, category, &range.lower_val),
     }
 }
 
-// Returns whether a sample's text is that of a short number, which is right under a category.
-// `false` says nothing.
-fn is_text_right(
+// Returns the fault under a category, or that there is none, of a sample's text that is short;
+// `None` for others.
+fn sample_fault(
     alloc: Global,
     rules: Option<&Chooser<'_>>,
     category: PluralCategory,
     sample: &DecimalValue,
-) -> bool
-    ensures { OnTrue result
-        (IsCheckedText (option_copied rules.entry) category (text_with_c sample.now) None) }
+) -> Option<Option<NumberFault>>
+    ensures { IfSome result (λ fault.
+        IsCheckedText (option_copied rules.entry) category (text_with_c sample.now) fault) }
 {
     match sample_operands(alloc, sample) {
-        Some(operands) => has_category(rules, category, operands),
-        None => false,
+        Some(operands) => Some(fault_of(rules, category, operands)),
+        None => None,
     }
 }
 
@@ -92,62 +92,72 @@ fn without_exponent(operands: PluralOperands) -> Option<PluralOperands>
     }
 }
 
-// Returns whether a number of a range is short, and right under a category. `false` says nothing.
-pub(crate) fn is_right(
+// Returns the fault under a category, or that there is none, of a number of a range that is short;
+// `None` for others.
+pub(crate) fn fault_at(
     rules: Option<&Chooser<'_>>,
     category: PluralCategory,
     numbers: &SampleNumbers,
     index: u64,
-) -> bool
-    ensures { OnTrue result
-        (IsCheckedText (option_copied rules.entry) category (number_at numbers.now index) None) }
+) -> Option<Option<NumberFault>>
+    ensures { IfSome result (λ fault.
+        IsCheckedText (option_copied rules.entry) category (number_at numbers.now index) fault) }
 {
     match numbers {
-        SampleNumbers::Single(_) => false,
-        SampleNumbers::Stepped(steps) => is_step_right(rules, category, steps, index),
+        SampleNumbers::Single(_) => None,
+        SampleNumbers::Stepped(steps) => step_fault(rules, category, steps, index),
     }
 }
 
-// Returns whether a number of steps is short, and right under a category. `false` says nothing.
-fn is_step_right(
+// Returns the fault under a category, or that there is none, of a number of steps that is short;
+// `None` for others.
+fn step_fault(
     rules: Option<&Chooser<'_>>,
     category: PluralCategory,
     steps: &Steps,
     index: u64,
-) -> bool
+) -> Option<Option<NumberFault>>
     ensures { let text = number_text steps.now.places (steps.now.first + index) steps.now.exponent in
-        OnTrue result (IsCheckedText (option_copied rules.entry) category text None) }
+        IfSome result (λ fault. IsCheckedText (option_copied rules.entry) category text fault) }
 {
     match operands_at(steps, index) {
-        Some(operands) => has_category(rules, category, operands),
-        None => false,
+        Some(operands) => Some(fault_of(rules, category, operands)),
+        None => None,
     }
 }
 
-// Returns whether every short number of these operands is right under a category: without rules no
+// Returns the fault of every short number of these operands under a category: without rules no
 // number is wrong.
-fn has_category(
+fn fault_of(
     rules: Option<&Chooser<'_>>,
     category: PluralCategory,
     operands: PluralOperands,
-) -> bool
-    ensures { OnTrue result ((text : List ℕ) → WritesShortNumber text operands
-        → IsCheckedText (option_copied rules.entry) category text None) }
+) -> Option<NumberFault>
+    ensures { (text : List ℕ) → WritesShortNumber text operands
+        → IsCheckedText (option_copied rules.entry) category text result }
 {
     match rules {
-        Some(rules) => has_category_by(rules, category, operands),
-        None => true,
+        Some(rules) => fault_by(rules, category, operands),
+        None => None,
     }
 }
 
 // Returns the same under these rules.
-fn has_category_by(rules: &Chooser<'_>, category: PluralCategory, operands: PluralOperands) -> bool
-    ensures { OnTrue result ((text : List ℕ) → WritesShortNumber text operands
-        → IsCheckedText (Some rules.now) category text None) }
+fn fault_by(
+    rules: &Chooser<'_>,
+    category: PluralCategory,
+    operands: PluralOperands,
+) -> Option<NumberFault>
+    ensures { (text : List ℕ) → WritesShortNumber text operands
+        → IsCheckedText (Some rules.now) category text result }
 {
     kept_choice_is_exact();
     let chosen = rules.category_for(operands);
-    if chosen == category { true } else { false }
+    if chosen == category {
+        None
+    } else {
+        Some(NumberFault::Category(chosen))
+    }
 }
 
 // Returns the operands of a number of steps, if it has at most 18 digits and no exponent.

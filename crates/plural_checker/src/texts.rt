@@ -49,40 +49,6 @@ impl<'a> LanguageTexts<'a> {
         });
         false
     }
-
-    // Returns a count that the numbers of the samples don't exceed, or the largest count.
-    pub(crate) fn most_numbers(&self) -> usize {
-        let mut count = most_numbers_if_there(self.other);
-        for_five!(self, |text| {
-            count = count.saturating_add(most_numbers_if_there(*text));
-        });
-        count
-    }
-}
-
-// Returns such a count for one text, if it is present.
-fn most_numbers_if_there(text: Option<&str>) -> usize {
-    let Some(text) = text else {
-        return 0;
-    };
-    match text.split_once('@') {
-        Some((_, samples)) => most_numbers(samples),
-        None => 0,
-    }
-}
-
-// Returns such a count for the samples behind the first `@`: each but the first follows a comma or
-// `@`, and one with `~` has at most 100 numbers.
-fn most_numbers(samples: &str) -> usize {
-    let mut count = 1_usize;
-    for byte in samples.as_bytes() {
-        count = count.saturating_add(match byte {
-            b'@' | b',' => 1,
-            b'~' => 99,
-            _ => 0,
-        });
-    }
-    count
 }
 
 // Returns whether a text is present and has more than the most bytes.

@@ -1,8 +1,0 @@
-use Rattle.std.proofs.Common.{◌≡◌, rules, sym, ◌∙◌}
-use Rattle.plural_checker.proofs.ShortChecks.{right_by}
-use Rattle.plural_checker.proofs.short_number.has_category_by.Goals as goal
-
-pub returns-then-eq : goal.returns-then-eq
-returns-then-eq c =
-    let same : c.category_for-chosen.result ≡ c.args.category = search rules in
-    right_by c.kept_choice_is_exact.ensures c.args.rules.now c.args.category c.args.operands (sym same ∙ c.category_for-chosen.ensures)
