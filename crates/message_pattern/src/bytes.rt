@@ -37,9 +37,12 @@ fn is_in(class: Class, byte: u8) -> bool
         Class::Number => is_digit(byte) || byte == b'-' || byte == b'.',
         Class::Digit => is_digit(byte),
         Class::Letter => is_letter(byte),
+        // Most bytes are told by the first two ranges, whatever the script.
         Class::Plain => {
             b'\'' < byte && byte < b'{'
-                || !(byte == b'\'' || byte == b'{' || byte == b'}' || byte == b'#')
+                || (byte < b'#' || b'}' < byte)
+                || b'#' < byte && byte < b'\''
+                || byte == b'|'
         }
         Class::Unquoted => !(byte == b'\''),
     }
