@@ -1,5 +1,5 @@
 -- Whether a text writes a number of the same value, and what it means that it doesn't.
-use Rattle.std.proofs.Common.{◌≡◌, ◌≤◌, ◌↔◌, ℕ, List, Bool, true, false, sym, subst, ap, inl, inr, arith}
+use Rattle.std.proofs.Common.{◌≡◌, ◌≤◌, ◌↔◌, ℕ, List, Bool, true, false, sym, subst, ap, inl, inr, arith, None}
 use Rattle.std.specs.Bool.{IsTrue}
 use Rattle.std.specs.Str.{IsUtf8}
 use Rattle.fixed_decimal.specs.Places.{IsWithinLimit}
@@ -10,9 +10,8 @@ use Rattle.plural_base.specs.FiveRules.{FiveRules}
 use Rattle.plural_base.specs.declared.category.PluralCategory.{PluralCategory}
 use Rattle.message_pattern.specs.PatternParts.{Part, Branching}
 use Rattle.message_format.specs.FormatNumbers.{HaveSameValue}
-use Rattle.message_format.specs.FormatBranches.{EqualsWritten, IsBranchOfNumber, IsCategory, branch_or_other}
+use Rattle.message_format.specs.FormatBranches.{EqualsWritten, IsBranchOfValue, IsBranchOfNumber, IsCategory, branch_or_other}
 use Rattle.message_format.specs.FormatSteps.{Chooses, IsCounted}
-use Rattle.message_format.specs.Inner.FormatWalks.{IsBranchOfWord}
 use Rattle.message_format.proofs.Ascii.{number_is_utf8}
 
 -- where it doesn't, the answer is false
@@ -50,20 +49,16 @@ pub counted_by : (rules : FiveRules) (name : List ℕ) (bs : List Branching) (te
 counted_by rules name bs text shown x parts w l e h same =
     inr (inr (x, w, within x l e, (parts, h, ap (λ (t : List ℕ). Chooses t parts) same)))
 
--- a number is counted by the category of its text
+-- a number that no branch has the value of is counted by the category of its text
 pub counted_by_text : (rules : FiveRules) (name : List ℕ) (bs : List Branching) (text shown word : List ℕ) (category : PluralCategory) (parts : List Part)
     → IsTextChoice rules text category → word ≡ name_of category
-    → ((x : CompactNumber) → WritesCompact text x → IsBranchOfWord x word bs parts) → shown ≡ text
+    → ((x : CompactNumber) → WritesCompact text x → IsBranchOfValue x bs None) → parts ≡ branch_or_other word bs → shown ≡ text
     → IsCounted rules name bs text (Chooses shown parts)
-counted_by_text rules name bs text shown word category parts choice named chosen same =
+counted_by_text rules name bs text shown word category parts choice named none chosen same =
     let x = choice.0 in
     let w = choice.1 in
     let both = choice.4 in
     let is : IsCategory rules x category = record { kept = both.0; exact = both.1 } in
     let branch : IsBranchOfNumber rules x x bs parts =
-    elim (chosen x w) [
-      | inl value ↦ inl value
-      | inr none ↦ inr (none.0, (category, is, subst (λ (t : List ℕ). parts ≡ branch_or_other t bs) named none.1))
-    ]
-    in
+    inr (none x w, (category, is, subst (λ (t : List ℕ). parts ≡ branch_or_other t bs) named chosen)) in
     counted_by rules name bs text shown x parts w choice.2 choice.3 branch same

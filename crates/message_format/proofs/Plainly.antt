@@ -1,21 +1,23 @@
 -- Numbers that are written plainly: digits, with a fraction or none.
-use Rattle.std.proofs.Common.{◌≡◌, ◌↔◌, ◌+◌, ◌-◌, ◌≤◌, ◌<◌, ◌&&◌, ℕ, zero, suc, ℤ, pos, negsuc, ◌-ℤ◌, Bool, true, false, List, [], ◌∷◌, ◌++◌, map, length, reverse, take, drop, get_or, refl, sym, ap, subst, ◌∙◌, inl, inr, arith}
+use Rattle.std.proofs.Common.{◌≡◌, ◌↔◌, ◌+◌, ◌-◌, ◌≤◌, ◌<◌, ◌&&◌, ℕ, zero, suc, ℤ, pos, negsuc, ◌-ℤ◌, Bool, true, false, List, [], ◌∷◌, ◌++◌, map, length, reverse, get_or, refl, sym, ap, subst, ◌∙◌, inl, inr, arith, Some}
 use Rattle.std.specs.Bool.{IsTrue, Decides, ◌==◌}
 use Rattle.std.specs.Char.{is_ascii_digit}
 use Rattle.std.specs.List.{list_all}
-use Rattle.std.specs.Str.{bytes_eq}
 use Rattle.std.proofs.lemmas.Bool.Decides.{nat_tests}
-use Rattle.std.proofs.lemmas.Slice.Eq.{bytes_eq-Decides}
 use Rattle.std.proofs.lemmas.Grind.{same_number_lists}
 use Rattle.std.proofs.lemmas.Int.{ints}
-use Rattle.std.proofs.lemmas.List.{append_assoc, append-nil, length-append, get_or-reverse, get_or_past, length-map, length-reverse, reverse-reverse, take_all}
+use Rattle.std.proofs.lemmas.List.{append_assoc, append-nil, length-append, get_or-reverse, get_or_past, length-map, length-reverse, reverse-reverse}
 use Rattle.fixed_decimal.specs.Digits.{AreDigits, text_of}
-use Rattle.fixed_decimal.specs.Places.{digit_at}
+use Rattle.fixed_decimal.specs.Places.{digit_at, IsWithinLimit}
 use Rattle.fixed_decimal.specs.Written.{CompactNumber, WritesCompact, IsCompactOverLimit, OneCompact}
 use Rattle.fixed_decimal.specs.declared.sign.Sign.TheVariants as sign
-use Rattle.message_format.specs.FormatBranches.{EqualsWritten}
+use Rattle.plural_base.specs.FiveRules.{FiveRules}
+use Rattle.message_pattern.specs.PatternParts.{Part, Branching}
+use Rattle.message_format.specs.FormatSteps.{Chooses, IsCounted}
+use Rattle.message_format.proofs.Equal.{counted_by}
+use Rattle.message_format.specs.FormatBranches.{EqualsWritten, IsBranchOfValue}
 use Rattle.message_format.specs.FormatNumbers.{digit_of, HaveSameValue}
-use Rattle.message_format.specs.Inner.FormatPlain.{is_zero, IsNumeral}
+use Rattle.message_format.specs.Inner.FormatPlain.{is_zero, IsNumeral, IsPlain}
 
 -- the digits that bytes write
 abbrev pub digits_in : List ℕ → List ℕ
@@ -208,37 +210,53 @@ nothing (b ∷ s) h = absurd (omega arith)
 only : (s front rest : List ℕ) → s ≡ front ++ rest → length rest < 1 → s ≡ front
 only s front rest e h = e ∙ (ap (λ (l : List ℕ). front ++ l) (nothing rest h) ∙ append-nil front)
 
-shorter : (s front rest : List ℕ) → s ≡ front ++ rest → length s ≤ 32767 → length front ≤ 32767
-shorter s front rest e h = omega (arith, ap (λ (l : List ℕ). length l) e, length-append front rest)
-
 is_written : (written v behind : List ℕ) → written ≡ v ++ behind → true ≡ (length behind == 0) → list_all is_ascii_digit v ≡ true → IsNumeral v
     → WritesCompact written (plainly v [])
 is_written written v behind e h d n =
     let none : length behind < 1 = grind (arith, nat_tests) in
     subst (λ (t : List ℕ). WritesCompact t (plainly v [])) (sym (only written v behind e none)) (writes_whole v d n.nonempty)
 
--- both are whole numbers
-pub at_whole : OneCompact → (text written w rest v behind : List ℕ) (b : Bool) → text ≡ w ++ rest → length rest < 1 → written ≡ v ++ behind → true ≡ (length behind == 0)
-    → list_all is_ascii_digit w ≡ true → list_all is_ascii_digit v ≡ true → IsNumeral w → IsNumeral v → length text ≤ 32767 → b ≡ bytes_eq w v
-    → (x : CompactNumber) → WritesCompact text x → IsTrue b ↔ EqualsWritten x written
-at_whole one text written w rest v behind b e none e' none' dw dv n m short same =
-    let p : WritesCompact text (plainly w []) = subst (λ (t : List ℕ). WritesCompact t (plainly w [])) (sym (only text w rest e none)) (writes_whole w dw n.nonempty) in
-    decided one text written w [] v b p (is_written written v behind e' none' dv m) dw refl dv n m (shorter text w rest e short)
-    (λ t. ((bytes_eq-Decides w v).0 (sym same ∙ t), refl), λ both. same ∙ (bytes_eq-Decides w v).1 both.0)
+-- such digits write the number
+writes_plain : (text w f : List ℕ) → IsPlain text w f → WritesCompact text (plainly w f)
+writes_plain text w f p =
+    elim p.form [
+      | inl whole ↦
+          subst (λ (g : List ℕ). WritesCompact text (plainly w g)) (sym whole.0)
+          (subst (λ (t : List ℕ). WritesCompact t (plainly w [])) (sym whole.1) (writes_whole w p.whole_digits p.numeral.nonempty))
+      | inr both ↦
+          subst (λ (t : List ℕ). WritesCompact t (plainly w f)) (sym both.1) (writes_both w f p.whole_digits p.numeral.nonempty p.fraction_digits both.0)
+    ]
 
--- the first has a fraction
-pub at_fraction : OneCompact → (text written w rest after f more v behind : List ℕ) (b : Bool) → text ≡ w ++ rest → rest ≡ 46 ∷ after → after ≡ f ++ more → true ≡ (length more == 0)
-    → 0 < length f → written ≡ v ++ behind → true ≡ (length behind == 0)
-    → list_all is_ascii_digit w ≡ true → list_all is_ascii_digit f ≡ true → list_all is_ascii_digit v ≡ true → IsNumeral w → IsNumeral v → length text ≤ 32767
+-- they are no more than the text's
+no_more : (text w f : List ℕ) → IsPlain text w f → (length w ≤ length text) × (length f ≤ length text)
+no_more text w f p =
+    elim p.form [
+      | inl whole ↦ (omega (arith, ap (λ (l : List ℕ). length l) whole.1), omega (arith, ap (λ (l : List ℕ). length l) whole.0))
+      | inr both ↦ (
+        omega (arith, ap (λ (l : List ℕ). length l) both.1, length-append w (46 ∷ f)),
+        omega (arith, ap (λ (l : List ℕ). length l) both.1, length-append w (46 ∷ f)),
+      )
+    ]
+
+-- the other is a whole number
+pub at_sight : OneCompact → (text written w f v behind : List ℕ) (b : Bool) → IsPlain text w f → length text ≤ 32767
+    → written ≡ v ++ behind → true ≡ (length behind == 0) → list_all is_ascii_digit v ≡ true → IsNumeral v
     → Decides b ((w ≡ v) × (list_all is_zero f ≡ true))
     → (x : CompactNumber) → WritesCompact text x → IsTrue b ↔ EqualsWritten x written
-at_fraction one text written w rest after f more v behind b e point e'' none'' some e' none' dw df dv n m short test =
-    let none : length more < 1 = grind (arith, nat_tests) in
-    let is : w ++ 46 ∷ f ≡ text = sym (e ∙ ap (λ (l : List ℕ). w ++ l) (point ∙ ap (λ (l : List ℕ). 46 ∷ l) (only after f more e'' none))) in
-    let p : WritesCompact text (plainly w f) = subst (λ (t : List ℕ). WritesCompact t (plainly w f)) is (writes_both w f dw n.nonempty df some) in
-    decided one text written w f v b p (is_written written v behind e' none' dv m) dw df dv n m (shorter text w rest e short) test
+at_sight one text written w f v behind b p short e none d n test =
+    let l = no_more text w f p in
+    decided one text written w f v b (writes_plain text w f p) (is_written written v behind e none d n) p.whole_digits p.fraction_digits d p.numeral n (omega (arith, l.0)) test
 
--- the byte at the front, and the rest
-pub led : (s : List ℕ) → 1 ≤ length s → get_or s 0 0 ≡ 46 → s ≡ 46 ∷ take (length s - 1) (drop 1 s)
-led [] h e = absurd (omega arith)
-led (b ∷ s) h e = ap (λ (n : ℕ). n ∷ s) e ∙ ap (λ (l : List ℕ). 46 ∷ l) (sym (take_all (length (b ∷ s) - 1) s (omega arith)))
+-- the number that they write is chosen for its value
+pub counted_plain : (rules : FiveRules) (name : List ℕ) (bs : List Branching) (text shown w f : List ℕ) (parts : List Part)
+    → IsPlain text w f → length text ≤ 32767 → ((x : CompactNumber) → WritesCompact text x → IsBranchOfValue x bs (Some parts)) → shown ≡ text
+    → IsCounted rules name bs text (Chooses shown parts)
+counted_plain rules name bs text shown w f parts p short chosen same =
+    let x = plainly w f in
+    let writes = writes_plain text w f p in
+    let l = no_more text w f p in
+    let limit : IsWithinLimit x.significand.absolute = record {
+      whole = omega (arith, l.0, length-map w (λ (b : ℕ). b - 48));
+      fraction = omega (arith, l.1, length-map f (λ (b : ℕ). b - 48));
+    } in
+    counted_by rules name bs text shown x parts writes limit (omega arith) (inl (chosen x writes)) same

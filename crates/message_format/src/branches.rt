@@ -4,6 +4,7 @@ ghost use Rattle.std.specs.Prelude.{◌≡◌, ◌≤◌, ◌↔◌, length, IsT
 ghost use Rattle.message_pattern.specs.PatternParts.{parts_view, selector_view, branches_of};
 ghost use Rattle.message_format.specs.FormatBranches.{behind_end, is_keyword, branch_of_keyword, branch_or_other, IsBranchOfValue, HasBranchOfValue, IsBranchOfNumber};
 ghost use Rattle.message_format.specs.Inner.FormatViews.{any_parts};
+ghost use Rattle.message_format.specs.Inner.FormatWalks.{PassedFor};
 
 use crate::numbers::{equals, span_of};
 use fixed_decimal::CompactDecimal;
@@ -125,7 +126,7 @@ pub fn has_branch_of_value(
 }
 
 // The branch for a number: the first of its value, else that of the category of the number less the
-// offset, else `other`.
+// offset, else `other`. The value is sought in the parts that are left: no branch before them has it.
 pub(crate) fn branch_of_number<'s, 'p>(
     alloc: Global,
     rules: &PluralRules<'_>,
@@ -133,11 +134,14 @@ pub(crate) fn branch_of_number<'s, 'p>(
     less: &CompactDecimal,
     depth: usize,
     parts: &'s [Part<'p>],
+    left: &'s [Part<'p>],
 ) -> Result<&'s [Part<'p>], AllocError>
+    requires passed { PassedFor number.now depth (parts_view parts.now) (parts_view left.now) }
+    requires fewer { length left.now ≤ length parts.now }
     ensures branch { IfOk result (λ x. IsBranchOfNumber rules.now number.now less.now (branches_of depth (parts_view parts.now)) (parts_view x.now)) }
     ensures shorter { IfOk result (λ x. length x.now ≤ length parts.now) }
 {
-    if let Some(branch) = branch_of_value(alloc, number, depth, parts)? {
+    if let Some(branch) = branch_of_value(alloc, number, depth, left)? {
         return Ok(branch);
     }
     let category = rules.category_for_compact(less);

@@ -51,7 +51,7 @@ fn counted_by<'s, 'p: 's>(
     let text = difference(alloc, number.significand(), offset)?;
     match number_of_text(alloc, &text) {
         Ok(less) => {
-            let branch = branch_of_number(alloc, rules, number, &less, depth, rest)?;
+            let branch = branch_of_number(alloc, rules, number, &less, depth, rest, rest)?;
             Ok(Step::Chooses(Shown::Less(text), branch, rest))
         }
         Err(DecimalError::Syntax) => { Err(FormatError::Argument(ArgumentFault::NotANumber, name)) }

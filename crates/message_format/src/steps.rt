@@ -1,20 +1,22 @@
 //! What a part of a message does.
 
-ghost use Rattle.std.specs.Prelude.{◌≡◌, ℕ, List, IfOk, IfSome, Some};
+ghost use Rattle.std.specs.Prelude.{◌≡◌, ◌≤◌, ℕ, List, length, IfOk, IfSome, Some, None};
+ghost use Rattle.fixed_decimal.specs.Written.{CompactNumber, WritesCompact};
+ghost use Rattle.message_format.specs.FormatBranches.{behind_end, IsBranchOfValue};
 ghost use Rattle.message_pattern.specs.PatternParts.{parts_view, piece_view, offset_view, branches_of};
 ghost use Rattle.message_format.specs.FormatArguments.{arguments_view, value_view};
 ghost use Rattle.message_format.specs.FormatSteps.{shown_value, selected, IsCounted, IsPlural, IsChoice, IsStep};
 ghost use Rattle.message_pattern.specs.declared.part.Part.{Part as SpecPart};
-ghost use Rattle.message_format.specs.Inner.FormatWalks.{PrintsAlways};
+ghost use Rattle.message_format.specs.Inner.FormatWalks.{PrintsAlways, PassedFor};
 ghost use Rattle.message_format.specs.Inner.FormatViews.{any_value, GivesStep, ChoosesWithin, two_rules};
 
 use crate::arguments::{Argument, Value, value_named};
-use crate::branches::branch_of_number;
+use crate::branches::{branch_of_number, branch_or_other};
 use crate::error::{ArgumentFault, FormatError};
 use crate::offsets::counted_less;
-use crate::plain::has_marks;
+use crate::plain::plain_of;
 use crate::step::{Shown, Step};
-use crate::walks::{branch_by_number, branch_by_text};
+use crate::walks::{branch_at_sight, branch_by_text};
 use fixed_decimal::laws::texts_write_one_number;
 use fixed_decimal::{CompactDecimal, DecimalError};
 use message_pattern::{ArgumentKind, Part, Piece};
@@ -70,27 +72,65 @@ fn selected<'s, 'p: 's>(
     }
 }
 
-// A plural without an offset, of the text of a number, by its digits.
+// A plural without an offset, of the text of a number, by its digits. The value is sought in the
+// parts that are left: no branch before them has it.
 fn counted_by_digits<'s, 'p: 's>(
     alloc: Global,
     rules: &PluralRules<'_>,
     name: &'p [u8],
     depth: usize,
     rest: &'s [Part<'p>],
+    left: &'s [Part<'p>],
     text: &'s str,
 ) -> Result<Step<'s, 'p>, FormatError<'p>>
+    requires passed { (x : CompactNumber) → WritesCompact text.now x → PassedFor x depth (parts_view rest.now) (parts_view left.now) }
+    requires fewer { length left.now ≤ length rest.now }
     ensures step { GivesStep (λ step. IsCounted rules.now name.now (branches_of depth (parts_view rest.now)) text.now step) result }
     ensures left { ChoosesWithin depth rest.now result }
 {
     match CompactDecimal::from_str(alloc, text) {
         Ok(number) => {
-            let branch = branch_of_number(alloc, rules, &number, &number, depth, rest)?;
+            let branch = branch_of_number(alloc, rules, &number, &number, depth, rest, left)?;
             Ok(Step::Chooses(Shown::Given(text.as_bytes()), branch, rest))
         }
         Err(DecimalError::Syntax) => { Err(FormatError::Argument(ArgumentFault::NotANumber, name)) }
         Err(DecimalError::Limit) => Err(FormatError::Argument(ArgumentFault::OverLimit, name)),
         Err(DecimalError::Memory) => Err(FormatError::Memory),
     }
+}
+
+// A plural without an offset, of the text of a number that no branch has the value of, by its
+// category. The end of the argument is sought in the parts that are left.
+fn counted_by_category<'s, 'p: 's>(
+    alloc: Global,
+    rules: &PluralRules<'_>,
+    name: &'p [u8],
+    depth: usize,
+    rest: &'s [Part<'p>],
+    left: &'s [Part<'p>],
+    text: &'s str,
+) -> Result<Step<'s, 'p>, FormatError<'p>>
+    requires none { (x : CompactNumber) → WritesCompact text.now x → IsBranchOfValue x (branches_of depth (parts_view rest.now)) None }
+    requires fewer { length left.now ≤ length rest.now }
+    requires behind { behind_end depth (parts_view left.now) ≡ behind_end depth (parts_view rest.now) }
+    ensures step { GivesStep (λ step. IsCounted rules.now name.now (branches_of depth (parts_view rest.now)) text.now step) result }
+    ensures left { ChoosesWithin depth rest.now result }
+{
+    let category = match rules.category_for_text(alloc, text) {
+        Ok(category) => category,
+        Err(DecimalError::Syntax) => {
+            return Err(FormatError::Argument(ArgumentFault::NotANumber, name));
+        }
+        Err(DecimalError::Limit) => {
+            return Err(FormatError::Argument(ArgumentFault::OverLimit, name));
+        }
+        Err(DecimalError::Memory) => {
+            return Err(FormatError::Memory);
+        }
+    };
+    let written = text.as_bytes();
+    let branch = branch_or_other(category.as_str().as_bytes(), depth, rest);
+    Ok(Step::Chooses(Shown::Given(written), branch, left))
 }
 
 // A plural without an offset, of the text of a number.
@@ -106,24 +146,18 @@ fn counted<'s, 'p: 's>(
     ensures left { ChoosesWithin depth rest.now result }
 {
     let written = text.as_bytes();
-    if written.len() > SHORT || has_marks(written) {
-        return counted_by_digits(alloc, rules, name, depth, rest, text);
+    if written.len() > SHORT {
+        return counted_by_digits(alloc, rules, name, depth, rest, rest, text);
     }
-    let category = match rules.category_for_text(alloc, text) {
-        Ok(category) => category,
-        Err(DecimalError::Syntax) => {
-            return Err(FormatError::Argument(ArgumentFault::NotANumber, name));
-        }
-        Err(DecimalError::Limit) => {
-            return Err(FormatError::Argument(ArgumentFault::OverLimit, name));
-        }
-        Err(DecimalError::Memory) => {
-            return Err(FormatError::Memory);
-        }
+    let Some(plain) = plain_of(written) else {
+        return counted_by_digits(alloc, rules, name, depth, rest, rest, text);
     };
-    match branch_by_number(written, category.as_str().as_bytes(), depth, rest) {
-        Some(found) => Ok(Step::Chooses(Shown::Given(written), found.branch, found.left)),
-        None => counted_by_digits(alloc, rules, name, depth, rest, text),
+    match branch_at_sight(plain, depth, rest) {
+        Ok(seen) => match seen.branch {
+            Some(branch) => Ok(Step::Chooses(Shown::Given(written), branch, seen.left)),
+            None => counted_by_category(alloc, rules, name, depth, rest, seen.left, text),
+        },
+        Err(left) => counted_by_digits(alloc, rules, name, depth, rest, left, text),
     }
 }
 

@@ -1,14 +1,15 @@
 //! One walk over the branches of an argument.
 
-ghost use Rattle.std.specs.Prelude.{◌≡◌, ◌≤◌, ℕ, length, IfSome};
+ghost use Rattle.std.specs.Prelude.{◌≡◌, ◌≤◌, ℕ, List, length, IfSome, IfOk, IfErr};
 ghost use Rattle.fixed_decimal.specs.Written.{CompactNumber, WritesCompact};
 ghost use Rattle.message_pattern.specs.PatternParts.{parts_view, branches_of, selector_view};
-ghost use Rattle.message_format.specs.FormatBranches.{behind_end, branch_or_other, parts_or_none, or_branch};
+ghost use Rattle.message_format.specs.FormatBranches.{behind_end, branch_or_other, parts_or_none, or_branch, IsBranchOfValue};
 ghost use Rattle.message_format.specs.Inner.FormatViews.{any_parts};
-ghost use Rattle.message_format.specs.Inner.FormatWalks.{IsFirstOf, IsBranchOfWord};
+ghost use Rattle.message_format.specs.Inner.FormatWalks.{IsFirstOf, PassedFor};
+ghost use Rattle.message_format.specs.Inner.FormatPlain.{IsPlain};
 
 use crate::branches::is_keyword;
-use crate::plain::equals_at_sight;
+use crate::plain::{Plain, equals_at_sight};
 use message_pattern::{Part, Piece, Selector};
 
 // A branch, and the parts from which the end of the argument is sought: what follows it is the same
@@ -88,40 +89,45 @@ pub(crate) fn branch_by_text<'s, 'p>(
     Found { branch, left }
 }
 
-// The branch of a number's value, else that of a keyword, else that of `other`; none where a
-// selector has to be read as a number first.
-pub(crate) fn branch_by_number<'s, 'p>(
-    text: &[u8],
-    word: &[u8],
+// What is seen of the branches: that of a number's value, if there is one, and the parts from which
+// the end of the argument is sought.
+#[derive(Clone, Copy)]
+pub(crate) struct Seen<'s, 'p> {
+    pub(crate) branch: Option<&'s [Part<'p>]>,
+    pub(crate) left: &'s [Part<'p>],
+}
+
+// The branch of a number's value; the error is the parts from the first selector on that has to be
+// read as a number first: no branch before it has the value.
+pub(crate) fn branch_at_sight<'s, 'p>(
+    plain: Plain<'_>,
     depth: usize,
     parts: &'s [Part<'p>],
-) -> Option<Found<'s, 'p>>
-    requires { length text.now ≤ 32767 }
-    ensures branch { IfSome result (λ f. (x : CompactNumber) → WritesCompact text.now x → IsBranchOfWord x word.now (branches_of depth (parts_view parts.now)) (parts_view f.branch.now)) }
-    ensures left { IfSome result (λ f. behind_end depth (parts_view f.left.now) ≡ behind_end depth (parts_view parts.now)) }
-    ensures shorter { IfSome result (λ f. length f.branch.now ≤ length parts.now) }
-    ensures fewer { IfSome result (λ f. length f.left.now ≤ length parts.now) }
+) -> Result<Seen<'s, 'p>, &'s [Part<'p>]>
+    ensures branch { IfOk result (λ seen. (text : List ℕ) → IsPlain text plain.entry.whole.now plain.entry.fraction.now → length text ≤ 32767 → (x : CompactNumber) → WritesCompact text x → IsBranchOfValue x (branches_of depth (parts_view parts.now)) (any_parts seen.branch)) }
+    ensures left { IfOk result (λ seen. behind_end depth (parts_view seen.left.now) ≡ behind_end depth (parts_view parts.now)) }
+    ensures shorter { IfOk result (λ seen. IfSome seen.branch (λ x. length x.now ≤ length parts.now)) }
+    ensures fewer { IfOk result (λ seen. length seen.left.now ≤ length parts.now) }
+    ensures passed { IfErr result (λ left. (text : List ℕ) → IsPlain text plain.entry.whole.now plain.entry.fraction.now → length text ≤ 32767 → (x : CompactNumber) → WritesCompact text x → PassedFor x depth (parts_view parts.now) (parts_view left.now)) }
+    ensures unread { IfErr result (λ left. length left.now ≤ length parts.now) }
 {
-    let mut named = None;
-    let mut other = None;
     let mut left = parts;
     while let [part, rest @ ..] = left {
         if part.depth <= depth {
             let Piece::Branch(selector) = part.piece else {
-                let branch = seen_or_other(named, other, left);
-                return Some(Found { branch, left });
+                return Ok(Seen { branch: None, left });
             };
-            if equals_at_sight(text, selector)? {
-                return Some(Found {
-                    branch: rest,
+            let Some(same) = equals_at_sight(plain, selector) else {
+                return Err(left);
+            };
+            if same {
+                return Ok(Seen {
+                    branch: Some(rest),
                     left: rest,
                 });
             }
-            named = first_of_keyword(word, named, selector, rest);
-            other = first_of_keyword(b"other", other, selector, rest);
         }
         left = rest;
     }
-    let branch = seen_or_other(named, other, left);
-    Some(Found { branch, left })
+    Ok(Seen { branch: None, left })
 }

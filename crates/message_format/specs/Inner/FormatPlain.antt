@@ -1,5 +1,7 @@
 -- Numbers that are written plainly, by the bytes of their digits.
-use Rattle.std.specs.Prelude.{◌≡◌, ◌<◌, ℕ, Bool, List, nat_eq, length, slice_index}
+use Rattle.std.specs.Prelude.{◌≡◌, ◌<◌, ◌⊎◌, ◌++◌, ℕ, Bool, true, List, [], ◌∷◌, nat_eq, length, slice_index}
+use Rattle.std.specs.Char.{is_ascii_digit}
+use Rattle.std.specs.List.{list_all}
 
 -- the digit 0
 abbrev pub is_zero : ℕ → Bool
@@ -9,3 +11,10 @@ is_zero b = nat_eq b 48
 pub record IsNumeral (s : List ℕ) : Type 0 where
   pub nonempty : 0 < length s
   pub shortest : slice_index s 0 ≡ 48 → length s ≡ 1
+
+-- the text is such digits, or such digits, a point and digits
+pub record IsPlain (text whole fraction : List ℕ) : Type 0 where
+  pub whole_digits : list_all is_ascii_digit whole ≡ true
+  pub fraction_digits : list_all is_ascii_digit fraction ≡ true
+  pub numeral : IsNumeral whole
+  pub form : ((fraction ≡ []) × (text ≡ whole)) ⊎ ((0 < length fraction) × (text ≡ whole ++ 46 ∷ fraction))
