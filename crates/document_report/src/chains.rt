@@ -53,10 +53,7 @@ impl<'p> KnownChains<'p> {
         ensures { (next : List ℕ → Option (List ℕ)) → AreKnown next self.now
             → IfSome result (λ steps. HasSteps next locale.now steps) }
     {
-        let place = place_of(locale, self.rows.len());
-        if place >= self.rows.len() {
-            return None;
-        }
+        let place = place_of(locale, self.rows.len())?;
         match self.rows[place] {
             Some(known) if known.locale == locale => Some(known.steps),
             _ => None,
@@ -68,8 +65,7 @@ impl<'p> KnownChains<'p> {
         ensures { (next : List ℕ → Option (List ℕ)) → AreKnown next self.old → HasSteps next locale.now steps
             → AreKnown next self.new }
     {
-        let place = place_of(locale, self.rows.len());
-        if place < self.rows.len() {
+        if let Some(place) = place_of(locale, self.rows.len()) {
             self.rows[place] = Some(KnownChain { locale, steps });
         }
     }
@@ -87,16 +83,18 @@ impl<'p> KnownChains<'p> {
     }
 }
 
-// Returns the place of a locale among so many.
-fn place_of(locale: &[u8], count: usize) -> usize
-    ensures { 0 < count → result < count }
+// Returns the place of a locale among so many. A long one, which ends a chain at once, has none: its
+// bytes aren't read, however many locales it is the parent of.
+fn place_of(locale: &[u8], count: usize) -> Option<usize>
+    ensures { IfSome result (λ place. place < count) }
 {
+    if MOST_NAME_BYTES < locale.len() {
+        return None;
+    }
     let mut hasher = FoldHasher::default();
     hasher.write(locale);
-    match hasher.finish().checked_rem(count as u64) {
-        Some(place) => place as usize,
-        None => 0,
-    }
+    let place = hasher.finish().checked_rem(count as u64)?;
+    Some(place as usize)
 }
 
 // Returns how many steps a chain of so many has after the first ones, if that shows.

@@ -245,6 +245,31 @@ locales: 1, rules: 1, numbers: 0, faults: 4
     Ok(())
 }
 
+// Of several locales with one such parent the chains end there, and with a shorter one they go on.
+#[test]
+fn chains_of_several_locales_end_at_one_of_more_than_255_bytes(
+    rt: HostRuntime,
+) -> Result<(), Fail> {
+    let alloc = rt.alloc();
+    let (longest, too_long) = (letters_of(alloc, 255)?, letters_of(alloc, 256)?);
+    let (longest, too_long) = (longest.as_str(), too_long.as_str());
+    let document = format!(in alloc;
+        r#"{{"cardinal":{{"a":{{"other":""}}}},"parents":{{"{longest}":"f","b":"{longest}","c":"{longest}","d":"c","f":"b","{too_long}":"k","g":"{too_long}","h":"{too_long}","i":"h","k":"g"}}}}"#
+    )?;
+    let report = r"parents \(255 bytes): the chain of parents doesn't end
+parents \(256 bytes): key too long
+parents b: the chain of parents doesn't end
+parents c: the chain of parents doesn't end
+parents d: the chain of parents doesn't end
+parents f: the chain of parents doesn't end
+parents g: parent too long
+parents h: parent too long
+locales: 1, rules: 1, numbers: 0, faults: 8
+";
+    holds!(rt; gives(alloc, false, &mut document.as_bytes(), report) == Some(true));
+    Ok(())
+}
+
 #[test]
 fn ten_faults_of_a_text_are_told_and_the_others_counted(rt: HostRuntime) {
     let table =
