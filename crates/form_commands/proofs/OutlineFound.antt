@@ -1,5 +1,5 @@
 -- What is found in the outline of a document of rules.
-use Rattle.std.proofs.Common.{◌≡◌, ℕ, List, [], ◌∷◌, Bool, true, false, cond, Option, Some, None, Bor, refl, sym, ap, subst, ◌∙◌}
+use Rattle.std.proofs.Common.{◌≡◌, ℕ, List, [], ◌∷◌, Bool, true, false, cond, Option, Some, None, refl, sym, ap, subst, ◌∙◌}
 use Rattle.std.specs.Prelude.{bytes_eq, codes, option_and_then, unwrap_or}
 use Rattle.std.specs.List.{find}
 use Rattle.std.specs.Option.{option_or}
@@ -16,6 +16,7 @@ use Rattle.serde_json.specs.Data.{Data, null, boolean, number, string, array, ob
 use Rattle.serde_json.specs.Find.{as_object, as_str, get, get_member}
 use Rattle.form_commands.specs.Inner.RulesOutline.{is_inside, is_part, keeps}
 use Rattle.form_commands.specs.Languages.{value_at}
+use Rattle.form_commands.specs.declared.outline.KeptLocales.{KeptLocales}
 use Rattle.form_commands.specs.declared.outline.RulesChoice.{RulesChoice}
 use Rattle.form_commands.specs.declared.outline.RulesChoice.TheVariants.{Document, Keys}
 use Rattle.form_commands.proofs.SameNames.{inside_same}
@@ -37,24 +38,24 @@ passed_over test key (Some value) ms other = rw other refl
 
 -- ---- A part
 
-module _ (of_language : Bor (List ℕ)) where
+module _ (locales : KeptLocales) where
   abbrev IsInside : List ℕ → Type 0
-  IsInside key = is_inside of_language.now key ≡ true
+  IsInside key = is_inside locales key ≡ true
 
   -- a test that only locales inside pass finds the same key
   find_kept : (test : List ℕ → Bool) → ((key : List ℕ) → test key ≡ true → IsInside key) → (ms : Members)
-      → find test (keys_of (outline_members keeps (Keys of_language) ms)) ≡ find test (keys_of ms)
+      → find test (keys_of (outline_members keeps (Keys locales) ms)) ≡ find test (keys_of ms)
   find_kept test inside no_members = refl
   find_kept test inside (member key value ms) = by (test key) refl (find_kept test inside ms)
     where
-      by : (b : Bool) → test key ≡ b → find test (keys_of (outline_members keeps (Keys of_language) ms)) ≡ find test (keys_of ms)
-          → find test (keys_of (outline_members keeps (Keys of_language) (member key value ms))) ≡ cond b (Some key) (find test (keys_of ms))
+      by : (b : Bool) → test key ≡ b → find test (keys_of (outline_members keeps (Keys locales) ms)) ≡ find test (keys_of ms)
+          → find test (keys_of (outline_members keeps (Keys locales) (member key value ms))) ≡ cond b (Some key) (find test (keys_of ms))
       by true passes further = rw (inside key passes, passes) refl
       by false passes further =
-          passed_over test key (outline keeps (keeps (Keys of_language) key) value) (outline_members keeps (Keys of_language) ms) passes ∙ further
+          passed_over test key (outline keeps (keeps (Keys locales) key) value) (outline_members keeps (Keys locales) ms) passes ∙ further
 
   abbrev part_of : Option Data → Option Data
-  part_of whole = option_and_then (outline keeps (kept.Members (Keys of_language))) whole
+  part_of whole = option_and_then (outline keeps (kept.Members (Keys locales))) whole
 
   find_in_part : (test : List ℕ → Bool) → ((key : List ℕ) → test key ≡ true → IsInside key) → (whole : Option Data)
       → find test (keys_in_object (option_and_then as_object (part_of whole))) ≡ find test (keys_in_object (option_and_then as_object whole))
@@ -72,8 +73,8 @@ module _ (of_language : Bor (List ℕ)) where
   key_in_part locale inside whole =
       rw (
         find_in_part (bytes_eq locale)
-            (λ key same. subst (λ (k : List ℕ). is_inside of_language.now k ≡ true) ((bytes_eq-Decides locale key).0 same) inside) whole,
-        find_in_part (is_same locale) (λ key same. sym (inside_same of_language.now locale key same) ∙ inside) whole,
+            (λ key same. subst (λ (k : List ℕ). is_inside locales k ≡ true) ((bytes_eq-Decides locale key).0 same) inside) whole,
+        find_in_part (is_same locale) (λ key same. sym (inside_same locales locale key same) ∙ inside) whole,
       ) refl
 
   all_kept : (found : Option Data) → option_and_then (outline {C = RulesChoice} keeps kept.Whole) found ≡ found
@@ -89,36 +90,36 @@ module _ (of_language : Bor (List ℕ)) where
   value_in_part key inside (Some (string text)) = refl
   value_in_part key inside (Some (array items)) = refl
   value_in_part key inside (Some (object ms)) =
-      found_kept RulesChoice keeps (Keys of_language) key ms ∙ rw inside (all_kept (get_member key ms))
+      found_kept RulesChoice keeps (Keys locales) key ms ∙ rw inside (all_kept (get_member key ms))
 
   -- the key that is found for a locale inside is inside
   pub key_inside : (keys : List (List ℕ)) (locale key : List ℕ) → IsInside locale → key_of keys locale ≡ Some key → IsInside key
   key_inside keys locale key inside is = by (find (bytes_eq locale) keys) refl is
     where
       by : (exact : Option (List ℕ)) → find (bytes_eq locale) keys ≡ exact → option_or exact (find (is_same locale) keys) ≡ Some key
-          → is_inside of_language.now key ≡ true
+          → is_inside locales key ≡ true
       by (Some k) found is =
           let same = ap (λ o. unwrap_or o key) is in
-          subst (λ (l : List ℕ). is_inside of_language.now l ≡ true)
+          subst (λ (l : List ℕ). is_inside locales l ≡ true)
           ((bytes_eq-Decides locale key).0 (found_passes (bytes_eq locale) keys key (found ∙ is))) inside
       by None found is =
-          sym (inside_same of_language.now locale key (found_passes (is_same locale) keys key is)) ∙ inside
+          sym (inside_same locales locale key (found_passes (is_same locale) keys key is)) ∙ inside
 
 -- ---- A document
 
 some_same : (one other : Data) → Some one ≡ Some other → one ≡ other
 some_same one other same = ap (λ o. unwrap_or o one) same
 
-module _ (part : Part) (of_language : Bor (List ℕ)) (name : List ℕ) (named : is_part part name ≡ true) where
+module _ (part : Part) (locales : KeptLocales) (name : List ℕ) (named : is_part part name ≡ true) where
   abbrev top : RulesChoice
-  top = Document part of_language
+  top = Document part locales
 
   -- what is kept of a part
-  part_kept : (ms : Members) → get_member name (outline_members keeps top ms) ≡ part_of of_language (get_member name ms)
+  part_kept : (ms : Members) → get_member name (outline_members keeps top ms) ≡ part_of locales (get_member name ms)
   part_kept ms = found_kept RulesChoice keeps top name ms ∙ rw named refl
 
   part_found : (whole document : Data) → outline keeps (kept.Members top) whole ≡ Some document
-      → get name document ≡ part_of of_language (get name whole)
+      → get name document ≡ part_of locales (get name whole)
   part_found null document is = rw (← some_same null document is) refl
   part_found (boolean truth) document is = rw (← some_same (boolean truth) document is) refl
   part_found (number n) document is = rw (← some_same (number n) document is) refl
@@ -135,38 +136,38 @@ parents_named Ordinal = refl
 parents_named Ranges = refl
 
 -- the outline of a document
-module _ (part : Part) (of_language : Bor (List ℕ)) (whole document : Data) (is : outline keeps (kept.Members (Document part of_language)) whole ≡ Some document) where
+module _ (part : Part) (locales : KeptLocales) (whole document : Data) (is : outline keeps (kept.Members (Document part locales)) whole ≡ Some document) where
   -- a locale inside has the same key
-  pub same_key : (locale : List ℕ) → is_inside of_language.now locale ≡ true
+  pub same_key : (locale : List ℕ) → is_inside locales locale ≡ true
       → key_of (keys_under (part_name part) document) locale ≡ key_of (keys_under (part_name part) whole) locale
   same_key locale inside =
-      rw (part_found part of_language (part_name part) (part_named part) whole document is)
-      (key_in_part of_language locale inside (get (part_name part) whole))
+      rw (part_found part locales (part_name part) (part_named part) whole document is)
+      (key_in_part locales locale inside (get (part_name part) whole))
 
   -- and a key inside the same value
-  pub same_value : (key : List ℕ) → is_inside of_language.now key ≡ true → value_at document part key ≡ value_at whole part key
+  pub same_value : (key : List ℕ) → is_inside locales key ≡ true → value_at document part key ≡ value_at whole part key
   same_value key inside =
-      rw (part_found part of_language (part_name part) (part_named part) whole document is)
-      (value_in_part of_language key inside (get (part_name part) whole))
+      rw (part_found part locales (part_name part) (part_named part) whole document is)
+      (value_in_part locales key inside (get (part_name part) whole))
 
-  same_text : (key : List ℕ) → is_inside of_language.now key ≡ true → text_at document key ≡ text_at whole key
+  same_text : (key : List ℕ) → is_inside locales key ≡ true → text_at document key ≡ text_at whole key
   same_text key inside =
-      rw (part_found part of_language (codes "parents") (parents_named part) whole document is)
-      (ap (option_and_then as_str) (value_in_part of_language key inside (get (codes "parents") whole)))
+      rw (part_found part locales (codes "parents") (parents_named part) whole document is)
+      (ap (option_and_then as_str) (value_in_part locales key inside (get (codes "parents") whole)))
 
-  same_parent_key : (locale : List ℕ) → is_inside of_language.now locale ≡ true
+  same_parent_key : (locale : List ℕ) → is_inside locales locale ≡ true
       → key_of (keys_under (codes "parents") document) locale ≡ key_of (keys_under (codes "parents") whole) locale
   same_parent_key locale inside =
-      rw (part_found part of_language (codes "parents") (parents_named part) whole document is)
-      (key_in_part of_language locale inside (get (codes "parents") whole))
+      rw (part_found part locales (codes "parents") (parents_named part) whole document is)
+      (key_in_part locales locale inside (get (codes "parents") whole))
 
   -- so the same locale comes next
-  pub same_next : (locale : List ℕ) → is_inside of_language.now locale ≡ true → next_of (parent_in document) locale ≡ next_of (parent_in whole) locale
+  pub same_next : (locale : List ℕ) → is_inside locales locale ≡ true → next_of (parent_in document) locale ≡ next_of (parent_in whole) locale
   same_next locale inside = ap (λ parent. next_by parent locale (before_last locale)) same_parent
     where
       by : (key : Option (List ℕ)) → key_of (keys_under (codes "parents") whole) locale ≡ key → option_and_then (text_at document) key ≡ option_and_then (text_at whole) key
       by None found = refl
-      by (Some key) found = same_text key (key_inside of_language (keys_under (codes "parents") whole) locale key inside found)
+      by (Some key) found = same_text key (key_inside locales (keys_under (codes "parents") whole) locale key inside found)
 
       same_parent : parent_in document locale ≡ parent_in whole locale
       same_parent = ap (option_and_then (text_at document)) (same_parent_key locale inside) ∙ by (key_of (keys_under (codes "parents") whole) locale) refl

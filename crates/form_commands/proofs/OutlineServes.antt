@@ -1,27 +1,32 @@
 -- An outline of a document of rules serves as the whole does, where the chain stays inside.
-use Rattle.std.proofs.Common.{◌≡◌, ℕ, zero, suc, ◌<◌, ◌≤◌, List, true, Option, Some, None, Bor, Result, Ok, Err, inl, inr, refl, sym, ap, ◌∙◌, arith}
+use Rattle.std.proofs.Common.{◌≡◌, ℕ, zero, suc, ◌<◌, ◌≤◌, List, true, Option, Some, None, Result, Ok, Err, inl, inr, refl, sym, ap, ◌∙◌, arith}
 use Rattle.std.specs.Prelude.{is_some, option_and_then}
-use Rattle.plural_documents.specs.Outlines.{outline}
+use Rattle.plural_documents.specs.Outlines.{GivesOutline, outline}
+use Rattle.plural_documents.specs.declared.JsonTextError.{JsonTextError}
+use Rattle.plural_documents.specs.declared.JsonTextError.TheVariants as fault
 use Rattle.plural_documents.specs.declared.Kept.TheVariants as kept
 use Rattle.plural_fallback.specs.Chain.{next_of}
 use Rattle.plural_fallback.specs.FirstKeys.{NoneBefore, locale_at}
-use Rattle.plural_fallback.specs.LocaleNames.{key_of, language}
+use Rattle.plural_fallback.specs.LocaleNames.{key_of}
 use Rattle.plural_fallback.specs.LocalesJson.{keys_under, parent_in, part_name}
 use Rattle.plural_fallback.specs.declared.error.FallbackError.{FallbackError}
 use Rattle.plural_fallback.specs.declared.error.FallbackError.TheVariants.{NotFound, LongChain, NotLoaded}
 use Rattle.plural_fallback.specs.declared.locales.Part.{Part}
 use Rattle.serde_json.specs.Data.{Data}
-use Rattle.form_commands.specs.Inner.RulesOutline.{Serves, StaysInside, is_inside, keeps}
+use Rattle.serde_json.specs.View.{view}
+use Rattle.serde_json.specs.declared.Value.{Value}
+use Rattle.form_commands.specs.Inner.RulesOutline.{GivesRulesOutline, Serves, StaysInside, is_inside, keeps}
 use Rattle.form_commands.specs.KeyNotes.{IsNote}
 use Rattle.form_commands.specs.Languages.{HasNoKey, IsFoundAt, IsFoundFor, IsKeyOf, key_after, most_locales, value_at}
 use Rattle.form_commands.specs.declared.error.LanguageError.{LanguageError}
 use Rattle.form_commands.specs.declared.language.Language.{Language}
+use Rattle.form_commands.specs.declared.outline.KeptLocales.{KeptLocales}
+use Rattle.form_commands.specs.declared.outline.KeptLocales.TheVariants.{All}
 use Rattle.form_commands.specs.declared.outline.RulesChoice.TheVariants.{Document}
 use Rattle.form_commands.proofs.OutlineFound.{key_inside, same_key, same_next, same_value}
 
-module _ (part : Part) (locale : List ℕ) (of_language : Bor (List ℕ)) (whole document : Data)
-    (is : outline keeps (kept.Members (Document part of_language)) whole ≡ Some document) (same : of_language.now ≡ language locale)
-    (stays : StaysInside document part locale) where
+module _ (part : Part) (locale : List ℕ) (locales : KeptLocales) (whole document : Data)
+    (is : outline keeps (kept.Members (Document part locales)) whole ≡ Some document) (stays : StaysInside locales document part locale) where
   -- the locale after some steps of the chain
   abbrev at : Data → ℕ → Option (List ℕ)
   at value n = locale_at (next_of (parent_in value)) locale n
@@ -30,8 +35,8 @@ module _ (part : Part) (locale : List ℕ) (of_language : Bor (List ℕ)) (whole
   key value n = key_after value part locale n
 
   inside : (n : ℕ) (current : List ℕ) → n < most_locales → NoneBefore n (key document) → at document n ≡ Some current
-      → is_inside of_language.now current ≡ true
-  inside n current below none here = rw same (stays n below current none here)
+      → is_inside locales current ≡ true
+  inside n current below none here = stays n below current none here
 
   -- ---- The chain
 
@@ -43,7 +48,7 @@ module _ (part : Part) (locale : List ℕ) (of_language : Bor (List ℕ)) (whole
       by None here = rw (here, ← alike, here) refl
       by (Some current) here =
           ap (option_and_then (key_of (keys_under (part_name part) document))) here
-          ∙ same_key part of_language whole document is current (inside n current below none here)
+          ∙ same_key part locales whole document is current (inside n current below none here)
           ∙ ap (option_and_then (key_of (keys_under (part_name part) whole))) (sym here ∙ alike)
 
   next_agrees : (n : ℕ) → n < most_locales → NoneBefore n (key document) → at document n ≡ at whole n → at document (suc n) ≡ at whole (suc n)
@@ -54,7 +59,7 @@ module _ (part : Part) (locale : List ℕ) (of_language : Bor (List ℕ)) (whole
       by None here = ap (option_and_then (next_of (parent_in document))) here ∙ ap (option_and_then (next_of (parent_in whole))) (sym here ∙ alike)
       by (Some current) here =
           ap (option_and_then (next_of (parent_in document))) here
-          ∙ same_next part of_language whole document is current (inside n current below none here)
+          ∙ same_next part locales whole document is current (inside n current below none here)
           ∙ ap (option_and_then (next_of (parent_in whole))) (sym here ∙ alike)
 
   none_sooner : (n : ℕ) → NoneBefore (suc n) (key document) → NoneBefore n (key document)
@@ -88,14 +93,14 @@ module _ (part : Part) (locale : List ℕ) (of_language : Bor (List ℕ)) (whole
   no_key LongChain none = (sym (ap is_some (at_agrees most_locales (omega arith) none.1)) ∙ none.0, none_before most_locales (omega arith) none.1)
   no_key NotLoaded none = absurd none.2
 
-  key_is_inside : (found : List ℕ) → IsKeyOf document part locale found → is_inside of_language.now found ≡ true
+  key_is_inside : (found : List ℕ) → IsKeyOf document part locale found → is_inside locales found ≡ true
   key_is_inside found first = by (at document first.0) refl
     where
-      by : (current : Option (List ℕ)) → at document first.0 ≡ current → is_inside of_language.now found ≡ true
+      by : (current : Option (List ℕ)) → at document first.0 ≡ current → is_inside locales found ≡ true
       by None here =
           let never : None ≡ Some found = sym (ap (option_and_then (key_of (keys_under (part_name part) document))) here) ∙ first.2 in absurd (cc)
       by (Some current) here =
-          key_inside of_language (keys_under (part_name part) document) current found (inside first.0 current first.1 first.3 here)
+          key_inside locales (keys_under (part_name part) document) current found (inside first.0 current first.1 first.3 here)
           (sym (ap (option_and_then (key_of (keys_under (part_name part) document))) here) ∙ first.2)
 
   found_at : (found : List ℕ) (answer : Result Language LanguageError) → value_at document part found ≡ value_at whole part found
@@ -108,7 +113,7 @@ module _ (part : Part) (locale : List ℕ) (of_language : Bor (List ℕ)) (whole
       inl (
         found.0,
         first_key found.0 found.1,
-        found_at found.0 answer (same_value part of_language whole document is found.0 (key_is_inside found.0 found.1)) found.2,
+        found_at found.0 answer (same_value part locales whole document is found.0 (key_is_inside found.0 found.1)) found.2,
       )
   found_for answer (inr none) = inr (none.0, no_key none.0 none.1, none.2)
 
@@ -119,6 +124,14 @@ module _ (part : Part) (locale : List ℕ) (of_language : Bor (List ℕ)) (whole
   pub outline_serves : Serves part locale document whole
   outline_serves = (found_for, noted)
 
--- a document serves as itself
-pub whole_serves : (part : Part) (locale : List ℕ) (document : Data) → Serves part locale document document
-whole_serves part locale document = (λ answer found. found, λ place note is. is)
+-- where all locales are kept, every chain stays
+pub all_stay : (document : Data) (part : Part) (locale : List ℕ) → StaysInside All document part locale
+all_stay document part locale n within current none here = refl
+
+-- so what is kept of a part serves
+pub part_serves : (part : Part) (locale bytes : List ℕ) (r : Result Value JsonTextError) → GivesOutline keeps (Document part All) bytes r
+    → GivesRulesOutline part locale bytes r
+part_serves part locale bytes (Ok value) kept =
+    (kept.0, kept.1, outline_serves part locale All kept.0 (view value) kept.2 (all_stay (view value) part locale))
+part_serves part locale bytes (Err fault.Json) none = none
+part_serves part locale bytes (Err fault.Memory) some = some

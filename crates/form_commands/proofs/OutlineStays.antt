@@ -1,18 +1,19 @@
 -- Whether a chain stays inside of its language, step by step.
-use Rattle.std.proofs.Common.{◌≡◌, ℕ, zero, suc, ◌+◌, ◌-◌, ◌<◌, ◌≤◌, List, Bool, true, false, Option, Some, None, true≢false, below_more, refl, sym, ap, subst, ◌∙◌, arith}
+use Rattle.std.proofs.Common.{◌≡◌, ℕ, zero, suc, ◌+◌, ◌-◌, ◌<◌, ◌≤◌, List, Bool, true, false, Option, Some, None, below_more, refl, sym, ap, subst, ◌∙◌, arith}
 use Rattle.std.proofs.Math.Nat.{add-suc, add-zero}
 use Rattle.std.proofs.lemmas.Grind.{common_steps}
 use Rattle.std.specs.Prelude.{nat_lt, option_and_then, unwrap_or}
 use Rattle.plural_fallback.specs.Chain.{next_of}
 use Rattle.plural_fallback.specs.FirstKeys.{NoneBefore, locale_at}
-use Rattle.plural_fallback.specs.LocaleNames.{key_of, language}
+use Rattle.plural_fallback.specs.LocaleNames.{key_of}
 use Rattle.plural_fallback.specs.LocalesJson.{keys_under, parent_in, part_name}
 use Rattle.plural_fallback.specs.declared.locales.Part.{Part}
 use Rattle.serde_json.specs.Data.{Data}
 use Rattle.form_commands.specs.Inner.RulesOutline.{IsInsideAt, StaysInside, is_inside}
 use Rattle.form_commands.specs.Languages.{key_after, most_locales}
+use Rattle.form_commands.specs.declared.outline.KeptLocales.{KeptLocales}
 
-module _ (document : Data) (part : Part) (locale : List ℕ) where
+module _ (locales : KeptLocales) (document : Data) (part : Part) (locale : List ℕ) where
   abbrev pub at : ℕ → Option (List ℕ)
   at n = locale_at (next_of (parent_in document)) locale n
 
@@ -22,7 +23,7 @@ module _ (document : Data) (part : Part) (locale : List ℕ) where
   -- the chain is at a locale, and has been inside so far
   abbrev pub IsAt : ℕ → List ℕ → Type 0
   IsAt n current =
-      (n ≤ most_locales) × (at n ≡ Some current) × NoneBefore n key × ((m : ℕ) → m < n → IsInsideAt document part locale m)
+      (n ≤ most_locales) × (at n ≡ Some current) × NoneBefore n key × ((m : ℕ) → m < n → IsInsideAt locales document part locale m)
 
   pub at_first : IsAt 0 locale
   unfolding locale_at
@@ -43,21 +44,17 @@ module _ (document : Data) (part : Part) (locale : List ℕ) where
 
   module _ (n : ℕ) (current : List ℕ) (now : IsAt n current) (below : n < most_locales) where
     -- the locale is inside
-    inside_next : is_inside (language locale) current ≡ true → (m : ℕ) → m < n + 1 → IsInsideAt document part locale m
-    inside_next inside = below_more (IsInsideAt document part locale) n now.3 here
+    inside_next : is_inside locales current ≡ true → (m : ℕ) → m < n + 1 → IsInsideAt locales document part locale m
+    inside_next inside = below_more (IsInsideAt locales document part locale) n now.3 here
       where
-        here : IsInsideAt document part locale n
+        here : IsInsideAt locales document part locale n
         here other none is =
-            subst (λ (l : List ℕ). is_inside (language locale) l ≡ true) (ap (λ o. unwrap_or o current) (sym now.1 ∙ is)) inside
-
-    -- or not
-    pub leaves : is_inside (language locale) current ≡ false → ¬ StaysInside document part locale
-    leaves outside stays = true≢false (sym (stays n below current now.2 now.1) ∙ outside)
+            subst (λ (l : List ℕ). is_inside locales l ≡ true) (ap (λ o. unwrap_or o current) (sym now.1 ∙ is)) inside
 
     key_here : key n ≡ key_of (keys_under (part_name part) document) current
     key_here = ap (option_and_then (key_of (keys_under (part_name part) document))) now.1
 
-    pub goes_on : (next : List ℕ) → is_inside (language locale) current ≡ true → key_of (keys_under (part_name part) document) current ≡ None
+    pub goes_on : (next : List ℕ) → is_inside locales current ≡ true → key_of (keys_under (part_name part) document) current ≡ None
         → next_of (parent_in document) current ≡ Some next → IsAt (n + 1) next
     goes_on next inside none is = (
       omega arith,
@@ -67,21 +64,21 @@ module _ (document : Data) (part : Part) (locale : List ℕ) where
     )
 
     -- a key is found
-    pub finds : (found : List ℕ) → is_inside (language locale) current ≡ true → key_of (keys_under (part_name part) document) current ≡ Some found
-        → StaysInside document part locale
+    pub finds : (found : List ℕ) → is_inside locales current ≡ true → key_of (keys_under (part_name part) document) current ≡ Some found
+        → StaysInside locales document part locale
     finds found inside is m within other none here = by (nat_lt m (n + 1)) refl
       where
-        by : (b : Bool) → nat_lt m (n + 1) ≡ b → is_inside (language locale) other ≡ true
+        by : (b : Bool) → nat_lt m (n + 1) ≡ b → is_inside locales other ≡ true
         by true lower = inside_next inside m (grind (arith, common_steps, lower)) other none here
         by false higher =
             let after : n < m = grind (arith, common_steps, higher) in
             let never : Some found ≡ None = sym (key_here ∙ is) ∙ none n after in absurd (cc)
 
     -- or the chain ends
-    pub ends : is_inside (language locale) current ≡ true → next_of (parent_in document) current ≡ None → StaysInside document part locale
+    pub ends : is_inside locales current ≡ true → next_of (parent_in document) current ≡ None → StaysInside locales document part locale
     ends inside is m within other none here = by (nat_lt m (n + 1)) refl
       where
-        by : (b : Bool) → nat_lt m (n + 1) ≡ b → is_inside (language locale) other ≡ true
+        by : (b : Bool) → nat_lt m (n + 1) ≡ b → is_inside locales other ≡ true
         by true lower = inside_next inside m (grind (arith, common_steps, lower)) other none here
         by false higher =
             let after : n + 1 ≤ m = grind (arith, common_steps, higher) in
@@ -90,5 +87,5 @@ module _ (document : Data) (part : Part) (locale : List ℕ) where
             let never : Some other ≡ None = sym here ∙ over in absurd (cc)
 
   -- or all locales that are looked up are inside
-  pub stays_long : (n : ℕ) (current : List ℕ) → IsAt n current → ¬ (n < most_locales) → StaysInside document part locale
+  pub stays_long : (n : ℕ) (current : List ℕ) → IsAt n current → ¬ (n < most_locales) → StaysInside locales document part locale
   stays_long n current now all m within = now.3 m (omega (arith, now.0))

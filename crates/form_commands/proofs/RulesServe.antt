@@ -5,12 +5,11 @@ use Rattle.std.specs.declared.alloc.AllocError.{AllocError}
 use Rattle.plural_documents.specs.Inputs.{most_bytes}
 use Rattle.plural_fallback.specs.declared.locales.Part.{Part}
 use Rattle.serde_json.specs.Data.{Data}
-use Rattle.serde_json.specs.View.{view}
 use Rattle.serde_json.specs.declared.Value.{Value}
 use Rattle.form_commands.specs.FormsAnswers.{Answers}
 use Rattle.form_commands.specs.Inner.NoteSteps.{NotesAfter, Writes}
 use Rattle.form_commands.specs.Inner.RulesOutline.{Serves}
-use Rattle.form_commands.specs.Inner.RunSteps.{AnswersLines, GivesJsonValue, GivesRules, GivesRulesIn}
+use Rattle.form_commands.specs.Inner.RunSteps.{AnswersLines, GivesRules, GivesRulesIn}
 use Rattle.form_commands.specs.KeyNotes.{IsNote}
 use Rattle.form_commands.specs.PrintedTexts.{PrintedText}
 use Rattle.form_commands.specs.declared.error.FormsError.{FormsError}
@@ -19,14 +18,8 @@ use Rattle.form_commands.specs.declared.error.LanguageError.{LanguageError}
 use Rattle.form_commands.specs.declared.error.Verdict.{Verdict}
 use Rattle.form_commands.specs.declared.language.Language as code
 use Rattle.form_commands.proofs.AnswerLemmas.{document_in}
-use Rattle.form_commands.proofs.OutlineServes.{whole_serves}
 
 -- ---- The document
-
--- the value of the bytes serves
-pub value_serves : (part : Part) (locale bytes : List ℕ) (r : Result Value FormsError) → GivesJsonValue bytes r → GivesRulesIn part locale bytes r
-value_serves part locale bytes (Ok value) given = (view value, given, whole_serves part locale (view value))
-value_serves part locale bytes (Err error) given = given
 
 -- the bytes are those of the input
 pub rules_in : (part : Part) (locale input bytes : List ℕ) (r : Result Value FormsError) → bytes ≡ input → length input ≤ most_bytes

@@ -7,6 +7,8 @@ use Rattle.std.proofs.lemmas.List.Sums.{take_while-cons}
 use Rattle.std.proofs.lemmas.Slice.Eq.{bytes_eq-Decides}
 use Rattle.plural_fallback.specs.LocaleNames.{folded, is_same, is_separator, language}
 use Rattle.form_commands.specs.Inner.RulesOutline.{is_inside}
+use Rattle.form_commands.specs.declared.outline.KeptLocales.{KeptLocales}
+use Rattle.form_commands.specs.declared.outline.KeptLocales.TheVariants.{All, Of}
 
 -- a locale in lower case, and `_` as `-`
 abbrev pub folds : List ℕ → List ℕ
@@ -64,7 +66,8 @@ same_as : (one other third : List ℕ) → folds one ≡ folds other → is_same
 same_as one other third same = same_is one third ∙ ap (λ f. bytes_eq f (folds third)) same ∙ sym (same_is other third)
 
 -- of two locales that are the same both are inside, or none
-pub inside_same : (of_language one other : List ℕ) → is_same one other ≡ true → is_inside of_language one ≡ is_inside of_language other
-inside_same of_language one other same =
+pub inside_same : (locales : KeptLocales) (one other : List ℕ) → is_same one other ≡ true → is_inside locales one ≡ is_inside locales other
+inside_same (Of of_language) one other same =
     let alike = same_languages one other (same_folds one other same) in
-    rw (same_as (language one) (language other) of_language alike, same_as (language one) (language other) (codes "root") alike) refl
+    rw (same_as (language one) (language other) of_language.now alike, same_as (language one) (language other) (codes "root") alike) refl
+inside_same All one other same = refl

@@ -1,24 +1,33 @@
 //! The outline of a document of rules: what is kept of it serves one locale as the whole does.
 
-ghost use Rattle.std.specs.Prelude.{◌≡◌, IfOk, IfSome, IsTrue};
-ghost use Rattle.form_commands.specs.Inner.RulesOutline.{IsServedBy, StaysInside, is_inside, is_part};
+ghost use Rattle.std.specs.Prelude.{◌≡◌, IsTrue};
+ghost use Rattle.form_commands.specs.Inner.RulesOutline.{GivesRulesOutline, StaysInside, is_inside, is_part};
 ghost use Rattle.serde_json.specs.View.{view};
 
-use plural_documents::{Choice, Kept, json_outline};
+use plural_documents::{Choice, JsonTextError, Kept, json_outline};
 use plural_fallback::{Locales, MOST_LOCALES, Part, is_same, language, next_locale};
 use serde_json::Value;
-use std::alloc::{AllocError, Global};
+use std::alloc::Global;
 
-// The most bytes of a locale of a chain that is walked in an outline.
-const MOST_WALKED: usize = 256;
+// The most bytes of a locale of a chain that is walked in an outline: one that is looked up.
+const MOST_WALKED: usize = 64;
 
-// What is kept for the locales of a language.
+// The locales whose keys are kept.
+#[derive(Clone, Copy, Debug)]
+pub(crate) enum KeptLocales<'a> {
+    // Those of a language, and of `root`.
+    Of(&'a [u8]),
+    // All.
+    All,
+}
+
+// What is kept of a document of rules.
 #[derive(Clone, Copy, Debug)]
 pub(crate) enum RulesChoice<'a> {
     // Of a document this part and the parents.
-    Document(Part, &'a [u8]),
-    // Of a part the keys of the language, and those of `root`.
-    Keys(&'a [u8]),
+    Document(Part, KeptLocales<'a>),
+    // Of a part the keys of these locales.
+    Keys(KeptLocales<'a>),
 }
 
 impl<'a> Choice for RulesChoice<'a> {
@@ -28,12 +37,12 @@ impl<'a> Choice for RulesChoice<'a> {
 
     fn kept(&self, key: &str) -> Kept<RulesChoice<'a>> {
         match *self {
-            RulesChoice::Document(part, language) => if is_part(part, key) {
-                Kept::Members(RulesChoice::Keys(language))
+            RulesChoice::Document(part, locales) => if is_part(part, key) {
+                Kept::Members(RulesChoice::Keys(locales))
             } else {
                 Kept::Nothing
             },
-            RulesChoice::Keys(language) => if is_inside(language, key.as_bytes()) {
+            RulesChoice::Keys(locales) => if is_inside(locales, key.as_bytes()) {
                 Kept::Whole
             } else {
                 Kept::Nothing
@@ -49,45 +58,62 @@ fn is_part(part: Part, key: &str) -> bool
     key == part.as_str() || key == "parents"
 }
 
-// Returns whether a locale is of the language, or of `root`.
-fn is_inside(of_language: &[u8], locale: &[u8]) -> bool
-    ensures { result ≡ is_inside of_language.now locale.now }
+// Returns whether a locale is among the kept ones.
+fn is_inside(locales: KeptLocales<'_>, locale: &[u8]) -> bool
+    ensures { result ≡ is_inside locales.entry locale.now }
 {
-    let first = language(locale);
-    is_same(first, of_language) || is_same(first, b"root")
+    match locales {
+        KeptLocales::Of(of_language) => {
+            let first = language(locale);
+            is_same(first, of_language) || is_same(first, b"root")
+        }
+        KeptLocales::All => true,
+    }
 }
 
-// Returns what is kept of a document for a locale, if that serves as the whole does. It isn't told
-// of each document: of the others read the whole.
+// Returns what is kept of a document for a locale, which serves as the whole does: the keys of its
+// language, or all of its part, if its chain leaves that. The errors are those of the whole.
 pub(crate) fn rules_outline(
     alloc: Global,
     part: Part,
     locale: &str,
     bytes: &[u8],
-) -> Result<Option<Value>, AllocError>
-    ensures { IfOk result (λ told. IfSome told (λ outline. IsServedBy part locale.now bytes.now (view outline))) }
+) -> Result<Value, JsonTextError>
+    ensures { GivesRulesOutline part locale.now bytes.now result }
 {
-    let choice = RulesChoice::Document(part, language(locale.as_bytes()));
-    match json_outline(alloc, choice, bytes)? {
-        Some(outline) => if stays_inside(&outline, part, locale) {
-            Ok(Some(outline))
-        } else {
-            Ok(None)
-        },
-        None => Ok(None),
+    if locale.len() > MOST_WALKED {
+        return part_outline(alloc, part, locale, bytes);
     }
+    let own = KeptLocales::Of(language(locale.as_bytes()));
+    let outline = json_outline(alloc, RulesChoice::Document(part, own), bytes)?;
+    if stays_inside(&outline, part, locale, own) {
+        return Ok(outline);
+    }
+    drop(outline);
+    part_outline(alloc, part, locale, bytes)
 }
 
-// Returns whether the chain of a locale stays in its language or `root`, up to its first key. It
-// isn't told of a chain with a long locale, whose language is read at each step.
-fn stays_inside(document: &Value, part: Part, locale: &str) -> bool
-    ensures { IsTrue result → StaysInside (view document.now) part locale.now }
+// Returns all of the part and of the parents.
+fn part_outline(
+    alloc: Global,
+    part: Part,
+    locale: &str,
+    bytes: &[u8],
+) -> Result<Value, JsonTextError>
+    ensures { GivesRulesOutline part locale.now bytes.now result }
 {
-    let of_language = language(locale.as_bytes());
+    json_outline(alloc, RulesChoice::Document(part, KeptLocales::All), bytes)
+}
+
+// Returns whether the chain of a locale stays among these locales, up to its first key. It isn't
+// told of a chain with a long locale, whose language is read at each step.
+fn stays_inside(document: &Value, part: Part, locale: &str, locales: KeptLocales<'_>) -> bool
+    ensures { IsTrue result → StaysInside locales.entry (view document.now) part locale.now }
+{
     let mut current = locale.as_bytes();
     let mut steps = 0;
     while steps < MOST_LOCALES {
-        if current.len() > MOST_WALKED || !is_inside(of_language, current) {
+        if current.len() > MOST_WALKED || !is_inside(locales, current) {
             return false;
         }
         if let Some(_) = document.find_key(part, current) {

@@ -354,14 +354,14 @@ fn rules_of<R: Read>(
     }
 }
 
-// Returns the outline of bytes for a locale, or else their JSON value.
+// Returns what is kept of the JSON value of bytes for a locale.
 fn rules_in(alloc: Global, part: Part, locale: &str, bytes: &[u8]) -> Result<Value, FormsError>
     ensures { GivesRulesIn part locale.now bytes.now result }
 {
     match rules_outline(alloc, part, locale, bytes) {
-        Ok(Some(outline)) => Ok(outline),
-        Ok(None) => value_of(alloc, bytes),
-        Err(_) => Err(FormsError::Memory),
+        Ok(outline) => Ok(outline),
+        Err(JsonTextError::Json) => Err(FormsError::Json),
+        Err(JsonTextError::Memory) => Err(FormsError::Memory),
     }
 }
 

@@ -5,3 +5,4 @@ pub mod OutlineLemmas
 pub mod OutlineReading
 pub mod OutputLemmas
 pub mod PrintedChars
+pub mod ReadData

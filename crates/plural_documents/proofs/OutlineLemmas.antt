@@ -10,7 +10,7 @@ use Rattle.plural_documents.specs.Outlines.{outline, outline_members, with_membe
 use Rattle.plural_documents.specs.Inner.OutlineSteps.{kept_below, kept_by, members_by}
 use Rattle.plural_documents.specs.declared.outline.Kept.{Kept}
 use Rattle.plural_documents.specs.declared.outline.Kept.TheVariants as kept
-use Rattle.serde_json.specs.Data.{Data, null, boolean, number, string, array, object, Members, no_members, member, put}
+use Rattle.serde_json.specs.Data.{Data, Items, Num, null, boolean, number, string, array, object, Members, no_members, member, put}
 use Rattle.serde_json.specs.Find.{get_member}
 
 -- ---- Members in the order of their keys
@@ -193,6 +193,14 @@ module _ (C : Type 0) (keeps : C → List ℕ → Kept C) where
   pub null_kept : (choice : Option C) → outline keeps (kept_by choice) null ≡ Some null
   null_kept None = refl
   null_kept (Some choice) = refl
+
+  pub number_kept : (choice : Option C) (n : Num) → outline keeps (kept_by choice) (number n) ≡ Some (number n)
+  number_kept None n = refl
+  number_kept (Some choice) n = refl
+
+  pub array_kept : (choice : Option C) (items : Items) → outline keeps (kept_by choice) (array items) ≡ Some (array items)
+  array_kept None items = refl
+  array_kept (Some choice) items = refl
 
   pub object_kept : (choice : Option C) (ms : Members)
       → outline keeps (kept_by choice) (object ms) ≡ Some (object (members_by keeps choice ms))

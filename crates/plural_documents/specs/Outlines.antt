@@ -1,11 +1,12 @@
 -- The outline of a JSON value: a choice tells by the key of each member of an object whether all of
 -- it is kept, nothing, or what a further choice keeps of it.
 --     outline keeps kept value      what is kept of a value, if anything
---     GivesOutline keeps choice bytes result      the outline of the value that bytes write, or it
---         isn't told
-use Rattle.std.specs.Prelude.{◌≡◌, ℕ, ◌<◌, List, length, Option, Some, None, Result, Ok, Err, ⊤}
-use Rattle.std.specs.declared.alloc.AllocError.{AllocError}
+--     GivesOutline keeps choice bytes result      the outline of the value that bytes write, if
+--         they are a JSON text
+use Rattle.std.specs.Prelude.{◌≡◌, ℕ, ◌<◌, List, length, Option, Some, None, Result, Ok, Err}
 use Rattle.plural_documents.specs.Inputs.{json_of}
+use Rattle.plural_documents.specs.declared.json_text.JsonTextError.{JsonTextError}
+use Rattle.plural_documents.specs.declared.json_text.JsonTextError.TheVariants as fault
 use Rattle.plural_documents.specs.declared.outline.Kept.{Kept}
 use Rattle.plural_documents.specs.declared.outline.Kept.TheVariants as kept
 use Rattle.serde_json.specs.Data.{Data, null, boolean, number, string, array, object, Members, no_members, member}
@@ -34,10 +35,10 @@ abbrev mutual
   outline_members keeps choice (member key value members) =
       with_member key (outline keeps (keeps choice key) value) (outline_members keeps choice members)
 
--- the outline of the value that the bytes write; or it isn't told, or memory ran out, which needs a
+-- the outline of the value that the bytes write; or there is none, or memory ran out, which needs a
 -- byte
-abbrev pub GivesOutline : {C : Type 0} → (C → List ℕ → Kept C) → C → List ℕ → Result (Option Value) AllocError → Type 0
-GivesOutline keeps choice bytes (Ok None) = ⊤
-GivesOutline keeps choice bytes (Ok (Some value)) =
+abbrev pub GivesOutline : {C : Type 0} → (C → List ℕ → Kept C) → C → List ℕ → Result Value JsonTextError → Type 0
+GivesOutline keeps choice bytes (Ok value) =
     (whole : Data) × (json_of bytes ≡ Some whole) × (outline keeps (kept.Members choice) whole ≡ Some (view value))
-GivesOutline keeps choice bytes (Err error) = 0 < length bytes
+GivesOutline keeps choice bytes (Err fault.Json) = json_of bytes ≡ None
+GivesOutline keeps choice bytes (Err fault.Memory) = 0 < length bytes

@@ -1,19 +1,19 @@
 //! The outline of the JSON value that bytes write: what is kept of it, read in one pass.
 
-ghost use Rattle.std.specs.Prelude.{◌≡◌, ◌≢◌, ◌<◌, Err, IfOk, OnOk, length};
-ghost use Rattle.plural_documents.specs.Inner.OutlineSteps.{AreReadAs, IsKept, IsPassed, IsReadAs, kept_below};
+ghost use Rattle.std.specs.Prelude.{◌≡◌, ◌<◌, Err, IfOk, None, OnOk, Some, false, length, option_map, true};
+ghost use Rattle.plural_documents.specs.Inner.OutlineSteps.{AreReadAs, IsKept, IsNoValue, IsPassed, IsReadAs, kept_below, items_read, members_read};
 ghost use Rattle.plural_documents.specs.Outlines.{GivesOutline};
-ghost use Rattle.serde_json.specs.View.{members_view, view};
+ghost use Rattle.serde_json.specs.Read.{number_from, number_of};
+ghost use Rattle.serde_json.specs.View.{items_view, members_view, number_view, view};
 
+use crate::json_text::JsonTextError;
+use fast_float::Numeral;
 use json::{Invalid, Reader, Scratch, Token};
-use serde_json::{Map, Value};
+use serde_json::{Map, Number, Value};
 use std::alloc::{AllocError, AllocFailed, Global};
 
 // How deep arrays and objects nest at most, as in what `serde_json` reads.
 const MOST_NESTED: usize = 127;
-
-// Up to this many members of an object may be kept while fewer are passed.
-const FEW_KEPT: u64 = 64;
 
 /// What is kept of a value.
 #[derive(Clone, Copy, Debug)]
@@ -39,94 +39,79 @@ pub trait Choice: Copy {
         ensures { result ≡ keeps self.now key.now };
 }
 
-// Why there is no outline.
+// Why there is no value.
 #[derive(Clone, Copy, Debug)]
 enum Stop {
-    // The text isn't told.
-    NotTold,
+    // The text is no JSON.
+    Json,
     // Out of memory.
     Memory,
 }
 
 impl From<Invalid> for Stop {
+    ghost use Rattle.plural_documents.specs.declared.outline.Stop.TheVariants.{Json};
+    ghost use Rattle.std.specs.Prelude.{◌≡◌};
+
+    ghost from_gives = { λ _ stop. stop ≡ Json };
+
     fn from(_invalid: Invalid) -> Stop {
-        Stop::NotTold
+        Stop::Json
     }
 }
 
 impl From<AllocError> for Stop {
+    ghost use Rattle.plural_documents.specs.declared.outline.Stop.TheVariants.{Memory};
+    ghost use Rattle.std.specs.Prelude.{◌≡◌};
+
+    ghost from_gives = { λ _ stop. stop ≡ Memory };
+
     fn from(_refused: AllocError) -> Stop {
         Stop::Memory
     }
 }
 
 impl<T: Drop> From<AllocFailed<T>> for Stop {
+    ghost use Rattle.plural_documents.specs.declared.outline.Stop.TheVariants.{Memory};
+    ghost use Rattle.std.specs.Prelude.{◌≡◌};
+
+    ghost from_gives = { λ _ stop. stop ≡ Memory };
+
     fn from(_refused: AllocFailed<T>) -> Stop {
         Stop::Memory
     }
 }
 
-/// Returns the outline of the JSON value that the bytes write, or that it isn't told. It allocates;
-/// the only error is out of memory, which no bytes are.
-///
-/// It is told of no bytes that aren't a JSON text, of no value with an array or a number in it, and
-/// of no object of which the choice keeps more than 64 members, and more than it passes: ask
-/// [`json_value`](crate::json_value) then.
+/// Returns the outline of the JSON value that the bytes write: what the choice keeps of what
+/// [`json_value`](crate::json_value) returns, with the same errors. All of the text is read, and
+/// only what is kept is built. It allocates.
 pub fn json_outline<C: Choice>(
     alloc: Global,
     choice: C,
     bytes: &[u8],
-) -> Result<Option<Value>, AllocError>
+) -> Result<Value, JsonTextError>
     ensures { GivesOutline C.keeps choice bytes.now result }
 {
     let Ok(text) = simdutf8::basic::from_utf8(bytes) else {
-        return Ok(None);
+        return Err(JsonTextError::Json);
     };
     let mut scratch = Scratch::new(alloc);
-    let mut reader = Reader::new(text, &mut scratch)?;
+    let Ok(mut reader) = Reader::new(text, &mut scratch) else {
+        return Err(JsonTextError::Memory);
+    };
     match read(alloc, &mut reader, Some(choice), MOST_NESTED) {
         Ok(value) => if reader.next().is_none() {
-            Ok(Some(value))
+            Ok(value)
         } else {
-            Ok(None)
+            Err(JsonTextError::Json)
         },
-        Err(Stop::NotTold) => Ok(None),
-        Err(Stop::Memory) => Err(AllocError),
-    }
-}
-
-// How many members of an object were kept and passed by a choice.
-#[derive(Clone, Copy)]
-struct Balance {
-    kept: u64,
-    passed: u64,
-}
-
-impl Balance {
-    fn new() -> Balance {
-        Balance { kept: 0, passed: 0 }
-    }
-
-    // Counts a member that is passed.
-    fn count_passed(&mut self) {
-        self.passed = self.passed.saturating_add(1);
-    }
-
-    // Counts a member that is kept. An outline that keeps most of many gains nothing, and isn't
-    // told: the whole may still have to be read.
-    fn count_kept(&mut self) -> Result<(), Stop>
-        ensures { result ≢ Err Stop.Memory }
-    {
-        self.kept = self.kept.saturating_add(1);
-        if self.kept > FEW_KEPT && self.kept > self.passed {
-            return Err(Stop::NotTold);
-        }
-        Ok(())
+        Err(Stop::Json) => Err(JsonTextError::Json),
+        Err(Stop::Memory) => Err(JsonTextError::Memory),
     }
 }
 
 // Reads a value: what the choice keeps of it, or all of it.
 #[cycle(read)]
+#[inline(always)]
 fn read<C: Choice>(
     alloc: Global,
     reader: &mut Reader<'_>,
@@ -134,18 +119,53 @@ fn read<C: Choice>(
     depth: usize,
 ) -> Result<Value, Stop>
     ensures read { IfOk result (λ value. IsReadAs C.keeps choice depth reader.old (view value) reader.new) }
+    ensures refused { result ≡ Err Stop.Json → IsNoValue depth reader.old }
     ensures memory { result ≡ Err Stop.Memory → 0 < length reader.old }
     ensures shorter { OnOk result (length reader.new < length reader.old) }
 {
-    match reader.next() {
-        Some(Token::String(text)) => Ok(Value::String(String::from_str(alloc, text)?)),
-        Some(Token::Bool(truth)) => Ok(Value::Bool(truth)),
-        Some(Token::Null) => Ok(Value::Null),
-        Some(Token::BeginObject) if depth > 0 => {
+    let Some(token) = reader.next() else {
+        return Err(Stop::Json);
+    };
+    match token {
+        Token::String(text) => Ok(Value::String(String::from_str(alloc, text)?)),
+        Token::Number(text) => match number(text) {
+            Some(number) => Ok(Value::Number(number)),
+            None => Err(Stop::Json),
+        },
+        Token::Bool(truth) => Ok(Value::Bool(truth)),
+        Token::Null => Ok(Value::Null),
+        Token::BeginArray => {
+            if depth == 0 {
+                return Err(Stop::Json);
+            }
+            Ok(Value::Array(read_items::<C>(alloc, reader, depth - 1)?))
+        }
+        Token::BeginObject => {
+            if depth == 0 {
+                return Err(Stop::Json);
+            }
             Ok(Value::Object(read_members(alloc, reader, choice, depth - 1)?))
         }
-        _ => Err(Stop::NotTold),
+        Token::EndObject | Token::EndArray | Token::Key(_) | Token::Bad => Err(Stop::Json),
     }
+}
+
+// Reads all items of an array.
+#[cycle(read)]
+fn read_items<C: Choice>(
+    alloc: Global,
+    reader: &mut Reader<'_>,
+    depth: usize,
+) -> Result<Vec<Value>, Stop>
+    ensures read { IfOk result (λ items. items_read depth reader.old ≡ Some (items_view items.items, reader.new)) }
+    ensures refused { result ≡ Err Stop.Json → items_read depth reader.old ≡ None }
+    ensures shorter { OnOk result (length reader.new < length reader.old) }
+{
+    let mut items = Vec::new(alloc);
+    'items: while !reader.take_end_array() {
+        items.push(read::<C>(alloc, reader, None, depth)?)?;
+    }
+    Ok(items)
 }
 
 // Reads the members of an object: those that the choice keeps, or all.
@@ -157,23 +177,19 @@ fn read_members<C: Choice>(
     depth: usize,
 ) -> Result<Map<String, Value>, Stop>
     ensures read { IfOk result (λ members. AreReadAs C.keeps choice depth reader.old (members_view members.entries) reader.new) }
+    ensures refused { result ≡ Err Stop.Json → members_read depth reader.old ≡ None }
     ensures shorter { OnOk result (length reader.new < length reader.old) }
 {
     let mut members = Map::new(alloc);
-    let mut balance = Balance::new();
     'members: while let Some(key) = reader.next_key()? {
         let below = match kept_below(choice, key) {
             Kept::Nothing => {
-                balance.count_passed();
                 pass(reader, depth)?;
                 continue;
             }
             Kept::Whole => None,
             Kept::Members(inner) => Some(inner),
         };
-        if choice.is_some() {
-            balance.count_kept()?;
-        }
         keep(alloc, reader, below, depth, key, &mut members)?;
     }
     Ok(members)
@@ -191,6 +207,7 @@ fn keep<C: Choice>(
 ) -> Result<(), Stop>
     ensures kept { OnOk result (IsKept C.keeps choice depth key.now reader.old reader.new
         (members_view members.old.entries) (members_view members.new.entries)) }
+    ensures refused { result ≡ Err Stop.Json → IsNoValue depth reader.old }
     ensures shorter { OnOk result (length reader.new < length reader.old) }
 {
     let name = String::from_str(alloc, key)?;
@@ -212,18 +229,70 @@ fn kept_below<C: Choice>(choice: Option<C>, key: &str) -> Kept<C>
 // Passes a value of which nothing is kept.
 fn pass(reader: &mut Reader<'_>, depth: usize) -> Result<(), Stop>
     ensures passed { OnOk result (IsPassed depth reader.old reader.new) }
+    ensures refused { result ≡ Err Stop.Json → IsNoValue depth reader.old }
     ensures shorter { OnOk result (length reader.new < length reader.old) }
 {
-    match reader.next() {
-        Some(Token::String(_)) => Ok(()),
-        Some(Token::Bool(_)) => Ok(()),
-        Some(Token::Null) => Ok(()),
-        Some(Token::BeginObject) if depth > 0 => {
-            while let Some(_) = reader.next_key()? {
+    let Some(token) = reader.next() else {
+        return Err(Stop::Json);
+    };
+    match token {
+        Token::String(_) => Ok(()),
+        Token::Number(text) => match number(text) {
+            Some(_) => Ok(()),
+            None => Err(Stop::Json),
+        },
+        Token::Bool(_) => Ok(()),
+        Token::Null => Ok(()),
+        Token::BeginArray => {
+            if depth == 0 {
+                return Err(Stop::Json);
+            }
+            'items: while !reader.take_end_array() {
                 pass(reader, depth - 1)?;
             }
             Ok(())
         }
-        _ => Err(Stop::NotTold),
+        Token::BeginObject => {
+            if depth == 0 {
+                return Err(Stop::Json);
+            }
+            'members: while let Some(_) = reader.next_key()? {
+                pass(reader, depth - 1)?;
+            }
+            Ok(())
+        }
+        Token::EndObject | Token::EndArray | Token::Key(_) | Token::Bad => Err(Stop::Json),
+    }
+}
+
+// Returns the number that a text writes. One that is too large for a float is none.
+fn number(text: &str) -> Option<Number>
+    ensures { option_map number_view result ≡ number_of text.now }
+{
+    let bytes = text.as_bytes();
+    if text.starts_with('-') {
+        below_zero(&Numeral::scan(&bytes[1..]))
+    } else {
+        from_zero(&Numeral::scan(bytes))
+    }
+}
+
+// The same of a numeral without a sign: an integer below 2^64, or a float.
+fn from_zero(numeral: &Numeral<'_>) -> Option<Number>
+    ensures { option_map number_view result ≡ number_from false numeral.now }
+{
+    match numeral.to_u64() {
+        Some(integer) => Some(Number::from(integer)),
+        None => Number::from_f64(numeral.to_float::<f64>(false)),
+    }
+}
+
+// The same of the numeral behind a minus.
+fn below_zero(numeral: &Numeral<'_>) -> Option<Number>
+    ensures { option_map number_view result ≡ number_from true numeral.now }
+{
+    match numeral.to_i64(true) {
+        Some(integer) if integer < 0 => Some(Number::from(integer)),
+        _ => Number::from_f64(numeral.to_float::<f64>(true)),
     }
 }

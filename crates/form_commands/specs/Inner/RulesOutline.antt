@@ -1,7 +1,9 @@
 -- Not a definition of the subject: what is kept of a document of rules for one locale, and when it
 -- serves as the whole does.
-use Rattle.std.specs.Prelude.{◌≡◌, ℕ, ◌<◌, List, codes, Bool, true, ◌||◌, bytes_eq, Some, Result, if◌then◌else◌}
+use Rattle.std.specs.Prelude.{◌≡◌, ℕ, ◌<◌, List, codes, Bool, true, ◌||◌, bytes_eq, length, Some, None, Result, Ok, Err, if◌then◌else◌}
 use Rattle.plural_documents.specs.Inputs.{json_of}
+use Rattle.plural_documents.specs.declared.JsonTextError.{JsonTextError}
+use Rattle.plural_documents.specs.declared.JsonTextError.TheVariants as fault
 use Rattle.plural_documents.specs.declared.Kept.{Kept}
 use Rattle.plural_documents.specs.declared.Kept.TheVariants as kept
 use Rattle.plural_fallback.specs.Chain.{next_of}
@@ -10,39 +12,43 @@ use Rattle.plural_fallback.specs.LocaleNames.{is_same, language}
 use Rattle.plural_fallback.specs.LocalesJson.{parent_in, part_name}
 use Rattle.plural_fallback.specs.declared.locales.Part.{Part}
 use Rattle.serde_json.specs.Data.{Data}
+use Rattle.serde_json.specs.View.{view}
+use Rattle.serde_json.specs.declared.Value.{Value}
 use Rattle.form_commands.specs.KeyNotes.{IsNote}
 use Rattle.form_commands.specs.Languages.{IsFoundFor, key_after, most_locales}
 use Rattle.form_commands.specs.declared.error.LanguageError.{LanguageError}
 use Rattle.form_commands.specs.declared.language.Language.{Language}
+use Rattle.form_commands.specs.declared.outline.KeptLocales.{KeptLocales}
+use Rattle.form_commands.specs.declared.outline.KeptLocales.TheVariants.{All, Of}
 use Rattle.form_commands.specs.declared.outline.RulesChoice.{RulesChoice}
 use Rattle.form_commands.specs.declared.outline.RulesChoice.TheVariants.{Document, Keys}
 
 -- ---- What is kept
 
--- a locale is of the language, or of `root`
-abbrev pub is_inside : List ℕ → List ℕ → Bool
-is_inside of_language locale = is_same (language locale) of_language || is_same (language locale) (codes "root")
+-- a locale is among the kept ones
+abbrev pub is_inside : KeptLocales → List ℕ → Bool
+is_inside (Of of_language) locale = is_same (language locale) of_language.now || is_same (language locale) (codes "root")
+is_inside All locale = true
 
 -- a key of a document is that of the part or of the parents
 abbrev pub is_part : Part → List ℕ → Bool
 is_part part key = bytes_eq key (part_name part) || bytes_eq key (codes "parents")
 
 abbrev pub keeps : RulesChoice → List ℕ → Kept RulesChoice
-keeps (Document part of_language) key = if is_part part key then kept.Members (Keys of_language) else kept.Nothing
-keeps (Keys of_language) key = if is_inside of_language.now key then kept.Whole else kept.Nothing
+keeps (Document part locales) key = if is_part part key then kept.Members (Keys locales) else kept.Nothing
+keeps (Keys locales) key = if is_inside locales key then kept.Whole else kept.Nothing
 
 -- ---- When it serves
 
--- the locale after some steps of the chain, none of which has a key, is of the language of the first
--- one or of `root`
-abbrev pub IsInsideAt : Data → Part → List ℕ → ℕ → Type 0
-IsInsideAt document part locale n =
+-- the locale after some steps of the chain, none of which has a key, is among the kept ones
+abbrev pub IsInsideAt : KeptLocales → Data → Part → List ℕ → ℕ → Type 0
+IsInsideAt locales document part locale n =
     (current : List ℕ) → NoneBefore n (key_after document part locale)
-    → locale_at (next_of (parent_in document)) locale n ≡ Some current → is_inside (language locale) current ≡ true
+    → locale_at (next_of (parent_in document)) locale n ≡ Some current → is_inside locales current ≡ true
 
 -- so are all, up to the first one that has a key
-abbrev pub StaysInside : Data → Part → List ℕ → Type 0
-StaysInside document part locale = (n : ℕ) → n < most_locales → IsInsideAt document part locale n
+abbrev pub StaysInside : KeptLocales → Data → Part → List ℕ → Type 0
+StaysInside locales document part locale = (n : ℕ) → n < most_locales → IsInsideAt locales document part locale n
 
 -- what is found for the locale is found in the whole
 abbrev pub Serves : Part → List ℕ → Data → Data → Type 0
@@ -53,3 +59,9 @@ Serves part locale document whole =
 -- the same of the value that the bytes write
 abbrev pub IsServedBy : Part → List ℕ → List ℕ → Data → Type 0
 IsServedBy part locale bytes document = (whole : Data) × (json_of bytes ≡ Some whole) × Serves part locale document whole
+
+-- a value serves; or the bytes are no JSON text, or memory ran out, which needs a byte
+abbrev pub GivesRulesOutline : Part → List ℕ → List ℕ → Result Value JsonTextError → Type 0
+GivesRulesOutline part locale bytes (Ok value) = IsServedBy part locale bytes (view value)
+GivesRulesOutline part locale bytes (Err fault.Json) = json_of bytes ≡ None
+GivesRulesOutline part locale bytes (Err fault.Memory) = 0 < length bytes

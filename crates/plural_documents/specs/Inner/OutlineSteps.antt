@@ -5,8 +5,8 @@ use Rattle.json.specs.Token.{Token}
 use Rattle.plural_documents.specs.Outlines.{outline, outline_members}
 use Rattle.plural_documents.specs.declared.outline.Kept.{Kept}
 use Rattle.plural_documents.specs.declared.outline.Kept.TheVariants as kept
-use Rattle.serde_json.specs.Data.{Data, Members, no_members, put}
-use Rattle.serde_json.specs.Read.{of_json, of_members}
+use Rattle.serde_json.specs.Data.{Data, Items, Members, no_members, put}
+use Rattle.serde_json.specs.Read.{of_items, of_json, of_members, converted}
 
 -- ---- With or without a choice
 
@@ -27,13 +27,19 @@ members_by keeps (Some choice) members = outline_members keeps choice members
 
 -- the tokens begin with a value, and these are left after it
 abbrev pub IsValue : ℕ → List Token → Data → List Token → Type 0
-IsValue depth old whole new = (text : json.Json) × (json.value depth old ≡ Some (text, new)) × (of_json text ≡ Some whole)
+IsValue depth old whole new = converted of_json (json.value depth old) ≡ Some (whole, new)
+
+-- they begin with none
+abbrev pub IsNoValue : ℕ → List Token → Type 0
+IsNoValue depth old = converted of_json (json.value depth old) ≡ None
+
+-- the items of an array with which they begin, and what is left after it
+abbrev pub items_read : ℕ → List Token → Option (Items × List Token)
+items_read depth old = converted of_items (json.items (json.value depth) (length old) old)
 
 -- the same of the members of an object
-abbrev pub AreMembers : ℕ → List Token → Members → List Token → Type 0
-AreMembers depth old whole new =
-    (text : json.Members) × (json.members (json.value depth) (length old) old ≡ Some (text, new))
-    × (of_members text no_members ≡ Some whole)
+abbrev pub members_read : ℕ → List Token → Option (Members × List Token)
+members_read depth old = converted (λ ms. of_members ms no_members) (json.members (json.value depth) (length old) old)
 
 -- some value is passed
 abbrev pub IsPassed : ℕ → List Token → List Token → Type 0
@@ -46,7 +52,7 @@ IsReadAs keeps choice depth old read new =
 
 abbrev pub AreReadAs : {C : Type 0} → (C → List ℕ → Kept C) → Option C → ℕ → List Token → Members → List Token → Type 0
 AreReadAs keeps choice depth old read new =
-    (whole : Members) × AreMembers depth old whole new × (members_by keeps choice whole ≡ read)
+    (whole : Members) × (members_read depth old ≡ Some (whole, new)) × (members_by keeps choice whole ≡ read)
 
 -- a value is read as its outline, which goes in among other members
 abbrev pub IsKept : {C : Type 0} → (C → List ℕ → Kept C) → Option C → ℕ → List ℕ → List Token → List Token → Members → Members → Type 0

@@ -1,8 +1,7 @@
-//! Of which documents an outline is told. The contract says what an outline keeps, and not that
-//! there is one: a body that never tells any would be proved.
+//! Outlines of documents, beside their values.
 
 use crate::tests::assertion::holds;
-use plural_documents::{Choice, Kept, json_outline};
+use plural_documents::{Choice, JsonTextError, Kept, json_outline, json_value};
 use std::test::Fail;
 
 // The members with this key alone.
@@ -24,14 +23,28 @@ impl<'a> Choice for Only<'a> {
     }
 }
 
+// Returns whether a document has this outline; if none, it has to be no JSON.
+fn has_outline(rt: &HostRuntime, key: &str, text: &str, want: Option<&str>) -> Result<bool, Fail> {
+    match (json_outline(rt.alloc(), Only(key), text.as_bytes()), want) {
+        (Ok(outline), Some(want)) => {
+            let printed = outline.to_string(rt.alloc())?;
+            Ok(printed.as_str() == want)
+        }
+        (Err(JsonTextError::Json), None) => Ok(json_value(rt.alloc(), text.as_bytes()).is_err()),
+        _ => Ok(false),
+    }
+}
+
 #[test]
-fn outlines_are_told_of_objects_texts_truths_and_nulls(rt: HostRuntime) -> Result<(), Fail> {
+fn outlines_keep_members_by_their_keys(rt: HostRuntime) -> Result<(), Fail> {
     // A document, and its outline.
     let rows = [
         ("{}", Some("{}")),
         (" \"b\" ", Some("\"b\"")),
         ("null", Some("null")),
         ("false", Some("false")),
+        ("-1", Some("-1")),
+        ("[1, {\"b\": []}]", Some("[1,{\"b\":[]}]")),
         ("{\"a\": \"x\", \"b\": \"y\"}", Some("{\"a\":\"x\"}")),
         (
             "{\"b\": {\"a\": \"x\"}, \"a\": {\"b\": null, \"c\": {\"d\": true}}}",
@@ -42,82 +55,60 @@ fn outlines_are_told_of_objects_texts_truths_and_nulls(rt: HostRuntime) -> Resul
             "{\"a\": \"x\", \"\\u0061\": \"\\u00e9\"}",
             Some("{\"a\":\"é\"}"),
         ),
-        // A number or an array anywhere, and a fault.
-        ("{\"a\": 1}", None),
-        ("{\"a\": \"x\", \"b\": 1}", None),
-        ("{\"a\": []}", None),
-        ("{\"a\": \"x\", \"b\": []}", None),
+        // Numbers and arrays, kept and passed.
+        ("{\"a\": 1}", Some("{\"a\":1}")),
+        ("{\"a\": [-2, [], \"x\"]}", Some("{\"a\":[-2,[],\"x\"]}")),
+        ("{\"a\": \"x\", \"b\": 1}", Some("{\"a\":\"x\"}")),
+        ("{\"b\": 18446744073709551615}", Some("{}")),
+        ("{\"b\": 18446744073709551616}", Some("{}")),
+        ("{\"b\": -9223372036854775809}", Some("{}")),
+        ("{\"b\": 1e308}", Some("{}")),
+        ("{\"b\": [-0, 1.5e3, {\"a\": [2]}, \"\"]}", Some("{}")),
+        // Faults: in what is kept, in what is passed, and after the value.
+        ("{\"a\": 1e999}", None),
+        ("{\"b\": -1e999}", None),
+        ("{\"b\": [1e999]}", None),
+        ("{\"a\": [1,]}", None),
+        ("{\"b\": [1,]}", None),
+        ("{\"b\": [1}", None),
+        ("{\"b\": 01}", None),
         ("{\"a\": \"x\", \"b\"}", None),
         ("{\"a\": \"x\"", None),
         ("{} {}", None),
         ("", None),
     ];
     for (text, want) in rows {
-        match json_outline(rt.alloc(), Only("a"), text.as_bytes())? {
-            Some(outline) => {
-                let printed = outline.to_string(rt.alloc())?;
-                holds!(rt; Some(printed.as_str()) == want, text);
-            }
-            None => holds!(rt; want.is_none(), text),
-        }
+        holds!(rt; has_outline(&rt, "a", text, want)?, text);
     }
     Ok(())
 }
 
-// As many objects in each other as this.
-fn nested(rt: &HostRuntime, depth: usize) -> Result<String, Fail> {
-    let mut text = String::new(rt.alloc());
+// As many objects or arrays in each other as this, under a key.
+fn nested(rt: &HostRuntime, begin: &str, end: &str, depth: usize) -> Result<String, Fail> {
+    let mut text = String::from_str(rt.alloc(), "{\"a\": ")?;
     for _ in 1..depth {
-        text.push_str("{\"a\": ")?;
+        text.push_str(begin)?;
     }
-    text.push_str("{}")?;
+    text.push_str("null")?;
     for _ in 1..depth {
-        text.push_str("}")?;
+        text.push_str(end)?;
     }
+    text.push_str("}")?;
     Ok(text)
 }
 
 #[test]
-fn objects_nest_as_deep_as_serde_json_reads_them(rt: HostRuntime) -> Result<(), Fail> {
+fn values_nest_as_deep_as_serde_json_reads_them(rt: HostRuntime) -> Result<(), Fail> {
     for (depth, is_told) in [(1, true), (2, true), (127, true), (128, false)] {
-        let text = nested(&rt, depth)?;
-        let bytes = text.as_str().as_bytes();
-        for key in ["a", "b"] {
-            let outline = json_outline(rt.alloc(), Only(key), bytes)?;
-            holds!(rt; outline.is_some() == is_told, at depth);
+        for (begin, end) in [("{\"a\": ", "}"), ("[", "]")] {
+            let text = nested(&rt, begin, end, depth)?;
+            let bytes = text.as_str().as_bytes();
+            holds!(rt; json_value(rt.alloc(), bytes).is_ok() == is_told, at depth);
+            for key in ["a", "b"] {
+                let outline = json_outline(rt.alloc(), Only(key), bytes);
+                holds!(rt; outline.is_ok() == is_told, at depth);
+            }
         }
-    }
-    Ok(())
-}
-
-// Members with the key `a`, after others.
-fn repeated(rt: &HostRuntime, kept: u32, passed: u32) -> Result<String, Fail> {
-    let mut text = String::from_str(rt.alloc(), "{")?;
-    for _ in 0..passed {
-        text.push_str("\"b\": null, ")?;
-    }
-    for _ in 1..kept {
-        text.push_str("\"a\": null, ")?;
-    }
-    text.push_str("\"a\": null}")?;
-    Ok(text)
-}
-
-#[test]
-fn outlines_that_keep_most_of_many_members_are_not_told(rt: HostRuntime) -> Result<(), Fail> {
-    // How many members are kept and passed, and whether an outline is told.
-    let rows = [
-        (64, 0, true),
-        (65, 0, false),
-        (65, 64, false),
-        (65, 65, true),
-        (200, 199, false),
-        (200, 200, true),
-    ];
-    for (kept, passed, is_told) in rows {
-        let text = repeated(&rt, kept, passed)?;
-        let outline = json_outline(rt.alloc(), Only("a"), text.as_str().as_bytes())?;
-        holds!(rt; outline.is_some() == is_told, at (kept, passed));
     }
     Ok(())
 }

@@ -1,6 +1,5 @@
-use Rattle.std.proofs.Common.{◌≡◌, ℕ, ◌<◌, List, true, false, ap, arith, rules, sym, ◌∙◌}
+use Rattle.std.proofs.Common.{◌≡◌, ℕ, ◌<◌, List, true, ap, arith, rules, sym, ◌∙◌}
 use Rattle.std.specs.Option.{option_copied}
-use Rattle.plural_fallback.specs.LocaleNames.{language}
 use Rattle.serde_json.specs.View.{view}
 use Rattle.form_commands.specs.Inner.RulesOutline.{is_inside}
 use Rattle.form_commands.specs.Languages.{most_locales}
@@ -8,40 +7,34 @@ use Rattle.form_commands.proofs.OutlineStays.{at_first, ends, finds, goes_on, st
 use Rattle.form_commands.proofs.outline.stays_inside.Goals as goal
 
 pub loop-steps-init : goal.loop-steps-init
-loop-steps-init c = rw c.as_bytes-current.ensures.value (at_first (view c.args.document.now) c.args.part c.args.locale.now)
+loop-steps-init c = rw c.as_bytes-current.ensures.value (at_first c.args.locales (view c.args.document.now) c.args.part c.args.locale.now)
 
 pub returns-in-Some : goal.returns-in-Some
 returns-in-Some c told =
     let l = c.loop-steps in
     let below : l.steps < most_locales = omega arith in
-    let of_language : c.language-of_language.result.now ≡ language c.args.locale.now =
-    c.language-of_language.ensures ∙ ap language c.as_bytes.ensures.value in
-    let inside : is_inside c.language-of_language.result.now l.current.now ≡ true = search rules in
-    finds (view c.args.document.now) c.args.part c.args.locale.now l.steps l.current.now l.invariant below c.in-Some.field-0.now
-    (rw of_language at inside) (sym c.find_key.ensures ∙ ap (option_copied {T = List ℕ}) c.in-Some.is)
+    let inside : is_inside c.args.locales l.current.now ≡ true = search rules in
+    finds c.args.locales (view c.args.document.now) c.args.part c.args.locale.now l.steps l.current.now l.invariant below c.in-Some.field-0.now
+    inside (sym c.find_key.ensures ∙ ap (option_copied {T = List ℕ}) c.in-Some.is)
 
 pub returns-in_default-next_locale : goal.returns-in_default-next_locale
 returns-in_default-next_locale c told =
     let l = c.loop-steps in
     let below : l.steps < most_locales = omega arith in
-    let of_language : c.language-of_language.result.now ≡ language c.args.locale.now =
-    c.language-of_language.ensures ∙ ap language c.as_bytes.ensures.value in
-    let inside : is_inside c.language-of_language.result.now l.current.now ≡ true = search rules in
-    ends (view c.args.document.now) c.args.part c.args.locale.now l.steps l.current.now l.invariant below (rw of_language at inside)
+    let inside : is_inside c.args.locales l.current.now ≡ true = search rules in
+    ends c.args.locales (view c.args.document.now) c.args.part c.args.locale.now l.steps l.current.now l.invariant below inside
     (sym c.next_locale.ensures ∙ ap (option_copied {T = List ℕ}) c.in_default-next_locale.is)
 
 pub loop-steps-preserved : goal.loop-steps-preserved
 loop-steps-preserved c =
     let l = c.loop-steps in
     let below : l.steps < most_locales = omega arith in
-    let of_language : c.language-of_language.result.now ≡ language c.args.locale.now =
-    c.language-of_language.ensures ∙ ap language c.as_bytes.ensures.value in
-    let inside : is_inside c.language-of_language.result.now l.current.now ≡ true = search rules in
-    goes_on (view c.args.document.now) c.args.part c.args.locale.now l.steps l.current.now l.invariant below c.in-Some-next_locale.next.now
-    (rw of_language at inside) (sym c.find_key.ensures ∙ ap (option_copied {T = List ℕ}) c.in_default.is)
+    let inside : is_inside c.args.locales l.current.now ≡ true = search rules in
+    goes_on c.args.locales (view c.args.document.now) c.args.part c.args.locale.now l.steps l.current.now l.invariant below c.in-Some-next_locale.next.now
+    inside (sym c.find_key.ensures ∙ ap (option_copied {T = List ℕ}) c.in_default.is)
     (sym c.next_locale.ensures ∙ ap (option_copied {T = List ℕ}) c.in-Some-next_locale.is)
 
 pub returns : goal.returns
 returns c told =
     let l = c.loop-steps in
-    stays_long (view c.args.document.now) c.args.part c.args.locale.now l.steps l.current.now l.invariant (λ below. absurd (omega arith))
+    stays_long c.args.locales (view c.args.document.now) c.args.part c.args.locale.now l.steps l.current.now l.invariant (λ below. absurd (omega arith))

@@ -5,7 +5,7 @@ use Rattle.form_commands.proofs.outline.stays_inside.Given as goal
 
 -- the current locale is the one after so many steps
 abbrev pub invariant-loop-steps : goal.invariant-loop-steps
-invariant-loop-steps l = IsAt (view l.document) l.part l.locale l.steps l.current
+invariant-loop-steps l = IsAt l.locales (view l.document) l.part l.locale l.steps l.current
 
 abbrev pub decreases-loop-steps : goal.decreases-loop-steps
 decreases-loop-steps l = 32 - l.steps

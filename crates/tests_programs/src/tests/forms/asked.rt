@@ -12,6 +12,16 @@ use std::io::{Read, Write};
 // The rules that are asked, and the lines of numbers.
 pub(crate) const RULES: &[u8] = br#"{"cardinal":{"en":{"one":"i = 1 and v = 0"}}}"#;
 
+// The same rules beside a number and an array.
+pub(crate) const BESIDE_A_NUMBER: &[u8] =
+    br#"{"x":[1,-2.5],"cardinal":{"en":{"one":"i = 1 and v = 0"}},"y":1}"#;
+
+// The same rules under a key of another language, for which the chain leaves its own.
+pub(crate) const OF_ANOTHER_LANGUAGE: &[u8] =
+    br#"{"parents":{"en":"fr"},"cardinal":{"fr":{"one":"i = 1 and v = 0"}}}"#;
+
+pub(crate) const NOTE_OF_ANOTHER_LANGUAGE: &str = "plural_forms: en-GB: cardinal rules of fr\n";
+
 pub(crate) const LINES: &[u8] = b"1\n2";
 
 const MESSAGES: &str = r#"{"en-GB":{"cardinal":{"files":{"one":"a file","other":"{} files"}}}}"#;

@@ -2,16 +2,18 @@
 
 use crate::tests::assertion::holds;
 use crate::tests::awaits::awaiting;
-use crate::tests::forms::asked::{Asked, LINES, RULES, answer};
+use crate::tests::forms::asked::{
+    Asked, BESIDE_A_NUMBER, LINES, NOTE_OF_ANOTHER_LANGUAGE, OF_ANOTHER_LANGUAGE, RULES, answer,
+};
 use form_commands::FormsError;
 use std::alloc::Global;
 use std::process::Abort;
 
-// Returns whether the answer and its notes are written. `None` if memory ran out and nothing was
-// written.
-fn gives(alloc: Global, asked: Asked) -> Option<bool> {
-    let (mut rules, mut lines) = (RULES, LINES);
-    let (text, note) = (asked.text(), asked.notes());
+// Returns whether the answer by the rules and this note are written. `None` if memory ran out and
+// nothing was written.
+fn gives(alloc: Global, mut rules: &[u8], asked: Asked, note: &str) -> Option<bool> {
+    let mut lines = LINES;
+    let text = asked.text();
     let (mut writer, mut notes) = (awaiting(text), awaiting(note));
     match answer(
         alloc,
@@ -28,13 +30,13 @@ fn gives(alloc: Global, asked: Asked) -> Option<bool> {
     }
 }
 
-// Checks that there are the answers, twice each, also if one growth is refused: then one call runs
-// out of memory and writes nothing, and the others give their answers.
-fn hold_again(rt: &impl Abort, alloc: Global, asked: &[Asked]) {
+// Checks that there are the answers by the rules and the notes, twice each, also if one growth is
+// refused: then one call runs out of memory and writes nothing, and the others give their answers.
+fn hold_again(rt: &impl Abort, alloc: Global, rules: &[u8], asked: &[(Asked, &str)]) {
     let mut refused = 0u32;
     for _ in 0..2u8 {
-        for one in asked {
-            let given = gives(alloc, *one);
+        for (one, note) in asked {
+            let given = gives(alloc, rules, *one, note);
             holds!(rt; given.unwrap_or(true), at *one);
             refused = refused.saturating_add(u32::from(given.is_none()));
         }
@@ -42,17 +44,39 @@ fn hold_again(rt: &impl Abort, alloc: Global, asked: &[Asked]) {
     holds!(rt; refused <= 1, at refused);
 }
 
+// A question with its note where the rules are of the language.
+fn noted(asked: Asked) -> (Asked, &'static str) {
+    (asked, asked.notes())
+}
+
 #[test]
 fn growth_of_forms(rt: HostRuntime) {
-    hold_again(&rt, rt.alloc(), &[Asked::List, Asked::Gettext])
+    let asked = [noted(Asked::List), noted(Asked::Gettext)];
+    hold_again(&rt, rt.alloc(), RULES, &asked)
 }
 
 #[test]
 fn growth_of_categories(rt: HostRuntime) {
-    hold_again(&rt, rt.alloc(), &[Asked::Numbers, Asked::Lines])
+    let asked = [noted(Asked::Numbers), noted(Asked::Lines)];
+    hold_again(&rt, rt.alloc(), RULES, &asked)
 }
 
 #[test]
 fn growth_of_a_check(rt: HostRuntime) {
-    hold_again(&rt, rt.alloc(), &[Asked::Check])
+    hold_again(&rt, rt.alloc(), RULES, &[noted(Asked::Check)])
+}
+
+#[test]
+fn growth_beside_a_number(rt: HostRuntime) {
+    let asked = [noted(Asked::List), noted(Asked::Lines)];
+    hold_again(&rt, rt.alloc(), BESIDE_A_NUMBER, &asked)
+}
+
+#[test]
+fn growth_where_a_second_outline_serves(rt: HostRuntime) {
+    let asked = [
+        (Asked::Lines, NOTE_OF_ANOTHER_LANGUAGE),
+        (Asked::Gettext, NOTE_OF_ANOTHER_LANGUAGE),
+    ];
+    hold_again(&rt, rt.alloc(), OF_ANOTHER_LANGUAGE, &asked)
 }
