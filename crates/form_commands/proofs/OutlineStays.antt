@@ -10,7 +10,7 @@ use Rattle.plural_fallback.specs.LocalesJson.{keys_under, parent_in, part_name}
 use Rattle.plural_fallback.specs.declared.locales.Part.{Part}
 use Rattle.serde_json.specs.Data.{Data}
 use Rattle.form_commands.specs.Inner.RulesOutline.{IsInsideAt, StaysInside, is_inside}
-use Rattle.form_commands.specs.Languages.{key_after, most_locales}
+use Rattle.form_commands.specs.Languages.{key_after}
 use Rattle.form_commands.specs.declared.outline.KeptLocales.{KeptLocales}
 
 module _ (locales : KeptLocales) (document : Data) (part : Part) (locale : List ℕ) where
@@ -23,11 +23,11 @@ module _ (locales : KeptLocales) (document : Data) (part : Part) (locale : List 
   -- the chain is at a locale, and has been inside so far
   abbrev pub IsAt : ℕ → List ℕ → Type 0
   IsAt n current =
-      (n ≤ most_locales) × (at n ≡ Some current) × NoneBefore n key × ((m : ℕ) → m < n → IsInsideAt locales document part locale m)
+      (at n ≡ Some current) × NoneBefore n key × ((m : ℕ) → m < n → IsInsideAt locales document part locale m)
 
   pub at_first : IsAt 0 locale
   unfolding locale_at
-  at_first = (omega arith, refl, λ m below. absurd (omega arith), λ m below. absurd (omega arith))
+  at_first = (refl, λ m below. absurd (omega arith), λ m below. absurd (omega arith))
 
   one_more : (n : ℕ) → n + 1 ≡ suc n
   one_more n = omega arith
@@ -42,24 +42,23 @@ module _ (locales : KeptLocales) (document : Data) (part : Part) (locale : List 
   none_after n zero none = rw add-zero none
   none_after n (suc m) none = rw add-suc (ap (option_and_then (next_of (parent_in document))) (none_after n m none))
 
-  module _ (n : ℕ) (current : List ℕ) (now : IsAt n current) (below : n < most_locales) where
+  module _ (n : ℕ) (current : List ℕ) (now : IsAt n current) where
     -- the locale is inside
     inside_next : is_inside locales current ≡ true → (m : ℕ) → m < n + 1 → IsInsideAt locales document part locale m
-    inside_next inside = below_more (IsInsideAt locales document part locale) n now.3 here
+    inside_next inside = below_more (IsInsideAt locales document part locale) n now.2 here
       where
         here : IsInsideAt locales document part locale n
         here other none is =
-            subst (λ (l : List ℕ). is_inside locales l ≡ true) (ap (λ o. unwrap_or o current) (sym now.1 ∙ is)) inside
+            subst (λ (l : List ℕ). is_inside locales l ≡ true) (ap (λ o. unwrap_or o current) (sym now.0 ∙ is)) inside
 
     key_here : key n ≡ key_of (keys_under (part_name part) document) current
-    key_here = ap (option_and_then (key_of (keys_under (part_name part) document))) now.1
+    key_here = ap (option_and_then (key_of (keys_under (part_name part) document))) now.0
 
     pub goes_on : (next : List ℕ) → is_inside locales current ≡ true → key_of (keys_under (part_name part) document) current ≡ None
         → next_of (parent_in document) current ≡ Some next → IsAt (n + 1) next
     goes_on next inside none is = (
-      omega arith,
-      next_at n current now.1 ∙ is,
-      below_more (λ m. key m ≡ None) n now.2 (key_here ∙ none),
+      next_at n current now.0 ∙ is,
+      below_more (λ m. key m ≡ None) n now.1 (key_here ∙ none),
       inside_next inside,
     )
 
@@ -83,9 +82,5 @@ module _ (locales : KeptLocales) (document : Data) (part : Part) (locale : List 
         by false higher =
             let after : n + 1 ≤ m = grind (arith, common_steps, higher) in
             let whole : (n + 1) + (m - (n + 1)) ≡ m = omega arith in
-            let over : at m ≡ None = rw whole at (none_after (n + 1) (m - (n + 1)) (next_at n current now.1 ∙ is)) in
+            let over : at m ≡ None = rw whole at (none_after (n + 1) (m - (n + 1)) (next_at n current now.0 ∙ is)) in
             let never : Some other ≡ None = sym here ∙ over in absurd (cc)
-
-  -- or all locales that are looked up are inside
-  pub stays_long : (n : ℕ) (current : List ℕ) → IsAt n current → ¬ (n < most_locales) → StaysInside locales document part locale
-  stays_long n current now all m within = now.3 m (omega (arith, now.0))

@@ -1,6 +1,6 @@
 -- Locales that are the same have the same language.
-use Rattle.std.proofs.Common.{◌≡◌, ℕ, List, [], ◌∷◌, Bool, true, false, cond, map, nat_eq, true≢false, refl, sym, ap, ap₂, ◌∙◌, arith}
-use Rattle.std.specs.Prelude.{bytes_eq, codes, not, ◌==◌}
+use Rattle.std.proofs.Common.{◌≡◌, ℕ, suc, List, [], ◌∷◌, Bool, true, false, cond, length, take, map, nat_eq, true≢false, refl, sym, ap, ap₂, ◌∙◌, arith}
+use Rattle.std.specs.Prelude.{bytes_eq, codes, not, ◌==◌, ◌&&◌}
 use Rattle.std.specs.Cmp.Derive.Mapped.{pointwise-map}
 use Rattle.std.proofs.lemmas.Grind.{common_steps}
 use Rattle.std.proofs.lemmas.List.Sums.{take_while-cons}
@@ -59,6 +59,26 @@ same_languages (x ∷ xs) (y ∷ ys) same =
     by true false e bytes rest = absurd (true≢false e)
     by false true e bytes rest = absurd (true≢false (sym e))
     by false false e bytes rest = ap₂ (λ byte others. byte ∷ others) bytes rest
+
+-- ---- As much of a locale as tells its language apart
+
+-- a byte more than the language has is enough
+pub language_of_start : (locale name : List ℕ) → is_same (language (take (suc (length name)) locale)) name ≡ is_same (language locale) name
+language_of_start [] name = refl
+language_of_start (x ∷ xs) [] = ap (λ l. is_same l []) (language_cons x []) ∙ by (is_separator x) ∙ sym (ap (λ l. is_same l []) (language_cons x xs))
+  where
+    by : (p : Bool) → is_same (cond (not p) (x ∷ language []) []) [] ≡ is_same (cond (not p) (x ∷ language xs) []) []
+    by true = refl
+    by false = refl
+language_of_start (x ∷ xs) (y ∷ ys) =
+    let start = take (suc (length ys)) xs in
+    ap (λ l. is_same l (y ∷ ys)) (language_cons x start) ∙ by (is_separator x) (language_of_start xs ys)
+    ∙ sym (ap (λ l. is_same l (y ∷ ys)) (language_cons x xs))
+  where
+    by : (p : Bool) → is_same (language (take (suc (length ys)) xs)) ys ≡ is_same (language xs) ys
+        → is_same (cond (not p) (x ∷ language (take (suc (length ys)) xs)) []) (y ∷ ys) ≡ is_same (cond (not p) (x ∷ language xs) []) (y ∷ ys)
+    by true rest = refl
+    by false rest = ap (λ same. (folded x == folded y) && same) rest
 
 -- ---- Locales inside of a language
 

@@ -2,15 +2,19 @@
 
 ghost use Rattle.std.specs.Prelude.{◌≡◌, IsTrue};
 ghost use Rattle.form_commands.specs.Inner.RulesOutline.{GivesRulesOutline, StaysInside, is_inside, is_part};
+ghost use Rattle.plural_fallback.specs.LocaleNames.{is_same, language};
 ghost use Rattle.serde_json.specs.View.{view};
 
 use plural_documents::{Choice, JsonTextError, Kept, json_outline};
-use plural_fallback::{Locales, MOST_LOCALES, Part, is_same, language, next_locale};
+use plural_fallback::{Locales, Part, is_same, language, next_locale};
 use serde_json::Value;
 use std::alloc::Global;
 
 // The most bytes of a locale of a chain that is walked in an outline: one that is looked up.
 const MOST_WALKED: usize = 64;
+
+// The most locales of a chain that are walked in an outline: more than chains of users have.
+const MOST_STEPS: usize = 8;
 
 // The locales whose keys are kept.
 #[derive(Clone, Copy, Debug)]
@@ -64,15 +68,27 @@ fn is_inside(locales: KeptLocales<'_>, locale: &[u8]) -> bool
 {
     match locales {
         KeptLocales::Of(of_language) => {
-            let first = language(locale);
-            is_same(first, of_language) || is_same(first, b"root")
+            has_language(locale, of_language) || has_language(locale, b"root")
         }
         KeptLocales::All => true,
     }
 }
 
+// Returns whether a locale is of this language. Of a longer locale one byte more is read than the
+// language has.
+fn has_language(locale: &[u8], of_language: &[u8]) -> bool
+    ensures { result ≡ is_same (language locale.now) of_language.now }
+{
+    if locale.len() > of_language.len() {
+        is_same(language(&locale[..of_language.len() + 1]), of_language)
+    } else {
+        is_same(language(locale), of_language)
+    }
+}
+
 // Returns what is kept of a document for a locale, which serves as the whole does: the keys of its
-// language, or all of its part, if its chain leaves that. The errors are those of the whole.
+// language, or all of its part, if it is long, or the outline doesn't tell that its chain stays in
+// its language. The errors are those of the whole.
 pub(crate) fn rules_outline(
     alloc: Global,
     part: Part,
@@ -106,13 +122,13 @@ fn part_outline(
 }
 
 // Returns whether the chain of a locale stays among these locales, up to its first key. It isn't
-// told of a chain with a long locale, whose language is read at each step.
+// told of a chain with a long locale, nor of one with many before the first key.
 fn stays_inside(document: &Value, part: Part, locale: &str, locales: KeptLocales<'_>) -> bool
     ensures { IsTrue result → StaysInside locales.entry (view document.now) part locale.now }
 {
     let mut current = locale.as_bytes();
     let mut steps = 0;
-    while steps < MOST_LOCALES {
+    while steps < MOST_STEPS {
         if current.len() > MOST_WALKED || !is_inside(locales, current) {
             return false;
         }
@@ -125,5 +141,5 @@ fn stays_inside(document: &Value, part: Part, locale: &str, locales: KeptLocales
         current = next;
         steps += 1;
     }
-    true
+    false
 }

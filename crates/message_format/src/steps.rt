@@ -23,8 +23,8 @@ use message_pattern::{ArgumentKind, Part, Piece};
 use plural_base::PluralRules;
 use std::alloc::Global;
 
-// The most bytes of a number's text whose category is told before its digits are kept: so few are
-// read without memory.
+// The most bytes of a number's text that is sought by its digits among the values: so few are read
+// without memory.
 const SHORT: usize = 18;
 
 /// The rules of a language, for cardinal and for ordinal numbers.

@@ -3,7 +3,7 @@
 ghost use Rattle.std.specs.Prelude.{◌≡◌, ◌≤◌, ℕ, List, length, IfSome, IfOk, IfErr};
 ghost use Rattle.fixed_decimal.specs.Written.{CompactNumber, WritesCompact};
 ghost use Rattle.message_pattern.specs.PatternParts.{parts_view, branches_of, selector_view};
-ghost use Rattle.message_format.specs.FormatBranches.{behind_end, branch_or_other, parts_or_none, or_branch, IsBranchOfValue};
+ghost use Rattle.message_format.specs.FormatBranches.{behind_end, branch_or_other, parts_or_none, IsBranchOfValue};
 ghost use Rattle.message_format.specs.Inner.FormatViews.{any_parts};
 ghost use Rattle.message_format.specs.Inner.FormatWalks.{IsFirstOf, PassedFor};
 ghost use Rattle.message_format.specs.Inner.FormatPlain.{IsPlain};
@@ -37,19 +37,12 @@ fn first_of_keyword<'s, 'p>(
     seen
 }
 
-// The branch that was seen, else the other one, else no parts.
+// The branch of `other` that was seen, else no parts.
 #[inline(always)]
-fn seen_or_other<'s, 'p>(
-    named: Option<&'s [Part<'p>]>,
-    other: Option<&'s [Part<'p>]>,
-    left: &'s [Part<'p>],
-) -> &'s [Part<'p>]
-    ensures branch { parts_view result.now ≡ parts_or_none (or_branch (any_parts named.entry) (any_parts other.entry)) }
-    ensures within { (n : ℕ) → length left.now ≤ n → IfSome named.entry (λ x. length x.now ≤ n) → IfSome other.entry (λ x. length x.now ≤ n) → length result.now ≤ n }
+fn other_or_none<'s, 'p>(other: Option<&'s [Part<'p>]>, left: &'s [Part<'p>]) -> &'s [Part<'p>]
+    ensures branch { parts_view result.now ≡ parts_or_none (any_parts other.entry) }
+    ensures within { (n : ℕ) → length left.now ≤ n → IfSome other.entry (λ x. length x.now ≤ n) → length result.now ≤ n }
 {
-    if let Some(branch) = named {
-        return branch;
-    }
     match other {
         Some(branch) => branch,
         None => &left[left.len()..],
@@ -72,7 +65,7 @@ pub(crate) fn branch_by_text<'s, 'p>(
     while let [part, rest @ ..] = left {
         if part.depth <= depth {
             let Piece::Branch(selector) = part.piece else {
-                let branch = seen_or_other(None, other, left);
+                let branch = other_or_none(other, left);
                 return Found { branch, left };
             };
             if is_keyword(word, selector) {
@@ -85,7 +78,7 @@ pub(crate) fn branch_by_text<'s, 'p>(
         }
         left = rest;
     }
-    let branch = seen_or_other(None, other, left);
+    let branch = other_or_none(other, left);
     Found { branch, left }
 }
 

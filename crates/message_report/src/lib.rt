@@ -16,6 +16,7 @@ mod language;
 mod languages;
 pub mod laws;
 mod message;
+mod message_place;
 mod message_set;
 mod number_walk;
 mod part;

@@ -8,9 +8,8 @@ ghost use Rattle.message_report.specs.Inner.FormSteps.{language_lent, place_text
 ghost use Rattle.message_report.specs.Inner.OwnForms.{own_forms};
 ghost use Rattle.message_report.specs.FormFaults.{form_fault_text};
 ghost use Rattle.message_report.specs.MessageForms.{form_name, form_order};
-ghost use Rattle.message_report.specs.MessagesReport.{found_of_fault, found_of_keys, message_place, named_line, other_keys, place_line};
+ghost use Rattle.message_report.specs.MessagesReport.{found_of_fault, found_of_keys, named_line, other_keys, place_line};
 ghost use Rattle.message_report.specs.MessagesReport.{IsFoundInForm, IsFoundInForms, IsFoundInMessage};
-ghost use Rattle.message_report.specs.PrintedKeys.{message_text};
 ghost use Rattle.serde_json.specs.Find.{as_object};
 ghost use Rattle.serde_json.specs.View.{members_view, view};
 
@@ -18,7 +17,7 @@ use crate::fault::{FormFault, form_fault};
 use crate::form::{Form, OwnForms};
 use crate::keys::{add_keys, has_only_forms, place_line};
 use crate::language::Language;
-use crate::printed_key::message_text;
+use crate::message_place::MessagePlace;
 use icu_plurals::{PluralCategory, PluralRuleType};
 use plural_documents::{Found, MemberCheck};
 use serde_json::{Map, Value};
@@ -44,14 +43,6 @@ pub(crate) struct MessageCheck<'a> {
     pub(crate) locale: &'a str,
 }
 
-// The place of a message, whose text is made for a line alone.
-#[derive(Clone, Copy)]
-pub(crate) struct MessagePlace<'a> {
-    rule_type: PluralRuleType,
-    locale: &'a str,
-    key: &'a str,
-}
-
 impl<'a> MemberCheck for MessageCheck<'a> {
     ghost finds = { λ check. IsFoundInMessage (language_lent check.language) check.rule_type check.locale.now };
 
@@ -62,38 +53,14 @@ impl<'a> MemberCheck for MessageCheck<'a> {
         message: &Value,
         found: &mut Found,
     ) -> Result<(), AllocError> {
-        let place = MessagePlace {
+        let mut place = MessagePlace {
             rule_type: self.rule_type,
             locale: self.locale,
             key,
+            text: None,
         };
         found.add_checked(1)?;
-        add_forms(alloc, self.language, place, message, found)
-    }
-}
-
-impl MessagePlace<'_> {
-    // Returns the text of the place.
-    fn text(self, alloc: Global) -> Result<String, AllocError>
-        ensures { IfOk result (λ text. string_bytes text ≡ place_text self.entry) }
-    {
-        let key = message_text(alloc, self.key)?;
-        message_place(alloc, self.rule_type, self.locale, key.as_str())
-    }
-}
-
-// Returns the place of a message, given its printed key.
-fn message_place(
-    alloc: Global,
-    rule_type: PluralRuleType,
-    locale: &str,
-    key: &str,
-) -> Result<String, AllocError>
-    ensures { IfOk result (λ place. string_bytes place ≡ message_place rule_type locale.now key.now) }
-{
-    match rule_type {
-        PluralRuleType::Cardinal => format!(in alloc; "{locale} {key}"),
-        PluralRuleType::Ordinal => format!(in alloc; "{locale} ordinal {key}"),
+        add_forms(alloc, self.language, &mut place, message, found)
     }
 }
 
@@ -101,11 +68,11 @@ fn message_place(
 fn add_forms(
     alloc: Global,
     language: Option<&Language>,
-    place: MessagePlace<'_>,
+    place: &mut MessagePlace<'_>,
     message: &Value,
     found: &mut Found,
 ) -> Result<(), AllocError>
-    ensures { OnOk result (HasGrownBy (IsFoundInForms (language_lent language.entry) (place_text place.entry) (view message.now)
+    ensures { OnOk result (HasGrownBy (IsFoundInForms (language_lent language.entry) (place_text place.old) (view message.now)
         (as_object (view message.now))) found.old found.new) }
 {
     match message.as_object() {
@@ -115,23 +82,23 @@ fn add_forms(
 }
 
 // Returns the line for a message that is no object.
-fn no_object_line(alloc: Global, place: MessagePlace<'_>) -> Result<String, AllocError>
-    ensures { IfOk result (λ line. string_bytes line ≡ place_line (place_text place.entry) (codes "no object")) }
+fn no_object_line(alloc: Global, place: &MessagePlace<'_>) -> Result<String, AllocError>
+    ensures { IfOk result (λ line. string_bytes line ≡ place_line (place_text place.now) (codes "no object")) }
 {
-    let place = place.text(alloc)?;
-    place_line(alloc, place.as_str(), "no object")
+    let text = place.made_text(alloc)?;
+    place_line(alloc, text.as_str(), "no object")
 }
 
 // Adds what is found in each form of a message with these members, and in its other keys.
 fn add_all(
     alloc: Global,
     language: Option<&Language>,
-    place: MessagePlace<'_>,
+    place: &mut MessagePlace<'_>,
     message: &Value,
     members: &Map<String, Value>,
     found: &mut Found,
 ) -> Result<(), AllocError>
-    ensures { OnOk result (HasGrownBy (IsFoundInForms (language_lent language.entry) (place_text place.entry) (view message.now)
+    ensures { OnOk result (HasGrownBy (IsFoundInForms (language_lent language.entry) (place_text place.old) (view message.now)
         (Some (members_view members.now.entries))) found.old found.new) }
 {
     add_each_form(alloc, language, place, message, found)?;
@@ -141,30 +108,34 @@ fn add_all(
 // Adds what is found in the keys that name no form, if there are any.
 fn add_other_keys(
     alloc: Global,
-    place: MessagePlace<'_>,
+    place: &MessagePlace<'_>,
     members: &Map<String, Value>,
     found: &mut Found,
 ) -> Result<(), AllocError>
     ensures { OnOk result (found.new
-        ≡ together found.old (found_of_keys (place_text place.entry) (other_keys (members_view members.now.entries)))) }
+        ≡ together found.old (found_of_keys (place_text place.now) (other_keys (members_view members.now.entries)))) }
 {
     if has_only_forms(members) {
         return Ok(());
     }
-    let place = place.text(alloc)?;
-    add_keys(alloc, place.as_str(), members, found)
+    if let Some(text) = &place.text {
+        return add_keys(alloc, text.as_str(), members, found);
+    }
+    let text = place.made_text(alloc)?;
+    add_keys(alloc, text.as_str(), members, found)
 }
 
 // Adds what is found in each form.
 fn add_each_form(
     alloc: Global,
     language: Option<&Language>,
-    place: MessagePlace<'_>,
+    place: &mut MessagePlace<'_>,
     message: &Value,
     found: &mut Found,
 ) -> Result<(), AllocError>
-    ensures { OnOk result (HasGrownBy (IsFoundInEach (IsFoundInForm (language_lent language.entry) (place_text place.entry) (view message.now))
-        form_order) found.old found.new) }
+    ensures found { OnOk result (HasGrownBy (IsFoundInEach (IsFoundInForm (language_lent language.entry) (place_text place.old)
+        (view message.now)) form_order) found.old found.new) }
+    ensures place { OnOk result (place_text place.new ≡ place_text place.old) }
 {
     let own = OwnForms::of(message);
     for form in &FORM_ORDER {
@@ -178,14 +149,15 @@ fn add_form(
     alloc: Global,
     language: Option<&Language>,
     own: OwnForms,
-    place: MessagePlace<'_>,
+    place: &mut MessagePlace<'_>,
     message: &Value,
     form: Form,
     found: &mut Found,
 ) -> Result<(), AllocError>
     requires { own ≡ own_forms (view message.now) }
-    ensures { OnOk result (HasGrownBy (IsFoundInForm (language_lent language.entry) (place_text place.entry) (view message.now) form)
+    ensures found { OnOk result (HasGrownBy (IsFoundInForm (language_lent language.entry) (place_text place.old) (view message.now) form)
         found.old found.new) }
+    ensures place { OnOk result (place_text place.new ≡ place_text place.old) }
 {
     let value = form.in_message(message);
     count_value(value, found)?;
@@ -206,12 +178,13 @@ fn count_value(value: Option<&Value>, found: &mut Found) -> Result<(), AllocErro
 // Adds the fault of a form, if it has one.
 fn add_fault(
     alloc: Global,
-    place: MessagePlace<'_>,
+    place: &mut MessagePlace<'_>,
     form: Form,
     fault: Option<FormFault>,
     found: &mut Found,
 ) -> Result<(), AllocError>
-    ensures { OnOk result (found.new ≡ together found.old (found_of_fault (place_text place.entry) form fault)) }
+    ensures found { OnOk result (found.new ≡ together found.old (found_of_fault (place_text place.old) form fault)) }
+    ensures place { OnOk result (place_text place.new ≡ place_text place.old) }
 {
     match fault {
         Some(fault) => found.add_fault(line_at(alloc, place, form, fault)?),
@@ -222,14 +195,20 @@ fn add_fault(
 // Returns the line for a fault of a form at a place.
 fn line_at(
     alloc: Global,
-    place: MessagePlace<'_>,
+    place: &mut MessagePlace<'_>,
     form: Form,
     fault: FormFault,
 ) -> Result<String, AllocError>
-    ensures { IfOk result (λ line. string_bytes line ≡ named_line (place_text place.entry) (form_name form) (form_fault_text fault)) }
+    ensures line { IfOk result (λ line. string_bytes line ≡ named_line (place_text place.old) (form_name form) (form_fault_text fault)) }
+    ensures place { place_text place.new ≡ place_text place.old }
 {
-    let place = place.text(alloc)?;
-    form_line(alloc, place.as_str(), form, fault)
+    if let Some(text) = &place.text {
+        return form_line(alloc, text.as_str(), form, fault);
+    }
+    let text = place.made_text(alloc)?;
+    let line = form_line(alloc, text.as_str(), form, fault)?;
+    place.text = Some(text);
+    Ok(line)
 }
 
 // Returns the line for a fault of a form, given the text of the place.

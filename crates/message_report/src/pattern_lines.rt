@@ -119,15 +119,16 @@ fn tell_argument(
     let Some(rule_type) = rule_type else {
         return Ok(before);
     };
-    let place = ArgumentPlace {
+    let mut place = ArgumentPlace {
         pattern: place,
         name: argument.name,
+        text: None,
     };
     tell_under(
         alloc,
         languages.of(rule_type),
         rule_type,
-        place,
+        &mut place,
         argument,
         before,
         found,
@@ -139,13 +140,13 @@ fn tell_under(
     alloc: Global,
     language: Option<&Language>,
     rule_type: PluralRuleType,
-    place: ArgumentPlace<'_>,
+    place: &mut ArgumentPlace<'_>,
     argument: Argument<'_>,
     before: u64,
     found: &mut Found,
 ) -> Result<u64, AllocError>
     ensures { IfOk result (λ count. Tells before found.old count found.new
-        (lines_under rule_type (argument_text place.entry) (language_lent language.entry) (argument_view argument.entry))) }
+        (lines_under rule_type (argument_text place.old) (language_lent language.entry) (argument_view argument.entry))) }
 {
     match language {
         Some(language) => tell_branches(alloc, language, place, argument, before, found),
@@ -157,16 +158,16 @@ fn tell_under(
 fn tell_no_rules(
     alloc: Global,
     rule_type: PluralRuleType,
-    place: ArgumentPlace<'_>,
+    place: &ArgumentPlace<'_>,
     before: u64,
     found: &mut Found,
 ) -> Result<u64, AllocError>
     ensures { IfOk result (λ count. Tells before found.old count found.new
-        (place_line (argument_text place.entry) (no_rules_text rule_type) ∷ [])) }
+        (place_line (argument_text place.now) (no_rules_text rule_type) ∷ [])) }
 {
     if before < MOST_TOLD {
-        let place = place.text(alloc)?;
-        found.add_fault(place_line(alloc, place.as_str(), no_rules_text(rule_type))?)?;
+        let text = place.made_text(alloc)?;
+        found.add_fault(place_line(alloc, text.as_str(), no_rules_text(rule_type))?)?;
     } else {
         found.add_faults(1)?;
     }
@@ -177,13 +178,13 @@ fn tell_no_rules(
 fn tell_branches(
     alloc: Global,
     language: &Language,
-    place: ArgumentPlace<'_>,
+    place: &mut ArgumentPlace<'_>,
     argument: Argument<'_>,
     before: u64,
     found: &mut Found,
 ) -> Result<u64, AllocError>
     ensures { IfOk result (λ count. Tells before found.old count found.new
-        (language_lines (language_view language.now) (argument_text place.entry) (argument_view argument.entry))) }
+        (language_lines (language_view language.now) (argument_text place.old) (argument_view argument.entry))) }
 {
     let count = tell_missing(alloc, language, place, argument, before, found)?;
     tell_each_branch(alloc, language, place, argument, count, found)
@@ -193,13 +194,14 @@ fn tell_branches(
 fn tell_missing(
     alloc: Global,
     language: &Language,
-    place: ArgumentPlace<'_>,
+    place: &mut ArgumentPlace<'_>,
     argument: Argument<'_>,
     before: u64,
     found: &mut Found,
 ) -> Result<u64, AllocError>
-    ensures { IfOk result (λ count. Tells before found.old count found.new
-        (missing_lines (language_view language.now) (argument_text place.entry) (argument_view argument.entry) category_order)) }
+    ensures told { IfOk result (λ count. Tells before found.old count found.new
+        (missing_lines (language_view language.now) (argument_text place.old) (argument_view argument.entry) category_order)) }
+    ensures place { IfOk result (λ count. argument_text place.new ≡ argument_text place.old) }
 {
     let mut count = before;
     let mut left: &[PluralCategory] = &CATEGORY_ORDER;
@@ -215,13 +217,13 @@ fn tell_missing(
 fn tell_each_branch(
     alloc: Global,
     language: &Language,
-    place: ArgumentPlace<'_>,
+    place: &mut ArgumentPlace<'_>,
     argument: Argument<'_>,
     before: u64,
     found: &mut Found,
 ) -> Result<u64, AllocError>
     ensures { IfOk result (λ count. Tells before found.old count found.new
-        (branch_lines (language_view language.now) (argument_text place.entry) (argument_view argument.entry) []
+        (branch_lines (language_view language.now) (argument_text place.old) (argument_view argument.entry) []
         (argument_view argument.entry).branches)) }
 {
     let mut seen = Vec::new(alloc);
@@ -255,14 +257,15 @@ fn remember<'p>(selector: Selector<'p>, seen: &mut Vec<Selector<'p>>) -> Result<
 // Tells the fault of a branch, if it has one.
 fn tell_branch(
     alloc: Global,
-    place: ArgumentPlace<'_>,
+    place: &mut ArgumentPlace<'_>,
     selector: Selector<'_>,
     fault: Option<BranchFault>,
     before: u64,
     found: &mut Found,
 ) -> Result<u64, AllocError>
-    ensures { IfOk result (λ count. Tells before found.old count found.new
-        (fault_lines (argument_text place.entry) (selector_name (selector_view selector.entry)) fault)) }
+    ensures told { IfOk result (λ count. Tells before found.old count found.new
+        (fault_lines (argument_text place.old) (selector_name (selector_view selector.entry)) fault)) }
+    ensures place { IfOk result (λ count. argument_text place.new ≡ argument_text place.old) }
 {
     if fault.is_none() {
         return Ok(before);
@@ -299,27 +302,46 @@ fn equals_text(alloc: Global, number: &str) -> Result<String, AllocError>
 // Tells the fault of what has a name, if it has one: by a line if at most nine come before it.
 fn tell(
     alloc: Global,
-    place: ArgumentPlace<'_>,
+    place: &mut ArgumentPlace<'_>,
     name: &str,
     fault: Option<BranchFault>,
     before: u64,
     found: &mut Found,
 ) -> Result<u64, AllocError>
-    ensures { IfOk result (λ count. Tells before found.old count found.new (fault_lines (argument_text place.entry) name.now fault)) }
+    ensures told { IfOk result (λ count. Tells before found.old count found.new (fault_lines (argument_text place.old) name.now fault)) }
+    ensures place { IfOk result (λ count. argument_text place.new ≡ argument_text place.old) }
 {
     let Some(fault) = fault else {
         return Ok(before);
     };
     if before < MOST_TOLD {
-        let place = place.text(alloc)?;
-        found.add_fault(branch_line(alloc, place.as_str(), name, fault)?)?;
+        found.add_fault(line_at(alloc, place, name, fault)?)?;
     } else {
         found.add_faults(1)?;
     }
     sum(before, 1)
 }
 
-// Returns the line for a fault of what has a name.
+// Returns the line for a fault of what has a name at a place.
+fn line_at(
+    alloc: Global,
+    place: &mut ArgumentPlace<'_>,
+    name: &str,
+    fault: BranchFault,
+) -> Result<String, AllocError>
+    ensures line { IfOk result (λ line. string_bytes line ≡ named_line (argument_text place.old) name.now (branch_fault_text fault)) }
+    ensures place { argument_text place.new ≡ argument_text place.old }
+{
+    if let Some(text) = &place.text {
+        return branch_line(alloc, text.as_str(), name, fault);
+    }
+    let text = place.made_text(alloc)?;
+    let line = branch_line(alloc, text.as_str(), name, fault)?;
+    place.text = Some(text);
+    Ok(line)
+}
+
+// Returns the line for a fault of what has a name, given the text of the place.
 fn branch_line(
     alloc: Global,
     place: &str,

@@ -1,8 +1,9 @@
-//! The places of patterns and of their arguments, whose texts are made for a line alone.
+//! The places of patterns and of their arguments, whose texts are made for lines alone.
 
-ghost use Rattle.std.specs.Prelude.{◌≡◌, ◌++◌, codes, IfOk, string_bytes};
-ghost use Rattle.message_report.specs.Inner.PatternPlaces.{argument_text, pattern_text};
+ghost use Rattle.std.specs.Prelude.{◌≡◌, ◌++◌, codes, IfOk, IfSome, string_bytes};
+ghost use Rattle.std.proofs.Props.{props};
 ghost use Rattle.message_report.specs.MessagesReport.{argument_place, pattern_place};
+ghost use Rattle.message_report.specs.PrintedKeys.{message_text};
 
 use crate::printed_key::{bytes_text, message_text};
 use std::alloc::{AllocError, Global};
@@ -14,17 +15,20 @@ pub(crate) struct PatternPlace<'a> {
     pub(crate) key: &'a str,
 }
 
-// The place of an argument of a pattern.
-#[derive(Clone, Copy)]
+// The place of an argument of a pattern, whose text is made for its first line.
+#[derive(Drop)]
 pub(crate) struct ArgumentPlace<'a> {
     pub(crate) pattern: PatternPlace<'a>,
     pub(crate) name: &'a [u8],
+    pub(crate) text: Option<String>,
+    ghost is_its_text: { IfSome text (λ t. string_bytes t
+        ≡ argument_place (pattern_place pattern.locale.now (message_text pattern.key.now)) name.now) } by { Prim.hlevel props },
 }
 
 impl PatternPlace<'_> {
     // Returns the text of the place.
     pub(crate) fn text(self, alloc: Global) -> Result<String, AllocError>
-        ensures { IfOk result (λ text. string_bytes text ≡ pattern_text self.entry) }
+        ensures { IfOk result (λ text. string_bytes text ≡ pattern_place self.entry.locale.now (message_text self.entry.key.now)) }
     {
         let key = message_text(alloc, self.key)?;
         pattern_place(alloc, self.locale, key.as_str())
@@ -32,9 +36,10 @@ impl PatternPlace<'_> {
 }
 
 impl ArgumentPlace<'_> {
-    // Returns the text of the place.
-    pub(crate) fn text(self, alloc: Global) -> Result<String, AllocError>
-        ensures { IfOk result (λ text. string_bytes text ≡ argument_text self.entry) }
+    // Makes the text of the place.
+    pub(crate) fn made_text(&self, alloc: Global) -> Result<String, AllocError>
+        ensures { IfOk result (λ text. string_bytes text
+            ≡ argument_place (pattern_place self.now.pattern.locale.now (message_text self.now.pattern.key.now)) self.now.name.now) }
     {
         let place = self.pattern.text(alloc)?;
         argument_place(alloc, place.as_str(), self.name)

@@ -49,7 +49,7 @@ fn is_known_right(known: &Option<Option<NumberFault>>) -> bool
     }
 }
 
-// Returns the fault of a text that is listed under a category, if it isn't known.
+// Returns the fault of a text that is listed under a category: the known one, else that of a check.
 fn check_if_unknown(
     alloc: Global,
     rules: Option<&Chooser<'_>>,

@@ -58,7 +58,8 @@ fn numbers_between(first: u64, last: u64) -> u64 {
         .min(MOST_NUMBERS)
 }
 
-// Returns about how many numbers the samples of the texts have. Only what is read of them counts.
+// Returns about how many numbers the samples of the texts have. Texts that are too long to be read
+// don't count.
 pub(crate) fn number_estimate(texts: &LanguageTexts<'_>) -> u64 {
     let mut count = estimate_if_read(texts.other);
     for_five!(texts, |text| {

@@ -7,8 +7,8 @@ use icu_plurals::{PluralCategory, PluralOperands, PluralRules, PreparedRules};
 /// The whole numbers that are looked at are those below this one.
 pub const WHOLE_LIMIT: u16 = 10_000;
 
-// The rules themselves are asked for the numbers below this one, since tables of the categories
-// cost about as much as these.
+// The rules themselves are asked for the numbers below this one: most categories have one of the
+// first few, before tables of the categories pay.
 const ASKED: u16 = 200;
 
 /// Returns the least whole number from a start, and below [`WHOLE_LIMIT`], that has the category

@@ -15,7 +15,7 @@ use Rattle.message_report.specs.declared.fault.FormFault.{FormFault}
 use Rattle.message_report.specs.declared.form.Form.{Form}
 use Rattle.message_report.specs.declared.form.Form.TheVariants.{ExplicitZero, ExplicitOne, Category}
 use Rattle.message_report.specs.declared.language.Language.{Language as CodeLanguage}
-use Rattle.message_report.specs.declared.message.MessagePlace.{MessagePlace}
+use Rattle.message_report.specs.declared.message_place.MessagePlace.{MessagePlace}
 
 abbrev pub language_lent : Option (Bor CodeLanguage) → Option Language
 language_lent language = option_map (λ l. language_view l.now) language

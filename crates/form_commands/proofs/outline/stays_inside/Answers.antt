@@ -1,9 +1,8 @@
-use Rattle.std.proofs.Common.{◌≡◌, ℕ, ◌<◌, List, true, ap, arith, rules, sym, ◌∙◌}
+use Rattle.std.proofs.Common.{◌≡◌, ℕ, List, true, ap, rules, sym, ◌∙◌}
 use Rattle.std.specs.Option.{option_copied}
 use Rattle.serde_json.specs.View.{view}
 use Rattle.form_commands.specs.Inner.RulesOutline.{is_inside}
-use Rattle.form_commands.specs.Languages.{most_locales}
-use Rattle.form_commands.proofs.OutlineStays.{at_first, ends, finds, goes_on, stays_long}
+use Rattle.form_commands.proofs.OutlineStays.{at_first, ends, finds, goes_on}
 use Rattle.form_commands.proofs.outline.stays_inside.Goals as goal
 
 pub loop-steps-init : goal.loop-steps-init
@@ -12,29 +11,21 @@ loop-steps-init c = rw c.as_bytes-current.ensures.value (at_first c.args.locales
 pub returns-in-Some : goal.returns-in-Some
 returns-in-Some c told =
     let l = c.loop-steps in
-    let below : l.steps < most_locales = omega arith in
     let inside : is_inside c.args.locales l.current.now ≡ true = search rules in
-    finds c.args.locales (view c.args.document.now) c.args.part c.args.locale.now l.steps l.current.now l.invariant below c.in-Some.field-0.now
+    finds c.args.locales (view c.args.document.now) c.args.part c.args.locale.now l.steps l.current.now l.invariant c.in-Some.field-0.now
     inside (sym c.find_key.ensures ∙ ap (option_copied {T = List ℕ}) c.in-Some.is)
 
 pub returns-in_default-next_locale : goal.returns-in_default-next_locale
 returns-in_default-next_locale c told =
     let l = c.loop-steps in
-    let below : l.steps < most_locales = omega arith in
     let inside : is_inside c.args.locales l.current.now ≡ true = search rules in
-    ends c.args.locales (view c.args.document.now) c.args.part c.args.locale.now l.steps l.current.now l.invariant below inside
+    ends c.args.locales (view c.args.document.now) c.args.part c.args.locale.now l.steps l.current.now l.invariant inside
     (sym c.next_locale.ensures ∙ ap (option_copied {T = List ℕ}) c.in_default-next_locale.is)
 
 pub loop-steps-preserved : goal.loop-steps-preserved
 loop-steps-preserved c =
     let l = c.loop-steps in
-    let below : l.steps < most_locales = omega arith in
     let inside : is_inside c.args.locales l.current.now ≡ true = search rules in
-    goes_on c.args.locales (view c.args.document.now) c.args.part c.args.locale.now l.steps l.current.now l.invariant below c.in-Some-next_locale.next.now
+    goes_on c.args.locales (view c.args.document.now) c.args.part c.args.locale.now l.steps l.current.now l.invariant c.in-Some-next_locale.next.now
     inside (sym c.find_key.ensures ∙ ap (option_copied {T = List ℕ}) c.in_default.is)
     (sym c.next_locale.ensures ∙ ap (option_copied {T = List ℕ}) c.in-Some-next_locale.is)
-
-pub returns : goal.returns
-returns c told =
-    let l = c.loop-steps in
-    stays_long c.args.locales (view c.args.document.now) c.args.part c.args.locale.now l.steps l.current.now l.invariant (λ below. absurd (omega arith))

@@ -9,12 +9,12 @@ use Rattle.message_report.proofs.message.add_all.Goals as goal
 
 pub returns : goal.returns
 returns c =
-    let forms = c.in_ok-add_each_form.ensures in
-    let keys = found_of_keys (place_text c.args.place) (other_keys (members_view c.args.members.now.entries)) in
+    let forms = c.in_ok-add_each_form.ensures.found in
+    let keys = found_of_keys (place_text c.args.place.now) (other_keys (members_view c.args.members.now.entries)) in
     on_ok c.add_other_keys.result
     (λ added. (
       together forms.0 keys,
       (forms.0, forms.1, refl),
       two_added c.args.found.now forms.0 keys c.add_each_form.new.found c.add_other_keys.new.found forms.2 added,
     ))
-    c.add_other_keys.ensures
+    (rw c.in_ok-add_each_form.ensures.place at c.add_other_keys.ensures)

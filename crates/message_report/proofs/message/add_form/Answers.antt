@@ -11,11 +11,11 @@ use Rattle.message_report.proofs.FormLemmas.{form_fault_is}
 use Rattle.plural_documents.proofs.FoundLemmas.{two_added}
 use Rattle.message_report.proofs.message.add_form.Goals as goal
 
-pub returns : goal.returns
-returns c =
+pub returns-clause-found : goal.returns-clause-found
+returns-clause-found c =
     let message = view c.args.message.now in
     let counted = form_count c.args.form message in
-    let told = found_of_fault (place_text c.args.place) c.args.form c.form_fault-fault.result in
+    let told = found_of_fault (place_text c.args.place.now) c.args.form c.form_fault-fault.result in
     let is_zero = ap (λ (own : OwnForms). own.zero) c.requires in
     let is_one = ap (λ (own : OwnForms). own.one) c.requires in
     on_ok c.add_fault.result
@@ -31,4 +31,4 @@ returns c =
           (c.in_ok-count_value.ensures
           ∙ ap (λ (value : Option Data). together c.args.found.now (value_count value)) c.in_message-value.ensures) added,
     ))
-    c.add_fault.ensures
+    c.add_fault.ensures.found

@@ -11,7 +11,7 @@ use Rattle.message_report.proofs.message.add_forms.Goals as goal
 pub returns-in_ok-no_object_line-in-None : goal.returns-in_ok-no_object_line-in-None
 returns-in_ok-no_object_line-in-None c =
     let language = language_lent c.args.language in
-    let place = place_text c.args.place in
+    let place = place_text c.args.place.now in
     let found = one_fault (place_line place (codes "no object")) in
     on_ok c.add_fault.result
     (λ added. (

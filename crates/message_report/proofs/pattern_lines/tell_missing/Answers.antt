@@ -1,4 +1,4 @@
-use Rattle.std.proofs.Common.{◌-◌, List, length, take, drop, get_or, ap, refl}
+use Rattle.std.proofs.Common.{◌-◌, List, length, take, drop, get_or, ap, refl, ◌∙◌}
 use Rattle.icu_plurals.specs.Categories.{name_of}
 use Rattle.icu_plurals.specs.declared.PluralCategory.{PluralCategory}
 use Rattle.icu_plurals.specs.declared.PluralCategory.TheVariants.{Zero}
@@ -11,9 +11,11 @@ use Rattle.message_report.proofs.TellLemmas.{completes, continues, headed, none_
 use Rattle.message_report.proofs.pattern_lines.tell_missing.Goals as goal
 
 pub loop-left-init : goal.loop-left-init
-loop-left-init c =
-    starts c.args.before c.args.found.now
-    (missing_lines (language_view c.args.language.now) (argument_text c.args.place) (argument_view c.args.argument) category_order)
+loop-left-init c = (
+  starts c.args.before c.args.found.now
+      (missing_lines (language_view c.args.language.now) (argument_text c.args.place.now) (argument_view c.args.argument) category_order),
+  refl,
+)
 
 pub loop-left-preserved : goal.loop-left-preserved
 loop-left-preserved c =
@@ -22,19 +24,22 @@ loop-left-preserved c =
     let rest = take (length cs - 1) (drop 1 cs) in
     let language = language_view c.args.language.now in
     let a = argument_view c.args.argument in
-    let place = argument_text c.args.place in
-    continues c.args.before c.args.found.now c.loop-left.count c.loop-left.found c.in_ok-count.count c.tell.new.found
-    (fault_lines place (name_of category) (missing_fault language a category)) (missing_lines language place a rest)
-    (missing_lines language place a cs) (missing_lines language place a category_order)
-    (ap (λ (l : List PluralCategory). missing_lines language place a l) (headed cs Zero (length cs) c.in-len1-up.len_at_least refl))
-    c.loop-left.invariant (rw (c.missing_fault-fault.ensures, c.name_of.ensures) at c.in_ok-count.ensures)
+    let place = argument_text c.args.place.now in
+    let same = c.loop-left.invariant.1 in (
+      continues c.args.before c.args.found.now c.loop-left.count c.loop-left.found c.in_ok-count.count c.tell.new.found
+          (fault_lines place (name_of category) (missing_fault language a category)) (missing_lines language place a rest)
+          (missing_lines language place a cs) (missing_lines language place a category_order)
+          (ap (λ (l : List PluralCategory). missing_lines language place a l) (headed cs Zero (length cs) c.in-len1-up.len_at_least refl))
+          c.loop-left.invariant.0 (rw (c.missing_fault-fault.ensures, c.name_of.ensures, same) at c.in_ok-count.ensures.told),
+      c.in_ok-count.ensures.place ∙ same,
+    )
 
-pub returns : goal.returns
-returns c =
+pub returns-clause-told : goal.returns-clause-told
+returns-clause-told c =
     let language = language_view c.args.language.now in
     let a = argument_view c.args.argument in
-    let place = argument_text c.args.place in
+    let place = argument_text c.args.place.now in
     completes c.args.before c.args.found.now c.loop-left.count c.loop-left.found
     (missing_lines language place a c.loop-left.left.now) (missing_lines language place a category_order)
     (ap (λ (l : List PluralCategory). missing_lines language place a l) (none_left c.loop-left.left.now c.in_default.len_below))
-    c.loop-left.invariant
+    c.loop-left.invariant.0
