@@ -13,8 +13,9 @@ use std::alloc::Global;
 // The most bytes of a locale of a chain that is walked in an outline: one that is looked up.
 const MOST_WALKED: usize = 64;
 
-// The most locales of a chain that are walked in an outline: more than chains of users have.
-const MOST_STEPS: usize = 8;
+// The most locales of a chain that are walked in an outline: more than those of a language with a
+// script, a region and five keywords.
+const MOST_STEPS: usize = 16;
 
 // The locales whose keys are kept.
 #[derive(Clone, Copy, Debug)]
@@ -87,8 +88,8 @@ fn has_language(locale: &[u8], of_language: &[u8]) -> bool
 }
 
 // Returns what is kept of a document for a locale, which serves as the whole does: the keys of its
-// language, or all of its part, if it is long, or the outline doesn't tell that its chain stays in
-// its language. The errors are those of the whole.
+// language and of `root`, or all of its part, if the locale is long, or its chain leaves these or has
+// many locales up to its first key. The errors are those of the whole.
 pub(crate) fn rules_outline(
     alloc: Global,
     part: Part,

@@ -8,4 +8,4 @@ abbrev pub invariant-loop-steps : goal.invariant-loop-steps
 invariant-loop-steps l = IsAt l.locales (view l.document) l.part l.locale l.steps l.current
 
 abbrev pub decreases-loop-steps : goal.decreases-loop-steps
-decreases-loop-steps l = 8 - l.steps
+decreases-loop-steps l = 16 - l.steps
