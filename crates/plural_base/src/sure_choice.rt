@@ -47,8 +47,11 @@ impl Error for SureCategoryError {}
 /// Returns the category that a number's text has under the texts of five rules (UTS 35 Part 3,
 /// Language Plural Rules), where it is sure to be that of the number itself, whatever its length.
 ///
-/// The texts are as CLDR writes them, samples included; an absent text is no rule. The errors, in
-/// this order: `Rules` names the first text that gives no rule, as
+/// The texts are as CLDR writes them, samples included; an absent text is no rule. Of each the
+/// longest beginning that is a condition counts: of `i = 1 adn v = 0` this is `i = 1`, and the
+/// category is sure by that; [`is_read_whole`](plural_reference::is_read_whole) tells such a text.
+///
+/// The errors, in this order: `Rules` names the first text that gives no rule, as
 /// [`PluralRulesData::from_texts`] does; `Number` tells why the number's text is refused, as
 /// [`CompactDecimal::from_str`] does; `OutsideBound` that the number isn't within the exactness
 /// bound of the rules ([`PluralRules::is_exact_for`]). It allocates for each rule, and for a number

@@ -62,7 +62,9 @@ impl PluralRulesData<'static> {
     ghost use Rattle.plural_base.specs.RuleTexts.{AreRulesOf, lent_texts, texts_of};
 
     /// Returns the rules of texts as CLDR writes them (UTS 35 Part 3, Plural Rules Syntax), samples
-    /// included, read in the order zero, one, two, few, many. It allocates for each rule.
+    /// included, read in the order zero, one, two, few, many. It allocates for each rule. What
+    /// stands after the longest beginning of a text that is a rule is left: of `i = 1 adn v = 0` the
+    /// rule `i = 1` is read, and [`is_read_whole`](plural_reference::is_read_whole) tells it.
     ///
     /// <!-- snippet crates/tests_libraries/src/tests/plural_base_rules.rt:
     ///      example "let one" to "let rules" of fn rules_of_four_forms_choose_as_languages_do -->

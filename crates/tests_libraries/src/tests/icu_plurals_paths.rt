@@ -7,7 +7,7 @@ pub use icu_plurals::laws::{
 };
 pub use icu_plurals::provider::{
     FourBitMetadata, PluralElementsPackedCow, PluralElementsPackedULE, PluralRanges,
-    PluralRulesData, RawPluralCategory, UnvalidatedPluralRange,
+    PluralRulesData, RawPluralCategory, UnvalidatedPluralRange, is_read_whole,
 };
 pub use icu_plurals::{
     AllCategories, AsPluralRules, Categories, CompactDecimal, DataError, Decimal, DecimalError,
