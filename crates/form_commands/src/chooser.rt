@@ -16,6 +16,8 @@ const LAST_BEFORE_TABLES: u64 = 1024;
 pub(crate) enum Chooser<'a> {
     Rules(PluralRules<'a>),
     Tables(PreparedRules<'a>),
+    // Rules of so many ranges that tables would cost more than they save.
+    ManyRanges(PluralRules<'a>),
 }
 
 impl<'a> Chooser<'a> {
@@ -26,7 +28,8 @@ impl<'a> Chooser<'a> {
         Chooser::Rules(rules.as_borrowed())
     }
 
-    // Makes the tables of the rules, before the number of a place, unless they are made.
+    // Makes the tables of the rules, if they have few ranges, before the number of a place, unless
+    // they are made.
     pub(crate) fn prepare(&mut self, rules: &'a PluralRules<'_>, place: u64)
         requires { chooser_rules self.old ≡ rules.now }
         ensures { chooser_rules self.new ≡ rules.now }
@@ -34,7 +37,11 @@ impl<'a> Chooser<'a> {
         if place > LAST_BEFORE_TABLES
             && let Chooser::Rules(_) = self
         {
-            *self = Chooser::Tables(PreparedRules::from_rules(rules.as_borrowed()));
+            *self = if rules.has_few_ranges() {
+                Chooser::Tables(PreparedRules::from_rules(rules.as_borrowed()))
+            } else {
+                Chooser::ManyRanges(rules.as_borrowed())
+            };
         }
     }
 
@@ -48,7 +55,8 @@ impl<'a> Chooser<'a> {
         ensures { IsTextAnswer (chooser_rules self.now) number.now result }
     {
         match self {
-            Chooser::Rules(rules) => rules.category_for_text(alloc, number),
+            Chooser::Rules(rules) | Chooser::ManyRanges(rules) =>
+                rules.category_for_text(alloc, number),
             Chooser::Tables(tables) => tables.category_for_text(alloc, number),
         }
     }

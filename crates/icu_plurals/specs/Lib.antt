@@ -38,6 +38,8 @@ pub use Rattle.plural_base.specs.FiveRules
 pub use Rattle.plural_base.specs.RuleTexts
 pub use Rattle.plural_base.specs.RulesBytes
 pub use Rattle.plural_base.specs.CategoryTables
+pub use Rattle.plural_base.specs.ToldCategories
+pub use Rattle.plural_base.specs.RuleSizes
 pub use Rattle.plural_base.specs.DecimalChoice
 pub use Rattle.plural_base.specs.SureChoice
 -- ranges

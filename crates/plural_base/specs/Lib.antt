@@ -22,6 +22,8 @@ pub mod Ranges
 pub mod RuleTexts
 pub mod RulesBytes
 pub mod CategoryTables
+pub mod ToldCategories
+pub mod RuleSizes
 pub mod PluralBaseErrors
 pub mod Json
 pub mod RulesJson

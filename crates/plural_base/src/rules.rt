@@ -1,8 +1,9 @@
 //! The rules of one language, and the categories that they choose.
 
-ghost use Rattle.std.specs.Prelude.{◌≡◌, ◌++◌, [], ◌∷◌, List, Contains};
+ghost use Rattle.std.specs.Prelude.{◌≡◌, ◌↔◌, ◌++◌, [], ◌∷◌, IsTrue, List, Contains};
 ghost use Rattle.plural_runtime.specs.PackedTruth.{packed_truth};
 ghost use Rattle.plural_base.specs.FiveRules.{first_category, passes, categories_of};
+ghost use Rattle.plural_base.specs.RuleSizes.{HaveFewRanges};
 ghost use Rattle.plural_base.specs.declared.category.PluralCategory.TheVariants.{Other};
 
 pub(crate) mod as_plural_rules;
@@ -10,6 +11,7 @@ pub(crate) mod bytes;
 pub(crate) mod categories;
 pub(crate) mod category_table;
 pub(crate) mod data;
+pub(crate) mod few_ranges;
 pub(crate) mod fractions;
 pub(crate) mod known;
 pub(crate) mod low_numbers;
@@ -26,6 +28,7 @@ use crate::category::PluralCategory;
 use crate::for_five;
 use crate::rules::categories::Categories;
 use crate::rules::data::PluralRulesData;
+use crate::rules::few_ranges::has_few_ranges;
 use plural_reference::PluralOperands;
 use plural_runtime::{Rule, test_rule};
 use std::marker::Model;
@@ -164,6 +167,18 @@ impl<'data> PluralRules<'data> {
         ensures last { (front : List PluralCategory) × (result ≡ front ++ Other ∷ []) }
     {
         Categories::of(&self.data)
+    }
+
+    /// Returns whether the rules have few ranges, at most 128 with their relations in all five, so
+    /// that [`PreparedRules::from_rules`] costs less than some hundred calls of
+    /// [`PluralRules::category_for`]. Those of a language of CLDR 41 have at most 35. No relation
+    /// is read behind the one that makes them too many.
+    ///
+    /// [`PreparedRules::from_rules`]: crate::PreparedRules::from_rules
+    pub fn has_few_ranges(&self) -> bool
+        ensures { IsTrue result ↔ HaveFewRanges self.now }
+    {
+        has_few_ranges(&self.data)
     }
 }
 

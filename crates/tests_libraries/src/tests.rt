@@ -13,7 +13,6 @@ mod packed_list_lists;
 mod plural_base_growth;
 mod plural_base_ranges;
 mod plural_base_rules;
-mod plural_base_tables;
 mod plural_checker_reports;
 mod plural_exports_growth;
 mod plural_message_messages;

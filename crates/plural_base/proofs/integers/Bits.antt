@@ -4,10 +4,10 @@ use Rattle.std.specs.Prelude.{◌==◌, ◌&&◌, ◌||◌, not, nat_lt, nat_le,
 use Rattle.plural_reference.specs.Truth.{remainder}
 use Rattle.std.proofs.Math.Nat.{mod-add-mod, mod-eq_of_lt, mod-le, mod-lt, zero-mod, one-mul}
 use Rattle.std.specs.Int.{w128, bit_at, bit_not, trailing_zeros}
-use Rattle.std.proofs.lemmas.Bool.{cases_lt, lt-ltb}
+use Rattle.std.proofs.lemmas.Bool.{cases_lt, eqb-true, lt-ltb}
 use Rattle.std.proofs.lemmas.Bool.Decides.{nat_tests}
 use Rattle.std.proofs.lemmas.Nat.{div-add-mod', pow_pos, mul-mod_first, and_le_l}
-use Rattle.std.proofs.lemmas.Nat.Bits.{bit_at-lt, bit_at_and, bit_at_or, bit_at_not, bit_at_ones, bit_at_ones_above, bit_at_cat_low, bit_at_cat_high, bit_at-zero, bit_at-pow_same, bit_at_clear_same, bit_at_clear_other, bit_at-trailing_zeros}
+use Rattle.std.proofs.lemmas.Nat.Bits.{bit_at-lt, bit_at_and, bit_at_or, bit_at_not, bit_at_ones, bit_at_ones_above, bit_at_cat_low, bit_at_cat_high, bit_at-zero, bit_at-pow_same, bit_at-pow_other, bit_at_clear_same, bit_at_clear_other, bit_at-trailing_zeros}
 use Rattle.plural_base.specs.Inner.Masks.{has_bit}
 
 -- ---- `&`, `|` and `!`
@@ -225,3 +225,34 @@ smaller mask place within has =
     let differs : bit_and mask other ≢ mask = λ same.
     not_both (has_bit mask place) has (ap (λ n. has_bit n place) (sym same) ∙ without_same mask place within) in
     omega (arith, most, differs)
+
+-- a mask of which another takes every number
+pub none_open : (wanted closed k : ℕ) → closed < 2 ^ 128 → k < 128 → bit_and wanted (bit_not w128 closed) ≡ 0 → has_bit wanted k ≡ true
+    → has_bit closed k ≡ true
+none_open wanted closed k fits within none here = by (has_bit closed k) refl
+  where
+    by : (b : Bool) → has_bit closed k ≡ b → has_bit closed k ≡ true
+    by true e = e
+    by false e =
+        absurd (not_both (has_bit (bit_and wanted (bit_not w128 closed)) k)
+        (has-and wanted (bit_not w128 closed) k ∙ ap (λ b. b && has_bit (bit_not w128 closed) k) here ∙ has-not closed k fits within ∙ ap not e)
+        (ap (λ n. has_bit n k) none ∙ has-none k))
+
+-- tests of numbers
+pub same_test : (a b : ℕ) → a ≡ b → (a == b) ≡ true
+same_test a b is = grind (arith, nat_tests)
+
+pub differs : (a b : ℕ) → a ≢ b → (a == b) ≡ false
+differs a b apart = grind (arith, nat_tests)
+
+-- the complement of a mask of one number has the others
+pub lacks_place : (place k : ℕ) → place < 128 → k < 128 → has_bit (bit_not w128 (1 * 2 ^ place % 2 ^ 128)) k ≡ not (place == k)
+unfolding has_bit
+lacks_place place k within below = has-not (1 * 2 ^ place % 2 ^ 128) k (one_fits place) below ∙ ap not (by (place == k) refl)
+  where
+    by : (same : Bool) → (place == k) ≡ same → has_bit (1 * 2 ^ place % 2 ^ 128) k ≡ same
+    by true e = ap (has_bit (1 * 2 ^ place % 2 ^ 128)) (sym (eqb-true place k e)) ∙ has-one place within
+    by false e =
+        let other : k ≢ place = λ same. not_both (place == k) (same_test place k (sym same)) e in
+        low_bits (1 * 2 ^ place) k below ∙ ap (λ n. bit_at n k == 1) (one-mul (2 ^ place))
+        ∙ ap (λ bit. bit == 1) (bit_at-pow_other place k other)

@@ -14,6 +14,7 @@ use Rattle.plural_runtime.specs.RuleKinds.{ends, range_or_value}
 use Rattle.std.specs.List.{slice_get}
 use Rattle.std.proofs.lemmas.Option.{get_or_from_slice_get}
 use Rattle.plural_base.specs.Inner.WholeNumbers.{whole_value}
+use Rattle.plural_base.specs.ToldCategories.{is_of_number}
 
 -- every operand has a value at a whole number
 pub operand_value-whole : (operand : Operand) (n : ℕ) → operand_value operand (of_whole n) ≡ Some (whole_value operand n)
@@ -40,6 +41,27 @@ pub relation_truth-whole : (relation : RelationMeaning) (n : ℕ) → relation_t
 relation_truth-whole relation n =
     ap (λ value. under relation.operator (holds_value relation.ranges (option_map (remainder relation.modulus) value)))
     (operand_value-whole relation.operand n)
+
+-- n and i are the number, and the others are 0
+pub whole_self : (operand : Operand) (n : ℕ) → is_of_number operand ≡ true → n ≡ whole_value operand n
+whole_self N n is = refl
+whole_self I n is = refl
+whole_self V n is = absurd (cc is)
+whole_self W n is = absurd (cc is)
+whole_self F n is = absurd (cc is)
+whole_self T n is = absurd (cc is)
+whole_self C n is = absurd (cc is)
+whole_self E n is = absurd (cc is)
+
+pub whole_zero : (operand : Operand) (n : ℕ) → is_of_number operand ≡ false → whole_value operand n ≡ 0
+whole_zero N n is = absurd (cc is)
+whole_zero I n is = absurd (cc is)
+whole_zero V n is = refl
+whole_zero W n is = refl
+whole_zero F n is = refl
+whole_zero T n is = refl
+whole_zero C n is = refl
+whole_zero E n is = refl
 
 -- 0 leaves 0
 pub remainder_zero : (modulus : ℕ) → remainder modulus 0 ≡ 0

@@ -1,5 +1,5 @@
 -- Remainders, and tables that are filled one entry after the other.
-use Rattle.std.proofs.Common.{◌≡◌, ◌≢◌, ℕ, ◌+◌, ◌%◌, ◌<◌, ◌≤◌, List, length, Bool, true, false, refl, sym, ◌∙◌, ap, subst, arith, below_more}
+use Rattle.std.proofs.Common.{◌≡◌, ◌≢◌, ℕ, zero, suc, replicate, ◌+◌, ◌%◌, ◌<◌, ◌≤◌, List, length, Bool, true, false, refl, sym, ◌∙◌, ap, subst, arith, below_more}
 use Rattle.std.proofs.Common.{get_or-set_other, get_or-set_same, get_or}
 use Rattle.std.specs.Prelude.{◌==◌, if◌then◌else◌, slice_set, Option, None}
 use Rattle.std.proofs.Math.Nat.{dvd_iff_mod-eq-zero, mod-mod_of_dvd}
@@ -58,6 +58,12 @@ told_more {A} cycle k bound m told value within so_far here = λ n from below.
     let Q : Option A → Type 0 = λ found. IsTold (value j) found in
     subst Q (sym (get_or-set_same cycle k told None within)) (here j above e) in
     below_more P k earlier last (n % m) below n from refl
+
+-- a table that is empty has nothing anywhere
+pub none_at : {A : Type 0} (n k : ℕ) → get_or {A = Option A} (replicate n None) k None ≡ None
+none_at zero k = refl
+none_at (suc n) zero = refl
+none_at (suc n) (suc k) = none_at n k
 
 -- a range holds 0 if it starts there
 pub holds_zero : (start end : ℕ) → range_holds 0 (start, end) ≡ (start == 0)

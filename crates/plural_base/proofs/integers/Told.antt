@@ -1,111 +1,110 @@
 -- What is told of classes by masks.
-use Rattle.std.proofs.Common.{◌≡◌, ℕ, ◌^◌, ◌<◌, Bool, true, false, refl, sym, ◌∙◌, ap, subst, bit_and, bit_or}
-use Rattle.std.proofs.lemmas.Nat.{or_lt}
-use Rattle.plural_base.specs.declared.category.PluralCategory.{PluralCategory}
-use Rattle.std.specs.Prelude.{◌&&◌, ◌||◌, not, if◌then◌else◌, Option, Some, None}
+use Rattle.std.proofs.Common.{◌≡◌, ℕ, ◌^◌, ◌-◌, ◌<◌, Bool, true, false, refl, sym, ◌∙◌, ap, subst, bit_and, bit_or}
+use Rattle.std.specs.Prelude.{◌&&◌, ◌||◌, not, if◌then◌else◌}
 use Rattle.std.specs.Int.{w128, bit_not}
+use Rattle.std.proofs.lemmas.Bool.{lt-ltb}
 use Rattle.plural_base.specs.declared.rules.told_masks.Told.{Told}
 use Rattle.plural_base.specs.Inner.Masks.{has_bit, IsToldAt}
-use Rattle.plural_base.specs.Inner.WholeNumbers.{IsTold}
-use Rattle.plural_base.proofs.integers.Bits.{has-and, has-or, has-not, has-none}
+use Rattle.plural_base.specs.Inner.WholeNumbers.{IsToldIf}
+use Rattle.plural_base.proofs.integers.Bits.{has-and, has-or, has-not, has-none, has-ones}
+
+-- ---- Truths
+
+pub not_not : (b : Bool) → b ≡ not (not b)
+not_not true = refl
+not_not false = refl
+
+neither : (b c : Bool) → (not b && not c) ≡ not (b || c)
+neither true c = refl
+neither false c = refl
+
+not_both_true : (b c : Bool) → (not b || not c) ≡ not (b && c)
+not_both_true true c = refl
+not_both_true false c = refl
+
+either_order : (b c d e : Bool) → (b ≡ true → c ≡ true) → (d ≡ true → e ≡ true) → (b || d) ≡ true → (c || e) ≡ true
+either_order true c d e f g h = ap (λ t. t || e) (f refl)
+either_order false true d e f g h = refl
+either_order false false d e f g h = g h
+
+both_order : (b c d e : Bool) → (b ≡ true → c ≡ true) → (d ≡ true → e ≡ true) → (b && d) ≡ true → (c && e) ≡ true
+both_order true c d e f g h = ap (λ t. t && e) (f refl) ∙ g h
+both_order false c d e f g h = absurd (cc h)
+
+not_order : (b c : Bool) → (b ≡ true → c ≡ true) → not c ≡ true → not b ≡ true
+not_order b true f h = absurd (cc h)
+not_order true false f h = absurd (cc (f refl))
+not_order false false f h = refl
 
 -- ---- Of two
 
--- no bit of 0 is set
-pub none_set : (k : ℕ) → has_bit 0 k ≡ true → ⊥
-none_set k h = let none = has-none k in absurd (cc (h, none))
-
--- what tests tell of two truths
-either_yes : (b c x y : Bool) → (x ≡ true → b ≡ true) → (y ≡ true → c ≡ true) → (x || y) ≡ true → (b || c) ≡ true
-either_yes b c true y f g h = ap (λ t. t || c) (f refl)
-either_yes true c false y f g h = refl
-either_yes false c false y f g h = g h
-
-either_no : (b c x y : Bool) → (x ≡ true → b ≡ false) → (y ≡ true → c ≡ false) → (x && y) ≡ true → (b || c) ≡ false
-either_no b c true y f g h = ap (λ t. t || c) (f refl) ∙ g h
-either_no b c false y f g h = absurd (cc h)
-
-both_yes : (b c x y : Bool) → (x ≡ true → b ≡ true) → (y ≡ true → c ≡ true) → (x && y) ≡ true → (b && c) ≡ true
-both_yes b c true y f g h = ap (λ t. t && c) (f refl) ∙ g h
-both_yes b c false y f g h = absurd (cc h)
-
-both_no : (b c x y : Bool) → (x ≡ true → b ≡ false) → (y ≡ true → c ≡ false) → (x || y) ≡ true → (b && c) ≡ false
-both_no b c true y f g h = ap (λ t. t && c) (f refl)
-both_no true c false y f g h = g h
-both_no false c false y f g h = refl
-
-pub told_either : (k : ℕ) (b c : Bool) (first second : Told) → IsToldAt k b first → IsToldAt k c second
-    → IsToldAt k (b || c) (record { yes = bit_or first.yes second.yes; no = bit_and first.no second.no })
-told_either k b c first second f g = record {
-  yes = λ h. either_yes b c (has_bit first.yes k) (has_bit second.yes k) f.yes g.yes (sym (has-or first.yes second.yes k) ∙ h);
-  no = λ h. either_no b c (has_bit first.no k) (has_bit second.no k) f.no g.no (sym (has-and first.no second.no k) ∙ h);
+pub told_either : (k : ℕ) (b c d e : Bool) (first second : Told) → IsToldAt k b c first → IsToldAt k d e second
+    → IsToldAt k (b || d) (c || e) (record { yes = bit_or first.yes second.yes; no = bit_and first.no second.no })
+told_either k b c d e first second f g = record {
+  yes = has-or first.yes second.yes k ∙ ap (λ x. x || has_bit second.yes k) f.yes ∙ ap (λ x. b || x) g.yes;
+  no = has-and first.no second.no k ∙ ap (λ x. x && has_bit second.no k) f.no ∙ ap (λ x. not c && x) g.no ∙ neither c e;
+  order = either_order b c d e f.order g.order;
 }
 
-pub told_both : (k : ℕ) (b c : Bool) (first second : Told) → IsToldAt k b first → IsToldAt k c second
-    → IsToldAt k (b && c) (record { yes = bit_and first.yes second.yes; no = bit_or first.no second.no })
-told_both k b c first second f g = record {
-  yes = λ h. both_yes b c (has_bit first.yes k) (has_bit second.yes k) f.yes g.yes (sym (has-and first.yes second.yes k) ∙ h);
-  no = λ h. both_no b c (has_bit first.no k) (has_bit second.no k) f.no g.no (sym (has-or first.no second.no k) ∙ h);
+pub told_both : (k : ℕ) (b c d e : Bool) (first second : Told) → IsToldAt k b c first → IsToldAt k d e second
+    → IsToldAt k (b && d) (c && e) (record { yes = bit_and first.yes second.yes; no = bit_or first.no second.no })
+told_both k b c d e first second f g = record {
+  yes = has-and first.yes second.yes k ∙ ap (λ x. x && has_bit second.yes k) f.yes ∙ ap (λ x. b && x) g.yes;
+  no = has-or first.no second.no k ∙ ap (λ x. x || has_bit second.no k) f.no ∙ ap (λ x. not c || x) g.no ∙ not_both_true c e;
+  order = both_order b c d e f.order g.order;
 }
 
 -- what is told to be false stays so with anything else
-pub told_false_with : (k : ℕ) (b c : Bool) (told : Told) → IsToldAt k b told
-    → IsToldAt k (b && c) (record { yes = 0; no = told.no })
-told_false_with k b c told f = record {
-  yes = λ h. absurd (none_set k h);
-  no = λ h. ap (λ t. t && c) (f.no h);
-}
+pub told_false_with : (k : ℕ) (b c d e : Bool) (told : Told) → has_bit told.no k ≡ true → IsToldAt k b c told
+    → IsToldAt k (b && d) (c && e) told
+told_false_with k b true d e told is f = absurd (cc (is, f.no))
+told_false_with k true false d e told is f = absurd (cc (f.order refl))
+told_false_with k false false d e told is f = f
 
 -- ---- Of one
 
-pub told_not : (k : ℕ) (b : Bool) (told : Told) → IsToldAt k b told → IsToldAt k (not b) (record { yes = told.no; no = told.yes })
-told_not k b told f = record { yes = λ h. ap not (f.no h); no = λ h. ap not (f.yes h) }
+pub told_not : (k : ℕ) (b c : Bool) (told : Told) → IsToldAt k b c told
+    → IsToldAt k (not c) (not b) (record { yes = told.no; no = told.yes })
+told_not k b c told f = record { yes = f.no; no = f.yes ∙ not_not b; order = not_order b c f.order }
 
--- the bits of a mask and of its complement
-turned : (b : Bool) → not b ≡ true → b ≡ false
-turned true h = absurd (cc h)
-turned false h = refl
+-- a truth that may be told is turned
+pub turned_if : (k : ℕ) (is_told b : Bool) (told : Told)
+    → IsToldAt k (not (if is_told then b else true)) (not (if is_told then b else false)) told → IsToldIf k is_told (not b) told
+turned_if k true b told f = f
+turned_if k false b told f = f
 
 pub told_by_mask : (k classes : ℕ) → classes < 2 ^ 128 → k < 128
-    → IsToldAt k (has_bit classes k) (record { yes = classes; no = bit_not w128 classes })
-told_by_mask k classes fits within = record {
-  yes = λ h. h;
-  no = λ h. turned (has_bit classes k) (sym (has-not classes k fits within) ∙ h);
-}
+    → IsToldAt k (has_bit classes k) (has_bit classes k) (record { yes = classes; no = bit_not w128 classes })
+told_by_mask k classes fits within = record { yes = refl; no = has-not classes k fits within; order = λ h. h }
 
--- what is true, or false, whichever the bits of the other mask are
-pub told_true_of : (k classes : ℕ) (truth : Bool) → truth ≡ true → IsToldAt k truth (record { yes = classes; no = 0 })
-told_true_of k classes truth is = record { yes = λ h. is; no = λ h. absurd (none_set k h) }
+pub told_true : (k : ℕ) (truth : Bool) → truth ≡ true → k < 128
+    → IsToldAt k truth truth (record { yes = 2 ^ 128 - 1; no = 0 })
+told_true k truth is within =
+    let P : Bool → Type 0 = λ b. IsToldAt k b b (record { yes = 2 ^ 128 - 1; no = 0 }) in
+    subst P (sym is) (record { yes = has-ones 128 k ∙ lt-ltb k 128 within; no = has-none k; order = λ h. h })
 
-pub told_false_of : (k classes : ℕ) (truth : Bool) → (has_bit classes k ≡ true → truth ≡ false)
-    → IsToldAt k truth (record { yes = 0; no = classes })
-told_false_of k classes truth is = record { yes = λ h. absurd (none_set k h); no = is }
+pub told_untrue : (k : ℕ) (truth : Bool) → truth ≡ false → k < 128
+    → IsToldAt k truth truth (record { yes = 0; no = 2 ^ 128 - 1 })
+told_untrue k truth is within =
+    let P : Bool → Type 0 = λ b. IsToldAt k b b (record { yes = 0; no = 2 ^ 128 - 1 }) in
+    subst P (sym is) (record { yes = has-none k; no = has-ones 128 k ∙ lt-ltb k 128 within; order = λ h. h })
 
--- ---- What is written
+pub told_nothing : (k : ℕ) → IsToldAt k false true (record { yes = 0; no = 0 })
+told_nothing k = record { yes = has-none k; no = has-none k; order = λ h. refl }
 
-by_truth : (truth : Bool) (category rest : PluralCategory) (written old : Option PluralCategory) (x y : Bool)
-    → (x ≡ true → truth ≡ true) → (y ≡ true → truth ≡ false) → IsTold rest old
-    → written ≡ (if not (x || y) then None else (if x then Some category else old))
-    → IsTold (if truth then category else rest) written
-by_truth truth category rest written old true y yes_is no_is of is =
-    let P : Option PluralCategory → Type 0 = λ found. IsTold (if truth then category else rest) found in
-    subst P (sym is) (ap (λ b. if b then category else rest) (yes_is refl))
-by_truth truth category rest written old false true yes_is no_is of is =
-    let P : Option PluralCategory → Type 0 = λ found. IsTold (if truth then category else rest) found in
-    let Q : PluralCategory → Type 0 = λ chosen. IsTold chosen old in
-    subst P (sym is) (subst Q (sym (ap (λ b. if b then category else rest) (no_is refl))) of)
-by_truth truth category rest written old false false yes_is no_is of is =
-    let P : Option PluralCategory → Type 0 = λ found. IsTold (if truth then category else rest) found in
-    subst P (sym is) tt
+pub told_false_of : (k classes : ℕ) → IsToldAt k false (not (has_bit classes k)) (record { yes = 0; no = classes })
+told_false_of k classes = record { yes = has-none k; no = not_not (has_bit classes k); order = λ h. absurd (cc h) }
 
--- the entry that is written by what is told of a class
-pub told_entry : (k : ℕ) (truth : Bool) (told : Told) (category rest : PluralCategory) (written old : Option PluralCategory)
-    → told.yes < 2 ^ 128 → told.no < 2 ^ 128 → k < 128 → IsToldAt k truth told → IsTold rest old
-    → written ≡ (if has_bit (bit_not w128 (bit_or told.yes told.no)) k then None else (if has_bit told.yes k then Some category else old))
-    → IsTold (if truth then category else rest) written
-told_entry k truth told category rest written old fits_yes fits_no within is of written_is =
-    let fits : bit_or told.yes told.no < 2 ^ 128 = or_lt 128 told.yes told.no fits_yes fits_no in
-    by_truth truth category rest written old (has_bit told.yes k) (has_bit told.no k) is.yes is.no of
-    (written_is
-    ∙ ap (λ b. if b then None else (if has_bit told.yes k then Some category else old))
-    (has-not (bit_or told.yes told.no) k fits within ∙ ap not (has-or told.yes told.no k)))
+pub told_if_as : (k : ℕ) (is_told also_told truth same_truth : Bool) (told : Told) → is_told ≡ also_told → truth ≡ same_truth
+    → IsToldIf k is_told truth told → IsToldIf k also_told same_truth told
+told_if_as k is_told also_told truth same_truth told same is f =
+    let P : Bool → Type 0 = λ x. IsToldIf k x truth told in
+    let Q : Bool → Type 0 = λ x. IsToldIf k also_told x told in
+    subst Q is (subst P same f)
+
+-- the same by other words for the two truths
+pub told_as : (k : ℕ) (b c d e : Bool) (told : Told) → b ≡ d → c ≡ e → IsToldAt k b c told → IsToldAt k d e told
+told_as k b c d e told same also f =
+    let P : Bool → Type 0 = λ x. IsToldAt k x c told in
+    let Q : Bool → Type 0 = λ x. IsToldAt k d x told in
+    subst Q also (subst P same f)

@@ -3,9 +3,10 @@ use Rattle.std.proofs.Common.{◌≡◌, ◌≢◌, ◌^◌, ℕ, zero, suc, ◌
 use Rattle.std.proofs.Common.{get_or-set_other, get_or-set_same, get_or}
 use Rattle.std.proofs.lemmas.Bool.{cases_lt}
 use Rattle.std.proofs.lemmas.Nat.{from_le_bytes-to_le_bytes_8}
-use Rattle.std.specs.Prelude.{Option, Some, None, slice_set, slice_index, MatchOption}
+use Rattle.std.specs.Prelude.{Option, Some, None, slice_set, slice_index, MatchOption, ◌↔◌, Bool, false, true}
 use Rattle.std.specs.Int.{w64, from_le_bytes, to_le_bytes, sum_through, byte_worth}
-use Rattle.plural_operands.specs.Operands.{of_whole}
+use Rattle.plural_operands.specs.Operands.{Operands, of_whole}
+use Rattle.plural_runtime.specs.PackedRelations.{PackedRelation}
 use Rattle.plural_runtime.specs.PackedTruth.{packed_truth}
 use Rattle.plural_base.specs.declared.category.PluralCategory.{PluralCategory}
 use Rattle.plural_base.specs.declared.category.PluralCategory.TheVariants.{Zero, One, Two, Few, Many, Other}
@@ -13,7 +14,9 @@ use Rattle.plural_base.specs.Categories.{place_of}
 use Rattle.plural_base.specs.CategoryTables.{IsTableOf, TableTells, integer_entry, table_bound}
 use Rattle.plural_base.specs.FiveRules.{FiveRules, first_category}
 use Rattle.plural_base.specs.Inner.RulesSteps.{entry_number}
-use Rattle.plural_base.specs.Inner.WholeNumbers.{IsTold}
+use Rattle.plural_base.specs.Inner.WholeNumbers.{IsTold, told_category as category_told}
+use Rattle.plural_base.specs.ToldCategories.{IsCategoryTold, category_or}
+use Rattle.plural_base.proofs.integers.Guesses.{AreFrom, guesses}
 
 -- ---- Categories and their numbers
 
@@ -122,3 +125,20 @@ eight_bytes bytes n below same =
     sum_through-same (λ i. byte_worth i (slice_index bytes i)) (λ i. byte_worth i (slice_index (to_le_bytes w64 n) i)) 7
     (λ i h. ap (byte_worth i) (same i (omega arith)))
     ∙ from_le_bytes-to_le_bytes_8 n below
+
+-- an entry has a category if and only if both guesses give the same
+by_entry : (told : Option PluralCategory) (sure maybe : PluralCategory) (entry : ℕ) → entry ≡ entry_number told → AreFrom 0 told sure maybe
+    → (entry ≢ 6) ↔ (sure ≡ maybe)
+by_entry None sure maybe entry is of = ((λ other. absurd (other is)), (λ same six. of.guessed same))
+by_entry (Some category) sure maybe entry is of = (
+  (λ other. of.guessed.0 ∙ sym of.guessed.1),
+  (λ same six.
+  (let most : place_of category ≤ 5 = place_of-bound category in
+  let number : place_of category ≡ 6 = sym is ∙ six in
+  omega (arith, most, number))),
+)
+
+pub told_exactly : (told : PackedRelation → Bool) (o : Operands) (rules : FiveRules) (entry : ℕ) → entry ≡ entry_number (category_told told o rules)
+    → (entry ≢ 6) ↔ IsCategoryTold told o rules
+told_exactly told o rules entry is =
+    by_entry (category_told told o rules) (category_or false told o rules) (category_or true told o rules) entry is (guesses told o rules)

@@ -1,13 +1,14 @@
 //! What rules tell of all numbers that show a fraction.
 
-ghost use Rattle.std.specs.Prelude.{◌≡◌, ◌<◌, ℕ, List, option_map, IfSome};
+ghost use Rattle.std.specs.Prelude.{◌≡◌, ◌==◌, ◌&&◌, ◌<◌, ℕ, List, nat_lt, option_map, IfSome};
+ghost use Rattle.std.specs.List.{list_all};
 ghost use Rattle.plural_operands.specs.Operands.{Operands};
 ghost use Rattle.plural_reference.specs.Truth.{holds_value, is_in_ranges, remainder};
 ghost use Rattle.plural_operands.specs.Operands.{operand_value};
 ghost use Rattle.plural_operands.specs.declared.operand.Operand.TheVariants.{N};
 ghost use Rattle.plural_runtime.specs.Inner.RuleViews.{lent_relation};
-ghost use Rattle.plural_base.specs.Inner.FractionClasses.{HasFraction, IsOfFractions};
-ghost use Rattle.plural_base.specs.Inner.Masks.{IsToldAt};
+ghost use Rattle.plural_base.specs.Inner.FractionClasses.{FractionsAre, HasFraction, IsOfFractions, is_value_told};
+ghost use Rattle.plural_base.specs.Inner.WholeNumbers.{IsToldIf};
 
 use crate::rules::known::{Known, told_list};
 use crate::rules::told::NumberClasses;
@@ -25,7 +26,8 @@ pub(crate) enum Fractions {
 // Which of these show a fraction as the operands do.
 #[inline]
 pub(crate) fn fractions_of(operands: PluralOperands) -> Option<Fractions>
-    ensures { IfSome result (λ fractions. IsOfFractions fractions operands) }
+    ensures of { IfSome result (λ fractions. IsOfFractions fractions operands) }
+    ensures exact { FractionsAre operands result }
 {
     let raw = RawPluralOperands::from(operands);
     if raw.v == 0 {
@@ -49,9 +51,11 @@ const NOT_ZERO: u128 = 1 << 1;
 pub(crate) const ALL_FRACTIONS: u128 = NOT_ZERO | 1;
 
 impl NumberClasses for FractionClasses {
-    ghost use Rattle.plural_base.specs.Inner.FractionClasses.{HasFraction};
+    ghost use Rattle.plural_base.specs.Inner.FractionClasses.{HasFraction, is_told_of_fraction};
 
     ghost has = { λ classes class o. HasFraction class o };
+
+    ghost is_told = { λ classes class relation. is_told_of_fraction class relation };
 
     fn told_relation(self, relation: &Relation<'_>) -> Told {
         under_polarity(told_in(relation), relation.polarity())
@@ -61,7 +65,8 @@ impl NumberClasses for FractionClasses {
 // Whether the list of a relation holds its operand's value, as far as it can be told.
 fn told_in(relation: &Relation<'_>) -> Told
     ensures { (class : ℕ) (o : Operands) → class < 128 → HasFraction class o → let meaning = (lent_relation relation.now).meaning in
-        IsToldAt class (holds_value meaning.ranges (option_map (remainder meaning.modulus) (operand_value meaning.operand o))) result }
+        IsToldIf class (is_value_told class meaning.operand meaning)
+        (holds_value meaning.ranges (option_map (remainder meaning.modulus) (operand_value meaning.operand o))) result }
 {
     match relation.operand() {
         Operand::V => told_places(relation),
@@ -73,7 +78,8 @@ fn told_in(relation: &Relation<'_>) -> Told
 // Whether the list holds the count of fraction digits, which is at least 1, if it can be told.
 fn told_places(relation: &Relation<'_>) -> Told
     ensures { (class count : ℕ) → class < 128 → 0 < count → let meaning = (lent_relation relation.now).meaning in
-        IsToldAt class (is_in_ranges meaning.ranges (remainder meaning.modulus count)) result }
+        IsToldIf class ((meaning.modulus == 0) && list_all (λ range. nat_lt range.1 1) meaning.ranges)
+        (is_in_ranges meaning.ranges (remainder meaning.modulus count)) result }
 {
     if relation.modulo() == 0 {
         told_list(relation, Known::From(1))
@@ -85,7 +91,7 @@ fn told_places(relation: &Relation<'_>) -> Told
 // Whether a list holds n, if it can be told: a number whose fraction isn't 0 has no value there.
 fn told_whole() -> Told
     ensures { (class : ℕ) (o : Operands) (ranges : List (ℕ × ℕ)) (modulus : ℕ) → HasFraction class o
-        → IsToldAt class (holds_value ranges (option_map (remainder modulus) (operand_value N o))) result }
+        → IsToldIf class (class == 1) (holds_value ranges (option_map (remainder modulus) (operand_value N o))) result }
 {
     told_false(NOT_ZERO)
 }

@@ -1,11 +1,13 @@
 //! What is known of a value at all numbers of each of 128 classes, and what it tells of ranges.
 
-ghost use Rattle.std.specs.Prelude.{◌≡◌, ◌<◌, ℕ, ◌%◌, Bool, false, IsTrue, length, slice_index_or};
+ghost use Rattle.std.specs.Prelude.{◌≡◌, ◌<◌, ℕ, ◌%◌, Bool, false, true, not, length, slice_index_or};
+ghost use Rattle.std.specs.List.{list_any};
 ghost use Rattle.plural_reference.specs.Truth.{is_in_ranges, range_holds};
 ghost use Rattle.plural_runtime.specs.RuleKinds.{ends};
 ghost use Rattle.plural_runtime.specs.Inner.RuleViews.{lent_relation};
 ghost use Rattle.plural_base.specs.Inner.Masks.{has_bit, IsToldAt};
-ghost use Rattle.plural_base.specs.Inner.WholeNumbers.{Fits};
+ghost use Rattle.plural_base.specs.Inner.WholeNumbers.{Fits, IsToldIf, is_list_told, range_or};
+ghost use Rattle.plural_base.specs.declared.rules.known.Known.TheVariants as facts;
 
 use crate::rules::masks::{between, repeated};
 use crate::rules::told_masks::{Told, either, told_alike, told_exactly, told_false, untold};
@@ -29,7 +31,8 @@ pub(crate) enum Known {
 // Whether the list of a relation holds a value, as far as what is known tells.
 pub(crate) fn told_list(relation: &Relation<'_>, known: Known) -> Told
     ensures { (class value : ℕ) → class < 128 → Fits known class value
-        → IsToldAt class (is_in_ranges (lent_relation relation.now).meaning.ranges value) result }
+        → let ranges = (lent_relation relation.now).meaning.ranges in
+        IsToldIf class (is_list_told known class ranges) (is_in_ranges ranges value) result }
 {
     match known {
         Known::RemainderBy(modulus) => told_exactly(repeated(ranges_mask(relation), modulus)),
@@ -76,7 +79,8 @@ fn mask_of(range: RangeOrValue) -> u128
 // The same, range by range.
 fn told_each(relation: &Relation<'_>, known: Known) -> Told
     ensures { (class value : ℕ) → class < 128 → Fits known class value
-        → IsToldAt class (is_in_ranges (lent_relation relation.now).meaning.ranges value) result }
+        → let ranges = (lent_relation relation.now).meaning.ranges in
+        IsToldAt class (list_any (range_or false known class value) ranges) (list_any (range_or true known class value) ranges) result }
 {
     let mut told = told_alike(false);
     let count = relation.len();
@@ -88,19 +92,21 @@ fn told_each(relation: &Relation<'_>, known: Known) -> Told
 
 // Whether the range at a place holds a value, as far as what is known tells.
 fn told_at(relation: &Relation<'_>, place: usize, known: Known) -> Told
-    ensures { (class value : ℕ) → class < 128 → Fits known class value → IsToldAt class
-        (range_holds value (slice_index_or (lent_relation relation.now).meaning.ranges place (0, 0))) result }
+    requires { place < length (lent_relation relation.now).meaning.ranges }
+    ensures { (class value : ℕ) → class < 128 → Fits known class value
+        → let range = slice_index_or (lent_relation relation.now).meaning.ranges place (0, 0) in
+        IsToldAt class (range_or false known class value range) (range_or true known class value range) result }
 {
     match relation.range(place) {
         Some(range) => told_range(range, known),
-        None => untold(),
+        None => unreachable!(),
     }
 }
 
 // Whether a range holds a value, as far as what is known tells.
 fn told_range(range: RangeOrValue, known: Known) -> Told
     ensures { (class value : ℕ) → class < 128 → Fits known class value
-        → IsToldAt class (range_holds value (ends range)) result }
+        → IsToldAt class (range_or false known class value (ends range)) (range_or true known class value (ends range)) result }
 {
     match range {
         RangeOrValue::Range(start, end) => told_between(start, end, known),
@@ -111,7 +117,7 @@ fn told_range(range: RangeOrValue, known: Known) -> Told
 // Whether a value is between two ends, as far as what is known tells.
 fn told_between(start: u32, end: u32, known: Known) -> Told
     ensures { (class value : ℕ) → class < 128 → Fits known class value
-        → IsToldAt class (range_holds value (start, end)) result }
+        → IsToldAt class (range_or false known class value (start, end)) (range_or true known class value (start, end)) result }
 {
     match known {
         Known::IsZero => told_alike(start == 0),
@@ -125,8 +131,8 @@ fn told_between(start: u32, end: u32, known: Known) -> Told
 // Whether a range holds a value that leaves the place of the class by 100. It isn't told of a range
 // of several values, nor of the class of the one value.
 fn told_of_residues(start: u32, end: u32) -> Told
-    ensures { (class value : ℕ) → class < 128 → value % 100 ≡ class
-        → IsToldAt class (range_holds value (start, end)) result }
+    ensures { (class value : ℕ) → class < 128 → value % 100 ≡ class → IsToldAt class
+        (range_or false facts.Leaves class value (start, end)) (range_or true facts.Leaves class value (start, end)) result }
 {
     if start != end {
         return untold();
@@ -137,7 +143,7 @@ fn told_of_residues(start: u32, end: u32) -> Told
 
 // That it is false of each class, if this holds, else nothing.
 fn refused_if(is_refused: bool) -> Told
-    ensures { (class : ℕ) (b : Bool) → (IsTrue is_refused → b ≡ false) → IsToldAt class b result }
+    ensures { (class : ℕ) → class < 128 → IsToldAt class false (not is_refused) result }
 {
     if is_refused {
         told_alike(false)

@@ -1,19 +1,21 @@
 //! Rules with tables of the categories of integers.
 
 ghost use Rattle.std.specs.Prelude.{◌≡◌, ℕ, ◌<◌, Contains, slice_index_or, None};
-ghost use Rattle.plural_operands.specs.Operands.{of_whole};
+ghost use Rattle.plural_operands.specs.Operands.{Operands, of_whole};
 ghost use Rattle.plural_runtime.specs.PackedTruth.{packed_truth};
 ghost use Rattle.plural_base.specs.FiveRules.{first_category, categories_of, rules_of};
 ghost use Rattle.plural_base.specs.CategoryTables.{IsTableOf};
-ghost use Rattle.plural_base.specs.Inner.FractionClasses.{AreFractionCategories, IsFractionCategory};
-ghost use Rattle.plural_base.specs.Inner.WholeNumbers.{AreLowEntries, AreTold, IsTold, category_of_whole};
+ghost use Rattle.plural_base.specs.Inner.FractionClasses.{AreAllFractionsTold, IsFractionCategory, IsOfFractions, class_of, fraction_category, is_told_of_fraction};
+ghost use Rattle.plural_base.specs.Inner.WholeNumbers.{AreAllTold, AreLowEntries, IsTold, category_of_whole, told_category};
+ghost use Rattle.plural_base.specs.ToldCategories.{TellsAll};
 
 use crate::category::PluralCategory;
 use crate::rules::PluralRules;
 use crate::rules::as_plural_rules::AsPluralRules;
 use crate::rules::data::PluralRulesData;
+use crate::rules::few_ranges::has_few_ranges;
 use crate::rules::fractions::{ALL_FRACTIONS, FractionClasses, Fractions, fractions_of};
-use crate::rules::low_numbers::{LowNumbers, has_few_ranges};
+use crate::rules::low_numbers::LowNumbers;
 use crate::rules::residue_class::{ALL_RESIDUES, CYCLE, ResidueClasses, bound_of};
 use crate::rules::table_bytes::{LOW, TABLE_LENGTH, table_bytes};
 use crate::rules::told::tell_categories;
@@ -39,14 +41,18 @@ impl<'data> Model for PreparedRules<'data> {
 
     ghost Value = { FiveRules };
 
-    ghost use Rattle.plural_base.specs.Inner.FractionClasses.{AreFractionCategories};
-    ghost use Rattle.plural_base.specs.Inner.WholeNumbers.{AreLowEntries, AreTold};
+    ghost use Rattle.std.specs.Prelude.{◌≡◌};
+    ghost use Rattle.plural_base.specs.Inner.FractionClasses.{AreAllFractionsTold, AreFractionCategories};
+    ghost use Rattle.plural_base.specs.Inner.WholeNumbers.{AreAllTold, AreLowEntries, AreTold};
+    ghost use Rattle.plural_base.specs.ToldCategories.{ends_of, first_above};
 
     ghost view = { λ prepared. prepared.rules };
 
     ghost invariant = { λ prepared.
         AreLowEntries prepared.rules prepared.low × AreTold prepared.rules prepared.bound prepared.cycle
-        × AreFractionCategories prepared.rules prepared.shown prepared.not_zero };
+        × AreFractionCategories prepared.rules prepared.shown prepared.not_zero
+        × (prepared.bound ≡ first_above (ends_of prepared.rules)) × AreAllTold prepared.rules prepared.bound prepared.cycle
+        × AreAllFractionsTold prepared.rules prepared.shown prepared.not_zero };
 }
 
 impl<'data> PreparedRules<'data> {
@@ -89,7 +95,8 @@ impl<'data> PreparedRules<'data> {
     ///
     /// [`CategoryTable`]: crate::CategoryTable
     pub fn to_table(&self) -> [u8; TABLE_LENGTH]
-        ensures { IsTableOf self.now result }
+        ensures of { IsTableOf self.now result }
+        ensures all { TellsAll self.now result }
     {
         table_bytes(self.bound, &self.low, &self.cycle)
     }
@@ -114,7 +121,8 @@ impl<'data> PreparedRules<'data> {
     // The category of all numbers that show a fraction as these operands do, if it is told.
     #[inline]
     pub(crate) fn told_of_fraction(&self, operands: PluralOperands) -> Option<PluralCategory>
-        ensures { IsTold (first_category (packed_truth operands) self.now) result }
+        ensures told { IsTold (first_category (packed_truth operands) self.now) result }
+        ensures all { result ≡ fraction_category self.now operands }
     {
         match fractions_of(operands) {
             Some(fractions) => self.told_of_fractions(fractions),
@@ -125,7 +133,9 @@ impl<'data> PreparedRules<'data> {
     // The category of all numbers that show such a fraction, if it is told.
     #[inline]
     fn told_of_fractions(&self, fractions: Fractions) -> Option<PluralCategory>
-        ensures { IsFractionCategory self.now fractions result }
+        ensures told { IsFractionCategory self.now fractions result }
+        ensures all { (o : Operands) → IsOfFractions fractions o
+            → result ≡ told_category (is_told_of_fraction (class_of fractions)) o self.now }
     {
         match fractions {
             Fractions::Shown => self.shown,
@@ -155,13 +165,13 @@ fn low_categories(rules: &PluralRules<'_>) -> [PluralCategory; 128]
     ensures { AreLowEntries rules.now result }
 {
     // Rules of many ranges are asked for each number: they read no more than it needs.
-    let open = if has_few_ranges(&rules.data) {
+    let wanted = if has_few_ranges(&rules.data) {
         u128::MAX
     } else {
         0
     };
     let mut told = [None; 128];
-    tell_categories(&rules.data, LowNumbers, open, &mut told);
+    tell_categories(&rules.data, LowNumbers, wanted, &mut told);
     let mut low = [PluralCategory::Other; 128];
     for k in 0..128usize {
         low[k] = low_category(rules, told[k], k as u64);
@@ -187,7 +197,7 @@ fn low_category(
 
 // The categories of all numbers from the bound on, by their remainder by 100, where that tells.
 fn cycle_categories(rules: &PluralRulesData<'_>, bound: u64) -> [Option<PluralCategory>; 100]
-    ensures { AreTold (rules_of rules.now) bound result }
+    ensures { AreAllTold (rules_of rules.now) bound result }
 {
     let mut cycle = [None; 100];
     tell_categories(rules, ResidueClasses { bound }, ALL_RESIDUES, &mut cycle);
@@ -197,7 +207,7 @@ fn cycle_categories(rules: &PluralRulesData<'_>, bound: u64) -> [Option<PluralCa
 // The categories of all numbers that show a fraction, and of those whose fraction isn't 0, where
 // they have one.
 fn fraction_categories(rules: &PluralRulesData<'_>) -> [Option<PluralCategory>; 2]
-    ensures { AreFractionCategories (rules_of rules.now) (slice_index_or result 0 None) (slice_index_or result 1 None) }
+    ensures { AreAllFractionsTold (rules_of rules.now) (slice_index_or result 0 None) (slice_index_or result 1 None) }
 {
     let mut fractions = [None; 2];
     tell_categories(rules, FractionClasses, ALL_FRACTIONS, &mut fractions);

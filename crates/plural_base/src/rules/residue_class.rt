@@ -1,9 +1,14 @@
 //! What is known of all whole numbers from a bound on that leave one remainder by 100.
 
-ghost use Rattle.std.specs.Prelude.{ℕ};
+ghost use Rattle.std.specs.Prelude.{◌≡◌, ◌<◌, ◌||◌, ℕ, List, flat_map, length, map, slice_index_or};
+ghost use Rattle.std.specs.List.{list_all};
 ghost use Rattle.plural_reference.specs.Truth.{remainder};
-ghost use Rattle.plural_runtime.specs.RuleKinds.{tree_operand_of};
-ghost use Rattle.plural_base.specs.Inner.WholeNumbers.{Fits, IsInClass, whole_value};
+ghost use Rattle.plural_runtime.specs.RuleKinds.{ends, tree_operand_of};
+ghost use Rattle.plural_runtime.specs.PackedRelations.{PackedRelation};
+ghost use Rattle.plural_runtime.specs.Inner.RuleViews.{lent_relation};
+ghost use Rattle.plural_base.specs.FiveRules.{rules_of};
+ghost use Rattle.plural_base.specs.Inner.WholeNumbers.{Fits, IsInClass, is_list_told, whole_value};
+ghost use Rattle.plural_base.specs.ToldCategories.{divides_100, ends_of, ends_of_relation, ends_of_rule, first_above, is_of_number as of_number, is_outside, is_told};
 
 use crate::for_five;
 use crate::rules::data::PluralRulesData;
@@ -26,8 +31,11 @@ pub(crate) struct ResidueClasses {
 
 impl NumberClasses for ResidueClasses {
     ghost use Rattle.plural_base.specs.Inner.WholeNumbers.{HasResidue};
+    ghost use Rattle.plural_base.specs.ToldCategories.{is_told as is_told_from};
 
     ghost has = { λ classes class o. HasResidue classes.bound class o };
+
+    ghost is_told = { λ classes class relation. is_told_from classes.bound class relation };
 
     fn told_relation(self, relation: &Relation<'_>) -> Told {
         let known = known_value(relation.operand(), relation.modulo(), self.bound);
@@ -36,21 +44,34 @@ impl NumberClasses for ResidueClasses {
 }
 
 // What is known of an operand's remainder by a modulus.
-#[tactic(auto, using(crate::proofs::integers::Lists::remainder_zero))]
 fn known_value(operand: Operand, modulus: u32, bound: u64) -> Known
-    ensures { (class n : ℕ) → IsInClass bound class n
+    ensures fits { (class n : ℕ) → IsInClass bound class n
         → Fits result class (remainder modulus (whole_value (tree_operand_of operand) n)) }
+    ensures told { (class : ℕ) (relation : PackedRelation) → relation.meaning.operand ≡ tree_operand_of operand
+        → relation.meaning.modulus ≡ modulus → is_list_told result class relation.meaning.ranges ≡ is_told bound class relation }
+{
+    if is_of_number(operand) {
+        known_remainder(modulus, bound)
+    } else {
+        Known::IsZero
+    }
+}
+
+// Whether an operand is a whole number itself: the others are 0.
+fn is_of_number(operand: Operand) -> bool
+    ensures { result ≡ of_number (tree_operand_of operand) }
 {
     match operand {
-        Operand::N | Operand::I => known_remainder(modulus, bound),
-        Operand::V | Operand::W | Operand::F | Operand::T | Operand::C | Operand::E =>
-            Known::IsZero,
+        Operand::N | Operand::I => true,
+        Operand::V | Operand::W | Operand::F | Operand::T | Operand::C | Operand::E => false,
     }
 }
 
 // What is known of a number's remainder by a modulus.
 fn known_remainder(modulus: u32, bound: u64) -> Known
-    ensures { (class n : ℕ) → IsInClass bound class n → Fits result class (remainder modulus n) }
+    ensures fits { (class n : ℕ) → IsInClass bound class n → Fits result class (remainder modulus n) }
+    ensures told { (class : ℕ) (ranges : List (ℕ × ℕ)) → is_list_told result class ranges
+        ≡ (divides_100 modulus || list_all (is_outside bound class modulus) ranges) }
 {
     let divisor = u64::from(modulus);
     if divisor == 0 {
@@ -65,16 +86,19 @@ fn known_remainder(modulus: u32, bound: u64) -> Known
 }
 
 // One more than the greatest end of a range with which a relation compares `n` or `i` without a
-// modulus: from there on no such relation is left group. Any other bound would be right too; from a
-// lower one on less is told.
-pub(crate) fn bound_of(rules: &PluralRulesData<'_>) -> u64 {
+// modulus: from there on no such range holds a number.
+pub(crate) fn bound_of(rules: &PluralRulesData<'_>) -> u64
+    ensures { result ≡ first_above (ends_of (rules_of rules.now)) }
+{
     let mut bound = 0;
     for_five!(rules, |rule| bound = bound.max(bound_of_rule(rule)));
     bound
 }
 
 // The same of one rule, if present.
-fn bound_of_rule(rule: &Option<Rule<'_>>) -> u64 {
+fn bound_of_rule(rule: &Option<Rule<'_>>) -> u64
+    ensures { result ≡ first_above (ends_of_rule rule.now) }
+{
     match rule {
         Some(rule) => bound_of_relations(rule),
         None => 0,
@@ -82,7 +106,9 @@ fn bound_of_rule(rule: &Option<Rule<'_>>) -> u64 {
 }
 
 // The same of the relations of a rule.
-fn bound_of_relations(rule: &Rule<'_>) -> u64 {
+fn bound_of_relations(rule: &Rule<'_>) -> u64
+    ensures { result ≡ first_above (flat_map ends_of_relation rule.now) }
+{
     let mut bound = 0;
     for item in rule.iter() {
         bound = bound.max(bound_of_relation(&item.as_relation()));
@@ -91,27 +117,45 @@ fn bound_of_relations(rule: &Rule<'_>) -> u64 {
 }
 
 // The same of one relation.
-fn bound_of_relation(relation: &Relation<'_>) -> u64 {
-    let is_of_number = match relation.operand() {
-        Operand::N | Operand::I => true,
-        Operand::V | Operand::W | Operand::F | Operand::T | Operand::C | Operand::E => false,
-    };
-    if is_of_number && relation.modulo() == 0 {
-        first_above(relation)
+fn bound_of_relation(relation: &Relation<'_>) -> u64
+    ensures { result ≡ first_above (ends_of_relation (lent_relation relation.now)) }
+{
+    if is_of_number(relation.operand()) && relation.modulo() == 0 {
+        first_above_ranges(relation)
     } else {
         0
     }
 }
 
 // One more than the greatest end of the ranges of a relation.
-fn first_above(relation: &Relation<'_>) -> u64 {
+fn first_above_ranges(relation: &Relation<'_>) -> u64
+    ensures { result ≡ first_above (map (λ range. range.1) (lent_relation relation.now).meaning.ranges) }
+{
     let mut bound = 0;
-    for k in 0..relation.len() {
-        let end = match relation.range(k) {
-            Some(RangeOrValue::Range(_, end) | RangeOrValue::Value(end)) => u64::from(end) + 1,
-            None => 0,
-        };
-        bound = bound.max(end);
+    let count = relation.len();
+    for k in 0..count {
+        bound = bound.max(u64::from(end_at(relation, k)) + 1);
     }
     bound
+}
+
+// The end of the range at a place.
+fn end_at(relation: &Relation<'_>, place: usize) -> u32
+    requires { place < length (lent_relation relation.now).meaning.ranges }
+    ensures { result ≡ (slice_index_or (lent_relation relation.now).meaning.ranges place (0, 0)).1 }
+{
+    match relation.range(place) {
+        Some(range) => end_of(range),
+        None => unreachable!(),
+    }
+}
+
+// The end of a range.
+fn end_of(range: RangeOrValue) -> u32
+    ensures { result ≡ (ends range).1 }
+{
+    match range {
+        RangeOrValue::Range(_, end) => end,
+        RangeOrValue::Value(value) => value,
+    }
 }

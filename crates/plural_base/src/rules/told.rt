@@ -1,31 +1,36 @@
 //! What rules tell of all numbers of each of some classes.
 
-ghost use Rattle.std.specs.Prelude.{◌≡◌, ◌<◌, ◌&&◌, ℕ, Bool, if◌then◌else◌, length, slice_index_or, None};
+ghost use Rattle.std.specs.Prelude.{◌≡◌, ◌<◌, ◌&&◌, ℕ, Bool, false, true, not, if◌then◌else◌, length, slice_index_or, None, Some};
 ghost use Rattle.plural_operands.specs.Operands.{Operands};
 ghost use Rattle.plural_runtime.specs.Inner.RuleViews.{lent_relation};
-ghost use Rattle.plural_runtime.specs.PackedTruth.{is_true_at, packed_truth};
-ghost use Rattle.plural_base.specs.declared.category.PluralCategory.{PluralCategory as Category};
-ghost use Rattle.plural_base.specs.FiveRules.{first_category, passes, rules_of};
+ghost use Rattle.plural_base.specs.FiveRules.{passes, rules_of};
 ghost use Rattle.plural_base.specs.Inner.Masks.{has_bit, IsToldAt};
-ghost use Rattle.plural_base.specs.Inner.WholeNumbers.{earlier_after, group_after, IsTold};
+ghost use Rattle.plural_base.specs.Inner.WholeNumbers.{earlier_after, group_after, told_category};
+ghost use Rattle.plural_base.specs.ToldCategories.{rule_or, truth_or};
 
 use crate::category::PluralCategory;
+use crate::for_five;
 use crate::rules::data::PluralRulesData;
-use crate::rules::told_masks::{Told, both, either, told_alike, untold};
+use crate::rules::told_masks::{Told, both, either, told_alike};
 use plural_runtime::{AndOr, Relation, Rule};
 
 // At most 128 classes of numbers, by place, of all of which at once is told what holds.
 pub(crate) trait NumberClasses: Copy {
-    ghost use Rattle.std.specs.Prelude.{◌<◌, ℕ};
+    ghost use Rattle.std.specs.Prelude.{◌<◌, ℕ, Bool, false, true};
     ghost use Rattle.plural_operands.specs.Operands.{Operands};
+    ghost use Rattle.plural_runtime.specs.PackedRelations.{PackedRelation};
 
     // The operands of a number of the class at a place.
     ghost has: { Self → ℕ → Operands → Type 0 };
 
+    // It is told of all numbers of the class whether a relation is true.
+    ghost is_told: { Self → ℕ → PackedRelation → Bool };
+
     // Whether a relation is true of all numbers of a class, of each class where it can be told.
     fn told_relation(self, relation: &Relation<'_>) -> Told
         ensures { (class : ℕ) (o : Operands) → class < 128 → has self class o
-            → IsToldAt class (is_true_at o (lent_relation relation.now)) result };
+            → let told = is_told self class in let relation = lent_relation relation.now in
+            IsToldAt class (truth_or false told o relation) (truth_or true told o relation) result };
 }
 
 // How far a rule is read: whether a group before the open one is true, and whether the open one is
@@ -36,80 +41,85 @@ struct Walk {
     group: Told,
 }
 
-// Writes the category that five rules give all numbers of a class, at the place of each class,
-// where it is told. Those that are open at first are asked for. A rule is read for those alone of
-// them of which each rule before it is told to be false. The categories are written from the last
-// one on, so that the first true rule's is kept.
+// Writes the category that five rules give all numbers of a class, at the place of each wanted class
+// where it is told, in entries that have none. A rule is read for those classes alone of which each
+// rule before it is told to be false.
 pub(crate) fn tell_categories<C: NumberClasses>(
     rules: &PluralRulesData<'_>,
     classes: C,
-    open: u128,
+    wanted: u128,
     entries: &mut [Option<PluralCategory>],
 )
-    ensures { (class : ℕ) (o : Operands) → class < 128 → C.has classes class o
-        → IsTold (first_category (packed_truth o) (rules_of rules.now)) (slice_index_or entries.new class None) }
+    requires { (class : ℕ) → slice_index_or entries.old class None ≡ None }
+    ensures { (class : ℕ) (o : Operands) → class < 128 → class < length entries.old → C.has classes class o
+        → slice_index_or entries.new class None
+        ≡ (if has_bit wanted class then told_category (C.is_told classes class) o (rules_of rules.now) else None) }
 {
-    let zero = told_if_open(&rules.zero, classes, open);
-    let open = open & zero.no;
-    let one = told_if_open(&rules.one, classes, open);
-    let open = open & one.no;
-    let two = told_if_open(&rules.two, classes, open);
-    let open = open & two.no;
-    let few = told_if_open(&rules.few, classes, open);
-    let open = open & few.no;
-    let many = told_if_open(&rules.many, classes, open);
-    tell_all(entries);
-    tell(many, PluralCategory::Many, entries);
-    tell(few, PluralCategory::Few, entries);
-    tell(two, PluralCategory::Two, entries);
-    tell(one, PluralCategory::One, entries);
-    tell(zero, PluralCategory::Zero, entries);
+    let mut wanted = wanted;
+    for_five!(rules, |rule, category| {
+        wanted = tell(rule, category, classes, wanted, entries);
+    });
+    write_at(entries, wanted, PluralCategory::Other);
 }
 
-// Whether a rule is present and true of all numbers of a class, of each class where it can be told.
-// A rule that is present isn't read without an open class, and nothing is told of it.
-fn told_if_open<C: NumberClasses>(rule: &Option<Rule<'_>>, classes: C, open: u128) -> Told
-    ensures { (class : ℕ) (o : Operands) → class < 128 → C.has classes class o
-        → IsToldAt class (passes (packed_truth o) rule.now) result }
+// Writes a category at the places of the wanted classes of which its rule is told to be true. Returns
+// those of which it is told to be false. No rule is read for no class.
+fn tell<C: NumberClasses>(
+    rule: &Option<Rule<'_>>,
+    category: PluralCategory,
+    classes: C,
+    wanted: u128,
+    entries: &mut [Option<PluralCategory>],
+) -> u128
+    ensures written { (class : ℕ) (o : Operands) → class < 128 → class < length entries.old → C.has classes class o
+        → slice_index_or entries.new class None
+        ≡ (if has_bit wanted class && passes (rule_or false (C.is_told classes class) o) rule.now then Some category
+        else slice_index_or entries.old class None) }
+    ensures left { (class : ℕ) (o : Operands) → class < 128 → C.has classes class o → has_bit result class
+        ≡ (has_bit wanted class && not (passes (rule_or true (C.is_told classes class) o) rule.now)) }
 {
-    match rule {
-        Some(rule) => {
-            if open == 0 {
-                return untold();
-            }
-            told_relations(rule, classes, open)
-        }
-        None => told_alike(false),
+    let Some(rule) = rule else {
+        return wanted;
+    };
+    if wanted == 0 {
+        return 0;
     }
+    let told = told_relations(rule, classes, wanted);
+    write_at(entries, wanted & told.yes, category);
+    wanted & told.no
 }
 
-// Whether a rule is true of all numbers of a class, of each class where it can be told.
-fn told_relations<C: NumberClasses>(rule: &Rule<'_>, classes: C, open: u128) -> Told
-    ensures { (class : ℕ) (o : Operands) → class < 128 → C.has classes class o
-        → IsToldAt class (packed_truth o rule.now) result }
+// Whether a rule is true of all numbers of a class, of each wanted class where it can be told.
+fn told_relations<C: NumberClasses>(rule: &Rule<'_>, classes: C, wanted: u128) -> Told
+    ensures { (class : ℕ) (o : Operands) → class < 128 → has_bit wanted class ≡ true → C.has classes class o
+        → let told = C.is_told classes class in
+        IsToldAt class (rule_or false told o rule.now) (rule_or true told o rule.now) result }
 {
     let mut walk = Walk {
         earlier: told_alike(false),
         group: told_alike(true),
     };
     for item in rule.iter() {
-        walk = walk_on(walk, &item.as_relation(), classes, open);
+        walk = walk_on(walk, &item.as_relation(), classes, wanted);
     }
     either(walk.earlier, walk.group)
 }
 
 // The walk after a further relation.
-fn walk_on<C: NumberClasses>(walk: Walk, relation: &Relation<'_>, classes: C, open: u128) -> Walk
-    ensures earlier { (class : ℕ) (b c : Bool) → IsToldAt class b walk.earlier → IsToldAt class c walk.group
-        → IsToldAt class (earlier_after (lent_relation relation.now).and_or b c) result.earlier }
-    ensures group { (class : ℕ) (o : Operands) (c : Bool) → class < 128 → C.has classes class o
-        → IsToldAt class c walk.group → IsToldAt class
-        (group_after (lent_relation relation.now).and_or c (is_true_at o (lent_relation relation.now))) result.group }
+fn walk_on<C: NumberClasses>(walk: Walk, relation: &Relation<'_>, classes: C, wanted: u128) -> Walk
+    ensures earlier { (class : ℕ) (b c d e : Bool) → IsToldAt class b c walk.earlier → IsToldAt class d e walk.group
+        → let mark = (lent_relation relation.now).and_or in
+        IsToldAt class (earlier_after mark b d) (earlier_after mark c e) result.earlier }
+    ensures group { (class : ℕ) (o : Operands) (d e : Bool) → class < 128 → has_bit wanted class ≡ true → C.has classes class o
+        → IsToldAt class d e walk.group
+        → let told = C.is_told classes class in let relation = lent_relation relation.now in
+        IsToldAt class (group_after relation.and_or d (truth_or false told o relation))
+        (group_after relation.and_or e (truth_or true told o relation)) result.group }
 {
     match relation.and_or() {
         AndOr::And => Walk {
             earlier: walk.earlier,
-            group: and_relation(walk.group, relation, classes, open),
+            group: and_relation(walk.group, relation, classes, wanted),
         },
         AndOr::Or => Walk {
             earlier: either(walk.earlier, walk.group),
@@ -119,40 +129,28 @@ fn walk_on<C: NumberClasses>(walk: Walk, relation: &Relation<'_>, classes: C, op
 }
 
 // Whether a group is true with a further relation. The relation of a group that is told to be false
-// of each open class isn't read, and it isn't told of any class that both are true.
+// of each wanted class isn't read.
 fn and_relation<C: NumberClasses>(
     group: Told,
     relation: &Relation<'_>,
     classes: C,
-    open: u128,
+    wanted: u128,
 ) -> Told
-    ensures { (class : ℕ) (o : Operands) (b : Bool) → class < 128 → C.has classes class o → IsToldAt class b group
-        → IsToldAt class (b && is_true_at o (lent_relation relation.now)) result }
+    ensures { (class : ℕ) (o : Operands) (d e : Bool) → class < 128 → has_bit wanted class ≡ true → C.has classes class o
+        → IsToldAt class d e group
+        → let told = C.is_told classes class in let relation = lent_relation relation.now in
+        IsToldAt class (d && truth_or false told o relation) (e && truth_or true told o relation) result }
 {
-    if open & !group.no == 0 {
-        return Told {
-            yes: 0,
-            no: group.no,
-        };
+    if wanted & !group.no == 0 {
+        return group;
     }
     both(group, classes.told_relation(relation))
 }
 
-// Writes a category for the classes where something is told to be true, and nothing where it isn't
-// told whether it is.
-fn tell(told: Told, category: PluralCategory, entries: &mut [Option<PluralCategory>])
-    ensures { (class : ℕ) (truth : Bool) (rest : Category) → class < 128 → IsToldAt class truth told
-        → IsTold rest (slice_index_or entries.old class None)
-        → IsTold (if truth then category else rest) (slice_index_or entries.new class None) }
-{
-    write_at(entries, told.yes, Some(category));
-    write_at(entries, !(told.yes | told.no), None);
-}
-
-// Writes an entry at each place of a mask that the table has.
-fn write_at(entries: &mut [Option<PluralCategory>], places: u128, entry: Option<PluralCategory>)
+// Writes a category at each place of a mask that the table has.
+fn write_at(entries: &mut [Option<PluralCategory>], places: u128, category: PluralCategory)
     ensures { (place : ℕ) → place < 128 → place < length entries.old → slice_index_or entries.new place None
-        ≡ (if has_bit places place then entry else slice_index_or entries.old place None) }
+        ≡ (if has_bit places place then Some category else slice_index_or entries.old place None) }
 {
     let mut left = places;
     while left != 0 {
@@ -160,16 +158,7 @@ fn write_at(entries: &mut [Option<PluralCategory>], places: u128, entry: Option<
         if place as usize >= entries.len() {
             return;
         }
-        entries[place as usize] = entry;
+        entries[place as usize] = Some(category);
         left &= !(1 << place);
-    }
-}
-
-// Writes other for each class.
-fn tell_all(entries: &mut [Option<PluralCategory>])
-    ensures { (class : ℕ) → IsTold Category.Other (slice_index_or entries.new class None) }
-{
-    for entry in entries.iter_mut() {
-        *entry = Some(PluralCategory::Other);
     }
 }

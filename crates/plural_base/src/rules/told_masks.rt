@@ -1,9 +1,10 @@
 //! What is told of 128 classes of numbers at once.
 
-ghost use Rattle.std.specs.Prelude.{◌≡◌, ◌<◌, ◌&&◌, ◌||◌, ℕ, Bool, not, true, false};
+ghost use Rattle.std.specs.Prelude.{◌<◌, ◌&&◌, ◌||◌, ℕ, Bool, if◌then◌else◌, not, true, false};
 ghost use Rattle.plural_reference.specs.Truth.{under};
 ghost use Rattle.plural_runtime.specs.RuleKinds.{operator_of};
 ghost use Rattle.plural_base.specs.Inner.Masks.{has_bit, IsToldAt};
+ghost use Rattle.plural_base.specs.Inner.WholeNumbers.{IsToldIf};
 
 use plural_runtime::Polarity;
 
@@ -17,7 +18,7 @@ pub(crate) struct Told {
 
 // This, of each class.
 pub(crate) fn told_alike(truth: bool) -> Told
-    ensures { (class : ℕ) → IsToldAt class truth result }
+    ensures { (class : ℕ) → class < 128 → IsToldAt class truth truth result }
 {
     if truth {
         Told {
@@ -34,7 +35,7 @@ pub(crate) fn told_alike(truth: bool) -> Told
 
 // That it is true of the classes of a mask, and of no other.
 pub(crate) fn told_exactly(classes: u128) -> Told
-    ensures { (class : ℕ) → class < 128 → IsToldAt class (has_bit classes class) result }
+    ensures { (class : ℕ) → class < 128 → IsToldAt class (has_bit classes class) (has_bit classes class) result }
 {
     Told {
         yes: classes,
@@ -44,14 +45,14 @@ pub(crate) fn told_exactly(classes: u128) -> Told
 
 // Nothing, of any class.
 pub(crate) fn untold() -> Told
-    ensures { (class : ℕ) (truth : Bool) → IsToldAt class truth result }
+    ensures { (class : ℕ) → IsToldAt class false true result }
 {
     Told { yes: 0, no: 0 }
 }
 
 // That it is false of the classes of a mask.
 pub(crate) fn told_false(classes: u128) -> Told
-    ensures { (class : ℕ) (truth : Bool) → (has_bit classes class ≡ true → truth ≡ false) → IsToldAt class truth result }
+    ensures { (class : ℕ) → IsToldAt class false (not (has_bit classes class)) result }
 {
     Told {
         yes: 0,
@@ -61,8 +62,8 @@ pub(crate) fn told_false(classes: u128) -> Told
 
 // Whether one of two holds.
 pub(crate) fn either(first: Told, second: Told) -> Told
-    ensures { (class : ℕ) (b c : Bool) → IsToldAt class b first → IsToldAt class c second
-        → IsToldAt class (b || c) result }
+    ensures { (class : ℕ) (b c d e : Bool) → IsToldAt class b c first → IsToldAt class d e second
+        → IsToldAt class (b || d) (c || e) result }
 {
     Told {
         yes: first.yes | second.yes,
@@ -72,8 +73,8 @@ pub(crate) fn either(first: Told, second: Told) -> Told
 
 // Whether both hold.
 pub(crate) fn both(first: Told, second: Told) -> Told
-    ensures { (class : ℕ) (b c : Bool) → IsToldAt class b first → IsToldAt class c second
-        → IsToldAt class (b && c) result }
+    ensures { (class : ℕ) (b c d e : Bool) → IsToldAt class b c first → IsToldAt class d e second
+        → IsToldAt class (b && d) (c && e) result }
 {
     Told {
         yes: first.yes & second.yes,
@@ -83,8 +84,8 @@ pub(crate) fn both(first: Told, second: Told) -> Told
 
 // Whether a relation is true by a polarity, as far as it is told whether its list holds the value.
 pub(crate) fn under_polarity(is_in: Told, polarity: Polarity) -> Told
-    ensures { (class : ℕ) (b : Bool) → IsToldAt class b is_in
-        → IsToldAt class (under (operator_of polarity) b) result }
+    ensures { (class : ℕ) (told b : Bool) → IsToldIf class told b is_in
+        → IsToldIf class told (under (operator_of polarity) b) result }
 {
     match polarity {
         Polarity::Positive => is_in,
@@ -94,7 +95,7 @@ pub(crate) fn under_polarity(is_in: Told, polarity: Polarity) -> Told
 
 // Whether it doesn't hold.
 fn negated(told: Told) -> Told
-    ensures { (class : ℕ) (b : Bool) → IsToldAt class b told → IsToldAt class (not b) result }
+    ensures { (class : ℕ) (b c : Bool) → IsToldAt class b c told → IsToldAt class (not c) (not b) result }
 {
     Told {
         yes: told.no,

@@ -1,4 +1,5 @@
-//! The categories of integers by prepared rules, and by their table, in a row.
+//! The categories of integers by prepared rules, and by their table, and whether rules have few
+//! ranges, in a row.
 
 use crate::call::Call;
 use icu_plurals::provider::RawPluralCategory;
@@ -9,6 +10,7 @@ pub fn make(kind: &str, call: &mut Call) -> bool {
     match kind {
         "prepared_categories" => prepared_categories(call),
         "table_categories" => table_categories(call),
+        "few_ranges" => few_ranges(call),
         _ => return false,
     }
     true
@@ -39,4 +41,10 @@ fn table_categories(call: &mut Call) {
             None => call.print("ask"),
         }
     }
+}
+
+// Whether rules have few ranges.
+fn few_ranges(call: &mut Call) {
+    let rules = PluralRules::from_data(call.rules());
+    call.print(if rules.has_few_ranges() { "few" } else { "many" });
 }

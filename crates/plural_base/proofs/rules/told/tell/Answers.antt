@@ -1,33 +1,43 @@
-use Rattle.std.proofs.Common.{◌≡◌, ◌^◌, ◌<◌, ◌≤◌, ◌∙◌, length, ap, sym, subst, arith, rules, ⊎_elim, bit_or}
-use Rattle.std.specs.Int.{w128, bit_not}
-use Rattle.std.specs.Prelude.{Option, None, if◌then◌else◌, slice_index_or}
-use Rattle.std.proofs.lemmas.Bool.{cases_lt}
-use Rattle.std.proofs.lemmas.List.{get_or_past}
-use Rattle.plural_base.specs.declared.category.PluralCategory.{PluralCategory}
+use Rattle.std.proofs.Common.{◌≡◌, ◌∙◌, ap, refl, sym, Bool, false, true}
+use Rattle.std.specs.Prelude.{◌&&◌, not, if◌then◌else◌, None, Some, slice_index_or}
+use Rattle.plural_base.specs.FiveRules.{passes}
 use Rattle.plural_base.specs.Inner.Masks.{has_bit}
-use Rattle.plural_base.specs.Inner.WholeNumbers.{IsTold}
-use Rattle.plural_base.proofs.integers.Told.{told_entry}
+use Rattle.plural_base.specs.ToldCategories.{rule_or}
+use Rattle.plural_base.proofs.integers.Bits.{has-and, has-none}
 use Rattle.plural_base.proofs.rules.told.tell.Goals as goal
 
-pub returns : goal.returns
-returns c = λ class truth rest h is of.
-    let told = c.args.told in
-    let old = c.args.entries.now in
-    let first = c.write_at.new.entries in
-    let second = c.write_at-2.new.entries in
-    let fits_yes : told.yes < 2 ^ 128 = search rules in
-    let fits_no : told.no < 2 ^ 128 = search rules in
-    let chosen = if truth then c.args.category else rest in
-    let same_first : length first ≡ length old = c.write_at.auto.entries in
-    let same_second : length second ≡ length first = c.write_at-2.auto.entries in
-    ⊎_elim
-    (λ inside.
-    let there : class < length first = omega (arith, inside, same_first) in
-    told_entry class truth told c.args.category rest (slice_index_or second class None) (slice_index_or old class None)
-    fits_yes fits_no h is of
-    (c.write_at-2.ensures class h there ∙ ap (λ found. if has_bit (bit_not w128 (bit_or told.yes told.no)) class then None else found) (c.write_at.ensures class h inside)))
-    (λ past.
-    let beyond : length second ≤ class = omega (arith, past, same_first, same_second) in
-    let P : Option PluralCategory → Type 0 = λ found. IsTold chosen found in
-    subst P (sym (get_or_past second class None beyond)) tt)
-    (cases_lt class (length old))
+pub returns-then-wanted-eq0-clause-written : goal.returns-then-wanted-eq0-clause-written
+returns-then-wanted-eq0-clause-written g c = λ class o h within has.
+    let sure = passes (rule_or false (g.C.NumberClasses.is_told c.args.classes class) o) c.args.rule.now in
+    let old = slice_index_or c.args.entries.now class None in
+    let none = ap (λ n. has_bit n class) c.if-wanted-eq0.true ∙ has-none class in
+    sym (ap (λ b. if b && sure then Some c.args.category else old) none)
+
+pub returns-then-wanted-eq0-clause-left : goal.returns-then-wanted-eq0-clause-left
+returns-then-wanted-eq0-clause-left g c = λ class o h has.
+    let maybe = passes (rule_or true (g.C.NumberClasses.is_told c.args.classes class) o) c.args.rule.now in
+    let none = ap (λ n. has_bit n class) c.if-wanted-eq0.true ∙ has-none class in
+    has-none class ∙ sym (ap (λ b. b && not maybe) none)
+
+-- what matters only if something holds
+both_if : (p a b : Bool) → (p ≡ true → a ≡ b) → (p && a) ≡ (p && b)
+both_if true a b same = same refl
+both_if false a b same = refl
+
+pub returns-clause-written : goal.returns-clause-written
+returns-clause-written g c = λ class o h within has.
+    let told = g.C.NumberClasses.is_told c.args.classes class in
+    let wanted = has_bit c.args.wanted class in
+    let old = slice_index_or c.args.entries.now class None in
+    c.write_at.ensures class h within
+    ∙ ap (λ b. if b then Some c.args.category else old)
+    (has-and c.args.wanted c.told_relations-told.result.yes class
+    ∙ both_if wanted _ _ (λ is. (c.told_relations-told.ensures class o h is has).yes ∙ ap (passes (rule_or false told o)) (sym c.in-Some.is)))
+
+pub returns-clause-left : goal.returns-clause-left
+returns-clause-left g c = λ class o h has.
+    let told = g.C.NumberClasses.is_told c.args.classes class in
+    let wanted = has_bit c.args.wanted class in
+    has-and c.args.wanted c.told_relations-told.result.no class
+    ∙ both_if wanted _ _ (λ is. (c.told_relations-told.ensures class o h is has).no
+    ∙ ap (λ rule. not (passes (rule_or true told o) rule)) (sym c.in-Some.is))
