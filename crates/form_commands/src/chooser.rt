@@ -55,8 +55,9 @@ impl<'a> Chooser<'a> {
         ensures { IsTextAnswer (chooser_rules self.now) number.now result }
     {
         match self {
-            Chooser::Rules(rules) | Chooser::ManyRanges(rules) =>
-                rules.category_for_text(alloc, number),
+            Chooser::Rules(rules) | Chooser::ManyRanges(rules) => rules.category_for_text(
+                alloc, number,
+            ),
             Chooser::Tables(tables) => tables.category_for_text(alloc, number),
         }
     }

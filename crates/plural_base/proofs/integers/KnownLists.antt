@@ -33,6 +33,7 @@ untold_true told holds (x ∷ xs) none = by (told x) (untold_true told holds xs)
     or_true : (b : Bool) → (b || true) ≡ true
     or_true true = refl
     or_true false = refl
+
     by : (t : Bool) → (list_all told xs ≡ false → list_any (λ y. if told y then holds y else true) xs ≡ true)
         → told x ≡ t → list_any (λ y. if told y then holds y else true) (x ∷ xs) ≡ true
     by true others e =
@@ -94,6 +95,7 @@ residue_outside class value (start, end) leaves told =
     apart : (b : Bool) → not b ≡ true → b ≡ true → ⊥
     apart true h is = absurd (cc h)
     apart false h is = absurd (cc is)
+
     same_test : (a b : ℕ) → a ≡ b → (a == b) ≡ true
     same_test a b is = grind (arith, nat_tests)
 

@@ -1,10 +1,8 @@
 -- Which lists are told by a modulus.
-use Rattle.std.proofs.Common.{◌≡◌, ◌≢◌, ℕ, ◌%◌, List, refl, sym, ap, ◌∙◌, subst, Bool, true, false}
+use Rattle.std.proofs.Common.{◌≡◌, ◌≢◌, ℕ, ◌%◌, List, refl, sym, ap, ◌∙◌, Bool, true, false}
 use Rattle.std.specs.Prelude.{◌==◌, ◌&&◌, ◌||◌, not, nat_lt, if◌then◌else◌}
 use Rattle.std.specs.List.{list_all}
-use Rattle.plural_operands.specs.declared.operand.Operand.{Operand}
 use Rattle.plural_runtime.specs.PackedRelations.{PackedRelation}
-use Rattle.plural_base.specs.declared.rules.known.Known.{Known}
 use Rattle.plural_base.specs.declared.rules.known.Known.TheVariants.{From, Leaves, Nothing}
 use Rattle.plural_base.specs.Inner.WholeNumbers.{is_list_told}
 use Rattle.plural_base.specs.ToldCategories.{divides_100, is_of_number, is_outside, is_told}

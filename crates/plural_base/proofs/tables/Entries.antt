@@ -133,9 +133,9 @@ by_entry None sure maybe entry is of = ((λ other. absurd (other is)), (λ same 
 by_entry (Some category) sure maybe entry is of = (
   (λ other. of.guessed.0 ∙ sym of.guessed.1),
   (λ same six.
-  (let most : place_of category ≤ 5 = place_of-bound category in
-  let number : place_of category ≡ 6 = sym is ∙ six in
-  omega (arith, most, number))),
+      (let most : place_of category ≤ 5 = place_of-bound category in
+      let number : place_of category ≡ 6 = sym is ∙ six in
+      omega (arith, most, number))),
 )
 
 pub told_exactly : (told : PackedRelation → Bool) (o : Operands) (rules : FiveRules) (entry : ℕ) → entry ≡ entry_number (category_told told o rules)

@@ -1,6 +1,6 @@
 -- Not a definition of the subject: what is told of all whole numbers from a bound on that leave one
 -- remainder by 100, and the tables that prepared rules keep.
-use Rattle.std.specs.Prelude.{◌≡◌, ℕ, ◌+◌, ◌%◌, ◌==◌, ◌<◌, ◌≤◌, List, length, Option, Some, None, slice_index_or, Bool, true, false, not, nat_lt, ◌&&◌, ◌||◌}
+use Rattle.std.specs.Prelude.{◌≡◌, ℕ, ◌+◌, ◌%◌, ◌==◌, ◌<◌, ◌≤◌, List, Option, Some, None, slice_index_or, Bool, true, false, not, nat_lt, ◌&&◌, ◌||◌}
 use Rattle.std.specs.Prelude.{if◌then◌else◌}
 use Rattle.std.specs.List.{list_all}
 use Rattle.plural_operands.specs.declared.operand.Operand.{Operand}
@@ -14,10 +14,9 @@ use Rattle.plural_base.specs.declared.category.PluralCategory.{PluralCategory}
 use Rattle.plural_base.specs.declared.category.PluralCategory.TheVariants.{Zero, One, Two, Few, Many, Other}
 use Rattle.plural_base.specs.declared.rules.known.Known.{Known}
 use Rattle.plural_base.specs.declared.rules.known.Known.TheVariants.{IsZero, RemainderBy, From, Leaves, Nothing}
-use Rattle.plural_reference.specs.Truth.{is_in_ranges, range_holds, remainder}
+use Rattle.plural_reference.specs.Truth.{range_holds, remainder}
 use Rattle.plural_base.specs.FiveRules.{FiveRules, first_category, passes}
-use Rattle.plural_base.specs.Inner.Masks.{has_bit, IsToldAt}
-use Rattle.plural_base.specs.RuleSizes.{rule_size}
+use Rattle.plural_base.specs.Inner.Masks.{IsToldAt}
 use Rattle.plural_base.specs.ToldCategories.{is_told, rule_or}
 use Rattle.plural_base.specs.declared.rules.told_masks.Told.{Told}
 

@@ -46,5 +46,9 @@ fn table_categories(call: &mut Call) {
 // Whether rules have few ranges.
 fn few_ranges(call: &mut Call) {
     let rules = PluralRules::from_data(call.rules());
-    call.print(if rules.has_few_ranges() { "few" } else { "many" });
+    call.print(if rules.has_few_ranges() {
+        "few"
+    } else {
+        "many"
+    });
 }

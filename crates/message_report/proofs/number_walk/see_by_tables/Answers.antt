@@ -7,6 +7,6 @@ use Rattle.message_report.proofs.number_walk.see_by_tables.Goals as goal
 pub returns-else-not-tells_each : goal.returns-else-not-tells_each
 returns-else-not-tells_each c =
     all_seen c.args.tables.now c.args.categories c.see_each.new.seen
-    (none_more c.args.tables.now c.to_table-bytes.result c.to_table-bytes.ensures
+    (none_more c.args.tables.now c.to_table-bytes.result c.to_table-bytes.ensures.of
     (subst TellsEach c.in-Some.ensures.same (c.tells_each.ensures c.if-not-tells_each.false)) c.see_each.new.seen
     (c.see_each.ensures.seen c.if-see_each.false))

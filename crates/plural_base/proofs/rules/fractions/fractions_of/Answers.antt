@@ -1,4 +1,4 @@
-use Rattle.std.proofs.Common.{◌≡◌, ◌∙◌, sym, ap, arith}
+use Rattle.std.proofs.Common.{◌≡◌, ap, arith}
 use Rattle.plural_operands.specs.declared.raw_operands.RawPluralOperands.{RawPluralOperands}
 use Rattle.plural_base.proofs.integers.Fractions.{is_shown, is_not_zero}
 use Rattle.plural_base.proofs.rules.fractions.fractions_of.Goals as goal

@@ -1,7 +1,6 @@
-use Rattle.std.proofs.Common.{◌≡◌, ◌≤◌, ◌<◌, ℕ, ◌%◌, ◌∙◌, sym, ap, subst, Bool, false, true}
+use Rattle.std.proofs.Common.{◌≡◌, ◌≤◌, ◌<◌, ℕ, ◌%◌, ◌∙◌, sym, ap, subst, false, true}
 use Rattle.std.specs.Prelude.{not, nat_lt}
 use Rattle.plural_base.specs.declared.rules.known.Known.{Known}
-use Rattle.plural_base.specs.declared.rules.known.Known.TheVariants.{From}
 use Rattle.plural_base.specs.Inner.Masks.{IsToldAt}
 use Rattle.plural_base.specs.Inner.WholeNumbers.{Fits, range_or}
 use Rattle.plural_base.specs.declared.rules.told_masks.Told.{Told}

@@ -1,4 +1,4 @@
-use Rattle.std.proofs.Common.{◌≡◌, ◌∙◌, ◌<◌, ap, sym, subst, Bool, false, true}
+use Rattle.std.proofs.Common.{◌≡◌, ◌∙◌, ◌<◌, ap, sym, subst, false, true}
 use Rattle.plural_reference.specs.Truth.{is_in_ranges, remainder}
 use Rattle.plural_runtime.specs.Inner.RuleViews.{lent_relation}
 use Rattle.plural_base.specs.declared.rules.known.Known.{Known}

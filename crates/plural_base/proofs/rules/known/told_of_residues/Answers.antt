@@ -1,4 +1,4 @@
-use Rattle.std.proofs.Common.{◌≡◌, ◌≢◌, ◌%◌, ◌∙◌, ap, sym, subst, arith, ◌<◌, Bool, false, true, ℕ}
+use Rattle.std.proofs.Common.{◌≡◌, ◌%◌, ◌∙◌, ap, sym, arith, ◌<◌, Bool, false, true}
 use Rattle.std.specs.Prelude.{◌==◌, ◌&&◌, not, if◌then◌else◌}
 use Rattle.std.proofs.Math.Nat.{mod-lt}
 use Rattle.plural_reference.specs.Truth.{range_holds}
@@ -7,7 +7,7 @@ use Rattle.plural_base.specs.Inner.Masks.{has_bit}
 use Rattle.plural_base.specs.Inner.WholeNumbers.{is_range_told}
 use Rattle.plural_base.proofs.integers.Bits.{differs, lacks_place, same_test}
 use Rattle.plural_base.proofs.integers.KnownLists.{only_outside, residue_outside}
-use Rattle.plural_base.proofs.integers.Told.{not_not, told_as}
+use Rattle.plural_base.proofs.integers.Told.{told_as}
 use Rattle.plural_base.proofs.rules.known.told_of_residues.Goals as goal
 
 -- what a test tells once it is known

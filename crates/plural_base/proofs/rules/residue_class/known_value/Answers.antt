@@ -1,4 +1,4 @@
-use Rattle.std.proofs.Common.{◌≡◌, ◌∙◌, ℕ, ap, sym, subst}
+use Rattle.std.proofs.Common.{◌∙◌, ℕ, ap, sym, subst}
 use Rattle.std.specs.Prelude.{◌||◌}
 use Rattle.std.specs.List.{list_all}
 use Rattle.plural_reference.specs.Truth.{remainder}

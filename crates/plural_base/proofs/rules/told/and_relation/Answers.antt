@@ -1,6 +1,5 @@
-use Rattle.std.proofs.Common.{◌≡◌, ◌∙◌, ap, sym, rules, true}
-use Rattle.plural_base.specs.Inner.Masks.{has_bit}
-use Rattle.plural_base.proofs.integers.Bits.{has-none, none_open}
+use Rattle.std.proofs.Common.{rules}
+use Rattle.plural_base.proofs.integers.Bits.{none_open}
 use Rattle.plural_base.proofs.integers.Told.{told_false_with}
 use Rattle.plural_base.proofs.rules.told.and_relation.Goals as goal
 

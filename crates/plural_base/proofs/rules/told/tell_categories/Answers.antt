@@ -1,5 +1,5 @@
-use Rattle.std.proofs.Common.{◌≡◌, ◌<◌, ◌∙◌, ap, length, arith}
-use Rattle.std.specs.Prelude.{if◌then◌else◌, None}
+use Rattle.std.proofs.Common.{◌<◌, ◌∙◌, ap, length, arith}
+use Rattle.std.specs.Prelude.{if◌then◌else◌}
 use Rattle.plural_base.specs.declared.category.PluralCategory.TheVariants.{Zero, One, Two, Few, Many}
 use Rattle.plural_base.specs.FiveRules.{rules_of}
 use Rattle.plural_base.specs.Inner.Masks.{has_bit}

@@ -1,9 +1,9 @@
-use Rattle.std.proofs.Common.{ℕ, ◌∙◌, sym, ap, subst, Bool}
+use Rattle.std.proofs.Common.{ℕ, ◌∙◌, sym, ap, subst}
 use Rattle.plural_runtime.specs.PackedTruth.{is_true_at}
 use Rattle.plural_reference.specs.Truth.{is_in_ranges, remainder, under}
 use Rattle.plural_runtime.specs.RuleKinds.{tree_operand_of}
 use Rattle.plural_runtime.specs.Inner.RuleViews.{lent_relation}
-use Rattle.plural_base.specs.Inner.WholeNumbers.{Fits, IsToldIf, whole_value}
+use Rattle.plural_base.specs.Inner.WholeNumbers.{Fits, whole_value}
 use Rattle.plural_base.proofs.integers.Lists.{relation_truth-whole}
 use Rattle.plural_base.proofs.integers.Told.{told_if_as}
 use Rattle.plural_base.proofs.rules.low_numbers.LowNumbersNumberClasses.told_relation.Goals as goal

@@ -1,4 +1,4 @@
-use Rattle.std.proofs.Common.{◌≡◌, ◌∙◌, ap, sym, subst}
+use Rattle.std.proofs.Common.{◌∙◌, ap, sym, subst}
 use Rattle.plural_runtime.specs.PackedTruth.{packed_truth}
 use Rattle.plural_base.specs.FiveRules.{FiveRules, first_category}
 use Rattle.plural_base.specs.Inner.FractionClasses.{IsOfFractions, class_of, is_told_of_fraction}

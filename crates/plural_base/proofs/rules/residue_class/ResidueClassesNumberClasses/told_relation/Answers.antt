@@ -1,4 +1,4 @@
-use Rattle.std.proofs.Common.{ℕ, ◌∙◌, sym, ap, subst, Bool}
+use Rattle.std.proofs.Common.{ℕ, ◌∙◌, sym, ap, subst}
 use Rattle.plural_runtime.specs.PackedTruth.{is_true_at}
 use Rattle.plural_reference.specs.Truth.{is_in_ranges, remainder, under}
 use Rattle.plural_runtime.specs.RuleKinds.{tree_operand_of}
