@@ -7,8 +7,7 @@ use Rattle.message_pattern.specs.declared.part.Part as parts
 use Rattle.message_pattern.specs.declared.part.Piece.TheVariants as pieces
 use Rattle.message_pattern.specs.declared.part.Selector as selectors
 use Rattle.message_pattern.specs.PatternParts.{Part, parts_view, selector_view, Branching, branches_of}
-use Rattle.message_format.specs.FormatBranches.{Equals, IsBranchOfValue, behind_end, branch_of_keyword, or_branch}
-use Rattle.message_format.specs.Inner.FormatWalks.{IsFirstOf}
+use Rattle.message_format.specs.FormatBranches.{Equals, IsBranchOfValue, behind_end}
 
 -- what stands for a part that isn't there
 abbrev pub no_part : parts.Part
@@ -46,15 +45,6 @@ pub taken : (x : CompactNumber) (depth : ℕ) (ps : List parts.Part) (p : parts.
 taken x depth ps p rest s e h is same =
     subst (λ (l : List parts.Part). IsBranchOfValue x (branches_of depth (parts_view l)) (Some (parts_view rest))) (sym e)
     (subst (λ (l : List Branching). IsBranchOfValue x l (Some (parts_view rest))) (sym (branches_from depth p rest s h is)) (inl (same, refl)))
-
--- the first branch of a keyword is found behind a branch as in front of it
-pub noted : (word : List ℕ) (depth : ℕ) (ps : List parts.Part) (p : parts.Part) (rest : List parts.Part) (s : selectors.Selector) (seen found : Option (List Part))
-    → ps ≡ p ∷ rest → p.depth ≤ depth → p.piece ≡ pieces.Branch s → IsFirstOf word seen (selector_view s) (parts_view rest) found
-    → or_branch found (branch_of_keyword word (branches_of depth (parts_view rest))) ≡ or_branch seen (branch_of_keyword word (branches_of depth (parts_view ps)))
-noted word depth ps p rest s seen found e h is first =
-    subst (λ (l : List parts.Part). or_branch found (branch_of_keyword word (branches_of depth (parts_view rest))) ≡ or_branch seen (branch_of_keyword word (branches_of depth (parts_view l)))) (sym e)
-    (subst (λ (l : List Branching). or_branch found (branch_of_keyword word (branches_of depth (parts_view rest))) ≡ or_branch seen (branch_of_keyword word l)) (sym (branches_from depth p rest s h is))
-    (first (branches_of depth (parts_view rest))))
 
 -- the end of the argument isn't a branch
 pub behind_branch : (depth : ℕ) (ps : List parts.Part) (p : parts.Part) (rest : List parts.Part) (s : selectors.Selector)

@@ -30,8 +30,7 @@ pub(crate) fn behind_end<'s, 'p>(depth: usize, parts: &'s [Part<'p>]) -> &'s [Pa
 }
 
 // Whether a selector is this keyword.
-#[inline(always)]
-pub(crate) fn is_keyword(word: &[u8], selector: Selector<'_>) -> bool
+fn is_keyword(word: &[u8], selector: Selector<'_>) -> bool
     ensures { result ≡ is_keyword word.now (selector_view selector.entry) }
 {
     match selector {
@@ -40,28 +39,44 @@ pub(crate) fn is_keyword(word: &[u8], selector: Selector<'_>) -> bool
     }
 }
 
+// What is seen of the branches: one of them, if it is there, and the parts from which the end of the
+// argument is sought: what follows it is the same as from all parts on.
+#[derive(Clone, Copy)]
+pub(crate) struct Seen<'s, 'p> {
+    pub(crate) branch: Option<&'s [Part<'p>]>,
+    pub(crate) left: &'s [Part<'p>],
+}
+
 // The first branch of a keyword.
-fn branch_of_keyword<'s, 'p>(
-    word: &[u8],
-    depth: usize,
-    parts: &'s [Part<'p>],
-) -> Option<&'s [Part<'p>]>
-    ensures branch { any_parts result ≡ branch_of_keyword word.now (branches_of depth (parts_view parts.now)) }
-    ensures shorter { IfSome result (λ x. length x.now ≤ length parts.now) }
+fn branch_of_keyword<'s, 'p>(word: &[u8], depth: usize, parts: &'s [Part<'p>]) -> Seen<'s, 'p>
+    ensures branch { any_parts result.branch ≡ branch_of_keyword word.now (branches_of depth (parts_view parts.now)) }
+    ensures left { behind_end depth (parts_view result.left.now) ≡ behind_end depth (parts_view parts.now) }
+    ensures shorter { IfSome result.branch (λ x. length x.now ≤ length parts.now) }
+    ensures fewer { length result.left.now ≤ length parts.now }
 {
     let mut left = parts;
     while let [part, rest @ ..] = left {
         if part.depth <= depth {
             let Piece::Branch(selector) = part.piece else {
-                return None;
+                return Seen { branch: None, left };
             };
             if is_keyword(word, selector) {
-                return Some(rest);
+                return Seen {
+                    branch: Some(rest),
+                    left: rest,
+                };
             }
         }
         left = rest;
     }
-    None
+    Seen { branch: None, left }
+}
+
+// A branch, and the parts from which the end of the argument is sought.
+#[derive(Clone, Copy)]
+pub(crate) struct Found<'s, 'p> {
+    pub(crate) branch: &'s [Part<'p>],
+    pub(crate) left: &'s [Part<'p>],
 }
 
 // The branch of a keyword, or of `other` if there is none.
@@ -69,17 +84,23 @@ pub(crate) fn branch_or_other<'s, 'p>(
     word: &[u8],
     depth: usize,
     parts: &'s [Part<'p>],
-) -> &'s [Part<'p>]
-    ensures branch { parts_view result.now ≡ branch_or_other word.now (branches_of depth (parts_view parts.now)) }
-    ensures shorter { length result.now ≤ length parts.now }
+) -> Found<'s, 'p>
+    ensures branch { parts_view result.branch.now ≡ branch_or_other word.now (branches_of depth (parts_view parts.now)) }
+    ensures left { behind_end depth (parts_view result.left.now) ≡ behind_end depth (parts_view parts.now) }
+    ensures shorter { length result.branch.now ≤ length parts.now }
+    ensures fewer { length result.left.now ≤ length parts.now }
 {
-    if let Some(branch) = branch_of_keyword(word, depth, parts) {
-        return branch;
+    let Seen { branch, left } = branch_of_keyword(word, depth, parts);
+    if let Some(branch) = branch {
+        return Found { branch, left };
     }
-    if let Some(branch) = branch_of_keyword(b"other", depth, parts) {
-        return branch;
+    if let Some(branch) = branch_of_keyword(b"other", depth, parts).branch {
+        return Found { branch, left };
     }
-    &parts[parts.len()..]
+    Found {
+        branch: &parts[parts.len()..],
+        left,
+    }
 }
 
 // The first branch whose selector is `=` and a number of the same value.
@@ -145,5 +166,5 @@ pub(crate) fn branch_of_number<'s, 'p>(
         return Ok(branch);
     }
     let category = rules.category_for_compact(less);
-    Ok(branch_or_other(category.as_str().as_bytes(), depth, parts))
+    Ok(branch_or_other(category.as_str().as_bytes(), depth, parts).branch)
 }

@@ -31,12 +31,12 @@ fn message<'s, 'p: 's>(
 {
     let mut left = parts;
     'parts: while let [part, rest @ ..] = left {
-        if let Some(text) = text_of(hash, part.piece) {
+        if let Some(text) = text_of(arguments, hash, part.piece) {
             said.extend_from_slice(text)?;
             left = rest;
             continue;
         }
-        match step_of(alloc, arguments, rules, hash, *part, rest)? {
+        match step_of(alloc, arguments, rules, hash, part, rest)? {
             Step::Stops => return Ok(()),
             Step::Prints(text) => {
                 said.extend_from_slice(text)?;

@@ -16,7 +16,7 @@ use crate::error::{ArgumentFault, FormatError};
 use crate::offsets::counted_less;
 use crate::plain::plain_of;
 use crate::step::{Shown, Step};
-use crate::walks::{branch_at_sight, branch_by_text};
+use crate::walks::branch_at_sight;
 use fixed_decimal::laws::texts_write_one_number;
 use fixed_decimal::{CompactDecimal, DecimalError};
 use message_pattern::{ArgumentKind, Part, Piece};
@@ -64,7 +64,7 @@ fn selected<'s, 'p: 's>(
 {
     match value {
         Some(Value::Text(text)) => {
-            let found = branch_by_text(text.as_bytes(), depth, rest);
+            let found = branch_or_other(text.as_bytes(), depth, rest);
             Ok(Step::Chooses(Shown::Given(hash), found.branch, found.left))
         }
         Some(Value::Number(_)) => Err(FormatError::Argument(ArgumentFault::WrongKind, name)),
@@ -129,8 +129,8 @@ fn counted_by_category<'s, 'p: 's>(
         }
     };
     let written = text.as_bytes();
-    let branch = branch_or_other(category.as_str().as_bytes(), depth, rest);
-    Ok(Step::Chooses(Shown::Given(written), branch, left))
+    let found = branch_or_other(category.as_str().as_bytes(), depth, rest);
+    Ok(Step::Chooses(Shown::Given(written), found.branch, left))
 }
 
 // A plural without an offset, of the text of a number.
@@ -184,14 +184,21 @@ fn plural<'s, 'p: 's>(
     }
 }
 
-// The text that a piece prints, if it needs no argument.
+// The text that a piece prints: its own, that of `#`, or that of an argument if it is given.
 #[inline(always)]
-pub(crate) fn text_of<'s, 'p: 's>(hash: &'s [u8], piece: Piece<'p>) -> Option<&'s [u8]>
-    ensures { IfSome result (λ text. PrintsAlways hash.now (piece_view piece.entry) text.now) }
+pub(crate) fn text_of<'s, 'p: 's>(
+    arguments: &[Argument<'s>],
+    hash: &'s [u8],
+    piece: Piece<'p>,
+) -> Option<&'s [u8]>
+    ensures { IfSome result (λ text. PrintsAlways (arguments_view arguments.now) hash.now (piece_view piece.entry) text.now) }
 {
     match piece {
         Piece::Text(text) => Some(text),
         Piece::Hash => Some(hash),
+        Piece::Argument(name) => match value_named(name, arguments)? {
+            Value::Number(text) | Value::Text(text) => Some(text.as_bytes()),
+        },
         _ => None,
     }
 }
@@ -202,11 +209,11 @@ pub(crate) fn step_of<'s, 'p: 's>(
     arguments: &[Argument<'s>],
     rules: &Rules<'_, '_>,
     hash: &'s [u8],
-    part: Part<'p>,
+    part: &Part<'p>,
     rest: &'s [Part<'p>],
 ) -> Result<Step<'s, 'p>, FormatError<'p>>
-    ensures step { GivesStep (λ step. IsStep (arguments_view arguments.now) (two_rules rules.now) hash.now part.entry.depth (piece_view part.entry.piece) (parts_view rest.now) step) result }
-    ensures left { ChoosesWithin part.entry.depth rest.now result }
+    ensures step { GivesStep (λ step. IsStep (arguments_view arguments.now) (two_rules rules.now) hash.now part.now.depth (piece_view part.now.piece) (parts_view rest.now) step) result }
+    ensures left { ChoosesWithin part.now.depth rest.now result }
 {
     match part.piece {
         Piece::Text(text) => Ok(Step::Prints(text)),

@@ -51,7 +51,7 @@ parts-preserved-in-Some t c =
           c.parts.invariant.says o
           (at_text (arguments_view c.args.arguments.now) (two_rules c.args.rules.now) c.args.hash.now c.parts.said.items c.in-Some.text.now c.extend_from_slice.new.self.items ps
           p rest o (headed ps no_part (length ps) c.in-len1-up.len_at_least refl)
-          (c.in-Some.ensures (arguments_view c.args.arguments.now) (two_rules c.args.rules.now) p.depth (parts_view rest))
+          (c.in-Some.ensures (two_rules c.args.rules.now) p.depth (parts_view rest))
           c.in_ok-extend_from_slice.ensures.items h);
       shorter = first_of (grind (arith, common_steps, c.parts.invariant.shorter), omega (arith, length-take {A = parts.Part}, length-drop {A = parts.Part}, c.parts.invariant.shorter));
     }
