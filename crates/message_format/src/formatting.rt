@@ -31,7 +31,7 @@ fn message<'s, 'p: 's>(
 {
     let mut left = parts;
     'parts: while let [part, rest @ ..] = left {
-        if let Some(text) = text_of(arguments, hash, part.piece) {
+        if let Some(text) = text_of(arguments, hash, part.piece)? {
             said.extend_from_slice(text)?;
             left = rest;
             continue;

@@ -8,7 +8,7 @@ ghost use Rattle.message_format.specs.FormatArguments.{arguments_view, value_vie
 ghost use Rattle.message_format.specs.FormatSteps.{shown_value, selected, IsCounted, IsPlural, IsChoice, IsStep};
 ghost use Rattle.message_pattern.specs.declared.part.Part.{Part as SpecPart};
 ghost use Rattle.message_format.specs.Inner.FormatWalks.{PrintsAlways, PassedFor};
-ghost use Rattle.message_format.specs.Inner.FormatViews.{any_value, GivesStep, ChoosesWithin, two_rules};
+ghost use Rattle.message_format.specs.Inner.FormatViews.{any_value, GivesStep, GivesText, ChoosesWithin, two_rules};
 
 use crate::arguments::{Argument, Value, value_named};
 use crate::branches::{branch_of_number, branch_or_other};
@@ -36,17 +36,17 @@ pub struct Rules<'r, 'data> {
     pub ordinal: &'r PluralRules<'data>,
 }
 
-// What `{name}` prints.
+// The text that `{name}` prints.
+#[inline(always)]
 fn shown_value<'s, 'p: 's>(
     name: &'p [u8],
     value: Option<Value<'s>>,
-) -> Result<Step<'s, 'p>, FormatError<'p>>
-    ensures step { GivesStep (λ step. step ≡ shown_value name.now (any_value value.entry)) result }
-    ensures left { (depth : ℕ) → (ps : List SpecPart) → ChoosesWithin depth ps result }
+) -> Result<&'s [u8], FormatError<'p>>
+    ensures { GivesText (λ step. step ≡ shown_value name.now (any_value value.entry)) result }
 {
     match value {
-        Some(Value::Number(number)) => Ok(Step::Prints(number.as_bytes())),
-        Some(Value::Text(text)) => Ok(Step::Prints(text.as_bytes())),
+        Some(Value::Number(number)) => Ok(number.as_bytes()),
+        Some(Value::Text(text)) => Ok(text.as_bytes()),
         None => Err(FormatError::Argument(ArgumentFault::Missing, name)),
     }
 }
@@ -184,22 +184,20 @@ fn plural<'s, 'p: 's>(
     }
 }
 
-// The text that a piece prints: its own, that of `#`, or that of an argument if it is given.
+// The text that a piece prints, unless it chooses a branch or ends the message.
 #[inline(always)]
 pub(crate) fn text_of<'s, 'p: 's>(
     arguments: &[Argument<'s>],
     hash: &'s [u8],
     piece: Piece<'p>,
-) -> Option<&'s [u8]>
-    ensures { IfSome result (λ text. PrintsAlways (arguments_view arguments.now) hash.now (piece_view piece.entry) text.now) }
+) -> Result<Option<&'s [u8]>, FormatError<'p>>
+    ensures { PrintsAlways (arguments_view arguments.now) hash.now (piece_view piece.entry) result }
 {
     match piece {
-        Piece::Text(text) => Some(text),
-        Piece::Hash => Some(hash),
-        Piece::Argument(name) => match value_named(name, arguments)? {
-            Value::Number(text) | Value::Text(text) => Some(text.as_bytes()),
-        },
-        _ => None,
+        Piece::Text(text) => Ok(Some(text)),
+        Piece::Hash => Ok(Some(hash)),
+        Piece::Argument(name) => Ok(Some(shown_value(name, value_named(name, arguments))?)),
+        _ => Ok(None),
     }
 }
 
@@ -218,7 +216,7 @@ pub(crate) fn step_of<'s, 'p: 's>(
     match part.piece {
         Piece::Text(text) => Ok(Step::Prints(text)),
         Piece::Hash => Ok(Step::Prints(hash)),
-        Piece::Argument(name) => shown_value(name, value_named(name, arguments)),
+        Piece::Argument(name) => Ok(Step::Prints(shown_value(name, value_named(name, arguments))?)),
         Piece::Begin(kind, name, offset) => {
             let value = value_named(name, arguments);
             match kind {

@@ -43,6 +43,11 @@ GivesStep IsStep (Ok s) = IsStep (step_view s)
 GivesStep IsStep (Err (error.Argument fault name)) = IsStep (Fails fault name.now)
 GivesStep IsStep (Err error.Memory) = Unit {0}
 
+-- the same of a call that returns a text to print
+abbrev pub GivesText : (Step → Type 0) → Result (Bor (List ℕ)) FormatError → Type 0
+GivesText IsStep (Ok text) = IsStep (Prints text.now)
+GivesText IsStep (Err f) = GivesStep IsStep (Err f)
+
 -- a branch that is chosen is no longer than the parts that it is chosen from, the parts that are left
 -- neither; and behind the end of the argument the same parts follow these
 pub record IsWithin (depth : ℕ) (ps branch left : List parts.Part) : Type 0 where

@@ -20,6 +20,17 @@ returns-in_err-step_of t c =
     (get_or ps 0 no_part) (take (length ps - 1) (drop 1 ps)) c.in_err-step_of.field-0.0 (headed ps no_part (length ps) c.in-len1-up.len_at_least refl)
     c.in_err-step_of.ensures.step c.parts.invariant.says)
 
+pub returns-in_err-text : goal.returns-in_err-text
+returns-in_err-text t c =
+    let ps = c.parts.left.now in
+    let part = get_or ps 0 no_part in
+    let rest = take (length ps - 1) (drop 1 ps) in
+    let p = err_from_is_err_and c.from_residual.result c.from_residual.ensures.1 in
+    rw (p.1, p.2)
+    (at_fault (arguments_view c.args.arguments.now) (two_rules c.args.rules.now) c.args.hash.now c.parts.said.items c.args.said.now.items c.parts.said.items c.args.parts.now ps
+    part rest c.in_err-text.field-0.0 (headed ps no_part (length ps) c.in-len1-up.len_at_least refl)
+    (c.in_err-text.ensures (two_rules c.args.rules.now) part.depth (parts_view rest)) c.parts.invariant.says)
+
 pub returns-in-Stops : goal.returns-in-Stops
 returns-in-Stops t c =
     let ps = c.parts.left.now in
@@ -46,12 +57,13 @@ parts-preserved-in-Some t c =
     let ps = c.parts.left.now in
     let p = get_or ps 0 no_part in
     let rest = take (length ps - 1) (drop 1 ps) in
+    let prints = rw c.in-Some.is at c.in_ok-text.ensures in
     record {
       says = λ o h.
           c.parts.invariant.says o
           (at_text (arguments_view c.args.arguments.now) (two_rules c.args.rules.now) c.args.hash.now c.parts.said.items c.in-Some.text.now c.extend_from_slice.new.self.items ps
           p rest o (headed ps no_part (length ps) c.in-len1-up.len_at_least refl)
-          (c.in-Some.ensures (two_rules c.args.rules.now) p.depth (parts_view rest))
+          (prints (two_rules c.args.rules.now) p.depth (parts_view rest))
           c.in_ok-extend_from_slice.ensures.items h);
       shorter = first_of (grind (arith, common_steps, c.parts.invariant.shorter), omega (arith, length-take {A = parts.Part}, length-drop {A = parts.Part}, c.parts.invariant.shorter));
     }
