@@ -38,10 +38,6 @@ fn message<'s, 'p: 's>(
         }
         match step_of(alloc, arguments, rules, hash, part, rest)? {
             Step::Stops => return Ok(()),
-            Step::Prints(text) => {
-                said.extend_from_slice(text)?;
-                left = rest;
-            }
             Step::Chooses(number, branch, behind) => {
                 message(alloc, &*arguments, rules, number.as_bytes(), branch, said)?;
                 left = behind_end(part.depth, behind);

@@ -1,16 +1,14 @@
-//! What a part of a message does, step by step.
+//! What a part of a message does.
 
 ghost use Rattle.std.specs.Prelude.{◌≡◌};
 
 use message_pattern::Part;
 
-// What a part does.
+// What a part without a text does.
 #[derive(Drop)]
 pub(crate) enum Step<'s, 'p> {
     // Ends the message.
     Stops,
-    // Prints a text.
-    Prints(&'s [u8]),
     // Chooses a branch: the text of `#` in it, the parts from it on, and the parts from which the
     // end of the argument is sought.
     Chooses(Shown<'s>, &'s [Part<'p>], &'s [Part<'p>]),

@@ -7,7 +7,7 @@ ghost use Rattle.message_pattern.specs.PatternParts.{parts_view, piece_view, off
 ghost use Rattle.message_format.specs.FormatArguments.{arguments_view, value_view};
 ghost use Rattle.message_format.specs.FormatSteps.{shown_value, selected, IsCounted, IsPlural, IsChoice, IsStep};
 ghost use Rattle.message_pattern.specs.declared.part.Part.{Part as SpecPart};
-ghost use Rattle.message_format.specs.Inner.FormatWalks.{PrintsAlways, PassedFor};
+ghost use Rattle.message_format.specs.Inner.FormatWalks.{HasNoText, PrintsAlways, PassedFor};
 ghost use Rattle.message_format.specs.Inner.FormatViews.{any_value, GivesStep, GivesText, ChoosesWithin, two_rules};
 
 use crate::arguments::{Argument, Value, value_named};
@@ -197,11 +197,11 @@ pub(crate) fn text_of<'s, 'p: 's>(
         Piece::Text(text) => Ok(Some(text)),
         Piece::Hash => Ok(Some(hash)),
         Piece::Argument(name) => Ok(Some(shown_value(name, value_named(name, arguments))?)),
-        _ => Ok(None),
+        Piece::Begin(_, _, _) | Piece::Branch(_) | Piece::End => Ok(None),
     }
 }
 
-// What a part does, which these parts follow.
+// What a part without a text does, which these parts follow.
 pub(crate) fn step_of<'s, 'p: 's>(
     alloc: Global,
     arguments: &[Argument<'s>],
@@ -210,13 +210,11 @@ pub(crate) fn step_of<'s, 'p: 's>(
     part: &Part<'p>,
     rest: &'s [Part<'p>],
 ) -> Result<Step<'s, 'p>, FormatError<'p>>
+    requires { HasNoText (piece_view part.now.piece) }
     ensures step { GivesStep (λ step. IsStep (arguments_view arguments.now) (two_rules rules.now) hash.now part.now.depth (piece_view part.now.piece) (parts_view rest.now) step) result }
     ensures left { ChoosesWithin part.now.depth rest.now result }
 {
     match part.piece {
-        Piece::Text(text) => Ok(Step::Prints(text)),
-        Piece::Hash => Ok(Step::Prints(hash)),
-        Piece::Argument(name) => Ok(Step::Prints(shown_value(name, value_named(name, arguments))?)),
         Piece::Begin(kind, name, offset) => {
             let value = value_named(name, arguments);
             match kind {
@@ -229,6 +227,6 @@ pub(crate) fn step_of<'s, 'p: 's>(
                 ArgumentKind::Select => selected(hash, name, part.depth, rest, value),
             }
         }
-        Piece::Branch(_) | Piece::End => Ok(Step::Stops),
+        _ => Ok(Step::Stops),
     }
 }

@@ -34,7 +34,6 @@ shown_view (shows.Less less) = less.items
 
 abbrev pub step_view : steps.Step → Step
 step_view step.Stops = Stops
-step_view (step.Prints text) = Prints text.now
 step_view (step.Chooses number branch left) = Chooses (shown_view number) (parts_view branch.now)
 
 -- what a private call returns meets the relation of steps, unless memory ran out

@@ -39,19 +39,6 @@ returns-in-Stops t c =
     (at_stop (arguments_view c.args.arguments.now) (two_rules c.args.rules.now) c.args.hash.now c.parts.said.items ps
     (get_or ps 0 no_part) (take (length ps - 1) (drop 1 ps)) (headed ps no_part (length ps) c.in-len1-up.len_at_least refl) does)
 
-pub parts-preserved-in-Prints : goal.parts-preserved-in-Prints
-parts-preserved-in-Prints t c =
-    let ps = c.parts.left.now in
-    let does = rw c.in-Prints.is at c.in_ok-step_of.ensures.step in
-    record {
-      says = λ o h.
-          c.parts.invariant.says o
-          (at_text (arguments_view c.args.arguments.now) (two_rules c.args.rules.now) c.args.hash.now c.parts.said.items c.in-Prints.text.now c.extend_from_slice-in-Prints.new.self.items ps
-          (get_or ps 0 no_part) (take (length ps - 1) (drop 1 ps)) o (headed ps no_part (length ps) c.in-len1-up.len_at_least refl) does
-          c.in_ok-extend_from_slice-in-Prints.ensures.items h);
-      shorter = first_of (grind (arith, common_steps, c.parts.invariant.shorter), omega (arith, length-take {A = parts.Part}, length-drop {A = parts.Part}, c.parts.invariant.shorter));
-    }
-
 pub parts-preserved-in-Some : goal.parts-preserved-in-Some
 parts-preserved-in-Some t c =
     let ps = c.parts.left.now in
