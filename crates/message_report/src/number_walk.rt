@@ -60,7 +60,7 @@ fn see_by_tables(tables: &PreparedRules<'_>, categories: CategorySet, seen: &mut
         return;
     };
     if !tells_each(&told) {
-        see_untold(tables, &told, categories, seen);
+        see_untold(tables.rules(), &told, categories, seen);
     }
 }
 
@@ -92,22 +92,23 @@ fn tells_each(told: &CategoryTable<'_>) -> bool
 }
 
 // Sees those of the last numbers that the table of the rules doesn't tell, until each category has
-// two. A number that it tells has the category of two numbers before it.
+// two. A number that it tells has the category of two numbers before it; of the others only the
+// rules tell.
 fn see_untold(
-    tables: &PreparedRules<'_>,
+    rules: &PluralRules<'_>,
     told: &CategoryTable<'_>,
     categories: CategorySet,
     seen: &mut SeenNumbers,
 )
-    requires table { IsTableOf tables.now told.now }
-    requires seen { AreSeenBelow tables.now TWICE_TOLD seen.old }
-    ensures { AreFound tables.now categories seen.new }
+    requires table { IsTableOf rules.now told.now }
+    requires seen { AreSeenBelow rules.now TWICE_TOLD seen.old }
+    ensures { AreFound rules.now categories seen.new }
 {
     for number in TWICE_TOLD..WHOLE_LIMIT {
         if told.category_for_integer(u64::from(number) - 200).is_some() {
             continue;
         }
-        let category = tables.category_for_integer(u64::from(number));
+        let category = rules.category_for(PluralOperands::from(number));
         if seen.add(category, number) && seen.have_two(categories) {
             return;
         }

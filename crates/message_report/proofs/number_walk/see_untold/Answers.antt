@@ -9,23 +9,23 @@ pub loop-number-preserved-then-is_some : goal.loop-number-preserved-then-is_some
 loop-number-preserved-then-is_some c =
     let same : c.from.result ≡ c.loop-number.number = cc in
     let P : ℕ → Type 0 = λ n. TableTells c.args.told.now (n - 200) c.category_for_integer.result in
-    told_passed c.args.tables.now c.args.told.now c.requires.table c.loop-number.number (omega arith) c.category_for_integer.result
+    told_passed c.args.rules.now c.args.told.now c.requires.table c.loop-number.number (omega arith) c.category_for_integer.result
     (subst P same c.category_for_integer.ensures.told) (sym c.is_some.ensures ∙ c.if-is_some.true) c.loop-number.seen c.loop-number.invariant
 
 pub returns-then-have_two : goal.returns-then-have_two
 returns-then-have_two c =
-    two_each c.args.tables.now (c.loop-number.number + 1) c.args.categories c.add.new.self (omega arith)
+    two_each c.args.rules.now (c.loop-number.number + 1) c.args.categories c.add.new.self (omega arith)
     (c.have_two.ensures c.if-have_two.true)
-    (next_seen c.args.tables.now c.loop-number.number c.loop-number.seen c.add.new.self c.category_for_integer-category.result
+    (next_seen c.args.rules.now c.loop-number.number c.loop-number.seen c.add.new.self c.category_for-category.result
     (omega arith) (cc) c.loop-number.invariant c.add.ensures.own c.add.ensures.others)
 
 pub loop-number-preserved : goal.loop-number-preserved
 loop-number-preserved c =
-    next_seen c.args.tables.now c.loop-number.number c.loop-number.seen c.add.new.self c.category_for_integer-category.result
+    next_seen c.args.rules.now c.loop-number.number c.loop-number.seen c.add.new.self c.category_for-category.result
     (omega arith) (cc) c.loop-number.invariant c.add.ensures.own c.add.ensures.others
 
 pub returns : goal.returns
 returns c =
     let end : c.loop-number.number ≡ 10000 = omega arith in
-    let P : ℕ → Type 0 = λ n. AreSeenBelow c.args.tables.now n c.loop-number.seen in
-    all_seen c.args.tables.now c.args.categories c.loop-number.seen (subst P end c.loop-number.invariant)
+    let P : ℕ → Type 0 = λ n. AreSeenBelow c.args.rules.now n c.loop-number.seen in
+    all_seen c.args.rules.now c.args.categories c.loop-number.seen (subst P end c.loop-number.invariant)

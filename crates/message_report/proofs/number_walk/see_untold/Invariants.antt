@@ -3,4 +3,4 @@ use Rattle.message_report.proofs.number_walk.see_untold.Given as goal
 
 -- the numbers before this one are seen
 abbrev pub invariant-loop-number : goal.invariant-loop-number
-invariant-loop-number l = AreSeenBelow l.tables l.number l.seen
+invariant-loop-number l = AreSeenBelow l.rules l.number l.seen

@@ -26,6 +26,20 @@ pub(crate) const LINES: &[u8] = b"1\n2";
 
 const MESSAGES: &str = r#"{"en-GB":{"cardinal":{"files":{"one":"a file","other":"{} files"}}}}"#;
 
+// A message with two wrong forms, and a pattern with two plurals, each with two wrong branches.
+const WRONG_MESSAGES: &str =
+    r#"{"en-GB":{"cardinal":{"files":{"one":"a","two":"b","few":"c","other":"{}"}},"patterns":{"sent":"{a,plural,one{}two{}few{}other{#}}{b,plural,one{}two{}few{}other{#}}"}}}"#;
+
+// Each of its faults has a line.
+const WRONG_LINES: &str = "a.json: en-GB files two: no number is two
+a.json: en-GB files few: no number is few
+a.json: en-GB pattern sent {a} two: no number is two
+a.json: en-GB pattern sent {a} few: no number is few
+a.json: en-GB pattern sent {b} two: no number is two
+a.json: en-GB pattern sent {b} few: no number is few
+messages: 2, forms: 4, faults: 6, numbers tried: 0 to 9999
+";
+
 // The calls that write an answer.
 #[derive(Clone, Copy, Debug, PartialEq, Eq)]
 pub(crate) enum Asked {
@@ -34,14 +48,16 @@ pub(crate) enum Asked {
     Lines,
     Gettext,
     Check,
+    WrongCheck,
 }
 
-pub(crate) const ASKED: [Asked; 5] = [
+pub(crate) const ASKED: [Asked; 6] = [
     Asked::List,
     Asked::Numbers,
     Asked::Lines,
     Asked::Gettext,
     Asked::Check,
+    Asked::WrongCheck,
 ];
 
 impl Asked {
@@ -55,6 +71,7 @@ impl Asked {
             Asked::Lines => "one\nother\n",
             Asked::Gettext => "Plural-Forms: nplurals=2; plural=(n == 1 ? 0 : 1);\n",
             Asked::Check => "messages: 1, forms: 2, faults: 0, numbers tried: 0 to 9999\n",
+            Asked::WrongCheck => WRONG_LINES,
         }
     }
 
@@ -62,7 +79,8 @@ impl Asked {
     pub(crate) fn notes(self) -> &'static str {
         match self {
             Asked::List => "",
-            Asked::Check => "plural_forms: a.json: en-GB: cardinal rules of en\n",
+            Asked::Check | Asked::WrongCheck =>
+                "plural_forms: a.json: en-GB: cardinal rules of en\n",
             Asked::Numbers | Asked::Lines | Asked::Gettext => {
                 "plural_forms: en-GB: cardinal rules of en\n"
             }
@@ -85,18 +103,20 @@ pub(crate) fn answer<R: Read, N: Read, W: Write, E: Write>(
         Asked::Numbers => answer_numbers(alloc, part, locale, &["1", "x"], rules, writer, notes),
         Asked::Lines => answer_lines(alloc, part, locale, rules, lines, writer, notes),
         Asked::Gettext => write_gettext(alloc, part, locale, rules, writer, notes),
-        Asked::Check => check(alloc, rules, writer, notes),
+        Asked::Check => check(alloc, MESSAGES, rules, writer, notes),
+        Asked::WrongCheck => check(alloc, WRONG_MESSAGES, rules, writer, notes),
     }
 }
 
 // Returns what the check of a file of messages answers.
 fn check<R: Read, W: Write, E: Write>(
     alloc: Global,
+    messages: &str,
     rules: &mut R,
     writer: &mut W,
     notes: &mut E,
 ) -> Result<Verdict, FormsError> {
-    let Ok(document) = Value::from_str(alloc, MESSAGES) else {
+    let Ok(document) = Value::from_str(alloc, messages) else {
         return Err(FormsError::Memory);
     };
     let files = [MessageFile {

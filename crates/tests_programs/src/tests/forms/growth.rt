@@ -67,6 +67,11 @@ fn growth_of_a_check(rt: HostRuntime) {
 }
 
 #[test]
+fn growth_of_a_check_with_faults(rt: HostRuntime) {
+    hold_again(&rt, rt.alloc(), RULES, &[noted(Asked::WrongCheck)])
+}
+
+#[test]
 fn growth_beside_a_number(rt: HostRuntime) {
     let asked = [noted(Asked::List), noted(Asked::Lines)];
     hold_again(&rt, rt.alloc(), BESIDE_A_NUMBER, &asked)

@@ -64,7 +64,7 @@ fn faults_of_rules_touch_nothing_else_and_interrupts_are_none(rt: HostRuntime) {
             holds!(rt; is_refused(rt.alloc(), asked, row), row.4);
         }
         let row: Row = match asked {
-            Asked::Check => (b"[]", 0, false, 0, "2: shape\n"),
+            Asked::Check | Asked::WrongCheck => (b"[]", 0, false, 0, "2: shape\n"),
             Asked::List | Asked::Numbers | Asked::Lines | Asked::Gettext => (
                 br#"{"cardinal":{}}"#,
                 0,
