@@ -1,6 +1,8 @@
 -- The parents of a document, found by the names of their locales.
 use Rattle.std.proofs.Common.{◌≡◌, ◌==◌, ◌&&◌, ℕ, List, [], ◌∷◌, map, Bool, true, false, cond, Option, Some, None, is_some, bytes_eq}
 use Rattle.std.proofs.Common.{codes, if◌then◌else◌, refl, sym, ap, ◌∙◌, Vec, Global, Ordering, Less, Equal, Greater, is_eq, nat_cmp}
+use Rattle.std.proofs.Common.{◌<◌, ◌≤◌, length, arith}
+use Rattle.std.proofs.lemmas.List.{length-map}
 use Rattle.std.proofs.lemmas.Map.Text.{is_eq-slice_cmp}
 use Rattle.std.proofs.lemmas.Slice.Eq.{bytes_eq-Decides}
 use Rattle.std.specs.Prelude.{option_map, option_and_then}
@@ -15,7 +17,8 @@ use Rattle.serde_json.specs.Data.{Data, null, boolean, number, string, array, ob
 use Rattle.serde_json.specs.Find.{as_object, as_str, get, get_member}
 use Rattle.plural_fallback.specs.LocaleNames.{folded, is_same, key_of}
 use Rattle.plural_fallback.specs.LocalesJson.{keys_in_object, keys_of, parent_in}
-use Rattle.document_report.specs.Inner.ParentRows.{Seen, exact_parent, first_by, parent_among, parent_by, row_at, row_seen, text_among}
+use Rattle.document_report.specs.Inner.ParentRows.{exact_parent, first_by, parent_among, parent_by, text_among}
+use Rattle.document_report.specs.Inner.Rows.{AreUpTo, Seen, row_at, row_seen}
 use Rattle.document_report.specs.declared.parent_rows.Row.{Row}
 
 abbrev text_of : Seen → Option (List ℕ)
@@ -410,3 +413,22 @@ by_part (Some (object fields)) all locale h =
 pub parents_are : (document : Data) (members : Members) → option_and_then as_object (get (codes "parents") document) ≡ Some members
     → (locale : List ℕ) → parent_among members locale ≡ parent_in document locale
 parents_are document members h locale = by_part (get (codes "parents") document) members locale h
+
+-- ---- The most bytes of a name
+
+-- a row more, whose name is no longer
+pub up_to_put : (most more : ℕ) (key : List ℕ) (row : Seen) (old new : List ℕ → Option Seen) → AreUpTo most old → most ≤ more
+    → length key ≤ more
+    → ((name : List ℕ) → new name ≡ option_or (old name) (if bytes_eq name (map folded key) then Some row else None))
+    → AreUpTo more new
+up_to_put most more key row old new up_to wider within is = λ name long.
+    let before : old name ≡ None = up_to name (omega arith) in
+    is name
+    ∙ ap (λ (o : Option Seen). option_or o (if bytes_eq name (map folded key) then Some row else None)) before
+    ∙ ap (λ (b : Bool). if b then Some row else None) (by_case name long (bytes_eq name (map folded key)) refl)
+  where
+    by_case : (name : List ℕ) → more < length name → (b : Bool) → bytes_eq name (map folded key) ≡ b → bytes_eq name (map folded key) ≡ false
+    by_case name long true e =
+        let same : length name ≡ length key = ap length (equal name (map folded key) e) ∙ length-map key folded in
+        absurd (let less : length key < length key = omega (arith, same) in omega arith)
+    by_case name long false e = e

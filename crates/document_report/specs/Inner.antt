@@ -2,3 +2,4 @@
 pub mod CheckCalls
 pub mod ChainSteps
 pub mod ParentRows
+pub mod Rows

@@ -1,27 +1,33 @@
 //! How many steps the chains of a document's parents have.
 
-ghost use Rattle.std.specs.Prelude.{◌≡◌, ◌<◌, ◌≤◌, ℕ, List, Option, [], IfOk, IfSome, is_some};
+ghost use Rattle.std.specs.Prelude.{◌≡◌, ◌<◌, ◌≤◌, ℕ, List, Option, [], IfOk, IfSome, MatchBool, is_some, option_map};
 ghost use Rattle.std.specs.List.{All};
-ghost use Rattle.document_report.specs.Inner.ChainSteps.{AreKnown, HasSteps, IsStop};
+ghost use Rattle.document_report.specs.Inner.ChainSteps.{AreKnown, HasSteps, IsKnown, IsStop};
 ghost use Rattle.document_report.specs.Inner.ParentRows.{named_parent};
 ghost use Rattle.document_report.specs.ParentFaults.{short_next};
 ghost use Rattle.plural_fallback.specs.FirstKeys.{locale_at};
-ghost use Rattle.std.specs.Option.{option_copied};
 
 use crate::names::MOST_NAME_BYTES;
 use crate::parent_rows::Parents;
 use plural_fallback::{MOST_LOCALES, next_locale};
 use std::alloc::{AllocError, Global};
-use std::hash::{FoldHasher, Hasher};
 
-// The most steps of a walk: more than MOST_LOCALES, so that it shows of several locales that their
-// chains go on.
-const MOST_STEPS: usize = MOST_LOCALES + 8;
+// The most steps of a walk. Those after MOST_LOCALES show of several locales that their chains go
+// on.
+const MOST_STEPS: usize = MOST_LOCALES + 16;
 
-// A locale after some steps of a chain.
+// The next locale of a chain, and the place of the row that leads there, if it always does.
+#[derive(Clone, Copy)]
+pub(crate) struct Step<'p> {
+    locale: &'p [u8],
+    place: Option<usize>,
+}
+
+// A locale after some steps of a chain, and the place of the row that leads there.
 #[derive(Clone, Copy)]
 pub(crate) struct Stop<'p> {
     locale: &'p [u8],
+    place: usize,
     steps: usize,
 }
 
@@ -32,10 +38,12 @@ pub(crate) struct KnownChain<'p> {
     steps: u8,
 }
 
-// What is known of chains. Each place keeps the last of the locales that belong there.
+// What is known of chains: at the place of each row that of the locale to which it leads, and what
+// was learned last, since locales that follow each other often have the same parent.
 #[derive(Drop)]
 pub(crate) struct KnownChains<'p> {
     rows: Vec<Option<KnownChain<'p>>>,
+    last: Option<KnownChain<'p>>,
 }
 
 impl<'p> KnownChains<'p> {
@@ -45,28 +53,33 @@ impl<'p> KnownChains<'p> {
     {
         let mut rows = Vec::new(alloc);
         rows.resize(count, None)?;
-        Ok(KnownChains { rows })
+        Ok(KnownChains { rows, last: None })
     }
 
-    // Returns how many steps the chain of a locale has, if that is known.
-    fn steps_of(&self, locale: &[u8]) -> Option<u8>
+    // Returns how many steps the chain of the next locale has, if that is known.
+    fn steps_of(&self, step: Step<'_>) -> Option<u8>
         ensures { (next : List ℕ → Option (List ℕ)) → AreKnown next self.now
-            → IfSome result (λ steps. HasSteps next locale.now steps) }
+            → IfSome result (λ steps. HasSteps next step.entry.locale.now steps) }
     {
-        let place = place_of(locale, self.rows.len())?;
-        match self.rows[place] {
-            Some(known) if known.locale == locale => Some(known.steps),
-            _ => None,
+        if let Some(steps) = steps_if(self.last, step.locale) {
+            return Some(steps);
         }
+        let place = step.place?;
+        if place >= self.rows.len() {
+            return None;
+        }
+        steps_if(self.rows[place], step.locale)
     }
 
-    // Keeps how many steps the chain of a locale has.
-    fn learn(&mut self, locale: &'p [u8], steps: u8)
-        ensures { (next : List ℕ → Option (List ℕ)) → AreKnown next self.old → HasSteps next locale.now steps
+    // Keeps how many steps the chain of a locale on the way has.
+    fn learn(&mut self, stop: Stop<'p>, steps: u8)
+        ensures { (next : List ℕ → Option (List ℕ)) → AreKnown next self.old → HasSteps next stop.entry.locale.now steps
             → AreKnown next self.new }
     {
-        if let Some(place) = place_of(locale, self.rows.len()) {
-            self.rows[place] = Some(KnownChain { locale, steps });
+        let locale = stop.locale;
+        self.last = Some(KnownChain { locale, steps });
+        if stop.place < self.rows.len() {
+            self.rows[stop.place] = Some(KnownChain { locale, steps });
         }
     }
 
@@ -77,24 +90,21 @@ impl<'p> KnownChains<'p> {
     {
         for stop in path {
             if let Some(left) = steps_left(stop.steps, steps) {
-                self.learn(stop.locale, left);
+                self.learn(*stop, left);
             }
         }
     }
 }
 
-// Returns the place of a locale among so many. A long one, which ends a chain at once, has none: its
-// bytes aren't read, however many locales it is the parent of.
-fn place_of(locale: &[u8], count: usize) -> Option<usize>
-    ensures { IfSome result (λ place. place < count) }
+// Returns the steps of a known chain, if it is that of the locale.
+fn steps_if(known: Option<KnownChain<'_>>, locale: &[u8]) -> Option<u8>
+    ensures { (next : List ℕ → Option (List ℕ)) → IsKnown next known.entry
+        → IfSome result (λ steps. HasSteps next locale.now steps) }
 {
-    if MOST_NAME_BYTES < locale.len() {
-        return None;
+    match known {
+        Some(known) if known.locale == locale => Some(known.steps),
+        _ => None,
     }
-    let mut hasher = FoldHasher::default();
-    hasher.write(locale);
-    let place = hasher.finish().checked_rem(count as u64)?;
-    Some(place as usize)
 }
 
 // Returns how many steps a chain of so many has after the first ones, if that shows.
@@ -131,7 +141,8 @@ pub(crate) fn goes_on<'p>(
     Ok(steps >= MOST_LOCALES)
 }
 
-// Returns how many steps the chain of a locale has, and appends the locales on the way.
+// Returns how many steps the chain of a locale has, and appends the locales on the way to which rows
+// lead.
 fn walk<'p>(
     alloc: Global,
     parents: &'p Parents<'_>,
@@ -146,37 +157,63 @@ fn walk<'p>(
 {
     let mut current = locale;
     let mut steps = 0;
-    while steps < MOST_STEPS {
-        if let Some(more) = chains.steps_of(current) {
-            return Ok(steps + more as usize);
-        }
-        path.push(Stop {
-            locale: current,
-            steps,
-        })?;
-        let Some(next) = short_next(alloc, parents, current)? else {
+    'steps: while shows_more(path.as_slice(), steps) {
+        let Some(step) = short_next(alloc, parents, current)? else {
             return Ok(steps);
         };
-        if next == locale {
+        steps += 1;
+        if let Some(more) = chains.steps_of(step) {
+            return Ok(steps + more as usize);
+        }
+        current = step.locale;
+        if current == locale {
             return Ok(MOST_STEPS);
         }
-        current = next;
-        steps += 1;
+        if let Some(place) = step.place {
+            path.push(Stop {
+                locale: current,
+                place,
+                steps,
+            })?;
+        }
     }
     Ok(steps)
 }
 
-// Returns the next locale of a chain; a long one is the last.
+// Returns whether a further step of a walk shows something: up to MOST_LOCALES of its first locale,
+// and then of one after the other on the way, as long as these are to be kept.
+fn shows_more(path: &[Stop<'_>], steps: usize) -> bool
+    ensures { MatchBool result (steps < MOST_STEPS) (MOST_LOCALES ≤ steps) }
+{
+    let Some(before) = steps.checked_sub(MOST_LOCALES) else {
+        return true;
+    };
+    if steps >= MOST_STEPS {
+        return false;
+    }
+    match path.get(before) {
+        Some(stop) => stop.steps == before + 1,
+        None => false,
+    }
+}
+
+// Returns the next step of a chain; a long locale is the last.
 fn short_next<'p>(
     alloc: Global,
     parents: &'p Parents<'_>,
     locale: &'p [u8],
-) -> Result<Option<&'p [u8]>, AllocError>
-    ensures { IfOk result (λ next. option_copied next ≡ short_next (named_parent parents.now) locale.now) }
+) -> Result<Option<Step<'p>>, AllocError>
+    ensures { IfOk result (λ step. option_map (λ s. s.locale.now) step ≡ short_next (named_parent parents.now) locale.now) }
 {
     if locale.len() > MOST_NAME_BYTES {
         return Ok(None);
     }
     let row = parents.row(alloc, locale)?;
-    Ok(next_locale(row, locale))
+    let Some(next) = next_locale(row, locale) else {
+        return Ok(None);
+    };
+    Ok(Some(Step {
+        locale: next,
+        place: row.place_if_always(locale, next),
+    }))
 }

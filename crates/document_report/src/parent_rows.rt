@@ -2,7 +2,7 @@
 
 ghost use Rattle.std.specs.Prelude.{◌≡◌, ℕ, List, None, Some, IfOk, OnOk, is_some, map, bytes_eq, if◌then◌else◌};
 ghost use Rattle.std.specs.Option.{option_or};
-ghost use Rattle.document_report.specs.Inner.ParentRows.{named_parent, parent_among, row_at, row_seen, row_text};
+ghost use Rattle.document_report.specs.Inner.Rows.{AreUpTo, row_at, row_seen, row_text};
 ghost use Rattle.plural_fallback.specs.LocaleNames.{folded};
 ghost use Rattle.serde_json.specs.View.{members_view};
 
@@ -11,17 +11,36 @@ use serde_json::{Map, Value};
 use std::alloc::{AllocError, Global};
 use std::collections::BTreeMap;
 
-// A locale and its parent: the text of its member, if the member has one.
+// A locale, its parent: the text of its member, if the member has one, and its place among the
+// members.
 #[derive(Clone, Copy)]
 pub(crate) struct Row<'a> {
     name: &'a str,
     parent: Option<&'a str>,
+    place: Option<usize>,
+}
+
+impl<'a> Row<'a> {
+    // Returns the place, if the row leads from its own name to the next locale, or has that as its
+    // parent: then it leads nowhere else, but by what stands before the last subtag of a locale in
+    // another case.
+    pub(crate) fn place_if_always(&self, locale: &[u8], next: &[u8]) -> Option<usize> {
+        let is_parent = match self.parent {
+            Some(parent) => parent.as_bytes() == next,
+            None => false,
+        };
+        if is_parent || self.name.as_bytes() == locale {
+            self.place
+        } else {
+            None
+        }
+    }
 }
 
 // The one parent, whichever locale is asked for, and no keys.
 impl<'a> Locales for Row<'a> {
     ghost use Rattle.std.specs.Prelude.{[]};
-    ghost use Rattle.document_report.specs.Inner.ParentRows.{row_text};
+    ghost use Rattle.document_report.specs.Inner.Rows.{row_text};
 
     ghost keys = { λ row part. [] };
 
@@ -43,9 +62,14 @@ pub(crate) struct Parents<'a> {
     folded: BTreeMap<Vec<u8>, Row<'a>>,
     exact: BTreeMap<Vec<u8>, Row<'a>>,
     absent: Row<'a>,
+    // The most bytes of a name.
+    longest: usize,
+    ghost names: { AreUpTo longest (row_at folded) },
 }
 
 impl<'a> Parents<'a> {
+    ghost use Rattle.document_report.specs.Inner.ParentRows.{named_parent, parent_among};
+
     // Returns the parents that the members of the part name.
     pub(crate) fn of(
         alloc: Global,
@@ -56,29 +80,40 @@ impl<'a> Parents<'a> {
     {
         let mut folded = BTreeMap::new(alloc);
         let mut exact = BTreeMap::new(alloc);
+        let mut longest = 0;
+        let mut count = 0_usize;
         for (key, value) in members.iter() {
             let name = key.as_str();
             let row = Row {
                 name,
                 parent: value.as_str(),
+                place: Some(count),
             };
             put(alloc, &mut folded, &mut exact, row)?;
+            longest = longest.max(name.len());
+            count = count.saturating_add(1);
         }
         let absent = Row {
             name: "",
             parent: None,
+            place: None,
         };
         Ok(Parents {
             folded,
             exact,
             absent,
+            longest,
         })
     }
 
-    // Returns the row of a locale.
+    // Returns the row of a locale. Of a front of many subtags the length tells mostly that it has
+    // none.
     pub(crate) fn row(&self, alloc: Global, locale: &[u8]) -> Result<&Row<'a>, AllocError>
         ensures { IfOk result (λ row. row_text row.now ≡ named_parent self.now locale.now) }
     {
+        if locale.len() > self.longest {
+            return Ok(&self.absent);
+        }
         let name = folded_name(alloc, locale)?;
         let Some(row) = self.folded.get(name.as_slice()) else {
             return Ok(&self.absent);

@@ -5,7 +5,7 @@ ghost use Rattle.std.specs.Option.{option_copied};
 ghost use Rattle.plural_checker.specs.LanguageTexts.{six_texts};
 ghost use Rattle.plural_checker.specs.TextChecks.{AreFindingsOf, AreFindingsUnder, AreRulesIfRead};
 
-use crate::chooser::Chooser;
+use crate::language_rules::LanguageRules;
 use crate::report::Report;
 use crate::text_check::check_if_there;
 use crate::texts::LanguageTexts;
@@ -50,7 +50,7 @@ pub fn check_texts(alloc: Global, texts: &LanguageTexts<'_>) -> Result<Report, A
 // Returns the faults of the texts under these rules.
 fn check_all(
     alloc: Global,
-    rules: Option<&Chooser<'_>>,
+    rules: Option<&LanguageRules<'_>>,
     texts: &LanguageTexts<'_>,
 ) -> Result<Report, AllocError>
     ensures { IfOk result (λ report. AreFindingsUnder (option_copied rules.entry) (six_texts texts.now) report) }
@@ -73,7 +73,7 @@ fn check_all(
 fn rules_of(
     alloc: Global,
     texts: &LanguageTexts<'_>,
-) -> Result<Option<Chooser<'static>>, AllocError>
+) -> Result<Option<LanguageRules<'static>>, AllocError>
     ensures { IfOk result (λ rules. AreRulesIfRead (six_texts texts.now).five rules) }
 {
     if texts.has_long() {
@@ -81,7 +81,7 @@ fn rules_of(
     }
     let five = make_five!(Five, texts, |text| *text);
     match PluralRulesData::from_five(alloc, &five) {
-        Ok(data) => Ok(Some(Chooser::of(alloc, data, texts)?)),
+        Ok(data) => Ok(Some(LanguageRules::of(data)?)),
         Err(refused) => match refused.error {
             RuleError::Parse(_) | RuleError::StartLimit => Ok(None),
             RuleError::Memory => Err(AllocError),

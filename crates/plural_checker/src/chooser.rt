@@ -1,60 +1,55 @@
-//! Rules that are asked for many numbers.
+//! Rules that are asked for the numbers of a text's samples.
 
 ghost use Rattle.std.specs.Prelude.{◌≡◌, IfOk, IfSome};
-ghost use Rattle.icu_plurals.specs.FiveRules.{ArePaired, first_category, rules_of};
+ghost use Rattle.std.specs.Option.{option_copied};
+ghost use Rattle.icu_plurals.specs.FiveRules.{ArePaired, first_category};
 ghost use Rattle.icu_plurals.specs.PackedTruth.{packed_truth};
 ghost use Rattle.plural_checker.specs.Inner.OrderedRules.{AreLike};
 
-use crate::number_estimate::number_estimate;
+use crate::language_rules::LanguageRules;
+use crate::number_count::number_count;
 use crate::ordered_rules::{OrderedRule, first_true, ordered_rules};
-use crate::texts::LanguageTexts;
-use icu_plurals::provider::PluralRulesData;
-use icu_plurals::provider::rules::runtime::ast::Rule;
+use icu_plurals::provider::rules::reference::ast::Samples;
 use icu_plurals::{Five, PluralCategory, PluralOperands, PluralRules};
-use plural_base::for_five;
 use std::alloc::{AllocError, Global};
 use std::marker::Model;
 
-// Rules of at most this many ranges are asked as they are. Those of a language of CLDR 41 have at
-// most 25.
-const FEW_RANGES: usize = 64;
-
-// So are those of languages whose samples have at most about this many numbers: each is counted by
-// its comma, and those of a range by the digits of its ends. Putting the ranges in order takes as
-// long as comparing some twenty numbers with all of them, and most numbers are found among the first.
+// Rules of many ranges are asked as they are for samples of at most this many numbers. Putting the
+// ranges in order takes as long as comparing some twenty numbers with all of them, and most numbers
+// are found among the first.
 const FEW_NUMBERS: u64 = 128;
 
 // Rules, and the same with their ranges in order if there are many. Contracts see the rules.
 #[derive(Debug, Drop)]
-pub(crate) struct Chooser<'data> {
-    rules: PluralRules<'data>,
+pub(crate) struct Chooser<'r, 'data> {
+    rules: &'r PluralRules<'data>,
     ordered: Option<Five<Option<OrderedRule>>>,
 }
 
-impl<'data> Model for Chooser<'data> {
+impl<'r, 'data> Model for Chooser<'r, 'data> {
     ghost use Rattle.std.specs.Prelude.{◌≡◌, Some};
     ghost use Rattle.icu_plurals.specs.FiveRules.{FiveRules};
     ghost use Rattle.plural_checker.specs.Inner.OrderedRules.{ChooseSame};
 
     ghost Value = { FiveRules };
 
-    ghost view = { λ chooser. chooser.rules };
+    ghost view = { λ chooser. chooser.rules.now };
 
-    ghost invariant = { λ chooser. (ordered : FiveRules) → chooser.ordered ≡ Some ordered → ChooseSame ordered chooser.rules };
+    ghost invariant = { λ chooser. (ordered : FiveRules) → chooser.ordered ≡ Some ordered → ChooseSame ordered chooser.rules.now };
 }
 
-impl<'data> Chooser<'data> {
-    // Returns rules with this data, which will be asked for the samples of texts.
-    pub(crate) fn of(
+impl<'r, 'data> Chooser<'r, 'data> {
+    // Returns the rules, which will be asked for these samples.
+    fn of(
         alloc: Global,
-        rules: PluralRulesData<'data>,
-        texts: &LanguageTexts<'_>,
-    ) -> Result<Chooser<'data>, AllocError>
-        ensures { IfOk result (λ chooser. chooser ≡ rules_of rules.entry) }
+        language: &'r LanguageRules<'data>,
+        samples: &Samples,
+    ) -> Result<Chooser<'r, 'data>, AllocError>
+        ensures { IfOk result (λ chooser. chooser ≡ language.now) }
     {
-        let ordered = ordered_if_many(alloc, &rules, texts)?;
+        let ordered = ordered_if_many(alloc, language, samples)?;
         Ok(Chooser {
-            rules: PluralRules::from_data(rules),
+            rules: language.rules(),
             ordered,
         })
     }
@@ -63,7 +58,7 @@ impl<'data> Chooser<'data> {
     pub(crate) fn rules(&self) -> &PluralRules<'data>
         ensures { result.now ≡ self.now }
     {
-        &self.rules
+        self.rules
     }
 
     // Returns the category of a number by its operands.
@@ -77,38 +72,30 @@ impl<'data> Chooser<'data> {
     }
 }
 
+// Returns the rules, if there are any, which will be asked for these samples.
+pub(crate) fn chooser_of<'r, 'data>(
+    alloc: Global,
+    language: Option<&'r LanguageRules<'data>>,
+    samples: &Samples,
+) -> Result<Option<Chooser<'r, 'data>>, AllocError>
+    ensures { IfOk result (λ chooser. chooser ≡ option_copied language.entry) }
+{
+    match language {
+        Some(language) => Ok(Some(Chooser::of(alloc, language, samples)?)),
+        None => Ok(None),
+    }
+}
+
 // Returns the rules with their ranges in order if these are many, and the samples too.
 fn ordered_if_many(
     alloc: Global,
-    rules: &PluralRulesData<'_>,
-    texts: &LanguageTexts<'_>,
+    language: &LanguageRules<'_>,
+    samples: &Samples,
 ) -> Result<Option<Five<Option<OrderedRule>>>, AllocError>
-    ensures { IfOk result (λ made.
-        IfSome made (λ ordered. ArePaired AreLike ordered (rules_of rules.now))) }
+    ensures { IfOk result (λ made. IfSome made (λ ordered. ArePaired AreLike ordered language.now)) }
 {
-    if range_count(rules) <= FEW_RANGES || number_estimate(texts) <= FEW_NUMBERS {
-        return Ok(None);
+    match language.many_ranges() {
+        Some(data) if number_count(samples) > FEW_NUMBERS => Ok(Some(ordered_rules(alloc, data)?)),
+        _ => Ok(None),
     }
-    Ok(Some(ordered_rules(alloc, rules)?))
-}
-
-// Returns how many ranges the rules have.
-fn range_count(rules: &PluralRulesData<'_>) -> usize {
-    let mut count = 0_usize;
-    for_five!(rules, |rule| {
-        count = count.saturating_add(range_count_of(rule));
-    });
-    count
-}
-
-// Returns how many ranges a rule has, if it is present.
-fn range_count_of(rule: &Option<Rule<'_>>) -> usize {
-    let Some(rule) = rule else {
-        return 0;
-    };
-    let mut count = 0_usize;
-    for item in rule.iter() {
-        count = count.saturating_add(item.as_relation().len());
-    }
-    count
 }

@@ -20,7 +20,7 @@ use std::alloc::{AllocError, Global};
 // Returns the fault of the first number that is wrong, if there is one.
 pub(crate) fn check_numbers(
     alloc: Global,
-    rules: Option<&Chooser<'_>>,
+    rules: Option<&Chooser<'_, '_>>,
     category: PluralCategory,
     numbers: &SampleNumbers,
 ) -> Result<Option<SampleFault>, AllocError>
@@ -52,7 +52,7 @@ fn is_known_right(known: &Option<Option<NumberFault>>) -> bool
 // Returns the fault of a text that is listed under a category: the known one, else that of a check.
 fn check_if_unknown(
     alloc: Global,
-    rules: Option<&Chooser<'_>>,
+    rules: Option<&Chooser<'_, '_>>,
     category: PluralCategory,
     text: &DecimalValue,
     known: Option<Option<NumberFault>>,
@@ -69,7 +69,7 @@ fn check_if_unknown(
 // Returns the fault of a text that is listed under a category.
 fn check_text(
     alloc: Global,
-    rules: Option<&Chooser<'_>>,
+    rules: Option<&Chooser<'_, '_>>,
     category: PluralCategory,
     text: &DecimalValue,
 ) -> Result<Option<NumberFault>, AllocError>
@@ -83,7 +83,7 @@ fn check_text(
 
 // Returns the fault of a number that is listed under a category; `None` without rules.
 fn check_number(
-    rules: Option<&Chooser<'_>>,
+    rules: Option<&Chooser<'_, '_>>,
     category: PluralCategory,
     number: &CompactDecimal,
 ) -> Option<NumberFault>
@@ -97,7 +97,7 @@ fn check_number(
 
 // Returns the fault of a number under these rules.
 fn check_by(
-    rules: &Chooser<'_>,
+    rules: &Chooser<'_, '_>,
     category: PluralCategory,
     number: &CompactDecimal,
 ) -> Option<NumberFault>
@@ -115,7 +115,7 @@ fn check_by(
 }
 
 // Returns the category of a number.
-fn category_of(rules: &Chooser<'_>, number: &CompactDecimal) -> PluralCategory
+fn category_of(rules: &Chooser<'_, '_>, number: &CompactDecimal) -> PluralCategory
     ensures { HasCategory rules.now number.now result }
 {
     kept_choice_is_exact();

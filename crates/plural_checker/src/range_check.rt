@@ -6,8 +6,9 @@ ghost use Rattle.plural_checker.specs.Findings.{AddsFindings, EachFinds, GrowsBy
 ghost use Rattle.plural_checker.specs.NumberChecks.{IsCheckedRange};
 ghost use Rattle.plural_checker.specs.TextChecks.{IsFoundInList, IsFoundInRange, IsFoundInSamples, sample_findings};
 
-use crate::chooser::Chooser;
+use crate::chooser::{Chooser, chooser_of};
 use crate::fault::{Fault, SampleFault, SampleType, TextFault};
+use crate::language_rules::LanguageRules;
 use crate::number_check::check_numbers;
 use crate::reading::compact_text;
 use crate::report::Report;
@@ -20,7 +21,7 @@ use std::alloc::{AllocError, Global};
 // Adds the faults of the samples of a category's text.
 pub(crate) fn check_samples(
     alloc: Global,
-    rules: Option<&Chooser<'_>>,
+    rules: Option<&LanguageRules<'_>>,
     category: PluralCategory,
     samples: &Option<Samples>,
     report: &mut Report,
@@ -30,6 +31,8 @@ pub(crate) fn check_samples(
     let Some(lists) = samples else {
         return Ok(());
     };
+    let chooser = chooser_of(alloc, rules, lists)?;
+    let rules = chooser.as_ref();
     check_list(
         alloc,
         rules,
@@ -51,7 +54,7 @@ pub(crate) fn check_samples(
 // Adds the faults of a list of samples, if it is present.
 fn check_list(
     alloc: Global,
-    rules: Option<&Chooser<'_>>,
+    rules: Option<&Chooser<'_, '_>>,
     category: PluralCategory,
     sample_type: SampleType,
     list: &Option<SampleList>,
@@ -75,7 +78,7 @@ fn check_list(
 // Adds the faults of ranges of samples.
 fn check_ranges(
     alloc: Global,
-    rules: Option<&Chooser<'_>>,
+    rules: Option<&Chooser<'_, '_>>,
     category: PluralCategory,
     sample_type: SampleType,
     ranges: &[SampleRange],
@@ -94,7 +97,7 @@ fn check_ranges(
 // Returns the fault of a range of samples, and the count of its numbers.
 fn check_range(
     alloc: Global,
-    rules: Option<&Chooser<'_>>,
+    rules: Option<&Chooser<'_, '_>>,
     category: PluralCategory,
     range: &SampleRange,
 ) -> Result<(Option<SampleFault>, u64), AllocError>
@@ -114,7 +117,7 @@ fn check_range(
 // Returns the same by the numbers' texts.
 fn check_by_text(
     alloc: Global,
-    rules: Option<&Chooser<'_>>,
+    rules: Option<&Chooser<'_, '_>>,
     category: PluralCategory,
     range: &SampleRange,
 ) -> Result<(Option<SampleFault>, u64), AllocError>

@@ -27,7 +27,7 @@ const LONG: u64 = 1_000_000_000_000_000_000;
 // short; `None` for others.
 pub(crate) fn single_fault(
     alloc: Global,
-    rules: Option<&Chooser<'_>>,
+    rules: Option<&Chooser<'_, '_>>,
     category: PluralCategory,
     range: &SampleRange,
 ) -> Option<Option<NumberFault>>
@@ -44,7 +44,7 @@ pub(crate) fn single_fault(
 // `None` for others.
 fn sample_fault(
     alloc: Global,
-    rules: Option<&Chooser<'_>>,
+    rules: Option<&Chooser<'_, '_>>,
     category: PluralCategory,
     sample: &DecimalValue,
 ) -> Option<Option<NumberFault>>
@@ -95,7 +95,7 @@ fn without_exponent(operands: PluralOperands) -> Option<PluralOperands>
 // Returns the fault under a category, or that there is none, of a number of a range that is short;
 // `None` for others.
 pub(crate) fn fault_at(
-    rules: Option<&Chooser<'_>>,
+    rules: Option<&Chooser<'_, '_>>,
     category: PluralCategory,
     numbers: &SampleNumbers,
     index: u64,
@@ -112,7 +112,7 @@ pub(crate) fn fault_at(
 // Returns the fault under a category, or that there is none, of a number of steps that is short;
 // `None` for others.
 fn step_fault(
-    rules: Option<&Chooser<'_>>,
+    rules: Option<&Chooser<'_, '_>>,
     category: PluralCategory,
     steps: &Steps,
     index: u64,
@@ -129,7 +129,7 @@ fn step_fault(
 // Returns the fault of every short number of these operands under a category: without rules no
 // number is wrong.
 fn fault_of(
-    rules: Option<&Chooser<'_>>,
+    rules: Option<&Chooser<'_, '_>>,
     category: PluralCategory,
     operands: PluralOperands,
 ) -> Option<NumberFault>
@@ -144,7 +144,7 @@ fn fault_of(
 
 // Returns the same under these rules.
 fn fault_by(
-    rules: &Chooser<'_>,
+    rules: &Chooser<'_, '_>,
     category: PluralCategory,
     operands: PluralOperands,
 ) -> Option<NumberFault>

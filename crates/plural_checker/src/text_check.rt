@@ -8,8 +8,8 @@ ghost use Rattle.plural_checker.specs.Findings.{AddsFindings, GrowsBy};
 ghost use Rattle.plural_checker.specs.TextChecks.{HaveOtherTokens, HaveSameTokens, IsReadAsRule, IsTreeOf};
 ghost use Rattle.plural_checker.specs.TextChecks.{condition_findings, IsFoundIn, IsFoundInReading, IsFoundInRule, IsFoundInCategoryText};
 
-use crate::chooser::Chooser;
 use crate::fault::{Fault, TextFault};
+use crate::language_rules::LanguageRules;
 use crate::list_order::is_out_of_order;
 use crate::printed_rule::PrintedRule;
 use crate::range_check::check_samples;
@@ -25,7 +25,7 @@ use std::alloc::{AllocError, Global};
 // Adds the faults of a category's text, if it is present.
 pub(crate) fn check_if_there(
     alloc: Global,
-    rules: Option<&Chooser<'_>>,
+    rules: Option<&LanguageRules<'_>>,
     category: PluralCategory,
     text: Option<&str>,
     report: &mut Report,
@@ -42,7 +42,7 @@ pub(crate) fn check_if_there(
 // Adds the faults of a category's text. A long text isn't read.
 fn check_text(
     alloc: Global,
-    rules: Option<&Chooser<'_>>,
+    rules: Option<&LanguageRules<'_>>,
     category: PluralCategory,
     text: &str,
     report: &mut Report,
@@ -59,7 +59,7 @@ fn check_text(
 // Adds the faults of a category's text, as a rule.
 fn check_rule(
     alloc: Global,
-    rules: Option<&Chooser<'_>>,
+    rules: Option<&LanguageRules<'_>>,
     category: PluralCategory,
     text: &str,
     report: &mut Report,

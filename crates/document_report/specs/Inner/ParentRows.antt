@@ -1,33 +1,12 @@
 -- Not a definition of the subject: how the parents of a document are found by the names of their
 -- locales.
-use Rattle.std.specs.Prelude.{ℕ, List, Bool, Option, Some, None, bytes_eq, option_map, map, if◌then◌else◌}
-use Rattle.std.specs.Prelude.{option_and_then, Vec}
-use Rattle.std.specs.BTreeMap.{BTreeMap, get_by}
-use Rattle.std.specs.Cmp.Lexicographic.{slice_cmp}
-use Rattle.std.specs.declared.alloc.Global.{Global}
-use Rattle.std.specs.Option.{option_copied}
-use Rattle.std.specs.Ordering.{nat_cmp}
+use Rattle.std.specs.Prelude.{ℕ, List, Bool, Option, Some, None, bytes_eq, map, if◌then◌else◌, option_and_then}
 use Rattle.serde_json.specs.Data.{Members, no_members, member}
 use Rattle.serde_json.specs.Find.{as_str, get_member}
 use Rattle.plural_fallback.specs.LocaleNames.{folded, key_of}
 use Rattle.plural_fallback.specs.LocalesJson.{keys_of}
 use Rattle.document_report.specs.declared.parent_rows.Parents.{Parents}
-use Rattle.document_report.specs.declared.parent_rows.Row.{Row}
-
--- the parent of a row
-abbrev pub row_text : Row → Option (List ℕ)
-row_text row = option_copied row.parent
-
--- a locale's name and its parent
-abbrev pub Seen : Type 0
-Seen = List ℕ × Option (List ℕ)
-
-abbrev pub row_seen : Row → Seen
-row_seen row = (row.name.now, row_text row)
-
--- the row under a name, if there is one
-abbrev pub row_at : BTreeMap (Vec ℕ Global) Row → List ℕ → Option Seen
-row_at rows name = option_map row_seen (get_by (λ key. slice_cmp nat_cmp name key.items) rows)
+use Rattle.document_report.specs.Inner.Rows.{Seen, row_at, row_text}
 
 -- the first member whose key passes, if there is one
 abbrev pub first_by : (List ℕ → Bool) → Members → Option Seen

@@ -7,11 +7,11 @@ use Rattle.document_report.specs.ParentFaults.{short_next}
 use Rattle.document_report.proofs.chains.walk.Given as goal
 
 -- the current locale is the one after so many steps, and the path has those before
-abbrev pub invariant-loop-steps : goal.invariant-loop-steps
-invariant-loop-steps l =
-    (l.steps ≤ 40)
+abbrev pub invariant-steps : goal.invariant-steps
+invariant-steps l =
+    (l.steps ≤ 48)
     × (locale_at (short_next (named_parent l.parents)) l.locale l.steps ≡ Some l.current)
     × All (IsStop (short_next (named_parent l.parents)) l.locale) l.path.items
 
-abbrev pub decreases-loop-steps : goal.decreases-loop-steps
-decreases-loop-steps l = 40 - l.steps
+abbrev pub decreases-steps : goal.decreases-steps
+decreases-steps l = 48 - l.steps

@@ -2,7 +2,7 @@ use Rattle.std.proofs.Common.{◌≡◌, ℕ, List, None, Some, bytes_eq, false,
 use Rattle.std.specs.BTreeMap.{get_by}
 use Rattle.std.specs.Option.{option_or}
 use Rattle.plural_fallback.specs.LocaleNames.{folded}
-use Rattle.document_report.specs.Inner.ParentRows.{row_at, row_seen}
+use Rattle.document_report.specs.Inner.Rows.{row_at, row_seen}
 use Rattle.document_report.proofs.RowLookups.{by_items, put}
 use Rattle.document_report.proofs.parent_rows.put.Goals as goal
 

@@ -6,6 +6,6 @@ use Rattle.plural_checker.proofs.chooser.Chooser.of.Goals as goal
 
 pub invariant_of-result : goal.invariant_of-result
 invariant_of-result c =
-    made_choice c.in_ok-ordered.ordered c.from_data.result
-    (subst (λ (rules : FiveRules). IfSome c.in_ok-ordered.ordered (λ ordered. ArePaired AreLike ordered rules)) (sym c.from_data.ensures)
+    made_choice c.in_ok-ordered.ordered c.rules.result.now
+    (subst (λ (rules : FiveRules). IfSome c.in_ok-ordered.ordered (λ ordered. ArePaired AreLike ordered rules)) (sym c.rules.ensures)
     c.in_ok-ordered.ensures)

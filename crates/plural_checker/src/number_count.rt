@@ -1,0 +1,88 @@
+//! How many numbers the samples of a text have.
+
+use crate::sample_range::MOST_NUMBERS;
+use icu_plurals::provider::rules::reference::ast::{
+    DecimalValue, SampleList, SampleRange, Samples,
+};
+
+// A longer text doesn't count.
+const MOST_BYTES: usize = 16;
+
+// A number as it is written: what its digits write without the point, and how many are behind it.
+#[derive(Clone, Copy)]
+struct PlainNumber {
+    digits: u64,
+    places: usize,
+}
+
+// Returns how many numbers the samples have. No text is counted that writes no number, that has an
+// exponent or more than 16 bytes, nor a range that has none.
+pub(crate) fn number_count(samples: &Samples) -> u64 {
+    count_in(&samples.integer).saturating_add(count_in(&samples.decimal))
+}
+
+// Returns the same of a list, if it is present.
+fn count_in(list: &Option<SampleList>) -> u64 {
+    let Some(list) = list else {
+        return 0;
+    };
+    let mut count = 0_u64;
+    for range in list.sample_ranges.as_slice() {
+        count = count.saturating_add(count_of(range).unwrap_or(0));
+    }
+    count
+}
+
+// Returns the same of a range of samples, or `None` if it doesn't count.
+fn count_of(range: &SampleRange) -> Option<u64> {
+    let first = plain_number(&range.lower_val)?;
+    match &range.upper_val {
+        Some(upper) => count_between(first, plain_number(upper)?),
+        None => Some(1),
+    }
+}
+
+// Returns how many numbers are from one to another, or `None` if there are none or too many.
+fn count_between(first: PlainNumber, last: PlainNumber) -> Option<u64> {
+    if first.places != last.places {
+        return None;
+    }
+    let more = last.digits.checked_sub(first.digits)?;
+    if more >= MOST_NUMBERS {
+        return None;
+    }
+    more.checked_add(1)
+}
+
+// Returns the number of a sample's text, or `None` if it doesn't count.
+fn plain_number(sample: &DecimalValue) -> Option<PlainNumber> {
+    let text = sample.0.as_str();
+    if text.len() > MOST_BYTES {
+        return None;
+    }
+    let (whole, fraction) = match text.split_once('.') {
+        Some((whole, fraction)) if !fraction.is_empty() => (whole, fraction),
+        _ => (text, ""),
+    };
+    if whole.is_empty() {
+        return None;
+    }
+    Some(PlainNumber {
+        digits: with_digits(with_digits(0, whole)?, fraction)?,
+        places: fraction.len(),
+    })
+}
+
+// Returns what digits behind those of a number write with these, or `None` at another byte.
+fn with_digits(number: u64, text: &str) -> Option<u64> {
+    let mut number = number;
+    for byte in text.as_bytes() {
+        if !byte.is_ascii_digit() {
+            return None;
+        }
+        number = number
+            .saturating_mul(10)
+            .saturating_add(u64::from(*byte & 15));
+    }
+    Some(number)
+}
