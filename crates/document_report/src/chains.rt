@@ -165,6 +165,9 @@ fn walk<'p>(
         if let Some(more) = chains.steps_of(step) {
             return Ok(steps + more as usize);
         }
+        if step.locale == current {
+            return Ok(steps + MOST_STEPS);
+        }
         current = step.locale;
         if current == locale {
             return Ok(MOST_STEPS);

@@ -40,6 +40,19 @@ returns-in-Some-steps_of-clause-steps c =
 pub returns-then-eq-clause-steps : goal.returns-then-eq-clause-steps
 returns-then-eq-clause-steps c =
     let next = short_next (named_parent c.args.parents.now) in
+    let same : c.in-Some.step.locale.now ≡ c.steps.current.now = search rules in
+    let on : next c.steps.current.now ≡ Some c.steps.current.now =
+    sym (ap (option_map locale_of) (sym c.in-Some.is) ∙ c.in_ok-step.ensures) ∙ ap (λ (locale : List ℕ). Some locale) same in
+    let here : locale_at next c.args.locale.now (c.steps.steps + 1) ≡ Some c.steps.current.now =
+    goes_on next c.args.locale.now c.steps.current.now c.steps.steps c.steps.invariant.1 ∙ on in
+    let again : locale_at next c.steps.current.now 1 ≡ Some c.steps.current.now =
+    goes_on next c.steps.current.now c.steps.current.now 0 (begins next c.steps.current.now) ∙ on in
+    joined next c.args.locale.now c.steps.current.now (c.steps.steps + 1) 48 here
+    (comes_back next c.steps.current.now 1 (omega arith) again 48 (omega arith))
+
+pub returns-then-eq-2-clause-steps : goal.returns-then-eq-2-clause-steps
+returns-then-eq-2-clause-steps c =
+    let next = short_next (named_parent c.args.parents.now) in
     let same : c.in-Some.step.locale.now ≡ c.args.locale.now = search rules in
     let here : locale_at next c.args.locale.now (c.steps.steps + 1) ≡ Some c.args.locale.now =
     goes_on next c.args.locale.now c.steps.current.now c.steps.steps c.steps.invariant.1
